@@ -1,0 +1,11 @@
+pub mod Bytes
+pub mod Canonical
+pub mod Equality
+pub mod Forms
+pub mod Items
+pub mod Words
+pub mod Lexing
+pub mod Once
+pub mod Program
+pub mod Signs
+pub mod Trees

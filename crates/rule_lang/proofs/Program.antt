@@ -1,0 +1,31 @@
+-- From the tokens and the tree to the program.
+use Rattle.std.proofs.Common.{◌≡◌, ℕ, ◌≤◌, List, subst, length, flat_map, refl}
+use Rattle.std.specs.List.{AllByRecursion}
+use Rattle.rule_lang.specs.Canonical.{program_text}
+use Rattle.rule_lang.proofs.Canonical.{all_toks, put_program}
+use Rattle.rule_lang.specs.declared.fault.LangFault.{LangFault}
+use Rattle.rule_lang.specs.declared.fault.LangFault.TheVariants.{TooLong, Lex, Syntax, Memory}
+use Rattle.rule_lang.specs.Tokens.{Tok, IsTok, HasTokens}
+use Rattle.rule_lang.specs.Tree.{ItemTree, HasTree, spell_item}
+use Rattle.rule_lang.specs.Lexing.{NoTokensOf}
+use Rattle.rule_lang.specs.declared.stuck.Stuck.{Stuck}
+use Rattle.rule_lang.specs.declared.stuck.Stuck.TheVariants as stuck
+use Rattle.rule_lang.specs.Reading.{NoProgramOf, fault_of}
+use Rattle.rule_lang.specs.Program.{HasProgram, IsRefusedAs, IsProgram}
+
+pub no_tokens : (text : List ℕ) (e : LangFault) → length text ≤ 65536 → NoTokensOf text e → IsRefusedAs text e
+no_tokens text TooLong h n = absurd n
+no_tokens text (Lex at) h n = (h, n)
+no_tokens text (Syntax at) h n = absurd n
+no_tokens text Memory h n = tt
+
+pub no_tree : (text : List ℕ) (tokens : List Tok) (e : Stuck) (end : ℕ) → length text ≤ 65536 → HasTokens text tokens → ((others : List Tok) → HasTokens text others → others ≡ tokens) → NoProgramOf tokens e → IsRefusedAs text (fault_of e end)
+no_tree text tokens (stuck.Token at) end h t only n = (h, tokens, t, λ items p. n items (subst (λ x. HasTree x items) (only p.tokens p.words) p.tree))
+no_tree text tokens stuck.End end h t only n = (h, tokens, t, λ items p. n items (subst (λ x. HasTree x items) (only p.tokens p.words) p.tree))
+no_tree text tokens stuck.Memory end h t only n = tt
+
+pub is_program : (text : List ℕ) (tokens : List Tok) (items : List ItemTree) → HasTokens text tokens → HasTree tokens items → IsProgram items
+is_program text tokens items w t = (t.each, subst (AllByRecursion IsTok) t.spelling (all_toks text tokens w))
+
+pub text_is_program : (text : List ℕ) (items : List ItemTree) → text ≡ program_text items → IsProgram items → HasProgram text items
+text_is_program text items e p = record { tokens = flat_map spell_item items; words = rw e (put_program items p.1); tree = record { spelling = refl; each = p.0 } }

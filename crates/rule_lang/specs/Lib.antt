@@ -1,0 +1,10 @@
+pub mod Keywords
+pub mod Reading
+pub mod Tokens
+pub mod Tree
+pub mod View
+pub mod TreeCode
+pub mod Program
+pub mod Signs
+pub mod Lexing
+pub mod Canonical

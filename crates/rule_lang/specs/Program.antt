@@ -1,0 +1,28 @@
+-- A program text and its items.
+use Rattle.std.specs.Prelude.{ℕ, List, Result, Ok, Err, length, flat_map, ◌≤◌, ◌<◌}
+use Rattle.std.specs.List.{AllByRecursion}
+use Rattle.rule_lang.specs.declared.fault.LangFault.{LangFault}
+use Rattle.rule_lang.specs.declared.fault.LangFault.TheVariants.{TooLong, Lex, Syntax, Memory}
+use Rattle.rule_lang.specs.Tokens.{Tok, IsTok, HasTokens}
+use Rattle.rule_lang.specs.Tree.{ItemTree, HasTree, IsItem, spell_item}
+
+-- the text has these items
+pub record HasProgram (text : List ℕ) (items : List ItemTree) : Type 0 where
+  pub tokens : List Tok
+  pub words : HasTokens text tokens
+  pub tree : HasTree tokens items
+
+-- What a text is read to, and why it is refused: the first cause that holds.
+abbrev pub IsRefusedAs : List ℕ → LangFault → Type 0
+IsRefusedAs text TooLong = 65536 < length text
+IsRefusedAs text (Lex at) = (length text ≤ 65536) × ((tokens : List Tok) → HasTokens text tokens → ⊥)
+IsRefusedAs text (Syntax at) = (length text ≤ 65536) × (tokens : List Tok) × HasTokens text tokens × ((items : List ItemTree) → HasProgram text items → ⊥)
+IsRefusedAs text Memory = Unit {0}
+
+abbrev pub IsReadAs : {X : Type 0} → List ℕ → (X → List ItemTree) → Result X LangFault → Type 0
+IsReadAs text view (Ok x) = (length text ≤ 65536) × HasProgram text (view x)
+IsReadAs text view (Err e) = IsRefusedAs text e
+
+-- what has a text: items of the language, whose names are words and whose numbers fit
+abbrev pub IsProgram : List ItemTree → Type 0
+IsProgram items = AllByRecursion IsItem items × AllByRecursion IsTok (flat_map spell_item items)

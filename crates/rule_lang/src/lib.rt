@@ -1,0 +1,19 @@
+//! The rule language: tokens, trees and canonical spelling.
+#![tactic(auto)]
+
+mod expect;
+mod fault;
+mod keyword;
+mod lex;
+mod parse;
+mod same;
+mod source;
+mod stuck;
+mod token;
+mod tree;
+mod write;
+
+pub use fault::LangFault;
+pub use source::{Source, one_program, read_program};
+pub use tree::{Agg, Expr, Item, Op};
+pub use write::write_program;

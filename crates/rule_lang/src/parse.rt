@@ -1,0 +1,189 @@
+//! From tokens to the tree.
+
+ghost use Rattle.std.specs.Prelude.{◌≡◌, IfOk, string_bytes};
+ghost use Rattle.std.specs.Option.{option_map};
+ghost use Rattle.rule_lang.specs.View.{tree_of, item_of, items_of, toks_of};
+ghost use Rattle.rule_lang.specs.Reading.{Gives, IsProgramOf, near_of, field_at, next_at, item_at, infix_at, choice_at, over_at, prefix_at, form_at, expr_at};
+
+use crate::expect::{
+    aggregate, assign, close, name, number, operator_at, semicolon, word_else, word_then,
+};
+use crate::keyword::{Keyword, reserved_word};
+use crate::stuck::Stuck;
+use crate::token::{Lexeme, Sign, Token};
+use crate::tree::{Expr, Item};
+use std::alloc::{AllocError, Global};
+
+/// The greatest depth of an expression.
+const NESTING: u32 = 64;
+
+/// A form of a neighbour, by the word behind `n.`.
+#[tactic(auto, unfolding(crate::specs::Reading::near_of))]
+fn near(alloc: Global, word: &str) -> Result<Option<Expr>, AllocError>
+    ensures { IfOk result (λ e. option_map tree_of e ≡ near_of word.now) }
+{
+    match reserved_word(word) {
+        None => Ok(Some(Expr::Near(String::from_str(alloc, word)?))),
+        Some(Keyword::Id) => Ok(Some(Expr::NearId)),
+        Some(Keyword::Weight) => Ok(Some(Expr::NearWeight)),
+        Some(_) => Ok(None),
+    }
+}
+
+/// An expression of at most this depth, and the tokens behind it.
+#[cycle(expression)]
+#[tactic(auto, unfolding(crate::specs::Reading::expr_at, crate::specs::Reading::form_at))]
+fn expression<'t, 'a>(
+    alloc: Global,
+    depth: u32,
+    tokens: &'t [Lexeme<'a>],
+) -> Result<(Expr, &'t [Lexeme<'a>]), Stuck>
+    ensures { Gives (λ x. (tree_of x.0, toks_of x.1.now)) result (expr_at depth (toks_of tokens.now)) }
+{
+    if depth == 0 {
+        return Err(Stuck::before(tokens));
+    }
+    let [first, rest @ ..] = tokens else {
+        return Err(Stuck::before(tokens));
+    };
+    match first.token {
+        Token::Number(value) => Ok((Expr::Number(value), rest)),
+        Token::Near(word) => match near(alloc, word)? {
+            Some(form) => Ok((form, rest)),
+            None => Err(Stuck::before(tokens)),
+        },
+        Token::Word(word) => match reserved_word(word) {
+            None => Ok((Expr::Own(String::from_str(alloc, word)?), rest)),
+            Some(word) => prefix(alloc, depth - 1, first.at, word, rest),
+        },
+        Token::Sign(Sign::Open) => infix(alloc, depth - 1, rest),
+        Token::Sign(_) => Err(Stuck::before(tokens)),
+    }
+}
+
+/// What follows an opening bracket.
+#[cycle(expression)]
+#[tactic(auto, unfolding(crate::specs::Reading::infix_at))]
+fn infix<'t, 'a>(
+    alloc: Global,
+    depth: u32,
+    tokens: &'t [Lexeme<'a>],
+) -> Result<(Expr, &'t [Lexeme<'a>]), Stuck>
+    ensures { Gives (λ x. (tree_of x.0, toks_of x.1.now)) result (infix_at (expr_at depth) (toks_of tokens.now)) }
+{
+    let (left, rest) = expression(alloc, depth, tokens)?;
+    let (op, rest) = operator_at(rest)?;
+    let (right, rest) = expression(alloc, depth, rest)?;
+    let rest = close(rest)?;
+    let left = Box::new(alloc, left)?;
+    let right = Box::new(alloc, right)?;
+    Ok((Expr::Infix(op, left, right), rest))
+}
+
+/// What follows the reserved word at this place.
+#[cycle(expression)]
+#[tactic(auto, unfolding(crate::specs::Reading::prefix_at, crate::specs::Reading::over_at))]
+fn prefix<'t, 'a>(
+    alloc: Global,
+    depth: u32,
+    at: u32,
+    word: Keyword,
+    tokens: &'t [Lexeme<'a>],
+) -> Result<(Expr, &'t [Lexeme<'a>]), Stuck>
+    ensures { Gives (λ x. (tree_of x.0, toks_of x.1.now)) result (prefix_at (expr_at depth) word (toks_of tokens.now)) }
+{
+    match word {
+        Keyword::Id => Ok((Expr::Id, tokens)),
+        Keyword::Degree => Ok((Expr::Degree, tokens)),
+        Keyword::Round => Ok((Expr::Round, tokens)),
+        Keyword::If => choice(alloc, depth, tokens),
+        Keyword::Not => {
+            let (part, rest) = expression(alloc, depth, tokens)?;
+            Ok((Expr::Not(Box::new(alloc, part)?), rest))
+        }
+        _ => {
+            let Some(agg) = aggregate(word) else {
+                return Err(Stuck::Token { at });
+            };
+            let (part, rest) = expression(alloc, depth, tokens)?;
+            Ok((Expr::Over(agg, Box::new(alloc, part)?), rest))
+        }
+    }
+}
+
+/// What follows `if`.
+#[cycle(expression)]
+#[tactic(auto, unfolding(crate::specs::Reading::choice_at))]
+fn choice<'t, 'a>(
+    alloc: Global,
+    depth: u32,
+    tokens: &'t [Lexeme<'a>],
+) -> Result<(Expr, &'t [Lexeme<'a>]), Stuck>
+    ensures { Gives (λ x. (tree_of x.0, toks_of x.1.now)) result (choice_at (expr_at depth) (toks_of tokens.now)) }
+{
+    let (test, rest) = expression(alloc, depth, tokens)?;
+    let rest = word_then(rest)?;
+    let (yes, rest) = expression(alloc, depth, rest)?;
+    let rest = word_else(rest)?;
+    let (no, rest) = expression(alloc, depth, rest)?;
+    let test = Box::new(alloc, test)?;
+    let yes = Box::new(alloc, yes)?;
+    let no = Box::new(alloc, no)?;
+    Ok((Expr::Choice(test, yes, no), rest))
+}
+
+/// What follows `field`.
+#[tactic(auto, unfolding(crate::specs::Reading::field_at))]
+fn field<'t, 'a>(alloc: Global, tokens: &'t [Lexeme<'a>]) -> Result<(Item, &'t [Lexeme<'a>]), Stuck>
+    ensures { Gives (λ x. (item_of x.0, toks_of x.1.now)) result (field_at (toks_of tokens.now)) }
+{
+    let (name, rest) = name(alloc, tokens)?;
+    let rest = assign(rest)?;
+    let (value, rest) = number(rest)?;
+    let rest = semicolon(rest)?;
+    Ok((Item::Field { name, value }, rest))
+}
+
+/// What follows `next`.
+#[tactic(auto, unfolding(crate::specs::Reading::next_at))]
+fn next<'t, 'a>(alloc: Global, tokens: &'t [Lexeme<'a>]) -> Result<(Item, &'t [Lexeme<'a>]), Stuck>
+    ensures { Gives (λ x. (item_of x.0, toks_of x.1.now)) result (next_at (toks_of tokens.now)) }
+{
+    let (name, rest) = name(alloc, tokens)?;
+    let rest = assign(rest)?;
+    let (body, rest) = expression(alloc, NESTING, rest)?;
+    let rest = semicolon(rest)?;
+    Ok((Item::Next { name, body }, rest))
+}
+
+/// An item, and the tokens behind it.
+#[tactic(auto, unfolding(crate::specs::Reading::item_at))]
+fn item<'t, 'a>(alloc: Global, tokens: &'t [Lexeme<'a>]) -> Result<(Item, &'t [Lexeme<'a>]), Stuck>
+    ensures { Gives (λ x. (item_of x.0, toks_of x.1.now)) result (item_at (toks_of tokens.now)) }
+{
+    let [first, rest @ ..] = tokens else {
+        return Err(Stuck::before(tokens));
+    };
+    match first.token {
+        Token::Word(word) => match reserved_word(word) {
+            Some(Keyword::Field) => field(alloc, rest),
+            Some(Keyword::Next) => next(alloc, rest),
+            _ => Err(Stuck::before(tokens)),
+        },
+        _ => Err(Stuck::before(tokens)),
+    }
+}
+
+/// The items that these tokens spell, all of the tokens.
+pub fn items<'a>(alloc: Global, tokens: &[Lexeme<'a>]) -> Result<Vec<Item>, Stuck>
+    ensures { IsProgramOf (toks_of tokens.now) (λ v. items_of v.items) result }
+{
+    let mut items = Vec::new(alloc);
+    let mut at = 0;
+    while at < tokens.len() {
+        let (next, rest) = item(alloc, &tokens[at..])?;
+        items.push(next)?;
+        at = tokens.len() - rest.len();
+    }
+    Ok(items)
+}

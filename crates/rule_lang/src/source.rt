@@ -1,0 +1,76 @@
+//! A program that was read.
+
+ghost use Rattle.std.specs.Prelude.{◌≡◌, ◌↔◌, List, ℕ, length, IsTrue};
+ghost use Rattle.rule_lang.specs.Tree.{ItemTree};
+ghost use Rattle.rule_lang.specs.View.{items_of};
+ghost use Rattle.rule_lang.specs.Program.{HasProgram, IsProgram, IsReadAs};
+
+use crate::fault::LangFault;
+use crate::lex::tokens;
+use crate::parse::items;
+use crate::same::same_items;
+use crate::tree::Item;
+use std::alloc::Global;
+use std::marker::Model;
+
+/// The items of a program text.
+#[derive(Drop)]
+pub struct Source {
+    items: Vec<Item>,
+}
+
+impl Model for Source {
+    ghost use Rattle.std.specs.Prelude.{List};
+    ghost use Rattle.rule_lang.specs.Program.{IsProgram};
+    ghost use Rattle.rule_lang.specs.View.{items_of};
+    ghost use Rattle.rule_lang.specs.Tree.{ItemTree};
+    ghost use Rattle.rule_lang.specs.TreeCode.{coded_item};
+    ghost use Rattle.std.specs.Coded.{codes};
+
+    ghost Value = { List ItemTree };
+
+    ghost coded = { Prim.hlevel (codes, coded_item) };
+
+    ghost view = { λ s. items_of s.items.items };
+
+    ghost invariant = { λ s. IsProgram (items_of s.items.items) };
+}
+
+impl Source {
+    /// The items, in order.
+    pub fn items(&self) -> &[Item]
+        ensures same { items_of result.now ≡ self.now }
+        ensures whole { IsProgram self.now }
+    {
+        &self.items
+    }
+
+    /// Whether both have the same items in the same order.
+    pub fn same(&self, other: &Source) -> bool
+        ensures exact { IsTrue result ↔ (self.now ≡ other.now) }
+    {
+        same_items(&self.items, &other.items)
+    }
+}
+
+/// The longest text, in bytes.
+const TEXT_LIMIT: usize = 65536;
+
+/// The program that a text is. `LangFault` says when each error comes.
+pub fn read_program(alloc: Global, text: &[u8]) -> Result<Source, LangFault>
+    ensures read { IsReadAs text.now (λ source. source) result }
+{
+    if text.len() > TEXT_LIMIT {
+        return Err(LangFault::TooLong);
+    }
+    let lexemes = tokens(alloc, text)?;
+    match items(alloc, &lexemes) {
+        Ok(items) => Ok(Source { items }),
+        Err(stuck) => Err(stuck.fault(text.len() as u32)),
+    }
+}
+
+/// A law and no step: a text is the text of one program at most.
+pub fn one_program()
+    ensures one { (text : List ℕ) (left right : List ItemTree) → HasProgram text left → HasProgram text right → left ≡ right }
+{}

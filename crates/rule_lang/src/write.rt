@@ -1,0 +1,131 @@
+//! The canonical spelling.
+
+ghost use Rattle.std.specs.Prelude.{◌≡◌, ◌++◌, OnOk, IfOk, string_bytes};
+ghost use Rattle.std.specs.Fmt.{decimal};
+ghost use Rattle.rule_lang.specs.View.{tree_of, item_of, items_of};
+ghost use Rattle.rule_lang.specs.Tree.{agg_word};
+ghost use Rattle.rule_lang.specs.Program.{HasProgram};
+ghost use Rattle.rule_lang.specs.Canonical.{op_text, tree_text, item_text, program_text};
+
+use crate::source::Source;
+use crate::tree::{Agg, Expr, Item, Op};
+use std::alloc::{AllocError, Global};
+
+fn operator_text(op: Op) -> &'static str
+    ensures { result.now ≡ op_text op }
+{
+    match op {
+        Op::Plus => "+",
+        Op::Minus => "-",
+        Op::Times => "*",
+        Op::Quot => "/",
+        Op::Rem => "%",
+        Op::BitAnd => "&",
+        Op::BitOr => "|",
+        Op::BitXor => "^",
+        Op::Equal => "==",
+        Op::Differ => "!=",
+        Op::Less => "<",
+        Op::LessEq => "<=",
+        Op::Greater => ">",
+        Op::GreaterEq => ">=",
+        Op::Min => "min",
+        Op::Max => "max",
+    }
+}
+
+fn aggregate_text(agg: Agg) -> &'static str
+    ensures { result.now ≡ agg_word agg }
+{
+    match agg {
+        Agg::Total => "total",
+        Agg::Least => "least",
+        Agg::Most => "most",
+        Agg::Count => "count",
+        Agg::Some1 => "any",
+        Agg::Every => "all",
+    }
+}
+
+fn put_number(alloc: Global, out: &mut String, value: u32) -> Result<(), AllocError>
+    ensures { OnOk result (string_bytes out.new ≡ string_bytes out.old ++ decimal value) }
+{
+    out.push_str(&value.to_string(alloc)?)
+}
+
+fn put_expression(alloc: Global, out: &mut String, expr: &Expr) -> Result<(), AllocError>
+    ensures { OnOk result (string_bytes out.new ≡ string_bytes out.old ++ tree_text (tree_of expr.now)) }
+{
+    match expr {
+        Expr::Number(value) => put_number(alloc, out, *value),
+        Expr::Own(name) => out.push_str(name),
+        Expr::Id => out.push_str("id"),
+        Expr::Degree => out.push_str("degree"),
+        Expr::Round => out.push_str("round"),
+        Expr::Near(name) => {
+            out.push_str("n.")?;
+            out.push_str(name)
+        }
+        Expr::NearId => out.push_str("n.id"),
+        Expr::NearWeight => out.push_str("n.weight"),
+        Expr::Infix(op, left, right) => {
+            out.push_str("(")?;
+            put_expression(alloc, out, left)?;
+            out.push_str(" ")?;
+            out.push_str(operator_text(*op))?;
+            out.push_str(" ")?;
+            put_expression(alloc, out, right)?;
+            out.push_str(")")
+        }
+        Expr::Not(part) => {
+            out.push_str("not ")?;
+            put_expression(alloc, out, part)
+        }
+        Expr::Over(agg, part) => {
+            out.push_str(aggregate_text(*agg))?;
+            out.push_str(" ")?;
+            put_expression(alloc, out, part)
+        }
+        Expr::Choice(test, yes, no) => {
+            out.push_str("if ")?;
+            put_expression(alloc, out, test)?;
+            out.push_str(" then ")?;
+            put_expression(alloc, out, yes)?;
+            out.push_str(" else ")?;
+            put_expression(alloc, out, no)
+        }
+    }
+}
+
+fn put_item(alloc: Global, out: &mut String, item: &Item) -> Result<(), AllocError>
+    ensures { OnOk result (string_bytes out.new ≡ string_bytes out.old ++ item_text (item_of item.now)) }
+{
+    match item {
+        Item::Field { name, value } => {
+            out.push_str("field ")?;
+            out.push_str(name)?;
+            out.push_str(" = ")?;
+            put_number(alloc, out, *value)?;
+            out.push_str(";\n")
+        }
+        Item::Next { name, body } => {
+            out.push_str("next ")?;
+            out.push_str(name)?;
+            out.push_str(" = ")?;
+            put_expression(alloc, out, body)?;
+            out.push_str(";\n")
+        }
+    }
+}
+
+/// The canonical spelling of a program.
+pub fn write_program(alloc: Global, source: &Source) -> Result<Vec<u8>, AllocError>
+    ensures text { IfOk result (λ bytes. bytes.items ≡ program_text source.now) }
+    ensures program { IfOk result (λ bytes. HasProgram bytes.items source.now) }
+{
+    let mut out = String::new(alloc);
+    for item in source.items() {
+        put_item(alloc, &mut out, item)?;
+    }
+    Ok(out.into_bytes())
+}
