@@ -1,0 +1,10 @@
+pub mod Exec
+pub mod Steps
+pub mod Laws
+pub mod Rules
+pub mod Programs
+pub mod Decode
+pub mod Checked
+pub mod Order
+pub mod Gathers
+pub mod Rest

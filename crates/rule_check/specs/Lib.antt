@@ -1,0 +1,13 @@
+pub mod Table
+pub mod Value
+pub mod Machine
+pub mod Frames
+pub mod Code
+pub mod WellFormed
+pub mod Gathering
+pub mod Compiled
+pub mod Loops
+pub mod Shapes
+pub mod Items
+pub mod Fields
+pub mod Order

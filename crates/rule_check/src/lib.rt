@@ -1,0 +1,19 @@
+//! Checked programs of the rule language, and the states that they lead to.
+#![tactic(auto)]
+
+mod code;
+mod emit;
+mod fault;
+mod law;
+mod parts;
+mod program;
+mod run;
+mod state;
+mod table;
+mod tests_of;
+mod words;
+
+pub use fault::CheckFault;
+pub use law::order_of_neighbours;
+pub use program::{Program, check};
+pub use state::{Near, State, Sums};

@@ -1,0 +1,233 @@
+//! A checked program.
+
+ghost use Rattle.std.specs.Prelude.{◌≡◌, ◌≤◌, ◌<◌, ℕ, List, [], ◌∷◌, ◌++◌, length, ◌≢◌, IfOk, IfErr, Option, slice_get, slice_index, if◌then◌else◌};
+ghost use Rattle.std.specs.Option.{option_map};
+ghost use Rattle.rule_check.specs.declared.state.State.{State};
+ghost use Rattle.rule_check.specs.declared.state.Near.{Near};
+ghost use Rattle.rule_check.specs.Value.{here_at, next_state, names_of, place, opening_of};
+ghost use Rattle.rule_check.specs.Gathering.{sums_at, taken, finished};
+ghost use Rattle.rule_check.specs.WellFormed.{first_fault, is_among};
+ghost use Rattle.rule_check.specs.Items.{rules_of};
+
+use crate::emit::{collect_fields, collect_parts, collect_rules};
+use crate::fault::CheckFault;
+use crate::parts::{Field, Gatherer, Rule};
+use crate::run::{DEPTH, Frame};
+use crate::state::{Near, State, Sums};
+use crate::tests_of::{
+    assigns_twice, count_all, index_of, repeats, some_nest, some_outside, some_unknown,
+};
+use crate::words::{clear_words, finish_words, opening_words, start_words, take_words};
+use rule_lang::Source;
+use std::alloc::Global;
+use std::marker::Model;
+
+/// A well-formed program: its `field` items and its `next` items, each in the text's order.
+#[derive(Drop)]
+pub struct Program {
+    fields: Vec<Field>,
+    gatherers: Vec<Gatherer>,
+    rules: Vec<Rule>,
+}
+
+impl Model for Program {
+    ghost use Rattle.std.specs.Coded.{codes};
+    ghost use Rattle.rule_lang.specs.TreeCode.{coded_tree};
+    ghost use Rattle.rule_check.specs.Value.{Rules};
+
+    ghost Value = { Rules };
+
+    ghost coded = { Prim.hlevel (codes, coded_tree) };
+
+    ghost use Rattle.rule_check.specs.Compiled.{decoded, IsCompiled};
+
+    ghost view = { decoded };
+
+    ghost invariant = { IsCompiled };
+}
+
+/// The checked program of a text's items, or the first fault that they have.
+///
+/// `Memory` comes only where memory ran out, and in place of any other answer.
+pub fn check(alloc: Global, source: &Source) -> Result<Program, CheckFault>
+    ensures ok { IfOk result (λ p. (first_fault (rules_of source.now) ≡ None) × (p ≡ rules_of source.now)) }
+    ensures err { IfErr result (λ fault. fault ≢ CheckFault.Memory → first_fault (rules_of source.now) ≡ Some fault) }
+{
+    let items = source.items();
+    let fields = collect_fields(alloc, items)?;
+    if fields.len() > 8 {
+        return Err(CheckFault::TooManyFields);
+    }
+    if repeats(&fields) {
+        return Err(CheckFault::FieldTwice);
+    }
+    if assigns_twice(items) {
+        return Err(CheckFault::NextTwice);
+    }
+    if some_unknown(&fields, items) {
+        return Err(CheckFault::UnknownName);
+    }
+    if some_outside(items) {
+        return Err(CheckFault::NeighbourOutside);
+    }
+    if some_nest(items) {
+        return Err(CheckFault::NestedAggregate);
+    }
+    if count_all(items) > 16 {
+        return Err(CheckFault::TooManyAggregates);
+    }
+    let gatherers = collect_parts(alloc, &fields, items)?;
+    let rules = collect_rules(alloc, &fields, items)?;
+    Ok(Program {
+        fields,
+        gatherers,
+        rules,
+    })
+}
+
+impl Program {
+    /// How many fields there are.
+    pub fn field_count(&self) -> u32
+        ensures count { result ≡ length self.now.fields }
+        ensures few { result ≤ 8 }
+    {
+        self.fields.len() as u32
+    }
+
+    /// The name of the field at a place, or none past the last.
+    pub fn field_name(&self, i: u32) -> Option<&str>
+        ensures name { option_map (λ name. name.now) result ≡ slice_get (names_of self.now) i }
+    {
+        let field = self.fields.get(i as usize)?;
+        Some(field.name.as_str())
+    }
+
+    /// The place of the field of this name, or none where it is no field's.
+    pub fn field_index(&self, name: &str) -> Option<u32>
+        ensures index { result ≡ (if is_among (names_of self.now) name.now then Some (place (names_of self.now) name.now) else None) }
+    {
+        index_of(&self.fields, name)
+    }
+
+    /// The state that each node has at first.
+    pub fn opening(&self) -> State
+        ensures exact { result ≡ opening_of self.now }
+        ensures rest_is_zero { (k : ℕ) → length self.now.fields ≤ k → slice_index result.words k ≡ 0 }
+    {
+        let mut words = [0; 8];
+        opening_words(&self.fields, &mut words);
+        State { words }
+    }
+
+    /// The next state, in the step from `round`, of the node `id` with the state `own` and these neighbours.
+    pub fn next(&self, id: u32, own: State, round: u32, neighbours: &[Near]) -> State
+        requires few { length neighbours.now ≤ 4096 }
+        ensures exact { next_state self.now round id own neighbours.now ≡ result }
+        ensures rest_is_zero { (k : ℕ) → length self.now.fields ≤ k → slice_index result.words k ≡ 0 }
+    {
+        let degree = neighbours.len() as u32;
+        let mut stack = [0; DEPTH];
+        let mut sums = self.start();
+        for near in neighbours {
+            self.take_on(&mut stack, &mut sums, id, degree, &own, round, near);
+        }
+        self.finish_on(&mut stack, id, degree, &own, round, &sums)
+    }
+
+    /// The aggregates' values over no neighbour.
+    pub fn start(&self) -> Sums
+        ensures none { (round id degree : ℕ) (own : State) → result ≡ sums_at self.now (here_at self.now round id degree own []) }
+    {
+        let mut words = [0; 16];
+        start_words(&self.gatherers, &mut words);
+        Sums { words }
+    }
+
+    /// Takes one neighbour more into the aggregates' values of the node `id`.
+    ///
+    /// Neighbours may be taken in any order.
+    pub fn take(&self, sums: &mut Sums, id: u32, degree: u32, own: State, round: u32, near: &Near)
+        ensures step { (nears : List Near) → sums.new ≡ taken self.now (here_at self.now round id degree own nears) near.now sums.old }
+        ensures anywhere { (front back : List Near) → length (front ++ back) < 4096
+            → sums.old ≡ sums_at self.now (here_at self.now round id degree own (front ++ back))
+            → sums.new ≡ sums_at self.now (here_at self.now round id degree own (front ++ near.now ∷ back)) }
+    {
+        let mut stack = [0; DEPTH];
+        self.take_on(&mut stack, sums, id, degree, &own, round, near);
+    }
+
+    /// The next state by the aggregates' values over all `degree` neighbours.
+    pub fn finish(&self, id: u32, degree: u32, own: State, round: u32, sums: &Sums) -> State
+        ensures exact { result ≡ finished self.now round id degree own sums.now }
+        ensures completes { (nears : List Near) → length nears ≡ degree
+            → sums.now ≡ sums_at self.now (here_at self.now round id degree own nears)
+            → result ≡ next_state self.now round id own nears }
+        ensures rest_is_zero { (k : ℕ) → length self.now.fields ≤ k → slice_index result.words k ≡ 0 }
+    {
+        let mut stack = [0; DEPTH];
+        self.finish_on(&mut stack, id, degree, &own, round, sums)
+    }
+
+    // `take`, on a stack that is lent.
+    fn take_on(
+        &self,
+        stack: &mut [u32; DEPTH],
+        sums: &mut Sums,
+        id: u32,
+        degree: u32,
+        own: &State,
+        round: u32,
+        near: &Near,
+    )
+        ensures step { (nears : List Near) → sums.new ≡ taken self.now (here_at self.now round id degree own.now nears) near.now sums.old }
+        ensures anywhere { (front back : List Near) → length (front ++ back) < 4096
+            → sums.old ≡ sums_at self.now (here_at self.now round id degree own.now (front ++ back))
+            → sums.new ≡ sums_at self.now (here_at self.now round id degree own.now (front ++ near.now ∷ back)) }
+    {
+        let none = Sums { words: [0; 16] };
+        let frame = Frame {
+            id,
+            degree,
+            round,
+            own,
+            near,
+            sums: &none,
+        };
+        take_words(stack, &self.gatherers, &frame, &mut sums.words);
+    }
+
+    // `finish`, on a stack that is lent.
+    fn finish_on(
+        &self,
+        stack: &mut [u32; DEPTH],
+        id: u32,
+        degree: u32,
+        own: &State,
+        round: u32,
+        sums: &Sums,
+    ) -> State
+        ensures exact { result ≡ finished self.now round id degree own.now sums.now }
+        ensures completes { (nears : List Near) → length nears ≡ degree
+            → sums.now ≡ sums_at self.now (here_at self.now round id degree own.now nears)
+            → result ≡ next_state self.now round id own.now nears }
+        ensures rest_is_zero { (k : ℕ) → length self.now.fields ≤ k → slice_index result.words k ≡ 0 }
+    {
+        let near = Near {
+            id,
+            weight: 0,
+            state: *own,
+        };
+        let frame = Frame {
+            id,
+            degree,
+            round,
+            own,
+            near: &near,
+            sums,
+        };
+        let mut words = own.words;
+        clear_words(self.fields.len(), &mut words);
+        finish_words(stack, &self.rules, &frame, &mut words);
+        State { words }
+    }
+}

@@ -1,0 +1,89 @@
+//! Runs postfix code.
+
+ghost use Rattle.std.specs.Prelude.{◌≡◌, ◌<◌, min, ◌≤◌, ◌-◌, ◌+◌, ◌∷◌, [], drop, length};
+ghost use Rattle.rule_check.specs.Machine.{step as step_lem, exec, Allows, height_after, Runs};
+ghost use Rattle.rule_check.specs.Table.{M};
+ghost use Rattle.rule_check.specs.Frames.{seen};
+
+use crate::code::Instr;
+use crate::state::{Near, State, Sums};
+use crate::table::{apply, choose};
+
+/// How many values a stack holds.
+pub const DEPTH: usize = 127;
+
+/// What code is run on: a node in the step from a round, one neighbour, and the aggregates' values.
+#[derive(Clone, Copy)]
+pub struct Frame<'a> {
+    pub id: u32,
+    pub degree: u32,
+    pub round: u32,
+    pub own: &'a State,
+    pub near: &'a Near,
+    pub sums: &'a Sums,
+}
+
+// One instruction. The stack is the words from `top` on, the last value first.
+fn act(instr: Instr, frame: &Frame, words: &mut [u32; DEPTH], top: usize) -> usize
+    requires top { top ≤ 127 }
+    requires allows { Allows instr (127 - top) }
+    ensures top { result + height_after instr (127 - top) ≡ 127 }
+    ensures after { drop result words.new ≡ step_lem (seen frame.now) instr (drop top words.old) }
+{
+    match instr {
+        Instr::Push(n) => put(words, top, n),
+        Instr::OwnWord(k) => put(words, top, frame.own.words[k as usize]),
+        Instr::NodeId => put(words, top, frame.id),
+        Instr::NodeDegree => put(words, top, frame.degree),
+        Instr::NodeRound => put(words, top, round_of(frame)),
+        Instr::NearWord(k) => put(words, top, frame.near.state.words[k as usize]),
+        Instr::NearId => put(words, top, frame.near.id),
+        Instr::NearWeight => put(words, top, frame.near.weight),
+        Instr::SumWord(k) => put(words, top, frame.sums.words[k as usize]),
+        Instr::Apply(op) => {
+            let value = apply(op, words[top + 1], words[top]);
+            words[top + 1] = value;
+            top + 1
+        }
+        Instr::Negate => {
+            let value = u32::from(words[top] == 0);
+            words[top] = value;
+            top
+        }
+        Instr::Pick => {
+            let value = choose(words[top + 2], words[top + 1], words[top]);
+            words[top + 2] = value;
+            top + 2
+        }
+    }
+}
+
+// The round, which a word holds.
+fn round_of(frame: &Frame) -> u32
+    ensures { result ≡ min frame.now.round M }
+{
+    frame.round
+}
+
+// One value more.
+fn put(words: &mut [u32; DEPTH], top: usize, value: u32) -> usize
+    requires top { top ≤ 127 }
+    requires room { 0 < top }
+    ensures top { result + 1 ≡ top }
+    ensures after { drop result words.new ≡ value ∷ drop top words.old }
+{
+    words[top - 1] = value;
+    top - 1
+}
+
+/// The value that code leaves, on a stack of any values.
+pub fn run(stack: &mut [u32; DEPTH], code: &[Instr], frame: &Frame) -> u32
+    requires { Runs code.now 0 }
+    ensures { exec (seen frame.now) code.now [] ≡ result ∷ [] }
+{
+    let mut top = DEPTH;
+    for instr in code {
+        top = act(*instr, frame, stack, top);
+    }
+    stack[top]
+}

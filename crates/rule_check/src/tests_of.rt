@@ -1,0 +1,220 @@
+//! The tests that a well-formed program passes.
+
+ghost use Rattle.std.specs.Prelude.{◌≡◌, ◌≤◌, min, length, map, Some, None, if◌then◌else◌};
+ghost use Rattle.std.specs.List.{list_any};
+ghost use Rattle.rule_lang.specs.View.{tree_of, items_of};
+ghost use Rattle.rule_check.specs.Value.{parts, place};
+ghost use Rattle.rule_check.specs.WellFormed.{is_among, has_twice, names_unknown, looks_outside, nests, is_unknown, all_parts};
+ghost use Rattle.rule_check.specs.Items.{nexts_of};
+ghost use Rattle.rule_check.specs.Table.{M};
+ghost use Rattle.rule_check.specs.Fields.{field_names};
+
+use crate::parts::Field;
+use rule_lang::{Expr, Item};
+
+/// The place of a name among the fields, or their number where it isn't there.
+pub fn place_of(fields: &[Field], name: &str) -> usize
+    ensures value { result ≡ place (field_names fields.now) name.now }
+    ensures within { result ≤ length fields.now }
+{
+    for (k, field) in fields.iter().enumerate() {
+        if field.name.is(name) {
+            return k;
+        }
+    }
+    fields.len()
+}
+
+/// Whether a field has this name.
+pub fn declares(fields: &[Field], name: &str) -> bool
+    ensures { result ≡ is_among (field_names fields.now) name.now }
+{
+    for field in fields {
+        if field.name.is(name) {
+            return true;
+        }
+    }
+    false
+}
+
+/// Whether two fields have one name.
+pub fn repeats(fields: &[Field]) -> bool
+    ensures { result ≡ has_twice (field_names fields.now) }
+{
+    for (k, field) in fields.iter().enumerate() {
+        if declares(&fields[k + 1..], field.name.as_str()) {
+            return true;
+        }
+    }
+    false
+}
+
+/// Whether one of these items is a next item of this name.
+pub fn assigns(items: &[Item], name: &str) -> bool
+    ensures { result ≡ is_among (map (λ n. n.name) (nexts_of (items_of items.now))) name.now }
+{
+    for item in items {
+        if let Item::Next { name: other, .. } = item {
+            if other.as_str() == name {
+                return true;
+            }
+        }
+    }
+    false
+}
+
+/// Whether two next items have one name.
+pub fn assigns_twice(items: &[Item]) -> bool
+    ensures { result ≡ has_twice (map (λ n. n.name) (nexts_of (items_of items.now))) }
+{
+    for (k, item) in items.iter().enumerate() {
+        if let Item::Next { name, .. } = item {
+            if assigns(&items[k + 1..], name.as_str()) {
+                return true;
+            }
+        }
+    }
+    false
+}
+
+/// Whether the expression has a name that is no field's.
+pub fn unknown_in(fields: &[Field], e: &Expr) -> bool
+    ensures { result ≡ names_unknown (field_names fields.now) (tree_of e.now) }
+{
+    match e {
+        Expr::Number(_) | Expr::Id | Expr::Degree | Expr::Round | Expr::NearId | Expr::NearWeight =>
+            false,
+        Expr::Own(name) => !declares(fields, name.as_str()),
+        Expr::Near(name) => !declares(fields, name.as_str()),
+        Expr::Infix(_, a, b) => unknown_in(fields, a) || unknown_in(fields, b),
+        Expr::Not(e) => unknown_in(fields, e),
+        Expr::Over(_, e) => unknown_in(fields, e),
+        Expr::Choice(a, b, c) => {
+            unknown_in(fields, a) || unknown_in(fields, b) || unknown_in(fields, c)
+        }
+    }
+}
+
+/// Whether the expression names a neighbour outside of an aggregate.
+pub fn outside_in(e: &Expr) -> bool
+    ensures { result ≡ looks_outside (tree_of e.now) }
+{
+    match e {
+        Expr::Number(_) | Expr::Own(_) | Expr::Id | Expr::Degree | Expr::Round | Expr::Over(_, _) =>
+            false,
+        Expr::Near(_) | Expr::NearId | Expr::NearWeight => true,
+        Expr::Infix(_, a, b) => outside_in(a) || outside_in(b),
+        Expr::Not(e) => outside_in(e),
+        Expr::Choice(a, b, c) => outside_in(a) || outside_in(b) || outside_in(c),
+    }
+}
+
+/// How many aggregates the expression has, those inside of others aside, as far as a word counts.
+pub fn count_in(e: &Expr) -> u32
+    ensures { result ≡ min (length (parts (tree_of e.now))) M }
+{
+    match e {
+        Expr::Over(_, _) => 1,
+        Expr::Infix(_, a, b) => count_in(a).saturating_add(count_in(b)),
+        Expr::Not(e) => count_in(e),
+        Expr::Choice(a, b, c) => {
+            count_in(a).saturating_add(count_in(b).saturating_add(count_in(c)))
+        }
+        Expr::Number(_)
+        | Expr::Own(_)
+        | Expr::Id
+        | Expr::Degree
+        | Expr::Round
+        | Expr::Near(_)
+        | Expr::NearId
+        | Expr::NearWeight => 0,
+    }
+}
+
+/// Whether an aggregate stands in an aggregate.
+pub fn nests_in(e: &Expr) -> bool
+    ensures { result ≡ nests (tree_of e.now) }
+{
+    match e {
+        Expr::Number(_)
+        | Expr::Own(_)
+        | Expr::Id
+        | Expr::Degree
+        | Expr::Round
+        | Expr::Near(_)
+        | Expr::NearId
+        | Expr::NearWeight => false,
+        Expr::Over(_, e) => count_in(e) > 0,
+        Expr::Infix(_, a, b) => nests_in(a) || nests_in(b),
+        Expr::Not(e) => nests_in(e),
+        Expr::Choice(a, b, c) => nests_in(a) || nests_in(b) || nests_in(c),
+    }
+}
+
+/// Whether a next item has a name that is no field's.
+pub fn some_unknown(fields: &[Field], items: &[Item]) -> bool
+    ensures { result ≡ list_any (is_unknown (field_names fields.now)) (nexts_of (items_of items.now)) }
+{
+    for item in items {
+        if let Item::Next { name, body } = item {
+            if !declares(fields, name.as_str()) || unknown_in(fields, body) {
+                return true;
+            }
+        }
+    }
+    false
+}
+
+/// Whether an expression names a neighbour outside of an aggregate.
+pub fn some_outside(items: &[Item]) -> bool
+    ensures { result ≡ list_any (λ n. looks_outside n.body) (nexts_of (items_of items.now)) }
+{
+    for item in items {
+        if let Item::Next { body, .. } = item {
+            if outside_in(body) {
+                return true;
+            }
+        }
+    }
+    false
+}
+
+/// Whether an aggregate stands in an aggregate.
+pub fn some_nest(items: &[Item]) -> bool
+    ensures { result ≡ list_any (λ n. nests n.body) (nexts_of (items_of items.now)) }
+{
+    for item in items {
+        if let Item::Next { body, .. } = item {
+            if nests_in(body) {
+                return true;
+            }
+        }
+    }
+    false
+}
+
+/// How many aggregates all expressions have, as far as a word counts.
+pub fn count_all(items: &[Item]) -> u32
+    ensures { result ≡ min (length (all_parts (nexts_of (items_of items.now)))) M }
+{
+    let mut count = 0u32;
+    for item in items {
+        if let Item::Next { body, .. } = item {
+            count = count.saturating_add(count_in(body));
+        }
+    }
+    count
+}
+
+/// The place of the field of this name.
+pub fn index_of(fields: &[Field], name: &str) -> Option<u32>
+    requires { length fields.now ≤ 8 }
+    ensures { result ≡ (if is_among (field_names fields.now) name.now then Some (place (field_names fields.now) name.now) else None) }
+{
+    for (k, field) in fields.iter().enumerate() {
+        if field.name.is(name) {
+            return Some(k as u32);
+        }
+    }
+    None
+}
