@@ -15,7 +15,8 @@ use Rattle.rule_lang.specs.declared.tree.Agg.{Agg}
 use Rattle.rule_lang.specs.declared.tree.Agg.TheVariants.{Total, Least, Most, Count, Some1, Every}
 use Rattle.rule_lang.specs.declared.token.Sign.{Sign}
 use Rattle.rule_lang.specs.declared.token.Sign.TheVariants as sign
-use Rattle.rule_lang.specs.Tokens.{Tok, WordTok, NearTok, NumberTok, SignTok, IsTok, is_word_byte, IsWord, sign_bytes, HasForm, FitsTok, IsLongest, IsSpan, StartsWith, begins_near, HasTokens, at_end, after_blank, after_comment, after_token}
+use Rattle.rule_lang.specs.Tokens.{Tok, WordTok, NearTok, NumberTok, SignTok, IsTok, is_word_byte, IsWord, sign_bytes, HasForm, FitsTok, IsLongest, IsSpan, HasTokens, at_end, after_blank, after_comment, after_token}
+use Rattle.rule_lang.specs.Lexing.{StartsWith, begins_near}
 use Rattle.rule_lang.specs.Signs.{long_sign_of}
 use Rattle.rule_lang.specs.Tree.{Tree, NumberTree, OwnTree, IdTree, DegreeTree, RoundTree, NearTree, NearIdTree, NearWeightTree, InfixTree, NotTree, OverTree, ChoiceTree, ItemTree, FieldTree, NextTree, op_token, agg_word, spell, spell_item}
 use Rattle.rule_lang.specs.Canonical.{op_text, tree_text, item_text, program_text}

@@ -9,7 +9,8 @@ use Rattle.rule_lang.specs.Tokens.{Tok}
 use Rattle.rule_lang.specs.Tree.{ItemTree, HasTree, spell_item}
 use Rattle.rule_lang.specs.View.{toks_of, tok_of}
 use Rattle.rule_lang.specs.Reading.{Fails, NoProgramOf, item_at}
-use Rattle.rule_lang.proofs.Trees.{Leads, leads_step, leads_end, leads_stuck, item_shorter, item_sound}
+use Rattle.rule_lang.proofs.ItemTrees.{item_sound}
+use Rattle.rule_lang.proofs.Leads.{Leads, leads_step, leads_end, leads_stuck, item_shorter}
 
 pub stuck_gives : (e : Stuck) (all : List Tok) (items : List ItemTree) (rest : List Tok) → Leads all items rest → 0 < length rest → Fails e (item_at rest) → NoProgramOf all e
 stuck_gives Memory all items rest l h f = tt

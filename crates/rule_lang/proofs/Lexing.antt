@@ -4,10 +4,11 @@ use Rattle.std.specs.Prelude.{◌≢◌, ◌==◌, ◌||◌}
 use Rattle.std.specs.List.{prefix_len}
 use Rattle.std.proofs.lemmas.Bool.Decides.{Decides-eqb}
 use Rattle.std.proofs.lemmas.List.{drop_all}
-use Rattle.rule_lang.specs.Tokens.{Tok, is_blank, is_inside_line, FitsTok, IsLongest, IsSpan, IsFirstToken, HasTokens, at_end, after_blank, after_comment, after_token}
-use Rattle.rule_lang.specs.Lexing.{Lexes, IsRest, IsStep}
+use Rattle.rule_lang.specs.Tokens.{Tok, is_blank, is_inside_line, FitsTok, IsLongest, IsSpan, HasTokens, at_end, after_blank, after_comment, after_token}
+use Rattle.rule_lang.specs.Lexing.{IsFirstToken, Lexes, IsRest, IsStep}
 use Rattle.rule_lang.proofs.Bytes.{or_cases, span_same, span_at, cut_at}
-use Rattle.rule_lang.proofs.Forms.{head_of, head_above, one_first, longest_shorter}
+use Rattle.rule_lang.proofs.FirstTokens.{one_first, longest_shorter}
+use Rattle.rule_lang.proofs.Forms.{head_of, head_above}
 use Rattle.rule_lang.proofs.Items.{behind}
 
 pub blank_small : (b : ℕ) → is_blank b ≡ true → b ≤ 32

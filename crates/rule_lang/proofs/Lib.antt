@@ -1,11 +1,15 @@
 pub mod Bytes
 pub mod Canonical
 pub mod Equality
+pub mod FirstTokens
 pub mod Forms
 pub mod Items
-pub mod Words
+pub mod ItemTrees
+pub mod Leads
 pub mod Lexing
 pub mod Once
 pub mod Program
 pub mod Signs
+pub mod SingleTokens
 pub mod Trees
+pub mod Words

@@ -4,9 +4,10 @@ use Rattle.rule_lang.specs.Tokens.{Tok, is_blank, HasTokens, at_end, after_blank
 use Rattle.rule_lang.specs.Tree.{ItemTree, HasTree, spell_item}
 use Rattle.rule_lang.specs.Reading.{item_at}
 use Rattle.rule_lang.specs.Program.{HasProgram}
-use Rattle.rule_lang.proofs.Forms.{form_some, one_first}
+use Rattle.rule_lang.proofs.FirstTokens.{form_some, one_first}
 use Rattle.rule_lang.proofs.Lexing.{without_blank, without_comment, begins, token_above, blank_small, empty_list}
-use Rattle.rule_lang.proofs.Trees.{item_complete, first_item}
+use Rattle.rule_lang.proofs.ItemTrees.{item_complete}
+use Rattle.rule_lang.proofs.Leads.{first_item}
 
 not_blank : (b : ℕ) → 32 < b → is_blank b ≡ false
 not_blank b h = elim (is_blank b) as (λ t. is_blank b ≡ t → t ≡ false) [ true ↦ (λ e. absurd (let k = blank_small b e in omega arith)) | false ↦ (λ e. refl) ] refl

@@ -1,10 +1,11 @@
--- The canonical spelling of a program.
+-- The canonical spelling of a program, in bytes (59 is `;`, 10 is LF).
 use Rattle.std.specs.Prelude.{ℕ, List, [], ◌∷◌, ◌++◌, codes, flat_map}
 use Rattle.std.specs.Fmt.{decimal}
 use Rattle.rule_lang.specs.declared.tree.Op.{Op}
 use Rattle.rule_lang.specs.declared.tree.Op.TheVariants.{Plus, Minus, Times, Quot, Rem, BitAnd, BitOr, BitXor, Equal, Differ, Less, LessEq, Greater, GreaterEq, Min, Max}
 use Rattle.rule_lang.specs.Tree.{Tree, NumberTree, OwnTree, IdTree, DegreeTree, RoundTree, NearTree, NearIdTree, NearWeightTree, InfixTree, NotTree, OverTree, ChoiceTree, ItemTree, FieldTree, NextTree, agg_word}
 
+-- an operator
 abbrev pub op_text : Op → List ℕ
 op_text Plus = codes "+"
 op_text Minus = codes "-"
@@ -23,6 +24,7 @@ op_text GreaterEq = codes ">="
 op_text Min = codes "min"
 op_text Max = codes "max"
 
+-- an expression
 abbrev pub tree_text : Tree → List ℕ
 tree_text (NumberTree n) = decimal n
 tree_text (OwnTree name) = name
@@ -37,9 +39,11 @@ tree_text (NotTree a) = codes "not " ++ tree_text a
 tree_text (OverTree agg a) = agg_word agg ++ (codes " " ++ tree_text a)
 tree_text (ChoiceTree a b c) = codes "if " ++ (tree_text a ++ (codes " then " ++ (tree_text b ++ (codes " else " ++ tree_text c))))
 
+-- an item: one line that ends in LF
 abbrev pub item_text : ItemTree → List ℕ
 item_text (FieldTree name n) = codes "field " ++ (name ++ (codes " = " ++ (decimal n ++ (59 ∷ 10 ∷ []))))
 item_text (NextTree name body) = codes "next " ++ (name ++ (codes " = " ++ (tree_text body ++ (59 ∷ 10 ∷ []))))
 
+-- a program: its items in order
 abbrev pub program_text : List ItemTree → List ℕ
 program_text items = flat_map item_text items

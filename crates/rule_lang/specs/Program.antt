@@ -1,4 +1,4 @@
--- A program text and its items.
+-- A program text and its items, and why a text is refused.
 use Rattle.std.specs.Prelude.{ℕ, List, Result, Ok, Err, length, flat_map, ◌≤◌, ◌<◌}
 use Rattle.std.specs.List.{AllByRecursion}
 use Rattle.rule_lang.specs.declared.fault.LangFault.{LangFault}
@@ -6,23 +6,24 @@ use Rattle.rule_lang.specs.declared.fault.LangFault.TheVariants.{TooLong, Lex, S
 use Rattle.rule_lang.specs.Tokens.{Tok, IsTok, HasTokens}
 use Rattle.rule_lang.specs.Tree.{ItemTree, HasTree, IsItem, spell_item}
 
--- the text has these items
+-- the text has these items: its tokens have this tree
 pub record HasProgram (text : List ℕ) (items : List ItemTree) : Type 0 where
   pub tokens : List Tok
   pub words : HasTokens text tokens
   pub tree : HasTree tokens items
 
--- What a text is read to, and why it is refused: the first cause that holds.
+-- Why a text is refused, the first cause that holds: too many bytes, no token list, a token list without a tree.
 abbrev pub IsRefusedAs : List ℕ → LangFault → Type 0
 IsRefusedAs text TooLong = 65536 < length text
 IsRefusedAs text (Lex at) = (length text ≤ 65536) × ((tokens : List Tok) → HasTokens text tokens → ⊥)
 IsRefusedAs text (Syntax at) = (length text ≤ 65536) × (tokens : List Tok) × HasTokens text tokens × ((items : List ItemTree) → HasProgram text items → ⊥)
 IsRefusedAs text Memory = Unit {0}
 
+-- what a text is read to: its items, seen by view, or why it has none
 abbrev pub IsReadAs : {X : Type 0} → List ℕ → (X → List ItemTree) → Result X LangFault → Type 0
 IsReadAs text view (Ok x) = (length text ≤ 65536) × HasProgram text (view x)
 IsReadAs text view (Err e) = IsRefusedAs text e
 
--- what has a text: items of the language, whose names are words and whose numbers fit
+-- items that have a text: none uses a reserved word as a name or is deeper than 64, names are words, and numbers are below 2 ^ 32
 abbrev pub IsProgram : List ItemTree → Type 0
 IsProgram items = AllByRecursion IsItem items × AllByRecursion IsTok (flat_map spell_item items)

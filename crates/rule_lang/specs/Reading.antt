@@ -1,5 +1,5 @@
--- Internal: what the functions of the parser return, token by token. No public clause cites it.
--- What is read at the front of a token list, and the tokens behind it.
+-- Internal: what the functions of the parser return, token by token: what they read at the front
+-- of a token list, and the tokens behind it. No public clause cites it; what a tree's tokens are stands in Tree.
 use Rattle.std.specs.Prelude.{ℕ, zero, suc, List, [], ◌∷◌, Option, Some, None, Result, Ok, Err, ◌≡◌}
 use Rattle.rule_lang.specs.declared.tree.Op.{Op}
 use Rattle.rule_lang.specs.declared.tree.Op.TheVariants.{Plus, Minus, Times, Quot, Rem, BitAnd, BitOr, BitXor, Equal, Differ, Less, LessEq, Greater, GreaterEq, Min, Max}
@@ -17,21 +17,24 @@ use Rattle.rule_lang.specs.Keywords.{keyword_of}
 use Rattle.rule_lang.specs.Tokens.{Tok, WordTok, NearTok, NumberTok, SignTok}
 use Rattle.rule_lang.specs.Tree.{Tree, NumberTree, OwnTree, IdTree, DegreeTree, RoundTree, NearTree, NearIdTree, NearWeightTree, InfixTree, NotTree, OverTree, ChoiceTree, ItemTree, FieldTree, NextTree, HasTree}
 
+-- the next step, where this one read something
 infixl 10 ◌>>=◌
 abbrev pub ◌>>=◌ : {A B : Type 0} → Option A → (A → Option B) → Option B
 None >>= f = None
 (Some x) >>= f = f x
 
--- What a function returned, seen by view, is what reading gives, unless memory ran out.
+-- nothing can be read here, unless memory ran out
 abbrev pub Fails : {Y : Type 0} → Stuck → Option Y → Type 0
 Fails (Token at) read = read ≡ None
 Fails End read = read ≡ None
 Fails Memory read = Unit {0}
 
+-- what a function returned, seen by view, is what can be read
 abbrev pub Gives : {X Y : Type 0} → (X → Y) → Result X Stuck → Option Y → Type 0
 Gives view (Ok x) read = read ≡ Some (view x)
 Gives view (Err e) read = Fails e read
 
+-- a cause that is not memory
 abbrev pub NoMemoryWanted : Stuck → Type 0
 NoMemoryWanted (Token at) = Unit {0}
 NoMemoryWanted End = Unit {0}
@@ -43,19 +46,22 @@ fault_of (Token at) end = fault.Syntax at
 fault_of End end = fault.Syntax end
 fault_of Memory end = fault.Memory
 
--- The tree of the tokens; where there is none, a cause that is not memory.
+-- the tokens have no tree, unless memory ran out
 abbrev pub NoProgramOf : List Tok → Stuck → Type 0
 NoProgramOf tokens (Token at) = (items : List ItemTree) → HasTree tokens items → ⊥
 NoProgramOf tokens End = (items : List ItemTree) → HasTree tokens items → ⊥
 NoProgramOf tokens Memory = Unit {0}
 
+-- the tree of the tokens, seen by view, or why there is none
 abbrev pub IsProgramOf : {X : Type 0} → List Tok → (X → List ItemTree) → Result X Stuck → Type 0
 IsProgramOf tokens view (Ok x) = HasTree tokens (view x)
 IsProgramOf tokens view (Err e) = NoProgramOf tokens e
 
+-- something read, and the tokens behind it
 abbrev pub Reads : Type 0 → Type 0
 Reads A = List Tok → Option (A × List Tok)
 
+-- single tokens
 unfoldable pub close_at : List Tok → Option (List Tok)
 close_at (SignTok sign.Close ∷ ts) = Some ts
 close_at _ = None
@@ -72,6 +78,7 @@ unfoldable pub number_at : Reads ℕ
 number_at (NumberTok n ∷ ts) = Some (n, ts)
 number_at _ = None
 
+-- a word that no keyword has
 abbrev pub name_only : Option Keyword → List ℕ → List Tok → Option (List ℕ × List Tok)
 name_only None w ts = Some (w, ts)
 name_only (Some k) w ts = None
@@ -80,6 +87,7 @@ unfoldable pub name_at : Reads (List ℕ)
 name_at (WordTok w ∷ ts) = name_only (keyword_of w) w ts
 name_at _ = None
 
+-- the word `then`
 abbrev pub then_only : Option Keyword → List Tok → Option (List Tok)
 then_only (Some word.Then) ts = Some ts
 then_only _ ts = None
@@ -88,6 +96,7 @@ unfoldable pub then_at : List Tok → Option (List Tok)
 then_at (WordTok w ∷ ts) = then_only (keyword_of w) ts
 then_at _ = None
 
+-- the word `else`
 abbrev pub else_only : Option Keyword → List Tok → Option (List Tok)
 else_only (Some word.Else) ts = Some ts
 else_only _ ts = None
@@ -96,6 +105,7 @@ unfoldable pub else_at : List Tok → Option (List Tok)
 else_at (WordTok w ∷ ts) = else_only (keyword_of w) ts
 else_at _ = None
 
+-- the operator of a sign, of a keyword, of a token
 unfoldable pub sign_op : Sign → Option Op
 sign_op sign.Plus = Some Plus
 sign_op sign.Minus = Some Minus
@@ -129,6 +139,7 @@ op_at (t ∷ ts) = do
   op ← op_of t
   Some (op, ts)
 
+-- the aggregate of a keyword
 unfoldable pub agg_of : Keyword → Option Agg
 agg_of word.Total = Some Total
 agg_of word.Least = Some Least
@@ -148,6 +159,7 @@ near_only (Some _) w = None
 unfoldable pub near_of : List ℕ → Option Tree
 near_of w = near_only (keyword_of w) w
 
+-- what follows an opening bracket, where expr reads the parts
 unfoldable pub infix_at : Reads Tree → Reads Tree
 infix_at expr ts = do
   a ← expr ts
@@ -156,6 +168,7 @@ infix_at expr ts = do
   rest ← close_at b.1
   Some (InfixTree op.0 a.0 b.0, rest)
 
+-- what follows `if`
 unfoldable pub choice_at : Reads Tree → Reads Tree
 choice_at expr ts = do
   a ← expr ts
@@ -165,12 +178,14 @@ choice_at expr ts = do
   c ← expr e
   Some (ChoiceTree a.0 b.0 c.0, c.1)
 
+-- what follows the word of an aggregate
 unfoldable pub over_at : Reads Tree → Keyword → Reads Tree
 over_at expr k ts = do
   agg ← agg_of k
   a ← expr ts
   Some (OverTree agg a.0, a.1)
 
+-- what follows a keyword
 unfoldable pub prefix_at : Reads Tree → Keyword → Reads Tree
 prefix_at expr word.Id ts = Some (IdTree, ts)
 prefix_at expr word.Degree ts = Some (DegreeTree, ts)
@@ -181,10 +196,12 @@ prefix_at expr word.Not ts = do
 prefix_at expr word.If ts = choice_at expr ts
 prefix_at expr k ts = over_at expr k ts
 
+-- what follows a word: nothing after a name
 abbrev pub own_or_prefix_at : Reads Tree → Option Keyword → List ℕ → Reads Tree
 own_or_prefix_at expr None w ts = Some (OwnTree w, ts)
 own_or_prefix_at expr (Some k) w ts = prefix_at expr k ts
 
+-- an expression whose parts expr reads
 unfoldable pub form_at : Reads Tree → Reads Tree
 form_at expr [] = None
 form_at expr (NumberTok n ∷ ts) = Some (NumberTree n, ts)
@@ -217,11 +234,13 @@ next_at ts = do
   end ← semicolon_at body.1
   Some (NextTree name.0 body.0, end)
 
+-- what follows the first word of an item
 abbrev pub item_only : Option Keyword → Reads ItemTree
 item_only (Some word.Field) ts = field_at ts
 item_only (Some word.Next) ts = next_at ts
 item_only _ ts = None
 
+-- an item
 unfoldable pub item_at : Reads ItemTree
 item_at (WordTok w ∷ ts) = item_only (keyword_of w) ts
 item_at _ = None

@@ -24,6 +24,7 @@ pub data Tree : Type 0 where
   OverTree : (agg : Agg) (part : Tree) → Tree
   ChoiceTree : (test then else : Tree) → Tree
 
+-- an item: a field and its opening value, or a field and its next value
 pub data ItemTree : Type 0 where
   FieldTree : (name : List ℕ) (value : ℕ) → ItemTree
   NextTree : (name : List ℕ) (body : Tree) → ItemTree
@@ -32,6 +33,7 @@ pub data ItemTree : Type 0 where
 abbrev pub reserved : List (List ℕ)
 reserved = codes "field" ∷ codes "next" ∷ codes "id" ∷ codes "degree" ∷ codes "not" ∷ codes "min" ∷ codes "max" ∷ codes "total" ∷ codes "least" ∷ codes "most" ∷ codes "count" ∷ codes "any" ∷ codes "all" ∷ codes "if" ∷ codes "then" ∷ codes "else" ∷ codes "round" ∷ codes "weight" ∷ []
 
+-- the token of an operator
 abbrev pub op_token : Op → Tok
 op_token Plus = SignTok sign.Plus
 op_token Minus = SignTok sign.Minus
@@ -50,6 +52,7 @@ op_token GreaterEq = SignTok sign.GreaterEq
 op_token Min = WordTok (codes "min")
 op_token Max = WordTok (codes "max")
 
+-- the word of an aggregate
 abbrev pub agg_word : Agg → List ℕ
 agg_word Total = codes "total"
 agg_word Least = codes "least"
@@ -73,6 +76,7 @@ spell (NotTree a) = WordTok (codes "not") ∷ spell a
 spell (OverTree agg a) = WordTok (agg_word agg) ∷ spell a
 spell (ChoiceTree a b c) = WordTok (codes "if") ∷ (spell a ++ (WordTok (codes "then") ∷ (spell b ++ (WordTok (codes "else") ∷ spell c))))
 
+-- the tokens of an item
 abbrev pub spell_item : ItemTree → List Tok
 spell_item (FieldTree name n) = WordTok (codes "field") ∷ WordTok name ∷ SignTok sign.Assign ∷ NumberTok n ∷ SignTok sign.Semicolon ∷ []
 spell_item (NextTree name body) = WordTok (codes "next") ∷ WordTok name ∷ SignTok sign.Assign ∷ (spell body ++ SignTok sign.Semicolon ∷ [])
@@ -92,10 +96,11 @@ depth (NotTree a) = depth a + 1
 depth (OverTree agg a) = depth a + 1
 depth (ChoiceTree a b c) = max (depth a) (max (depth b) (depth c)) + 1
 
+-- no reserved word
 abbrev pub IsName : List ℕ → Type 0
 IsName word = AllByRecursion (λ r. word ≢ r) reserved
 
--- no reserved word stands as a name
+-- no reserved word stands as a name in the expression
 abbrev pub HasNames : Tree → Type 0
 HasNames (NumberTree n) = Unit {0}
 HasNames (OwnTree name) = IsName name
@@ -115,7 +120,7 @@ abbrev pub IsItem : ItemTree → Type 0
 IsItem (FieldTree name n) = IsName name
 IsItem (NextTree name body) = IsName name × HasNames body × (depth body ≤ 64)
 
--- the tree that a token list has
+-- the token list has this tree, a list of items
 pub record HasTree (tokens : List Tok) (items : List ItemTree) : Type 0 where
   pub spelling : tokens ≡ flat_map spell_item items
   pub each : AllByRecursion IsItem items

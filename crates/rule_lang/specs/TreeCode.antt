@@ -8,6 +8,7 @@ use Rattle.rule_lang.specs.declared.tree.Agg.{Agg}
 use Rattle.rule_lang.specs.declared.tree.Agg.TheVariants.{Total, Least, Most, Count, Some1, Every}
 use Rattle.rule_lang.specs.Tree.{Tree, NumberTree, OwnTree, IdTree, DegreeTree, RoundTree, NearTree, NearIdTree, NearWeightTree, InfixTree, NotTree, OverTree, ChoiceTree, ItemTree, FieldTree, NextTree}
 
+-- operators and aggregates as numbers, and back
 abbrev pub op_number : Op → ℕ
 op_number Plus = 0
 op_number Minus = 1
@@ -26,6 +27,7 @@ op_number GreaterEq = 13
 op_number Min = 14
 op_number Max = 15
 
+-- element k, or d
 abbrev pub nth : {A : Type 0} → List A → ℕ → A → A
 nth [] k d = d
 nth (x ∷ xs) zero d = x
@@ -75,6 +77,7 @@ agg_again Every = refl
 abbrev pub Word : Type 0
 Word = ℕ × (ℕ × List ℕ)
 
+-- a tree in postfix form
 abbrev pub spelling : Tree → List Word
 spelling (NumberTree n) = (0, (n, [])) ∷ []
 spelling (OwnTree name) = (1, (0, name)) ∷ []
@@ -89,6 +92,7 @@ spelling (NotTree e) = spelling e ++ (9, (0, [])) ∷ []
 spelling (OverTree agg e) = spelling e ++ (10, (agg_number agg, [])) ∷ []
 spelling (ChoiceTree a b c) = spelling a ++ (spelling b ++ (spelling c ++ (11, (0, [])) ∷ []))
 
+-- the last one, two or three trees built, made one
 abbrev pub on_tree : (Tree → Tree) → List Tree → List Tree
 on_tree f [] = []
 on_tree f (a ∷ ts) = f a ∷ ts
@@ -104,10 +108,12 @@ on_three_trees f (c ∷ []) = []
 on_three_trees f (c ∷ b ∷ []) = []
 on_three_trees f (c ∷ b ∷ a ∷ ts) = f a b c ∷ ts
 
+-- one word read, over the trees built so far
 abbrev pub build_word : ℕ → ℕ → List ℕ → List Tree → List Tree
 build_word kind n name ts =
     nth ((NumberTree n ∷ ts) ∷ (OwnTree name ∷ ts) ∷ (IdTree ∷ ts) ∷ (DegreeTree ∷ ts) ∷ (RoundTree ∷ ts) ∷ (NearTree name ∷ ts) ∷ (NearIdTree ∷ ts) ∷ (NearWeightTree ∷ ts) ∷ on_two_trees (InfixTree (numbered_op n)) ts ∷ on_tree NotTree ts ∷ on_tree (OverTree (numbered_agg n)) ts ∷ on_three_trees ChoiceTree ts ∷ []) kind ts
 
+-- all words read
 abbrev pub build : List Word → List Tree → List Tree
 build [] ts = ts
 build (w ∷ ws) ts = build ws (build_word w.0 w.1.0 w.1.1 ts)
@@ -116,6 +122,7 @@ abbrev pub first_tree : List Tree → Tree
 first_tree [] = IdTree
 first_tree (t ∷ ts) = t
 
+-- a spelling builds its tree
 build-spelling : (t : Tree) (rest : List Word) (ts : List Tree) → build (spelling t ++ rest) ts ≡ build rest (t ∷ ts)
 build-spelling (NumberTree n) rest ts = refl
 build-spelling (OwnTree name) rest ts = refl

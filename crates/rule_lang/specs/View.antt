@@ -10,6 +10,7 @@ use Rattle.rule_lang.specs.declared.token.Lexeme.{Lexeme}
 use Rattle.rule_lang.specs.Tokens.{Tok, WordTok, NearTok, NumberTok, SignTok}
 use Rattle.rule_lang.specs.Tree.{Tree, NumberTree, OwnTree, IdTree, DegreeTree, RoundTree, NearTree, NearIdTree, NearWeightTree, InfixTree, NotTree, OverTree, ChoiceTree, ItemTree, FieldTree, NextTree}
 
+-- the tree of an expression, whose names are bytes
 abbrev pub tree_of : Expr → Tree
 tree_of (Number n) = NumberTree n
 tree_of (Own name) = OwnTree (string_bytes name)
@@ -24,18 +25,22 @@ tree_of (Not' p a) = NotTree (tree_of a)
 tree_of (Over' agg p a) = OverTree agg (tree_of a)
 tree_of (Choice' p a q b r c) = ChoiceTree (tree_of a) (tree_of b) (tree_of c)
 
+-- an item as a tree
 abbrev pub item_of : Item → ItemTree
 item_of (Field name value) = FieldTree (string_bytes name) value
 item_of (Next name body) = NextTree (string_bytes name) (tree_of body)
 
+-- items as trees
 abbrev pub items_of : List Item → List ItemTree
 items_of items = map item_of items
 
+-- the token that stands in memory so
 abbrev pub tok_of : Token → Tok
 tok_of (token.Word w) = WordTok w.now
 tok_of (token.Near w) = NearTok w.now
 tok_of (token.Number n) = NumberTok n
 tok_of (token.Sign s) = SignTok s
 
+-- the tokens, without their places
 abbrev pub toks_of : List Lexeme → List Tok
 toks_of lexemes = map (λ l. tok_of l.token) lexemes

@@ -1,6 +1,6 @@
 use Rattle.std.proofs.Common.{◌∙◌, sym}
 use Rattle.std.specs.Char.{is_ascii_digit}
-use Rattle.rule_lang.proofs.Forms.{number_some, number_none, sign_none, sign_some, starts_at}
+use Rattle.rule_lang.proofs.FirstTokens.{number_some, number_none, sign_none, sign_some, starts_at}
 use Rattle.rule_lang.proofs.lex.first_token.Goals as goal
 
 pub returns-in_err-value : goal.returns-in_err-value

@@ -5,7 +5,7 @@ use Rattle.std.specs.List.{AllByRecursion}
 use Rattle.std.specs.Char.{is_ascii_digit}
 use Rattle.std.specs.Str.Parse.{digits_value, ParsesUnsigned}
 use Rattle.std.proofs.lemmas.Str.Parse.{IsNumeralModel, numerals_by_value, parse_digits}
-use Rattle.rule_lang.proofs.Forms.{digits_some}
+use Rattle.rule_lang.proofs.FirstTokens.{digits_some}
 use Rattle.rule_lang.proofs.lex.number.Goals as goal
 
 abbrev err_of : {E : Type 0} → E → Result ℕ E

@@ -1,5 +1,6 @@
 use Rattle.std.proofs.Common.{◌∙◌, sym}
-use Rattle.rule_lang.proofs.Forms.{near_two, near_found, word_first}
+use Rattle.rule_lang.proofs.FirstTokens.{near_two, near_found}
+use Rattle.rule_lang.proofs.Forms.{word_first}
 use Rattle.rule_lang.proofs.lex.word.Goals as goal
 
 pub slice_bounds-split_word-count : goal.slice_bounds-split_word-count
