@@ -8,3 +8,4 @@ pub mod Checked
 pub mod Order
 pub mod Gathers
 pub mod Rest
+pub mod Equal

@@ -8,6 +8,7 @@ mod law;
 mod parts;
 mod program;
 mod run;
+mod same;
 mod state;
 mod table;
 mod tests_of;

@@ -1,6 +1,6 @@
 //! A checked program.
 
-ghost use Rattle.std.specs.Prelude.{◌≡◌, ◌≤◌, ◌<◌, ℕ, List, [], ◌∷◌, ◌++◌, length, ◌≢◌, IfOk, IfErr, Option, slice_get, slice_index, if◌then◌else◌};
+ghost use Rattle.std.specs.Prelude.{◌≡◌, ◌≤◌, ◌<◌, ℕ, List, [], ◌∷◌, ◌++◌, length, ◌≢◌, IfOk, IfErr, IsTrue, ◌↔◌, Option, slice_get, slice_index, if◌then◌else◌};
 ghost use Rattle.std.specs.Option.{option_map};
 ghost use Rattle.rule_check.specs.declared.state.State.{State};
 ghost use Rattle.rule_check.specs.declared.state.Near.{Near};
@@ -13,6 +13,7 @@ use crate::emit::{collect_fields, collect_parts, collect_rules};
 use crate::fault::CheckFault;
 use crate::parts::{Field, Gatherer, Rule};
 use crate::run::{DEPTH, Frame};
+use crate::same::{same_fields, same_parts, same_rules};
 use crate::state::{Near, State, Sums};
 use crate::tests_of::{
     assigns_twice, count_all, index_of, repeats, some_nest, some_outside, some_unknown,
@@ -107,6 +108,15 @@ impl Program {
         ensures index { result ≡ (if is_among (names_of self.now) name.now then Some (place (names_of self.now) name.now) else None) }
     {
         index_of(&self.fields, name)
+    }
+
+    /// Whether the programs are equal: equal lists of `field` items and of `next` items, each in order.
+    pub fn same(&self, other: &Program) -> bool
+        ensures exact { IsTrue result ↔ (self.now ≡ other.now) }
+    {
+        same_fields(&self.fields, &other.fields)
+            && same_parts(&self.gatherers, &other.gatherers)
+            && same_rules(&self.rules, &other.rules)
     }
 
     /// The state that each node has at first.
