@@ -42,7 +42,7 @@ impl Source {
         ensures same { items_of result.now ≡ self.now }
         ensures whole { IsProgram self.now }
     {
-        &self.items
+        self.items.as_slice()
     }
 
     /// Whether both have the same items in the same order.
