@@ -1,25 +1,21 @@
 -- A program that passes the tests is well formed.
-use Rattle.std.proofs.Common.{◌≡◌, ◌≤◌, List, [], ◌∷◌, length, refl, ◌∙◌, Option, None}
-use Rattle.std.specs.Prelude.{Bool, true, false, if◌then◌else◌}
+use Rattle.std.proofs.Common.{◌≡◌, ◌≤◌, List, [], ◌∷◌, length, ◌∙◌, None}
+use Rattle.std.specs.Prelude.{false}
 use Rattle.std.specs.List.{list_any, AllByRecursion}
 use Rattle.std.proofs.lemmas.List.Elements.{All-from_recursion}
 use Rattle.std.proofs.lemmas.Bool.{le-ltb}
 use Rattle.rule_lang.specs.Tree.{ItemTree, FieldTree, NextTree, IsItem, depth}
 use Rattle.rule_lang.specs.Program.{IsProgram}
-use Rattle.rule_check.specs.declared.fault.CheckFault.{CheckFault}
 use Rattle.rule_check.specs.Value.{names_of}
 use Rattle.rule_check.specs.WellFormed.{first_fault, has_twice, next_names, is_unknown, looks_outside, nests, all_parts}
-use Rattle.rule_check.specs.Gathering.{IsWellFormed}
+use Rattle.rule_check.specs.WellFormed.{IsWellFormed}
 use Rattle.rule_check.specs.Items.{rules_of, fields_of, nexts_of}
+use Rattle.rule_check.proofs.Booleans.{away}
 
 shallow_nexts : (items : List ItemTree) → AllByRecursion IsItem items → AllByRecursion (λ n. depth n.body ≤ 64) (nexts_of items)
 shallow_nexts [] h = tt
 shallow_nexts (FieldTree name value ∷ items) h = shallow_nexts items h.1
 shallow_nexts (NextTree name body ∷ items) h = (h.0.2, shallow_nexts items h.1)
-
-skip : (b : Bool) (x y : Option CheckFault) → b ≡ false → (if b then x else y) ≡ y
-skip true x y h = cc
-skip false x y h = refl
 
 -- the tests that `check` makes
 pub record Passes (items : List ItemTree) : Type 0 where
@@ -45,4 +41,4 @@ well_formed items whole p = record {
 
 pub no_fault : (items : List ItemTree) → Passes items → first_fault (rules_of items) ≡ None
 no_fault items p =
-    skip _ _ _ (le-ltb 8 (length (fields_of items)) p.few_fields) ∙ skip _ _ _ p.fields_differ ∙ skip _ _ _ p.nexts_differ ∙ skip _ _ _ p.known ∙ skip _ _ _ p.inside ∙ skip _ _ _ p.flat ∙ skip _ _ _ (le-ltb 16 (length (all_parts (nexts_of items))) p.few_aggregates)
+    away _ _ _ (le-ltb 8 (length (fields_of items)) p.few_fields) ∙ away _ _ _ p.fields_differ ∙ away _ _ _ p.nexts_differ ∙ away _ _ _ p.known ∙ away _ _ _ p.inside ∙ away _ _ _ p.flat ∙ away _ _ _ (le-ltb 16 (length (all_parts (nexts_of items))) p.few_aggregates)

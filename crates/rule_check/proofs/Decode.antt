@@ -17,12 +17,15 @@ use Rattle.rule_check.specs.declared.program.Program.TheInside.{Inside}
 use Rattle.rule_check.specs.Value.{Rules, Next, Part, parts, place, names_of}
 use Rattle.rule_check.specs.WellFormed.{is_among, names_unknown, all_parts, is_unknown}
 use Rattle.rule_check.specs.Code.{code_of, decode, tree_of_code, top, name_at, part_at}
-use Rattle.rule_check.specs.Gathering.{numbered, IsWellFormed}
+use Rattle.rule_check.specs.Gathering.{numbered}
+use Rattle.rule_check.specs.WellFormed.{IsWellFormed}
 use Rattle.rule_check.specs.Shapes.{rule_shape, part_shape}
 use Rattle.rule_check.specs.Compiled.{decoded, decoded_part, decoded_next, IsCompiled, rule_code, part_code}
 use Rattle.rule_check.specs.Fields.{field_names}
-use Rattle.rule_check.proofs.Laws.{AreFlat, neither, flat_from_all}
-use Rattle.rule_check.proofs.Rules.{not_false}
+use Rattle.rule_check.proofs.Lists.{all_append}
+use Rattle.rule_check.proofs.Flat.{AreFlat, flat_from_all}
+use Rattle.rule_check.proofs.Booleans.{neither}
+use Rattle.rule_check.proofs.Booleans.{not_false}
 
 abbrev make_part : Agg → Tree → Part
 make_part agg body = record { agg = agg; body = body }
@@ -106,10 +109,6 @@ module _ (names : List (List ℕ)) where
   abbrev KnowsNames : Part → Type 0
   KnowsNames part = names_unknown names part.body ≡ false
 
-  knows_append : (xs ys : List Part) → AllByRecursion KnowsNames xs → AllByRecursion KnowsNames ys → AllByRecursion KnowsNames (xs ++ ys)
-  knows_append [] ys h g = g
-  knows_append (x ∷ xs) ys h g = (h.0, knows_append xs ys h.1 g)
-
   known_parts : (e : Tree) → names_unknown names e ≡ false → AllByRecursion KnowsNames (parts e)
   known_parts (NumberTree n) h = tt
   known_parts (OwnTree name) h = tt
@@ -120,20 +119,20 @@ module _ (names : List (List ℕ)) where
   known_parts NearIdTree h = tt
   known_parts NearWeightTree h = tt
   known_parts (InfixTree op a b) h =
-      let n = neither (names_unknown names a) (names_unknown names b) h in knows_append (parts a) (parts b) (known_parts a n.0) (known_parts b n.1)
+      let n = neither (names_unknown names a) (names_unknown names b) h in all_append KnowsNames (parts a) (parts b) (known_parts a n.0) (known_parts b n.1)
   known_parts (NotTree e) h = known_parts e h
   known_parts (OverTree agg e) h = (h, tt)
   known_parts (ChoiceTree a b c) h =
       let n = neither (names_unknown names a) (names_unknown names b || names_unknown names c) h in
       let m = neither (names_unknown names b) (names_unknown names c) n.1 in
-      knows_append (parts a) (parts b ++ parts c) (known_parts a n.0) (knows_append (parts b) (parts c) (known_parts b m.0) (known_parts c m.1))
+      all_append KnowsNames (parts a) (parts b ++ parts c) (known_parts a n.0) (all_append KnowsNames (parts b) (parts c) (known_parts b m.0) (known_parts c m.1))
 
   known_all : (nexts : List Next) → list_any (is_unknown names) nexts ≡ false → AllByRecursion KnowsNames (all_parts nexts)
   known_all [] h = tt
   known_all (n ∷ ns) h =
       let k = neither (is_unknown names n) (list_any (is_unknown names) ns) h in
       let l = neither (not (is_among names n.name)) (names_unknown names n.body) k.0 in
-      knows_append (parts n.body) (all_parts ns) (known_parts n.body l.1) (known_all ns k.1)
+      all_append KnowsNames (parts n.body) (all_parts ns) (known_parts n.body l.1) (known_all ns k.1)
 
   -- the aggregates that code stands for
   decoded_parts : (gs : List Gatherer) (ps : List Part) → map part_shape gs ≡ map (part_code names) ps → AllByRecursion KnowsNames ps → AreFlat ps → map (decoded_part names) gs ≡ ps

@@ -9,8 +9,8 @@ use Rattle.rule_check.specs.Table.{operate, gather}
 use Rattle.rule_check.specs.Machine.{negated, picked}
 use Rattle.rule_check.specs.Value.{Rules, Here, here_at, alone, value, names_of, cleared, body_for, next_word, next_at, next_state}
 use Rattle.rule_check.proofs.Gathers.{gather-permuted}
-use Rattle.rule_check.proofs.Laws.{map_same}
-use Rattle.rule_check.proofs.Rules.{updated_same}
+use Rattle.rule_check.proofs.Lists.{map_same}
+use Rattle.rule_check.proofs.Written.{updated_same}
 
 -- the value of an expression doesn't depend on the order of the neighbours
 value-permuted : (here : Here) (nears : List Near) → IsPermutation here.nears nears → (e : Tree) (near : Near) → value here e near ≡ value (record here { nears = nears }) e near

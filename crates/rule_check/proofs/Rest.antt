@@ -7,8 +7,8 @@ use Rattle.rule_check.specs.declared.parts.Field.{Field}
 use Rattle.rule_check.specs.Value.{Rules, Here, names_of, updated, cleared, next_word, next_at, opening_of, alone}
 use Rattle.rule_check.specs.Machine.{frame}
 use Rattle.rule_check.specs.Gathering.{finished, finished_word, numbered}
-use Rattle.rule_check.proofs.Laws.{map_length}
-use Rattle.rule_check.proofs.Rules.{name_count}
+use Rattle.rule_check.proofs.Lists.{map_length}
+use Rattle.rule_check.proofs.Lists.{name_count}
 
 -- past the words that change, each stays
 updated_past : {A : Type 0} (change : A → ℕ → ℕ) (xs : List A) (ws : List ℕ) (k : ℕ) → length xs ≤ k → slice_index (updated change xs ws) k ≡ slice_index ws k

@@ -80,6 +80,7 @@ parts (ChoiceTree a b c) = parts a ++ (parts b ++ parts c)
 abbrev pub gathered_at : Here → Part → ℕ
 gathered_at here part = gather part.agg (map (value here part.body) here.nears)
 
+-- the names of a program's fields, in order
 abbrev pub names_of : Rules → List (List ℕ)
 names_of rules = map (λ f. f.name) rules.fields
 

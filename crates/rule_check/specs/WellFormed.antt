@@ -1,12 +1,13 @@
 -- Which programs are well formed.
-use Rattle.std.specs.Prelude.{ℕ, Bool, true, false, not, ◌||◌, List, [], ◌∷◌, length, map, Option, Some, None, nat_lt, if◌then◌else◌}
+use Rattle.std.specs.Prelude.{ℕ, ◌≡◌, ◌≤◌, All, Bool, true, false, not, ◌||◌, List, [], ◌∷◌, length, map, Option, Some, None, nat_lt, if◌then◌else◌}
 use Rattle.std.specs.List.{list_any, flat_map}
 use Rattle.std.specs.Str.{bytes_eq}
-use Rattle.rule_lang.specs.Tree.{Tree, NumberTree, OwnTree, IdTree, DegreeTree, RoundTree, NearTree, NearIdTree, NearWeightTree, InfixTree, NotTree, OverTree, ChoiceTree}
+use Rattle.rule_lang.specs.Tree.{Tree, NumberTree, OwnTree, IdTree, DegreeTree, RoundTree, NearTree, NearIdTree, NearWeightTree, InfixTree, NotTree, OverTree, ChoiceTree, depth}
 use Rattle.rule_check.specs.declared.fault.CheckFault.{CheckFault}
 use Rattle.rule_check.specs.declared.fault.CheckFault.TheVariants.{TooManyFields, FieldTwice, NextTwice, UnknownName, NeighbourOutside, NestedAggregate, TooManyAggregates}
 use Rattle.rule_check.specs.Value.{Rules, Next, Part, parts, names_of}
 
+-- a name is one of these
 abbrev pub is_among : List (List ℕ) → List ℕ → Bool
 is_among names name = list_any (λ x. bytes_eq x name) names
 
@@ -60,6 +61,7 @@ nests (NotTree e) = nests e
 nests (OverTree agg e) = nat_lt 0 (length (parts e))
 nests (ChoiceTree a b c) = nests a || (nests b || nests c)
 
+-- the names of a program's next items, in order
 abbrev pub next_names : Rules → List (List ℕ)
 next_names rules = map (λ n. n.name) rules.nexts
 
@@ -67,6 +69,7 @@ next_names rules = map (λ n. n.name) rules.nexts
 abbrev pub all_parts : List Next → List Part
 all_parts nexts = flat_map (λ n. parts n.body) nexts
 
+-- a next item is for no field, or has a name in its expression that is no field's
 abbrev pub is_unknown : List (List ℕ) → Next → Bool
 is_unknown names next = not (is_among names next.name) || names_unknown names next.body
 
@@ -80,3 +83,14 @@ first_fault rules =
     (if list_any (λ n. looks_outside n.body) rules.nexts then Some NeighbourOutside else
     (if list_any (λ n. nests n.body) rules.nexts then Some NestedAggregate else
     (if nat_lt 16 (length (all_parts rules.nexts)) then Some TooManyAggregates else None))))))
+
+-- a program without a fault, none of its expressions deeper than 64
+pub record IsWellFormed (rules : Rules) : Type 0 where
+  pub few_fields : length rules.fields ≤ 8
+  pub fields_differ : has_twice (names_of rules) ≡ false
+  pub nexts_differ : has_twice (next_names rules) ≡ false
+  pub known : list_any (is_unknown (names_of rules)) rules.nexts ≡ false
+  pub inside : list_any (λ n. looks_outside n.body) rules.nexts ≡ false
+  pub flat : list_any (λ n. nests n.body) rules.nexts ≡ false
+  pub few_aggregates : length (all_parts rules.nexts) ≤ 16
+  pub shallow : All (λ n. depth n.body ≤ 64) rules.nexts

@@ -14,7 +14,7 @@ ghost use Rattle.rule_check.specs.Fields.{field_names};
 
 use crate::code::Instr;
 use crate::parts::{Field, Gatherer, Name, Rule};
-use crate::tests_of::place_of;
+use crate::well_formed::place_of;
 use rule_lang::{Expr, Item};
 use std::alloc::{AllocError, Global};
 

@@ -11,7 +11,7 @@ mod run;
 mod same;
 mod state;
 mod table;
-mod tests_of;
+mod well_formed;
 mod words;
 
 pub use fault::CheckFault;

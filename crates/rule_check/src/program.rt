@@ -15,7 +15,7 @@ use crate::parts::{Field, Gatherer, Rule};
 use crate::run::{DEPTH, Frame};
 use crate::same::{same_fields, same_parts, same_rules};
 use crate::state::{Near, State, Sums};
-use crate::tests_of::{
+use crate::well_formed::{
     assigns_twice, count_all, index_of, repeats, some_nest, some_outside, some_unknown,
 };
 use crate::words::{clear_words, finish_words, opening_words, start_words, take_words};

@@ -4,7 +4,7 @@ use Rattle.rule_check.specs.WellFormed.{is_unknown}
 use Rattle.rule_check.specs.Fields.{field_names}
 use Rattle.std.specs.List.{list_any}
 use Rattle.rule_check.specs.Items.{nexts_of}
-use Rattle.rule_check.proofs.tests_of.some_unknown.Given as goal
+use Rattle.rule_check.proofs.well_formed.some_unknown.Given as goal
 
 abbrev pub invariant-loop-item : goal.invariant-loop-item
 invariant-loop-item l = list_any (is_unknown (field_names l.fields)) (nexts_of (items_of (drop l.item-index l.items))) ≡ list_any (is_unknown (field_names l.fields)) (nexts_of (items_of l.items))

@@ -2,7 +2,7 @@ use Rattle.std.proofs.Common.{◌≡◌, ◌+◌, drop}
 use Rattle.rule_check.specs.Fields.{field_names}
 use Rattle.rule_check.specs.Value.{place}
 use Rattle.rule_check.specs.WellFormed.{is_among}
-use Rattle.rule_check.proofs.tests_of.index_of.Given as goal
+use Rattle.rule_check.proofs.well_formed.index_of.Given as goal
 
 abbrev pub invariant-loop-k : goal.invariant-loop-k
 invariant-loop-k l = record {
