@@ -6,8 +6,8 @@ ghost use Rattle.rule_lang.specs.declared.fault.LangFault.TheVariants.{Memory};
 use std::alloc::{AllocError, AllocFailed};
 use thiserror::Error;
 
-/// Why a program text was refused: the first cause in this order that holds, but want of memory
-/// can come in place of any of `Lex` and `Syntax`, or of an answer.
+/// Why a program text was refused: the first cause that holds, in this order, but that want of
+/// memory can come in place of `Lex`, of `Syntax` and of an answer. No contract speaks of `at`.
 #[derive(Clone, Copy, Debug, PartialEq, Eq, Error)]
 pub enum LangFault {
     /// The text has more than 65,536 bytes.

@@ -1,4 +1,5 @@
-//! The rule language: tokens, trees and canonical spelling.
+//! The rule language: reading a program text to its items, and writing them in the canonical
+//! spelling.
 #![tactic(auto)]
 
 mod expect;

@@ -13,7 +13,8 @@ use crate::tree::Item;
 use std::alloc::Global;
 use std::marker::Model;
 
-/// The items of a program text.
+/// The items of a program text: names are no reserved words, numbers are below 2^32, and each
+/// expression has depth 64 at most.
 #[derive(Drop)]
 pub struct Source {
     items: Vec<Item>,
@@ -56,7 +57,8 @@ impl Source {
 /// The longest text, in bytes.
 const TEXT_LIMIT: usize = 65536;
 
-/// The program that a text is. `LangFault` says when each error comes.
+/// The program that a text is: `Ok` exactly where the text has at most 65,536 bytes, a token list
+/// and a tree, want of memory aside. `LangFault` says when each error comes.
 pub fn read_program(alloc: Global, text: &[u8]) -> Result<Source, LangFault>
     ensures read { IsReadAs text.now (λ source. source) result }
 {
@@ -70,7 +72,8 @@ pub fn read_program(alloc: Global, text: &[u8]) -> Result<Source, LangFault>
     }
 }
 
-/// A law and no step: a text is the text of one program at most.
+/// A law, which does nothing when it runs: a text has the items of one program at most.
 pub fn one_program()
-    ensures one { (text : List ℕ) (left right : List ItemTree) → HasProgram text left → HasProgram text right → left ≡ right }
+    ensures one { (text : List ℕ) (left right : List ItemTree)
+        → HasProgram text left → HasProgram text right → left ≡ right }
 {}

@@ -11,6 +11,7 @@ use crate::source::Source;
 use crate::tree::{Agg, Expr, Item, Op};
 use std::alloc::{AllocError, Global};
 
+/// The spelling of an operator.
 fn operator_text(op: Op) -> &'static str
     ensures { result.now ≡ op_text op }
 {
@@ -34,6 +35,7 @@ fn operator_text(op: Op) -> &'static str
     }
 }
 
+/// The word of an aggregate.
 fn aggregate_text(agg: Agg) -> &'static str
     ensures { result.now ≡ agg_word agg }
 {
@@ -47,12 +49,14 @@ fn aggregate_text(agg: Agg) -> &'static str
     }
 }
 
+/// Adds a number.
 fn put_number(alloc: Global, out: &mut String, value: u32) -> Result<(), AllocError>
     ensures { OnOk result (string_bytes out.new ≡ string_bytes out.old ++ decimal value) }
 {
     out.push_str(&value.to_string(alloc)?)
 }
 
+/// Adds an expression.
 fn put_expression(alloc: Global, out: &mut String, expr: &Expr) -> Result<(), AllocError>
     ensures { OnOk result (string_bytes out.new ≡ string_bytes out.old ++ tree_text (tree_of expr.now)) }
 {
@@ -97,6 +101,7 @@ fn put_expression(alloc: Global, out: &mut String, expr: &Expr) -> Result<(), Al
     }
 }
 
+/// Adds an item, a line.
 fn put_item(alloc: Global, out: &mut String, item: &Item) -> Result<(), AllocError>
     ensures { OnOk result (string_bytes out.new ≡ string_bytes out.old ++ item_text (item_of item.now)) }
 {
@@ -118,7 +123,8 @@ fn put_item(alloc: Global, out: &mut String, item: &Item) -> Result<(), AllocErr
     }
 }
 
-/// The canonical spelling of a program.
+/// The canonical spelling of a program. It has the same items, so `read_program` gives an equal
+/// `Source` for it where it has at most 65,536 bytes; a text without blanks can have a longer one.
 pub fn write_program(alloc: Global, source: &Source) -> Result<Vec<u8>, AllocError>
     ensures text { IfOk result (λ bytes. bytes.items ≡ program_text source.now) }
     ensures program { IfOk result (λ bytes. HasProgram bytes.items source.now) }
