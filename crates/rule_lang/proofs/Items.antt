@@ -8,7 +8,8 @@ use Rattle.rule_lang.specs.declared.token.Lexeme.{Lexeme}
 use Rattle.rule_lang.specs.Tokens.{Tok}
 use Rattle.rule_lang.specs.Tree.{ItemTree, HasTree, spell_item}
 use Rattle.rule_lang.specs.View.{toks_of, tok_of}
-use Rattle.rule_lang.specs.Reading.{Fails, NoProgramOf, item_at}
+use Rattle.rule_lang.specs.Causes.{Fails, NoProgramOf}
+use Rattle.rule_lang.specs.Reading.{item_at}
 use Rattle.rule_lang.proofs.ItemTrees.{item_sound}
 use Rattle.rule_lang.proofs.Leads.{Leads, leads_step, leads_end, leads_stuck, item_shorter}
 

@@ -10,7 +10,7 @@ use Rattle.rule_lang.specs.Tree.{ItemTree, HasTree, spell_item}
 use Rattle.rule_lang.specs.Lexing.{NoTokensOf}
 use Rattle.rule_lang.specs.declared.stuck.Stuck.{Stuck}
 use Rattle.rule_lang.specs.declared.stuck.Stuck.TheVariants as stuck
-use Rattle.rule_lang.specs.Reading.{NoProgramOf, fault_of}
+use Rattle.rule_lang.specs.Causes.{NoProgramOf, fault_of}
 use Rattle.rule_lang.specs.Program.{HasProgram, IsRefusedAs, IsProgram}
 
 pub no_tokens : (text : List ℕ) (e : LangFault) → length text ≤ 65536 → NoTokensOf text e → IsRefusedAs text e

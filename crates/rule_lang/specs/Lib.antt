@@ -1,4 +1,5 @@
 pub mod Keywords
+pub mod Causes
 pub mod Reading
 pub mod Tokens
 pub mod Tree

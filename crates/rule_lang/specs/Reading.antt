@@ -1,6 +1,6 @@
 -- Internal: what the functions of the parser return, token by token: what they read at the front
 -- of a token list, and the tokens behind it. No public clause cites it; what a tree's tokens are stands in Tree.
-use Rattle.std.specs.Prelude.{ℕ, zero, suc, List, [], ◌∷◌, Option, Some, None, Result, Ok, Err, ◌≡◌}
+use Rattle.std.specs.Prelude.{ℕ, zero, suc, List, [], ◌∷◌, Option, Some, None}
 use Rattle.rule_lang.specs.declared.tree.Op.{Op}
 use Rattle.rule_lang.specs.declared.tree.Op.TheVariants.{Plus, Minus, Times, Quot, Rem, BitAnd, BitOr, BitXor, Equal, Differ, Less, LessEq, Greater, GreaterEq, Min, Max}
 use Rattle.rule_lang.specs.declared.tree.Agg.{Agg}
@@ -9,53 +9,15 @@ use Rattle.rule_lang.specs.declared.token.Sign.{Sign}
 use Rattle.rule_lang.specs.declared.token.Sign.TheVariants as sign
 use Rattle.rule_lang.specs.declared.keyword.Keyword.{Keyword}
 use Rattle.rule_lang.specs.declared.keyword.Keyword.TheVariants as word
-use Rattle.rule_lang.specs.declared.fault.LangFault.{LangFault}
-use Rattle.rule_lang.specs.declared.fault.LangFault.TheVariants as fault
-use Rattle.rule_lang.specs.declared.stuck.Stuck.{Stuck}
-use Rattle.rule_lang.specs.declared.stuck.Stuck.TheVariants.{Token, End, Memory}
 use Rattle.rule_lang.specs.Keywords.{keyword_of}
 use Rattle.rule_lang.specs.Tokens.{Tok, WordTok, NearTok, NumberTok, SignTok}
-use Rattle.rule_lang.specs.Tree.{Tree, NumberTree, OwnTree, IdTree, DegreeTree, RoundTree, NearTree, NearIdTree, NearWeightTree, InfixTree, NotTree, OverTree, ChoiceTree, ItemTree, FieldTree, NextTree, HasTree}
+use Rattle.rule_lang.specs.Tree.{Tree, NumberTree, OwnTree, IdTree, DegreeTree, RoundTree, NearTree, NearIdTree, NearWeightTree, InfixTree, NotTree, OverTree, ChoiceTree, ItemTree, FieldTree, NextTree}
 
 -- the next step, where this one read something
 infixl 10 ◌>>=◌
 abbrev pub ◌>>=◌ : {A B : Type 0} → Option A → (A → Option B) → Option B
 None >>= f = None
 (Some x) >>= f = f x
-
--- nothing can be read here, unless memory ran out
-abbrev pub Fails : {Y : Type 0} → Stuck → Option Y → Type 0
-Fails (Token at) read = read ≡ None
-Fails End read = read ≡ None
-Fails Memory read = Unit {0}
-
--- what a function returned, seen by view, is what can be read
-abbrev pub Gives : {X Y : Type 0} → (X → Y) → Result X Stuck → Option Y → Type 0
-Gives view (Ok x) read = read ≡ Some (view x)
-Gives view (Err e) read = Fails e read
-
--- a cause that is not memory
-abbrev pub NoMemoryWanted : Stuck → Type 0
-NoMemoryWanted (Token at) = Unit {0}
-NoMemoryWanted End = Unit {0}
-NoMemoryWanted Memory = ⊥
-
--- the fault of a text of this length
-abbrev pub fault_of : Stuck → ℕ → LangFault
-fault_of (Token at) end = fault.Syntax at
-fault_of End end = fault.Syntax end
-fault_of Memory end = fault.Memory
-
--- the tokens have no tree, unless memory ran out
-abbrev pub NoProgramOf : List Tok → Stuck → Type 0
-NoProgramOf tokens (Token at) = (items : List ItemTree) → HasTree tokens items → ⊥
-NoProgramOf tokens End = (items : List ItemTree) → HasTree tokens items → ⊥
-NoProgramOf tokens Memory = Unit {0}
-
--- the tree of the tokens, seen by view, or why there is none
-abbrev pub IsProgramOf : {X : Type 0} → List Tok → (X → List ItemTree) → Result X Stuck → Type 0
-IsProgramOf tokens view (Ok x) = HasTree tokens (view x)
-IsProgramOf tokens view (Err e) = NoProgramOf tokens e
 
 -- something read, and the tokens behind it
 abbrev pub Reads : Type 0 → Type 0

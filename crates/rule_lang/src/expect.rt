@@ -2,7 +2,8 @@
 
 ghost use Rattle.std.specs.Prelude.{◌≡◌, string_bytes};
 ghost use Rattle.rule_lang.specs.View.{tok_of, toks_of};
-ghost use Rattle.rule_lang.specs.Reading.{Gives, sign_op, op_of, op_at, agg_of, close_at, then_at, else_at, name_at, number_at, assign_at, semicolon_at};
+ghost use Rattle.rule_lang.specs.Causes.{Gives};
+ghost use Rattle.rule_lang.specs.Reading.{sign_op, op_of, op_at, agg_of, close_at, then_at, else_at, name_at, number_at, assign_at, semicolon_at};
 
 use crate::keyword::{Keyword, reserved_word};
 use crate::stuck::Stuck;

@@ -3,7 +3,8 @@
 ghost use Rattle.std.specs.Prelude.{◌≡◌, IfOk, string_bytes};
 ghost use Rattle.std.specs.Option.{option_map};
 ghost use Rattle.rule_lang.specs.View.{tree_of, item_of, items_of, toks_of};
-ghost use Rattle.rule_lang.specs.Reading.{Gives, IsProgramOf, near_of, field_at, next_at, item_at, infix_at, choice_at, over_at, prefix_at, form_at, expr_at};
+ghost use Rattle.rule_lang.specs.Causes.{Gives, IsProgramOf};
+ghost use Rattle.rule_lang.specs.Reading.{near_of, field_at, next_at, item_at, infix_at, choice_at, over_at, prefix_at, form_at, expr_at};
 
 use crate::expect::{
     aggregate, assign, close, name, number, operator_at, semicolon, word_else, word_then,

@@ -2,7 +2,7 @@
 
 ghost use Rattle.std.specs.Prelude.{◌≡◌};
 ghost use Rattle.rule_lang.specs.declared.stuck.Stuck.TheVariants.{Memory};
-ghost use Rattle.rule_lang.specs.Reading.{NoMemoryWanted, fault_of};
+ghost use Rattle.rule_lang.specs.Causes.{NoMemoryWanted, fault_of, stuck_before};
 
 use crate::fault::LangFault;
 use crate::token::Lexeme;
@@ -22,7 +22,8 @@ pub enum Stuck {
 impl Stuck {
     /// What is wrong with the first of these tokens, or with their end where there is none.
     pub fn before(tokens: &[Lexeme]) -> Stuck
-        ensures { NoMemoryWanted result }
+        ensures place { result ≡ stuck_before tokens.now }
+        ensures cause { NoMemoryWanted result }
     {
         match tokens {
             [first, ..] => Stuck::Token { at: first.at },

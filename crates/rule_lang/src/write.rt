@@ -1,6 +1,6 @@
 //! The canonical spelling.
 
-ghost use Rattle.std.specs.Prelude.{◌≡◌, ◌++◌, OnOk, IfOk, string_bytes};
+ghost use Rattle.std.specs.Prelude.{◌≡◌, ◌++◌, OnOk, IfOk, string_bytes, codes};
 ghost use Rattle.std.specs.Fmt.{decimal};
 ghost use Rattle.rule_lang.specs.View.{tree_of, item_of, items_of};
 ghost use Rattle.rule_lang.specs.Tree.{agg_word};
@@ -49,6 +49,23 @@ fn aggregate_text(agg: Agg) -> &'static str
     }
 }
 
+/// Adds an operator between two blanks.
+fn put_operator(out: &mut String, op: Op) -> Result<(), AllocError>
+    ensures { OnOk result (string_bytes out.new ≡ string_bytes out.old ++ (codes " " ++ (op_text op ++ codes " "))) }
+{
+    out.push_str(" ")?;
+    out.push_str(operator_text(op))?;
+    out.push_str(" ")
+}
+
+/// Adds the word of an aggregate and a blank.
+fn put_aggregate(out: &mut String, agg: Agg) -> Result<(), AllocError>
+    ensures { OnOk result (string_bytes out.new ≡ string_bytes out.old ++ (agg_word agg ++ codes " ")) }
+{
+    out.push_str(aggregate_text(agg))?;
+    out.push_str(" ")
+}
+
 /// Adds a number.
 fn put_number(alloc: Global, out: &mut String, value: u32) -> Result<(), AllocError>
     ensures { OnOk result (string_bytes out.new ≡ string_bytes out.old ++ decimal value) }
@@ -75,9 +92,7 @@ fn put_expression(alloc: Global, out: &mut String, expr: &Expr) -> Result<(), Al
         Expr::Infix(op, left, right) => {
             out.push_str("(")?;
             put_expression(alloc, out, left)?;
-            out.push_str(" ")?;
-            out.push_str(operator_text(*op))?;
-            out.push_str(" ")?;
+            put_operator(out, *op)?;
             put_expression(alloc, out, right)?;
             out.push_str(")")
         }
@@ -86,8 +101,7 @@ fn put_expression(alloc: Global, out: &mut String, expr: &Expr) -> Result<(), Al
             put_expression(alloc, out, part)
         }
         Expr::Over(agg, part) => {
-            out.push_str(aggregate_text(*agg))?;
-            out.push_str(" ")?;
+            put_aggregate(out, *agg)?;
             put_expression(alloc, out, part)
         }
         Expr::Choice(test, yes, no) => {
