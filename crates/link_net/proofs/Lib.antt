@@ -1,0 +1,14 @@
+mod Arcs
+mod Rows
+mod Ranges
+mod Weights
+mod Offsets
+mod Parts
+mod Whole
+mod Looks
+mod Same
+mod LinkSteps
+mod Laying
+mod Checks
+mod Describing
+mod Steps

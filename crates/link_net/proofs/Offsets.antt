@@ -1,0 +1,75 @@
+-- Where the arcs of each node begin.
+use Rattle.std.proofs.Common.{◌≡◌, ◌∙◌, ℕ, ◌+◌, ◌-◌, ◌<◌, ◌≤◌, ◌==◌, Bool, true, false, List, [], ◌∷◌, length, get_or, zero, suc, nat_le, nat_lt, refl, sym, ap, take, drop, length-take, length-drop, append-nil, arith, inl, inr}
+use Rattle.std.proofs.lemmas.Bool.{cases_Bool}
+use Rattle.std.proofs.lemmas.Bool.Decides.{nat_tests}
+use Rattle.std.specs.List.{filter, AllByRecursion}
+use Rattle.std.proofs.lemmas.List.{get_or-take, get_or-drop}
+use Rattle.std.proofs.lemmas.List.Edits.{split_between}
+use Rattle.std.proofs.lemmas.List.Elements.{filter-append, All-from_recursion}
+use Rattle.std.proofs.lemmas.List.Sorted.{IsNonDecreasingBy-from_default}
+use Rattle.link_net.specs.Arcs.{Arc, IsFirst}
+use Rattle.link_net.specs.Layout.{AreOffsets}
+use Rattle.link_net.proofs.Rows.{from_node}
+
+filter_none : (p : Arc → Bool) (xs : List Arc) → ((k : ℕ) (d : Arc) → k < length xs → p (get_or xs k d) ≡ false) → filter p xs ≡ []
+filter_none p [] none = refl
+filter_none p (x ∷ xs) none = rw (none 0 x (omega arith)) (filter_none p xs (λ k d h. none (suc k) d (omega arith)))
+
+filter_all : (p : Arc → Bool) (xs : List Arc) → ((k : ℕ) (d : Arc) → k < length xs → p (get_or xs k d) ≡ true) → filter p xs ≡ xs
+filter_all p [] all = refl
+filter_all p (x ∷ xs) all = rw (all 0 x (omega arith)) (ap (λ t. x ∷ t) (filter_all p xs (λ k d h. all (suc k) d (omega arith))))
+
+-- a lower node's arcs begin no later
+pub firsts_in_order : (arcs : List Arc) (u v i j : ℕ) → u ≤ v → IsFirst arcs u i → IsFirst arcs v j → i ≤ j
+firsts_in_order arcs u v i j order low high =
+    elim (cases_Bool (nat_le i j)) [
+      | inl fine ↦ grind (arith, nat_tests)
+      | inr past ↦
+          let lt : j < i = grind (arith, nat_tests) in
+          absurd (omega (arith, low.bound, low.before j (0, 0, 0) lt, high.after j (0, 0, 0) (omega arith) (omega (arith, low.bound))))
+    ]
+
+-- the part between two nodes' places is the arcs from the first
+pub part_is : (arcs : List Arc) (u i j : ℕ) → IsFirst arcs u i → IsFirst arcs (u + 1) j → take (j - i) (drop i arcs) ≡ from_node u arcs
+part_is arcs u i j low high =
+    let order = firsts_in_order arcs u (u + 1) i j (omega arith) low high in
+    let p : Arc → Bool = λ a. a.0 == u in
+    let front : filter p (take i arcs) ≡ [] = filter_none p (take i arcs) (λ k d h.
+    let here : k < i = omega (arith, length-take i arcs) in
+    rw (get_or-take i arcs k d here) (grind (arith, nat_tests, low.before k d here))) in
+    let middle : filter p (take (j - i) (drop i arcs)) ≡ take (j - i) (drop i arcs) = filter_all p (take (j - i) (drop i arcs)) (λ k d h.
+    let here : k < j - i = omega (arith, length-take (j - i) (drop i arcs)) in
+    rw (get_or-take (j - i) (drop i arcs) k d here, get_or-drop i arcs k d)
+    (grind (arith, nat_tests, low.after (i + k) d (omega arith) (omega (arith, high.bound)), high.before (i + k) d (omega arith)))) in
+    let back : filter p (drop j arcs) ≡ [] = filter_none p (drop j arcs) (λ k d h.
+    rw (get_or-drop j arcs k d) (grind (arith, nat_tests, high.after (j + k) d (omega arith) (omega (arith, length-drop j arcs))))) in
+    let whole = split_between arcs i j order in
+    let cut : filter p arcs ≡ take (j - i) (drop i arcs) =
+    ap (filter p) whole ∙ filter-append p (take i arcs) _ ∙ rw (front, filter-append, back, append-nil) middle in
+    sym cut
+
+first_at_start : (arcs : List Arc) (i : ℕ) → IsFirst arcs 0 i → i ≡ 0
+first_at_start arcs zero first = refl
+first_at_start arcs (suc i) first = absurd (omega (arith, first.before 0 (0, 0, 0) (omega arith)))
+
+first_past_all : (arcs : List Arc) (n i : ℕ) → AllByRecursion (λ a. a.0 < n) arcs → IsFirst arcs n i → i ≡ length arcs
+first_past_all arcs n i below first =
+    elim (cases_Bool (nat_lt i (length arcs))) [
+      | inl short ↦
+          let lt : i < length arcs = grind (arith, nat_tests) in
+          absurd (omega (arith, first.after i (0, 0, 0) (omega arith) lt, All-from_recursion (λ a. a.0 < n) arcs below i (0, 0, 0) lt))
+      | inr past ↦
+          let ge : length arcs ≤ i = grind (arith, nat_tests) in
+          omega (arith, first.bound)
+    ]
+
+-- the places at which each node's arcs begin are offsets
+pub are_offsets : (arcs : List Arc) (offsets : List ℕ) (n : ℕ) → length offsets ≡ n + 1 → ((u : ℕ) → u < length offsets → IsFirst arcs u (get_or offsets u 0)) → AllByRecursion (λ a. a.0 < n) arcs → AreOffsets offsets (length arcs)
+are_offsets arcs offsets n count firsts below = record {
+  some = omega arith;
+  first = first_at_start arcs (get_or offsets 0 0) (firsts 0 (omega arith));
+  last = at_end (length offsets - 1) (omega arith);
+  rising = IsNonDecreasingBy-from_default (λ x. x) offsets 0 (λ i j order high. firsts_in_order arcs i j _ _ order (firsts i (omega arith)) (firsts j high));
+} where
+  at_end : (k : ℕ) → k ≡ n → get_or offsets k 0 ≡ length arcs
+  at_end k is = first_past_all arcs n (get_or offsets k 0) below (rw is (firsts n (omega arith)))

@@ -1,0 +1,19 @@
+use Rattle.std.proofs.Common.{◌≡◌, ◌∷◌, Some, string_bytes, arith, sym, ◌∙◌}
+use Rattle.std.specs.Prelude.{option_and_then}
+use Rattle.std.proofs.lemmas.Grind.{common_steps}
+use Rattle.toml.specs.Data.{as_array}
+use Rattle.toml.specs.View.{view, members_view}
+use Rattle.toml.proofs.Views.{Entry}
+use Rattle.link_net.specs.Document.{pairs_of, sets_of}
+use Rattle.link_net.proofs.Steps.{sets_of-step, some_from_ok_or, same_Ok}
+use Rattle.link_net.proofs.document.read_sets.Goals as goal
+
+pub loop-key-preserved : goal.loop-key-preserved
+loop-key-preserved c =
+    let e : Entry = (c.in-Some.key.now, c.in-Some.value.now) in
+    let iter : c.loop-key.key-iterator ≡ e ∷ c.next.new.self = grind (arith, common_steps) in
+    let is_set : option_and_then pairs_of (as_array (view e.1)) ≡ Some c.in_ok-pairs.pairs = some_from_ok_or _ _ _ c.in_ok-pairs.ensures in
+    let named : string_bytes e.0 ≡ c.in_ok-name.name = sym c.as_str.ensures.value ∙ same_Ok _ _ c.in_ok-name.ensures in
+    let before = rw iter at c.loop-key.invariant.2 in
+    let after = sets_of-step (sets_of (members_view c.args.table.now.entries)) c.loop-key.sets.items (string_bytes e.0) (view e.1) (members_view c.next.new.self) c.in_ok-pairs.pairs is_set before in
+    (tt, tt, rw c.in_ok-push.ensures.items (rw named at after))

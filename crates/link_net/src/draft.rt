@@ -1,0 +1,71 @@
+//! A network document of the right shape, its numbers unchecked.
+ghost use Rattle.std.specs.Prelude.{◌≡◌};
+
+use crate::FieldSet;
+use std::marker::Model;
+
+/// Links as the file has them: two ends and a weight each. Seen as their list.
+#[derive(Debug, Drop)]
+pub(crate) struct DraftLinks {
+    items: Vec<(i64, i64, i64)>,
+}
+
+impl Model for DraftLinks {
+    ghost use Rattle.std.specs.Prelude.{List, ℤ};
+
+    ghost Value = { List (ℤ × ℤ × ℤ) };
+
+    ghost view = { λ a. a.items.items };
+}
+
+impl DraftLinks {
+    pub(crate) fn new(items: Vec<(i64, i64, i64)>) -> DraftLinks
+        ensures { result ≡ items.items }
+    {
+        DraftLinks { items }
+    }
+
+    pub(crate) fn as_slice(&self) -> &[(i64, i64, i64)]
+        ensures { result.now ≡ self.now }
+    {
+        self.items.as_slice()
+    }
+}
+
+/// The field sets of a file, seen as their list.
+#[derive(Debug, Drop)]
+pub(crate) struct FieldSets {
+    items: Vec<FieldSet>,
+}
+
+impl Model for FieldSets {
+    ghost use Rattle.std.specs.Prelude.{List};
+    ghost use Rattle.link_net.specs.declared.field_set.FieldSet.{FieldSet};
+
+    ghost Value = { List FieldSet };
+
+    ghost view = { λ a. a.items.items };
+}
+
+impl FieldSets {
+    pub(crate) fn new(items: Vec<FieldSet>) -> FieldSets
+        ensures { result ≡ items.items }
+    {
+        FieldSets { items }
+    }
+
+    pub(crate) fn as_slice(&self) -> &[FieldSet]
+        ensures { result.now ≡ self.now }
+    {
+        self.items.as_slice()
+    }
+}
+
+/// A document of the right shape, its numbers unchecked.
+#[derive(Debug, Drop)]
+pub(crate) struct Draft {
+    pub(crate) nodes: i64,
+    pub(crate) links: DraftLinks,
+    pub(crate) phase: i64,
+    pub(crate) sets: FieldSets,
+}

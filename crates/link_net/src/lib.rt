@@ -1,0 +1,41 @@
+//! Network files: nodes, undirected links with weights, an opening phase and opening values.
+#![tactic(auto)]
+
+ghost use Rattle.std.specs.Prelude.{◌≡◌};
+ghost use Rattle.toml.specs.View.{table_view};
+ghost use Rattle.link_net.specs.Reading.{IsAnswer, reading_of, description_in};
+
+mod document;
+mod draft;
+mod fault;
+mod field_set;
+mod net_file;
+mod network;
+mod numbers;
+mod tables;
+
+pub use fault::NetFault;
+pub use field_set::{FieldSet, Name, Pairs};
+pub use net_file::NetFile;
+pub use network::Network;
+use std::alloc::Global;
+use toml::Table;
+
+/// Reads a network file: the description that its bytes are, or the first fault in the order of [`NetFault`],
+/// `BadWeight` after the others; `Memory` comes for want of memory alone.
+pub fn read_network(alloc: Global, bytes: &[u8]) -> Result<NetFile, NetFault>
+    ensures answer { IsAnswer (reading_of bytes.now) result }
+{
+    let table = document::read_table(alloc, bytes)?;
+    describe_table(alloc, &table)
+}
+
+fn describe_table(alloc: Global, table: &Table) -> Result<NetFile, NetFault>
+    ensures answer { IsAnswer (description_in (table_view table.now)) result }
+{
+    if !document::knows_keys(table) {
+        return Err(NetFault::UnknownKey);
+    }
+    let draft = document::read_draft(alloc, table)?;
+    numbers::describe(alloc, draft)
+}
