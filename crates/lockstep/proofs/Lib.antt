@@ -1,0 +1,6 @@
+pub mod Writes
+pub mod Marks
+pub mod Values
+pub mod Replaced
+pub mod Texts
+pub mod Nears

@@ -1,0 +1,9 @@
+pub mod Device
+pub mod Configs
+pub mod Compare
+pub mod Report
+pub mod Plans
+pub mod Lockstep
+pub mod Answer
+pub mod Opening
+pub mod Pairs

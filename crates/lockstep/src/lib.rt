@@ -1,0 +1,19 @@
+//! Plans, lockstep rounds, reports, and counted readers and writers.
+#![tactic(auto)]
+
+mod config;
+mod difference;
+mod fault;
+mod opening;
+mod plan;
+mod report_bytes;
+mod rounds;
+mod tally;
+
+pub use config::Config;
+pub use difference::{Difference, compare};
+pub use fault::{PlanFault, RoundFault};
+pub use plan::Plan;
+pub use report_bytes::report;
+pub use rounds::lockstep;
+pub use tally::{Cut, DeviceFault, Tally, write_text};
