@@ -12,3 +12,4 @@ mod Laying
 mod Checks
 mod Describing
 mod Steps
+mod NameOrder

@@ -2,6 +2,7 @@ pub mod Limits
 pub mod Neighbours
 pub mod Links
 pub mod Document
+pub mod Names
 pub mod Reading
 pub mod Arcs
 pub mod Layout

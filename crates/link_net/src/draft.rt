@@ -1,5 +1,6 @@
 //! A network document of the right shape, its numbers unchecked.
 ghost use Rattle.std.specs.Prelude.{◌≡◌};
+ghost use Rattle.link_net.specs.Names.{AreRising};
 
 use crate::FieldSet;
 use std::marker::Model;
@@ -32,7 +33,7 @@ impl DraftLinks {
     }
 }
 
-/// The field sets of a file, seen as their list.
+/// The field sets of a file, by rising order of the names' bytes. Seen as their list.
 #[derive(Debug, Drop)]
 pub(crate) struct FieldSets {
     items: Vec<FieldSet>,
@@ -44,18 +45,24 @@ impl Model for FieldSets {
 
     ghost Value = { List FieldSet };
 
+    ghost use Rattle.link_net.specs.Names.{AreRising};
+
     ghost view = { λ a. a.items.items };
+
+    ghost invariant = { λ a. AreRising a.items.items };
 }
 
 impl FieldSets {
     pub(crate) fn new(items: Vec<FieldSet>) -> FieldSets
+        requires { AreRising items.items }
         ensures { result ≡ items.items }
     {
         FieldSets { items }
     }
 
     pub(crate) fn as_slice(&self) -> &[FieldSet]
-        ensures { result.now ≡ self.now }
+        ensures items { result.now ≡ self.now }
+        ensures rising { AreRising result.now }
     {
         self.items.as_slice()
     }

@@ -1,5 +1,6 @@
 //! What a network file describes.
 ghost use Rattle.std.specs.Prelude.{◌≡◌, ◌≤◌};
+ghost use Rattle.link_net.specs.Names.{AreRising};
 
 use crate::draft::FieldSets;
 use crate::{FieldSet, Network};
@@ -54,6 +55,7 @@ impl NetFile {
     /// The keys of `set` with their pairs, by rising order of the keys' bytes.
     pub fn sets(&self) -> &[FieldSet]
         ensures value { result.now ≡ self.now.sets }
+        ensures rising { AreRising result.now }
     {
         self.sets.as_slice()
     }
