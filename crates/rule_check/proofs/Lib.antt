@@ -14,3 +14,4 @@ pub mod Steps
 pub mod Order
 pub mod Rest
 pub mod Equal
+pub mod Twice

@@ -23,6 +23,9 @@ use rule_lang::Source;
 use std::alloc::Global;
 use std::marker::Model;
 
+// What stands for the aggregates' values in the code of an aggregate, which reads none.
+static NO_SUMS: Sums = Sums { words: [0; 16] };
+
 /// A well-formed program: its `field` items and its `next` items, each in the text's order.
 #[derive(Drop)]
 pub struct Program {
@@ -62,7 +65,8 @@ pub fn check(alloc: Global, source: &Source) -> Result<Program, CheckFault>
     if repeats(&fields) {
         return Err(CheckFault::FieldTwice);
     }
-    if assigns_twice(items) {
+    let twice = assigns_twice(alloc, items)?;
+    if twice {
         return Err(CheckFault::NextTwice);
     }
     if some_unknown(&fields, items) {
@@ -194,14 +198,13 @@ impl Program {
             → sums.old ≡ sums_at self.now (here_at self.now round id degree own.now (front ++ back))
             → sums.new ≡ sums_at self.now (here_at self.now round id degree own.now (front ++ near.now ∷ back)) }
     {
-        let none = Sums { words: [0; 16] };
         let frame = Frame {
             id,
             degree,
             round,
             own,
             near,
-            sums: &none,
+            sums: &NO_SUMS,
         };
         take_words(stack, &self.gatherers, &frame, &mut sums.words);
     }

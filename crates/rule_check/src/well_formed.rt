@@ -1,6 +1,6 @@
 //! The tests that a well-formed program passes.
 
-ghost use Rattle.std.specs.Prelude.{◌≡◌, ◌≤◌, min, length, map, Some, None, if◌then◌else◌};
+ghost use Rattle.std.specs.Prelude.{◌≡◌, ◌≤◌, min, length, map, IfOk, Some, None, if◌then◌else◌};
 ghost use Rattle.std.specs.List.{list_any};
 ghost use Rattle.rule_lang.specs.View.{tree_of, items_of};
 ghost use Rattle.rule_check.specs.Value.{parts, place};
@@ -11,6 +11,8 @@ ghost use Rattle.rule_check.specs.Fields.{field_names};
 
 use crate::parts::Field;
 use rule_lang::{Expr, Item};
+use std::alloc::{AllocError, Global};
+use std::collections::BTreeSet;
 
 /// The place of a name among the fields, or their number where it isn't there.
 pub fn place_of(fields: &[Field], name: &str) -> usize
@@ -49,32 +51,19 @@ pub fn repeats(fields: &[Field]) -> bool
     false
 }
 
-/// Whether one of these items is a next item of this name.
-pub fn assigns(items: &[Item], name: &str) -> bool
-    ensures { result ≡ is_among (map (λ n. n.name) (nexts_of (items_of items.now))) name.now }
-{
-    for item in items {
-        if let Item::Next { name: other, .. } = item {
-            if other.as_str() == name {
-                return true;
-            }
-        }
-    }
-    false
-}
-
 /// Whether two next items have one name.
-pub fn assigns_twice(items: &[Item]) -> bool
-    ensures { result ≡ has_twice (map (λ n. n.name) (nexts_of (items_of items.now))) }
+pub fn assigns_twice(alloc: Global, items: &[Item]) -> Result<bool, AllocError>
+    ensures { IfOk result (λ twice. twice ≡ has_twice (map (λ n. n.name) (nexts_of (items_of items.now)))) }
 {
-    for (k, item) in items.iter().enumerate() {
+    let mut seen = BTreeSet::new(alloc);
+    for item in items {
         if let Item::Next { name, .. } = item {
-            if assigns(&items[k + 1..], name.as_str()) {
-                return true;
+            if !seen.insert(name.as_str())? {
+                return Ok(true);
             }
         }
     }
-    false
+    Ok(false)
 }
 
 /// Whether the expression has a name that is no field's.
