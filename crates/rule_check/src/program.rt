@@ -8,11 +8,12 @@ ghost use Rattle.rule_check.specs.Value.{here_at, next_state, names_of, place, o
 ghost use Rattle.rule_check.specs.Gathering.{sums_at, taken, finished};
 ghost use Rattle.rule_check.specs.WellFormed.{first_fault, is_among};
 ghost use Rattle.rule_check.specs.Items.{rules_of};
+ghost use Rattle.rule_check.specs.Frames.{standing};
 
 use crate::emit::{collect_fields, collect_parts, collect_rules};
 use crate::fault::CheckFault;
 use crate::parts::{Field, Gatherer, Rule};
-use crate::run::{DEPTH, Frame};
+use crate::run::{DEPTH, Frame, Node};
 use crate::same::{same_fields, same_parts, same_rules};
 use crate::state::{Near, State, Sums};
 use crate::well_formed::{
@@ -139,13 +140,18 @@ impl Program {
         ensures exact { next_state self.now round id own neighbours.now ≡ result }
         ensures rest_is_zero { (k : ℕ) → length self.now.fields ≤ k → slice_index result.words k ≡ 0 }
     {
-        let degree = neighbours.len() as u32;
+        let node = Node {
+            id,
+            degree: neighbours.len() as u32,
+            round,
+            own: &own,
+        };
         let mut stack = [0; DEPTH];
         let mut sums = self.start();
         for near in neighbours {
-            self.take_on(&mut stack, &mut sums, id, degree, &own, round, near);
+            self.take_on(&mut stack, &mut sums, &node, near);
         }
-        self.finish_on(&mut stack, id, degree, &own, round, &sums)
+        self.finish_on(&mut stack, &node, &sums)
     }
 
     /// The aggregates' values over no neighbour.
@@ -166,8 +172,14 @@ impl Program {
             → sums.old ≡ sums_at self.now (here_at self.now round id degree own (front ++ back))
             → sums.new ≡ sums_at self.now (here_at self.now round id degree own (front ++ near.now ∷ back)) }
     {
+        let node = Node {
+            id,
+            degree,
+            round,
+            own: &own,
+        };
         let mut stack = [0; DEPTH];
-        self.take_on(&mut stack, sums, id, degree, &own, round, near);
+        self.take_on(&mut stack, sums, &node, near);
     }
 
     /// The next state by the aggregates' values over all `degree` neighbours.
@@ -178,31 +190,25 @@ impl Program {
             → result ≡ next_state self.now round id own nears }
         ensures rest_is_zero { (k : ℕ) → length self.now.fields ≤ k → slice_index result.words k ≡ 0 }
     {
-        let mut stack = [0; DEPTH];
-        self.finish_on(&mut stack, id, degree, &own, round, sums)
-    }
-
-    // `take`, on a stack that is lent.
-    fn take_on(
-        &self,
-        stack: &mut [u32; DEPTH],
-        sums: &mut Sums,
-        id: u32,
-        degree: u32,
-        own: &State,
-        round: u32,
-        near: &Near,
-    )
-        ensures step { (nears : List Near) → sums.new ≡ taken self.now (here_at self.now round id degree own.now nears) near.now sums.old }
-        ensures anywhere { (front back : List Near) → length (front ++ back) < 4096
-            → sums.old ≡ sums_at self.now (here_at self.now round id degree own.now (front ++ back))
-            → sums.new ≡ sums_at self.now (here_at self.now round id degree own.now (front ++ near.now ∷ back)) }
-    {
-        let frame = Frame {
+        let node = Node {
             id,
             degree,
             round,
-            own,
+            own: &own,
+        };
+        let mut stack = [0; DEPTH];
+        self.finish_on(&mut stack, &node, sums)
+    }
+
+    // `take`, on a stack that is lent.
+    fn take_on(&self, stack: &mut [u32; DEPTH], sums: &mut Sums, node: &Node, near: &Near)
+        ensures step { (nears : List Near) → sums.new ≡ taken self.now (standing self.now node.now nears) near.now sums.old }
+        ensures anywhere { (front back : List Near) → length (front ++ back) < 4096
+            → sums.old ≡ sums_at self.now (standing self.now node.now (front ++ back))
+            → sums.new ≡ sums_at self.now (standing self.now node.now (front ++ near.now ∷ back)) }
+    {
+        let frame = Frame {
+            node,
             near,
             sums: &NO_SUMS,
         };
@@ -210,35 +216,24 @@ impl Program {
     }
 
     // `finish`, on a stack that is lent.
-    fn finish_on(
-        &self,
-        stack: &mut [u32; DEPTH],
-        id: u32,
-        degree: u32,
-        own: &State,
-        round: u32,
-        sums: &Sums,
-    ) -> State
-        ensures exact { result ≡ finished self.now round id degree own.now sums.now }
-        ensures completes { (nears : List Near) → length nears ≡ degree
-            → sums.now ≡ sums_at self.now (here_at self.now round id degree own.now nears)
-            → result ≡ next_state self.now round id own.now nears }
+    fn finish_on(&self, stack: &mut [u32; DEPTH], node: &Node, sums: &Sums) -> State
+        ensures exact { result ≡ finished self.now node.now.round node.now.id node.now.degree node.now.own.now sums.now }
+        ensures completes { (nears : List Near) → length nears ≡ node.now.degree
+            → sums.now ≡ sums_at self.now (standing self.now node.now nears)
+            → result ≡ next_state self.now node.now.round node.now.id node.now.own.now nears }
         ensures rest_is_zero { (k : ℕ) → length self.now.fields ≤ k → slice_index result.words k ≡ 0 }
     {
         let near = Near {
-            id,
+            id: node.id,
             weight: 0,
-            state: *own,
+            state: *node.own,
         };
         let frame = Frame {
-            id,
-            degree,
-            round,
-            own,
+            node,
             near: &near,
             sums,
         };
-        let mut words = own.words;
+        let mut words = node.own.words;
         clear_words(self.fields.len(), &mut words);
         finish_words(stack, &self.rules, &frame, &mut words);
         State { words }

@@ -12,13 +12,19 @@ use crate::table::{apply, choose};
 /// How many values a stack holds.
 pub const DEPTH: usize = 127;
 
-/// What code is run on: a node in the step from a round, one neighbour, and the aggregates' values.
+/// A node in the step from a round.
 #[derive(Clone, Copy)]
-pub struct Frame<'a> {
+pub struct Node<'a> {
     pub id: u32,
     pub degree: u32,
     pub round: u32,
     pub own: &'a State,
+}
+
+/// What code is run on: a node, one neighbour, and the aggregates' values.
+#[derive(Clone, Copy)]
+pub struct Frame<'a> {
+    pub node: &'a Node<'a>,
     pub near: &'a Near,
     pub sums: &'a Sums,
 }
@@ -32,10 +38,10 @@ fn act(instr: Instr, frame: &Frame, words: &mut [u32; DEPTH], top: usize) -> usi
 {
     match instr {
         Instr::Push(n) => put(words, top, n),
-        Instr::OwnWord(k) => put(words, top, frame.own.words[k as usize]),
-        Instr::NodeId => put(words, top, frame.id),
-        Instr::NodeDegree => put(words, top, frame.degree),
-        Instr::NodeRound => put(words, top, round_of(frame)),
+        Instr::OwnWord(k) => put(words, top, frame.node.own.words[k as usize]),
+        Instr::NodeId => put(words, top, frame.node.id),
+        Instr::NodeDegree => put(words, top, frame.node.degree),
+        Instr::NodeRound => put(words, top, round_of(frame.node)),
         Instr::NearWord(k) => put(words, top, frame.near.state.words[k as usize]),
         Instr::NearId => put(words, top, frame.near.id),
         Instr::NearWeight => put(words, top, frame.near.weight),
@@ -59,10 +65,10 @@ fn act(instr: Instr, frame: &Frame, words: &mut [u32; DEPTH], top: usize) -> usi
 }
 
 // The round, which a word holds.
-fn round_of(frame: &Frame) -> u32
-    ensures { result ≡ min frame.now.round M }
+fn round_of(node: &Node) -> u32
+    ensures { result ≡ min node.now.round M }
 {
-    frame.round
+    node.round
 }
 
 // One value more.

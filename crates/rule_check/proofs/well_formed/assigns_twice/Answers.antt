@@ -46,23 +46,23 @@ loop-item-init c =
 pub loop-item-preserved : goal.loop-item-preserved
 loop-item-preserved c =
     elim c.match-item.branch [
-      in-Next+in_ok-insert+else-not-branch w ↦
-        let items = c.args.items.now in
-        let i = c.loop-item.item-index in
-        let name = string_bytes w.in-Next.name in
-        let text : w.as_str.result.now ≡ name = w.as_str.ensures.value in
-        let left_is : drop i items ≡ Next w.in-Next.name w.in-Next.body ∷ drop (i + 1) items =
+      | in-Next+in_ok-insert+else-not-branch w ↦
+          let items = c.args.items.now in
+          let i = c.loop-item.item-index in
+          let name = string_bytes w.in-Next.name in
+          let text : w.as_str.result.now ≡ name = w.as_str.ensures.value in
+          let left_is : drop i items ≡ Next w.in-Next.name w.in-Next.body ∷ drop (i + 1) items =
           drop_more items i c.item-item.result c.loop-item-test.true ∙ ap (λ x. x ∷ drop (i + 1) items) (sym c.item-item.is ∙ w.in-Next.is) in
-        let one : (q : List ℕ) → seen c.match-item.seen q ≡ (bytes_eq name q || seen c.loop-item.seen q) =
+          let one : (q : List ℕ) → seen c.match-item.seen q ≡ (bytes_eq name q || seen c.loop-item.seen q) =
           λ q. ap (λ s. seen s q) w.seen-is
-            ∙ w.in_ok-insert.ensures.updates.0 (record { ref_ptr = (0, 0); now = q })
-            ∙ ap (λ b. cond b true (seen c.loop-item.seen q)) (is_eq-slice_cmp w.as_str.result.now q)
-            ∙ cond_or (bytes_eq w.as_str.result.now q) (seen c.loop-item.seen q)
-            ∙ ap (λ t. bytes_eq t q || seen c.loop-item.seen q) text in
-        let new : seen c.loop-item.seen name ≡ false =
+          ∙ w.in_ok-insert.ensures.updates.0 (record { ref_ptr = (0, 0); now = q })
+          ∙ ap (λ b. cond b true (seen c.loop-item.seen q)) (is_eq-slice_cmp w.as_str.result.now q)
+          ∙ cond_or (bytes_eq w.as_str.result.now q) (seen c.loop-item.seen q)
+          ∙ ap (λ t. bytes_eq t q || seen c.loop-item.seen q) text in
+          let new : seen c.loop-item.seen name ≡ false =
           ap (seen c.loop-item.seen) (sym text) ∙ not_true (seen c.loop-item.seen w.as_str.result.now) (sym w.in_ok-insert.ensures.added ∙ w.if-not-branch.false) in
-        seen_more (seen c.loop-item.seen) (seen c.match-item.seen) name (names (drop (i + 1) items)) one new
-        ∙ ap (left c.loop-item.seen) (sym left_is)
-        ∙ c.loop-item.invariant
+          seen_more (seen c.loop-item.seen) (seen c.match-item.seen) name (names (drop (i + 1) items)) one new
+          ∙ ap (left c.loop-item.seen) (sym left_is)
+          ∙ c.loop-item.invariant
       | in_default w ↦ grind (arith, common_steps)
     ]

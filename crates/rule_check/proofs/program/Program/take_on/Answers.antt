@@ -15,17 +15,17 @@ take_words-requires-clause-run c = subst (All IsPart) (sym c.deref.ensures.value
 pub returns-clause-step : goal.returns-clause-step
 returns-clause-step c = λ nears.
     let a = c.args in
-    let f = frame a.id a.degree a.round a.own.now a.near.now (replicate 16 0) in
+    let f = frame a.node.now.id a.node.now.degree a.node.now.round a.node.now.own.now a.near.now (replicate 16 0) in
     ap sums_from
     (c.take_words.ensures
     ∙ ap (λ gs. updated (with_near f) (map part_shape gs) a.sums.now.words) c.deref.ensures.value
-    ∙ take_words_are c.self.inside c.self.invariant a.round a.id a.degree a.own.now a.near.now (replicate 16 0) a.sums.now.words nears)
-    ∙ ap (λ v. taken v (here_at v a.round a.id a.degree a.own.now nears) a.near.now a.sums.now) c.self.view_is
+    ∙ take_words_are c.self.inside c.self.invariant a.node.now.round a.node.now.id a.node.now.degree a.node.now.own.now a.near.now (replicate 16 0) a.sums.now.words nears)
+    ∙ ap (λ v. taken v (here_at v a.node.now.round a.node.now.id a.node.now.degree a.node.now.own.now nears) a.near.now a.sums.now) c.self.view_is
 
 pub returns-clause-anywhere : goal.returns-clause-anywhere
 returns-clause-anywhere c = λ front back few old.
     let a = c.args in
-    let law = λ (v : Rules). taken v (here_at v a.round a.id a.degree a.own.now (front ++ back)) a.near.now (sums_at v (here_at v a.round a.id a.degree a.own.now (front ++ back))) ≡ sums_at v (here_at v a.round a.id a.degree a.own.now (front ++ a.near.now ∷ back)) in
+    let law = λ (v : Rules). taken v (here_at v a.node.now.round a.node.now.id a.node.now.degree a.node.now.own.now (front ++ back)) a.near.now (sums_at v (here_at v a.node.now.round a.node.now.id a.node.now.degree a.node.now.own.now (front ++ back))) ≡ sums_at v (here_at v a.node.now.round a.node.now.id a.node.now.degree a.node.now.own.now (front ++ a.near.now ∷ back)) in
     returns-clause-step c (front ++ back)
-    ∙ ap (taken a.self.now (here_at a.self.now a.round a.id a.degree a.own.now (front ++ back)) a.near.now) old
-    ∙ subst law c.self.view_is (taken_anywhere c.self.inside c.self.invariant a.round a.id a.degree a.own.now front back a.near.now few)
+    ∙ ap (taken a.self.now (here_at a.self.now a.node.now.round a.node.now.id a.node.now.degree a.node.now.own.now (front ++ back)) a.near.now) old
+    ∙ subst law c.self.view_is (taken_anywhere c.self.inside c.self.invariant a.node.now.round a.node.now.id a.node.now.degree a.node.now.own.now front back a.near.now few)
