@@ -4,3 +4,4 @@ pub mod Values
 pub mod Replaced
 pub mod Texts
 pub mod Nears
+pub mod Resumed

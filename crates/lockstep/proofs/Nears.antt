@@ -30,11 +30,18 @@ near_same f g (a ∷ row) same =
     ∙ ap (λ ns. near_at g a ∷ ns) (near_same f g row (λ j h. same (suc j) (omega arith)))
 
 -- a round depends on the states of nodes alone
-pub round_same : (p : PlanView) (t : ℕ) (states : List State) (u : ℕ) → IsNetwork p.network → states ≡ lockstep_states p t (length p.network) → u < length p.network → round_from p t (state_in states) u ≡ round_from p t (lockstep p t) u
+pub round_agrees : (p : PlanView) (t : ℕ) (f g : ℕ → State) (u : ℕ) → IsNetwork p.network → ((w : ℕ) → w < length p.network → f w ≡ g w) → u < length p.network → round_from p t f u ≡ round_from p t g u
+round_agrees p t f g u network same inside =
+    ap (λ s. next_state p.program t u s (nears_in p.network f u)) (same u inside)
+    ∙ ap (next_state p.program t u (g u)) (near_same f g (row p.network u) (λ j h. same (neighbour p.network u j) (network.within u j h)))
+
+-- the states of a round in a list are those of its nodes
+pub states_at : (p : PlanView) (t : ℕ) (states : List State) (w : ℕ) → states ≡ lockstep_states p t (length p.network) → w < length p.network → state_in states w ≡ lockstep p t w
+states_at p t states w made inside = ap (λ ss. state_in ss w) made ∙ get_or-map-range_with_len (lockstep p t) 0 (length p.network) w w blank inside (zero-add w)
+
+round_same : (p : PlanView) (t : ℕ) (states : List State) (u : ℕ) → IsNetwork p.network → states ≡ lockstep_states p t (length p.network) → u < length p.network → round_from p t (state_in states) u ≡ round_from p t (lockstep p t) u
 round_same p t states u network made inside =
-    let at : (w : ℕ) → w < length p.network → state_in states w ≡ lockstep p t w = λ w h. ap (λ ss. state_in ss w) made ∙ get_or-map-range_with_len (lockstep p t) 0 (length p.network) w w blank h (omega arith) in
-    ap (λ s. next_state p.program t u s (nears_in p.network (state_in states) u)) (at u inside)
-    ∙ ap (next_state p.program t u (lockstep p t u)) (near_same (state_in states) (lockstep p t) (row p.network u) (λ j h. at (neighbour p.network u j) (network.within u j h)))
+    round_agrees p t (state_in states) (lockstep p t) u network (λ w h. states_at p t states w made h) inside
 
 known : (g : List (ℕ × ℕ) → List ℕ) (o : Option (List (ℕ × ℕ))) → g [] ≡ [] → unwrap_or (option_map g o) [] ≡ g (unwrap_or o [])
 known g None none = sym none

@@ -4,6 +4,7 @@ pub mod Compare
 pub mod Report
 pub mod Plans
 pub mod Lockstep
+pub mod Resume
 pub mod Answer
 pub mod Opening
 pub mod Pairs

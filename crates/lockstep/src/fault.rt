@@ -1,6 +1,7 @@
 //! Why a plan or a round is refused.
 ghost use Rattle.std.specs.Prelude.{◌≡◌};
 ghost use Rattle.lockstep.specs.declared.fault.PlanFault.TheVariants.{Memory};
+ghost use Rattle.lockstep.specs.declared.fault.ResumeFault.TheVariants.{Memory as ResumeMemory};
 ghost use Rattle.lockstep.specs.declared.fault.RoundFault.TheVariants.{Memory as RoundMemory};
 
 use std::alloc::{AllocError, AllocFailed};
@@ -39,6 +40,33 @@ impl<T: Drop> From<AllocFailed<T>> for PlanFault {
 
     fn from(_error: AllocFailed<T>) -> PlanFault {
         PlanFault::Memory
+    }
+}
+
+/// Why a plan does not go on from a configuration.
+#[derive(Clone, Copy, Debug, PartialEq, Eq, Error)]
+pub enum ResumeFault {
+    /// The configuration has another number of nodes or of fields than the plan.
+    #[error("the configuration has another number of nodes or of fields than the plan")]
+    Foreign,
+    /// Want of memory.
+    #[error("not enough memory")]
+    Memory,
+}
+
+impl From<AllocError> for ResumeFault {
+    ghost from_gives = { λ _ e. e ≡ ResumeMemory };
+
+    fn from(_error: AllocError) -> ResumeFault {
+        ResumeFault::Memory
+    }
+}
+
+impl<T: Drop> From<AllocFailed<T>> for ResumeFault {
+    ghost from_gives = { λ _ e. e ≡ ResumeMemory };
+
+    fn from(_error: AllocFailed<T>) -> ResumeFault {
+        ResumeFault::Memory
     }
 }
 

@@ -12,7 +12,7 @@ mod tally;
 
 pub use config::Config;
 pub use difference::{Difference, compare};
-pub use fault::{PlanFault, RoundFault};
+pub use fault::{PlanFault, ResumeFault, RoundFault};
 pub use plan::Plan;
 pub use report_bytes::report;
 pub use rounds::lockstep;

@@ -1,9 +1,11 @@
 //! Plans.
-ghost use Rattle.std.specs.Prelude.{◌≡◌, ◌↔◌, IsTrue, slice_get};
+ghost use Rattle.std.specs.Prelude.{◌≡◌, ◌↔◌, IsTrue, IfOk, slice_get};
 ghost use Rattle.lockstep.specs.Plans.{IsPlan, plan_of};
+ghost use Rattle.lockstep.specs.Resume.{resumed, GoesOnAs};
 ghost use Rattle.lockstep.specs.Answer.{IsAnswer};
 
-use crate::fault::PlanFault;
+use crate::config::Config;
+use crate::fault::{PlanFault, ResumeFault};
 use crate::opening::opening_by;
 use link_net::{NetFile, Network};
 use rule_check::{Program, State};
@@ -49,6 +51,34 @@ impl Plan {
             phase,
             opening,
             start: 0,
+        })
+    }
+
+    /// This plan from a configuration on: its states are the opening and its round is the start, and all else
+    /// stays. Where it is the configuration that the plan itself has at its round, both plans have the same
+    /// rounds from there on.
+    ///
+    /// `Foreign` comes where the configuration has another number of nodes or of fields than the plan; then, and
+    /// where memory ran out, the plan is dropped.
+    pub fn resume(self, alloc: Global, config: &Config) -> Result<Plan, ResumeFault>
+        ensures plan { IsAnswer ResumeFault.Memory (resumed self config.now) result }
+        ensures law { IfOk result (GoesOnAs self config.now) }
+    {
+        let _phase = self.phase();
+        let start = config.rounds();
+        if config.nodes() != self.network.nodes() {
+            return Err(ResumeFault::Foreign);
+        }
+        if config.fields() != self.program.field_count() {
+            return Err(ResumeFault::Foreign);
+        }
+        let opening = config.states().to_vec(alloc)?;
+        Ok(Plan {
+            program: self.program,
+            network: self.network,
+            phase: self.phase,
+            opening,
+            start,
         })
     }
 
