@@ -6,7 +6,7 @@ use Rattle.std.proofs.lemmas.List.Elements.{All-from_recursion}
 use Rattle.std.proofs.lemmas.Bool.{le-ltb}
 use Rattle.rule_lang.specs.Tree.{ItemTree, FieldTree, NextTree, IsItem, depth}
 use Rattle.rule_lang.specs.Program.{IsProgram}
-use Rattle.rule_check.specs.Value.{names_of}
+use Rattle.rule_check.specs.Value.{Rules, names_of}
 use Rattle.rule_check.specs.WellFormed.{first_fault, has_twice, next_names, is_unknown, looks_outside, nests, all_parts}
 use Rattle.rule_check.specs.WellFormed.{IsWellFormed}
 use Rattle.rule_check.specs.Items.{rules_of, fields_of, nexts_of}
@@ -39,6 +39,13 @@ well_formed items whole p = record {
   shallow = All-from_recursion _ (nexts_of items) (shallow_nexts items whole.0);
 }
 
-pub no_fault : (items : List ItemTree) → Passes items → first_fault (rules_of items) ≡ None
-no_fault items p =
-    away _ _ _ (le-ltb 8 (length (fields_of items)) p.few_fields) ∙ away _ _ _ p.fields_differ ∙ away _ _ _ p.nexts_differ ∙ away _ _ _ p.known ∙ away _ _ _ p.inside ∙ away _ _ _ p.flat ∙ away _ _ _ (le-ltb 16 (length (all_parts (nexts_of items))) p.few_aggregates)
+-- a well-formed program has no fault
+pub no_fault : (rules : Rules) → IsWellFormed rules → first_fault rules ≡ None
+no_fault rules well =
+    away _ _ _ (le-ltb 8 (length rules.fields) well.few_fields)
+    ∙ away _ _ _ well.fields_differ
+    ∙ away _ _ _ well.nexts_differ
+    ∙ away _ _ _ well.known
+    ∙ away _ _ _ well.inside
+    ∙ away _ _ _ well.flat
+    ∙ away _ _ _ (le-ltb 16 (length (all_parts rules.nexts)) well.few_aggregates)

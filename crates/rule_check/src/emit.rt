@@ -1,6 +1,6 @@
 //! From trees to postfix code.
 
-ghost use Rattle.std.specs.Prelude.{◌≡◌, ◌+◌, ◌≤◌, ◌++◌, false, length, map, OnOk, IfOk};
+ghost use Rattle.std.specs.Prelude.{◌≡◌, ◌+◌, ◌≤◌, ◌++◌, ◌∷◌, [], false, length, map, OnOk, IfOk};
 ghost use Rattle.std.specs.List.{list_any};
 ghost use Rattle.rule_lang.specs.View.{tree_of, items_of};
 ghost use Rattle.rule_check.specs.Value.{parts};
@@ -87,61 +87,46 @@ fn emit(code: &mut Vec<Instr>, fields: &[Field], e: &Expr, first: u32) -> Result
     ensures next { IfOk result (λ n. n ≡ first + length (parts (tree_of e.now))) }
 {
     match e {
-        Expr::Number(n) => {
-            code.push(Instr::Push(*n))?;
-            Ok(first)
-        }
+        Expr::Number(n) => put(code, Instr::Push(*n), first),
         Expr::Own(name) => {
-            code.push(Instr::OwnWord(place_of(fields, name.as_str()) as u32))?;
-            Ok(first)
+            let place = place_of(fields, name.as_str()) as u32;
+            put(code, Instr::OwnWord(place), first)
         }
-        Expr::Id => {
-            code.push(Instr::NodeId)?;
-            Ok(first)
-        }
-        Expr::Degree => {
-            code.push(Instr::NodeDegree)?;
-            Ok(first)
-        }
-        Expr::Round => {
-            code.push(Instr::NodeRound)?;
-            Ok(first)
-        }
+        Expr::Id => put(code, Instr::NodeId, first),
+        Expr::Degree => put(code, Instr::NodeDegree, first),
+        Expr::Round => put(code, Instr::NodeRound, first),
         Expr::Near(name) => {
-            code.push(Instr::NearWord(place_of(fields, name.as_str()) as u32))?;
-            Ok(first)
+            let place = place_of(fields, name.as_str()) as u32;
+            put(code, Instr::NearWord(place), first)
         }
-        Expr::NearId => {
-            code.push(Instr::NearId)?;
-            Ok(first)
-        }
-        Expr::NearWeight => {
-            code.push(Instr::NearWeight)?;
-            Ok(first)
-        }
+        Expr::NearId => put(code, Instr::NearId, first),
+        Expr::NearWeight => put(code, Instr::NearWeight, first),
         Expr::Infix(op, a, b) => {
             let next = emit(code, fields, a, first)?;
             let next = emit(code, fields, b, next)?;
-            code.push(Instr::Apply(*op))?;
-            Ok(next)
+            put(code, Instr::Apply(*op), next)
         }
         Expr::Not(e) => {
             let next = emit(code, fields, e, first)?;
-            code.push(Instr::Negate)?;
-            Ok(next)
+            put(code, Instr::Negate, next)
         }
-        Expr::Over(_, _) => {
-            code.push(Instr::SumWord(first))?;
-            Ok(first + 1)
-        }
+        Expr::Over(_, _) => put(code, Instr::SumWord(first), first + 1),
         Expr::Choice(a, b, c) => {
             let next = emit(code, fields, a, first)?;
             let next = emit(code, fields, b, next)?;
             let next = emit(code, fields, c, next)?;
-            code.push(Instr::Pick)?;
-            Ok(next)
+            put(code, Instr::Pick, next)
         }
     }
+}
+
+// One instruction more; the answer is `next`.
+fn put(code: &mut Vec<Instr>, instr: Instr, next: u32) -> Result<u32, AllocError>
+    ensures code { OnOk result (code.new.items ≡ code.old.items ++ instr ∷ []) }
+    ensures next { IfOk result (λ n. n ≡ next) }
+{
+    code.push(instr)?;
+    Ok(next)
 }
 
 // The code of an expression's aggregates.

@@ -92,10 +92,11 @@ pub fn check(alloc: Global, source: &Source) -> Result<Program, CheckFault>
 }
 
 impl Program {
-    /// How many fields there are.
+    /// How many fields there are, of a program that has no fault.
     pub fn field_count(&self) -> u32
         ensures count { result ≡ length self.now.fields }
         ensures few { result ≤ 8 }
+        ensures well_formed { first_fault self.now ≡ None }
     {
         self.fields.len() as u32
     }

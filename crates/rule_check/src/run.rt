@@ -29,36 +29,36 @@ pub struct Frame<'a> {
     pub sums: &'a Sums,
 }
 
-// One instruction. The stack is the words from `top` on, the last value first.
-fn act(instr: Instr, frame: &Frame, words: &mut [u32; DEPTH], top: usize) -> usize
+// The place of the top after one instruction. What lies on the stack are its words from `top` on, the last value first.
+fn act(instr: Instr, frame: &Frame, stack: &mut [u32; DEPTH], top: usize) -> usize
     requires top { top ≤ 127 }
     requires allows { Allows instr (127 - top) }
     ensures top { result + height_after instr (127 - top) ≡ 127 }
-    ensures after { drop result words.new ≡ step_lem (seen frame.now) instr (drop top words.old) }
+    ensures after { drop result stack.new ≡ step_lem (seen frame.now) instr (drop top stack.old) }
 {
     match instr {
-        Instr::Push(n) => put(words, top, n),
-        Instr::OwnWord(k) => put(words, top, frame.node.own.words[k as usize]),
-        Instr::NodeId => put(words, top, frame.node.id),
-        Instr::NodeDegree => put(words, top, frame.node.degree),
-        Instr::NodeRound => put(words, top, round_of(frame.node)),
-        Instr::NearWord(k) => put(words, top, frame.near.state.words[k as usize]),
-        Instr::NearId => put(words, top, frame.near.id),
-        Instr::NearWeight => put(words, top, frame.near.weight),
-        Instr::SumWord(k) => put(words, top, frame.sums.words[k as usize]),
+        Instr::Push(n) => put(stack, top, n),
+        Instr::OwnWord(k) => put(stack, top, frame.node.own.words[k as usize]),
+        Instr::NodeId => put(stack, top, frame.node.id),
+        Instr::NodeDegree => put(stack, top, frame.node.degree),
+        Instr::NodeRound => put(stack, top, round_of(frame.node)),
+        Instr::NearWord(k) => put(stack, top, frame.near.state.words[k as usize]),
+        Instr::NearId => put(stack, top, frame.near.id),
+        Instr::NearWeight => put(stack, top, frame.near.weight),
+        Instr::SumWord(k) => put(stack, top, frame.sums.words[k as usize]),
         Instr::Apply(op) => {
-            let value = apply(op, words[top + 1], words[top]);
-            words[top + 1] = value;
+            let value = apply(op, stack[top + 1], stack[top]);
+            stack[top + 1] = value;
             top + 1
         }
         Instr::Negate => {
-            let value = u32::from(words[top] == 0);
-            words[top] = value;
+            let value = u32::from(stack[top] == 0);
+            stack[top] = value;
             top
         }
         Instr::Pick => {
-            let value = choose(words[top + 2], words[top + 1], words[top]);
-            words[top + 2] = value;
+            let value = choose(stack[top + 2], stack[top + 1], stack[top]);
+            stack[top + 2] = value;
             top + 2
         }
     }
@@ -71,14 +71,14 @@ fn round_of(node: &Node) -> u32
     node.round
 }
 
-// One value more.
-fn put(words: &mut [u32; DEPTH], top: usize, value: u32) -> usize
+// The place of the top with one value more.
+fn put(stack: &mut [u32; DEPTH], top: usize, value: u32) -> usize
     requires top { top ≤ 127 }
     requires room { 0 < top }
     ensures top { result + 1 ≡ top }
-    ensures after { drop result words.new ≡ value ∷ drop top words.old }
+    ensures after { drop result stack.new ≡ value ∷ drop top stack.old }
 {
-    words[top - 1] = value;
+    stack[top - 1] = value;
     top - 1
 }
 

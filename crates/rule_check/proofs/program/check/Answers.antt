@@ -39,7 +39,7 @@ made c =
     record {
       stands_for = decoded_is p (rules_of src) e1 well rules sums;
       compiled = is_compiled p (rules_of src) e1 well rules sums;
-      faultless = no_fault src passes;
+      faultless = no_fault (rules_of src) well;
     }
 
 pub invariant_of-result : goal.invariant_of-result
