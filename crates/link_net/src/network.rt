@@ -67,6 +67,7 @@ impl Network {
     /// How many links there are, at most 262,144.
     pub fn links(&self) -> u32
         ensures count { 2 * result ≡ sum_by length self.now }
+        ensures bound { result ≤ 262144 }
     {
         (self.neighbours.len() / 2) as u32
     }

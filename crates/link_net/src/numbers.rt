@@ -12,6 +12,12 @@ use crate::tables::{Link, link_network};
 use crate::{NetFault, NetFile};
 use std::alloc::Global;
 
+/// The most nodes of a network.
+const MOST_NODES: u32 = 65_536;
+
+/// The last of the three phases.
+const LAST_PHASE: u32 = 2;
+
 /// The number, where it is from low to high.
 fn number_in(low: u32, high: u32, number: i64) -> Option<u32>
     ensures { result ≡ number_in low high number }
@@ -37,7 +43,7 @@ fn read_links(alloc: Global, last: u32, draft: &[(i64, i64, i64)]) -> Result<Vec
     ensures answer { IsAnswerBy (λ v. v.items) (ok_or (option_map (map settled) (all_placed last draft.now)) NetFault.BadLink) result }
     ensures within { IfOk result (λ v. AllWithin (last + 1) v.items) }
 {
-    let mut links = Vec::new(alloc);
+    let mut links = Vec::with_capacity(alloc, draft.len())?;
     for item in draft {
         let link = read_link(last, item).ok_or(NetFault::BadLink)?;
         links.push(link)?;
@@ -45,6 +51,7 @@ fn read_links(alloc: Global, last: u32, draft: &[(i64, i64, i64)]) -> Result<Vec
     Ok(links)
 }
 
+/// Whether the third number is no weight.
 fn is_off(link: &(i64, i64, i64)) -> bool
     ensures { result ≡ is_off link.now }
 {
@@ -62,10 +69,10 @@ fn has_bad_weight(links: &[(i64, i64, i64)]) -> bool
 pub(crate) fn describe(alloc: Global, draft: Draft) -> Result<NetFile, NetFault>
     ensures { IsAnswer (description_of draft) result }
 {
-    let nodes = number_in(1, 65536, draft.nodes).ok_or(NetFault::NodeCount)?;
+    let nodes = number_in(1, MOST_NODES, draft.nodes).ok_or(NetFault::NodeCount)?;
     let links = read_links(alloc, nodes - 1, draft.links.as_slice())?;
     let network = link_network(alloc, nodes, links.as_slice())?;
-    let phase = number_in(0, 2, draft.phase).ok_or(NetFault::BadPhase)?;
+    let phase = number_in(0, LAST_PHASE, draft.phase).ok_or(NetFault::BadPhase)?;
     if has_bad_weight(draft.links.as_slice()) {
         return Err(NetFault::BadWeight);
     }

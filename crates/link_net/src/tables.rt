@@ -12,8 +12,10 @@ ghost use Rattle.link_net.specs.Tables.{network_in};
 use crate::{NetFault, Network};
 use std::alloc::{AllocError, Global};
 
+/// The most links of a network.
 const MOST_LINKS: usize = 262_144;
 
+/// The most neighbours of a node.
 const MOST_NEIGHBOURS: usize = 4096;
 
 /// A link: its two ends and its weight.
@@ -26,7 +28,7 @@ type Arc = (u32, u32, u32);
 fn arcs(alloc: Global, links: &[Link]) -> Result<Vec<Arc>, AllocError>
     ensures { IfOk result (λ v. v.items ≡ arcs_of links.now) }
 {
-    let mut arcs = Vec::new(alloc);
+    let mut arcs = Vec::with_capacity(alloc, 2 * links.len())?;
     for link in links {
         arcs.push(*link)?;
         arcs.push((link.1, link.0, link.2))?;
@@ -84,7 +86,7 @@ fn offsets(alloc: Global, arcs: &[Arc], nodes: u32) -> Result<Vec<usize>, AllocE
     ensures count { IfOk result (λ v. length v.items ≡ nodes + 1) }
     ensures firsts { IfOk result (λ v. (u : ℕ) → u < length v.items → IsFirst arcs.now u (slice_index v.items u)) }
 {
-    let mut offsets = Vec::new(alloc);
+    let mut offsets = Vec::with_capacity(alloc, nodes as usize + 1)?;
     for node in 0..nodes + 1 {
         offsets.push(first_from(arcs, node))?;
     }
@@ -105,6 +107,7 @@ fn weights(alloc: Global, arcs: &[Arc]) -> Result<Vec<u32>, AllocError>
     arcs.iter().map(|arc| arc.2).collect(alloc)
 }
 
+/// Whether some link joins a node with itself.
 fn has_self_link(links: &[Link]) -> bool
     ensures { result ≡ list_any is_self_link links.now }
 {
