@@ -43,7 +43,7 @@ crowded_settled n links = any_agrees _ _ 0 n (λ u low high. ap (λ ws. nat_lt 4
 -- the checks, at the answers of their tests
 fused : (a b c d : Bool) (ls : List Half)
     → (if a then Err SelfLink else if b then Err LinkTwice else if c then Err TooManyLinks else if d then Err TooManyNeighbours else Ok (map settled ls))
-    ≡ and_then (λ ms. Ok (map settled ms)) (if a then Err SelfLink else if b then Err LinkTwice else if c then Err TooManyLinks else if d then Err TooManyNeighbours else Ok ls)
+    ≡ and_then (if a then Err SelfLink else if b then Err LinkTwice else if c then Err TooManyLinks else if d then Err TooManyNeighbours else Ok ls) (λ ms. Ok (map settled ms))
 fused true b c d ls = refl
 fused false true c d ls = refl
 fused false false true d ls = refl
@@ -58,7 +58,7 @@ kept false false true d ls ms h = cc
 kept false false false true ls ms h = cc
 kept false false false false ls ms h = cc
 
-sound_settled : (n : ℕ) (links : List Half) → sound n (map settled links) ≡ and_then (λ ms. Ok (map settled ms)) (sound n links)
+sound_settled : (n : ℕ) (links : List Half) → sound n (map settled links) ≡ and_then (sound n links) (λ ms. Ok (map settled ms))
 sound_settled n links =
     rw (self_settled links, twice_settled links, length-map links settled, crowded_settled n links)
     (fused (list_any is_self_link links) (has_link_twice links) (nat_lt most_links (length links)) (is_crowded n links) links)
@@ -69,13 +69,13 @@ sound_same n links ms h = kept (list_any is_self_link links) (has_link_twice lin
 -- what the checks on links with settled weights say of the links
 pub refused : (n : ℕ) (links : List Half) (fault : NetFault) → network_in n (map settled links) ≡ Err fault → sound n links ≡ Err fault
 refused n links fault h = at (sound n links) (rw (sound_settled n links) at h) where
-  at : (o : Result (List Half) NetFault) → and_then (λ ls. Ok (network_of n ls)) (and_then (λ ms. Ok (map settled ms)) o) ≡ Err fault → o ≡ Err fault
+  at : (o : Result (List Half) NetFault) → and_then (and_then o (λ ms. Ok (map settled ms))) (λ ls. Ok (network_of n ls)) ≡ Err fault → o ≡ Err fault
   at (Ok ms) e = cc
   at (Err other) e = let same : other ≡ fault = cc in ap Err same
 
 pub accepted : (n : ℕ) (links : List Half) (net : Neighbours) → network_in n (map settled links) ≡ Ok net → (sound n links ≡ Ok links) × (network_of n (map settled links) ≡ net)
 accepted n links net h = at (sound n links) refl (rw (sound_settled n links) at h) where
-  at : (o : Result (List Half) NetFault) → sound n links ≡ o → and_then (λ ls. Ok (network_of n ls)) (and_then (λ ms. Ok (map settled ms)) o) ≡ Ok net
+  at : (o : Result (List Half) NetFault) → sound n links ≡ o → and_then (and_then o (λ ms. Ok (map settled ms))) (λ ls. Ok (network_of n ls)) ≡ Ok net
       → (sound n links ≡ Ok links) × (network_of n (map settled links) ≡ net)
   at (Err other) is e = cc
   at (Ok ms) is e =

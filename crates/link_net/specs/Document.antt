@@ -70,9 +70,15 @@ phase_of ms = read_or (pos 0) as_integer (get_member (codes "phase") ms)
 abbrev pub field_sets_of : Members → Option (List FieldSet)
 field_sets_of ms = read_or [] (λ d. option_and_then sets_of (as_table d)) (get_member (codes "set") ms)
 
+-- the next step, at a value that is there
+abbrev given : {A B : Type 0} → Option A → (A → Option B) → Option B
+given o next = option_and_then next o
+
 -- the draft that a document of the right shape is
 abbrev pub draft_of : Members → Option Draft
 draft_of ms =
-    option_and_then (λ nodes. option_and_then (λ links. option_and_then (λ phase. option_map (λ sets.
-    record { nodes = nodes; links = links; phase = phase; sets = sets })
-    (field_sets_of ms)) (phase_of ms)) (links_of ms)) (nodes_of ms)
+    given (nodes_of ms) (λ nodes.
+    given (links_of ms) (λ links.
+    given (phase_of ms) (λ phase.
+    given (field_sets_of ms) (λ sets.
+    Some (record { nodes = nodes; links = links; phase = phase; sets = sets })))))

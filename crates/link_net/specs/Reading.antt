@@ -21,9 +21,9 @@ pub record Description : Type 0 where
   pub sets : List FieldSet
 
 -- the next step, at the value of a step that succeeds
-abbrev pub and_then : {A B : Type 0} → (A → Result B NetFault) → Result A NetFault → Result B NetFault
-and_then next (Ok x) = next x
-and_then next (Err fault) = Err fault
+abbrev pub and_then : {A B : Type 0} → Result A NetFault → (A → Result B NetFault) → Result B NetFault
+and_then (Ok x) next = next x
+and_then (Err fault) next = Err fault
 
 -- the number, where it is from low to high
 abbrev pub number_in : ℕ → ℕ → ℤ → Option ℕ
@@ -64,9 +64,12 @@ all_weighed (l ∷ ls) = option_and_then (λ p. option_map (λ ps. p ∷ ps) (al
 -- what a draft describes, or the first fault of its numbers
 abbrev pub description_of : Draft → Result Description NetFault
 description_of d =
-    and_then (λ n. and_then (λ ends. and_then (λ links. and_then (λ phase. and_then (λ whole.
-    Ok (record { network = network_of n whole; phase = phase; sets = d.sets }))
-    (ok_or (all_weighed links) BadWeight)) (ok_or (number_in 0 2 d.phase) BadPhase)) (sound n ends)) (ok_or (all_placed (n - 1) d.links) BadLink)) (ok_or (number_in 1 most_nodes d.nodes) NodeCount)
+    and_then (ok_or (number_in 1 most_nodes d.nodes) NodeCount) (λ n.
+    and_then (ok_or (all_placed (n - 1) d.links) BadLink) (λ ends.
+    and_then (sound n ends) (λ links.
+    and_then (ok_or (number_in 0 2 d.phase) BadPhase) (λ phase.
+    and_then (ok_or (all_weighed links) BadWeight) (λ whole.
+    Ok (record { network = network_of n whole; phase = phase; sets = d.sets }))))))
 
 -- the document that the bytes are
 abbrev pub document_of : List ℕ → Option Members
@@ -74,11 +77,11 @@ document_of bytes = if is_utf8 bytes then parse_document bytes else None
 
 -- what a document describes, or its first fault
 abbrev pub description_in : Members → Result Description NetFault
-description_in ms = if has_unknown_key ms then Err UnknownKey else and_then description_of (ok_or (draft_of ms) BadShape)
+description_in ms = if has_unknown_key ms then Err UnknownKey else and_then (ok_or (draft_of ms) BadShape) description_of
 
 -- what the bytes describe, or their first fault
 abbrev pub reading_of : List ℕ → Result Description NetFault
-reading_of bytes = and_then description_in (ok_or (document_of bytes) NotToml)
+reading_of bytes = and_then (ok_or (document_of bytes) NotToml) description_in
 
 -- the result stands for the defined one, or for want of memory
 abbrev pub IsAnswerBy : {A B : Type 0} → (B → A) → Result A NetFault → Result B NetFault → Type 0

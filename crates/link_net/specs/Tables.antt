@@ -17,4 +17,4 @@ is_off l = is_none (number_in 0 most_weight l.2)
 
 -- the network with n nodes and these links, or the first fault of their ends
 abbrev pub network_in : ℕ → List (ℕ × ℕ × ℕ) → Result Neighbours NetFault
-network_in n links = and_then (λ ls. Ok (network_of n ls)) (sound n links)
+network_in n links = and_then (sound n links) (λ ls. Ok (network_of n ls))
