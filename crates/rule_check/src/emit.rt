@@ -20,7 +20,7 @@ use std::alloc::{AllocError, Global};
 
 /// The declared fields.
 pub fn collect_fields(alloc: Global, items: &[Item]) -> Result<Vec<Field>, AllocError>
-    ensures { IfOk result (λ v. v.items ≡ fields_of (items_of items.now)) }
+    ensures exact { IfOk result (λ v. v.items ≡ fields_of (items_of items.now)) }
 {
     let mut fields = Vec::new(alloc);
     for item in items {
@@ -43,7 +43,7 @@ pub fn collect_parts(
 ) -> Result<Vec<Gatherer>, AllocError>
     requires few { length fields.now ≤ 8 }
     requires flat { list_any (λ n. nests n.body) (nexts_of (items_of items.now)) ≡ false }
-    ensures { IfOk result (λ v. map part_shape v.items
+    ensures exact { IfOk result (λ v. map part_shape v.items
         ≡ map (part_code (field_names fields.now)) (all_parts (nexts_of (items_of items.now)))) }
 {
     let mut gatherers = Vec::new(alloc);
@@ -63,7 +63,7 @@ pub fn collect_rules(
 ) -> Result<Vec<Rule>, AllocError>
     requires few { length fields.now ≤ 8 }
     requires sums { length (all_parts (nexts_of (items_of items.now))) ≤ 16 }
-    ensures { IfOk result (λ v. map rule_shape v.items
+    ensures exact { IfOk result (λ v. map rule_shape v.items
         ≡ map (rule_code (field_names fields.now)) (numbered 0 (nexts_of (items_of items.now)))) }
 {
     let mut rules = Vec::new(alloc);
@@ -138,7 +138,7 @@ fn emit_parts(
 ) -> Result<(), AllocError>
     requires few { length fields.now ≤ 8 }
     requires flat { nests (tree_of e.now) ≡ false }
-    ensures { OnOk result (map part_shape gatherers.new.items
+    ensures exact { OnOk result (map part_shape gatherers.new.items
         ≡ map part_shape gatherers.old.items ++ map (part_code (field_names fields.now)) (parts (tree_of e.now))) }
 {
     match e {

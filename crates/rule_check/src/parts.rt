@@ -23,7 +23,7 @@ impl Model for Name {
 impl Name {
     /// The name that the text spells.
     pub fn new(alloc: Global, text: &str) -> Result<Name, AllocError>
-        ensures { IfOk result (λ n. n ≡ text.now) }
+        ensures exact { IfOk result (λ n. n ≡ text.now) }
     {
         let text = String::from_str(alloc, text)?;
         Ok(Name { text })
@@ -31,14 +31,14 @@ impl Name {
 
     /// Its spelling.
     pub fn as_str(&self) -> &str
-        ensures { result.now ≡ self.now }
+        ensures exact { result.now ≡ self.now }
     {
         self.text.as_str()
     }
 
     /// Whether the text spells it.
     pub fn is(&self, text: &str) -> bool
-        ensures { result ≡ bytes_eq self.now text.now }
+        ensures exact { result ≡ bytes_eq self.now text.now }
     {
         self.text.as_str() == text
     }

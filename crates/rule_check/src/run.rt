@@ -66,7 +66,7 @@ fn act(instr: Instr, frame: &Frame, stack: &mut [u32; DEPTH], top: usize) -> usi
 
 // The round, which a word holds.
 fn round_of(node: &Node) -> u32
-    ensures { result ≡ min node.now.round M }
+    ensures exact { result ≡ min node.now.round M }
 {
     node.round
 }
@@ -84,8 +84,8 @@ fn put(stack: &mut [u32; DEPTH], top: usize, value: u32) -> usize
 
 /// The value that code leaves, on a stack of any values.
 pub fn run(stack: &mut [u32; DEPTH], code: &[Instr], frame: &Frame) -> u32
-    requires { Runs code.now 0 }
-    ensures { exec (seen frame.now) code.now [] ≡ result ∷ [] }
+    requires runs { Runs code.now 0 }
+    ensures exact { exec (seen frame.now) code.now [] ≡ result ∷ [] }
 {
     let mut top = DEPTH;
     for instr in code {

@@ -8,7 +8,7 @@ use crate::parts::{Field, Gatherer, Rule};
 
 /// Whether two lists of fields are equal.
 pub fn same_fields(xs: &[Field], ys: &[Field]) -> bool
-    ensures { IsTrue result ↔ (xs.now ≡ ys.now) }
+    ensures exact { IsTrue result ↔ (xs.now ≡ ys.now) }
 {
     if xs.len() != ys.len() {
         return false;
@@ -23,7 +23,7 @@ pub fn same_fields(xs: &[Field], ys: &[Field]) -> bool
 
 /// Whether two lists of aggregates have equal code.
 pub fn same_parts(xs: &[Gatherer], ys: &[Gatherer]) -> bool
-    ensures { IsTrue result ↔ (map part_shape xs.now ≡ map part_shape ys.now) }
+    ensures exact { IsTrue result ↔ (map part_shape xs.now ≡ map part_shape ys.now) }
 {
     if xs.len() != ys.len() {
         return false;
@@ -38,7 +38,7 @@ pub fn same_parts(xs: &[Gatherer], ys: &[Gatherer]) -> bool
 
 /// Whether two lists of rules write equal values at equal places.
 pub fn same_rules(xs: &[Rule], ys: &[Rule]) -> bool
-    ensures { IsTrue result ↔ (map rule_shape xs.now ≡ map rule_shape ys.now) }
+    ensures exact { IsTrue result ↔ (map rule_shape xs.now ≡ map rule_shape ys.now) }
 {
     if xs.len() != ys.len() {
         return false;
@@ -52,25 +52,25 @@ pub fn same_rules(xs: &[Rule], ys: &[Rule]) -> bool
 }
 
 fn same_field(x: &Field, y: &Field) -> bool
-    ensures { IsTrue result ↔ (x.now ≡ y.now) }
+    ensures exact { IsTrue result ↔ (x.now ≡ y.now) }
 {
     x.opening == y.opening && x.name.is(y.name.as_str())
 }
 
 fn same_part(x: &Gatherer, y: &Gatherer) -> bool
-    ensures { IsTrue result ↔ (part_shape x.now ≡ part_shape y.now) }
+    ensures exact { IsTrue result ↔ (part_shape x.now ≡ part_shape y.now) }
 {
     x.agg == y.agg && same_code(&x.code, &y.code)
 }
 
 fn same_rule(x: &Rule, y: &Rule) -> bool
-    ensures { IsTrue result ↔ (rule_shape x.now ≡ rule_shape y.now) }
+    ensures exact { IsTrue result ↔ (rule_shape x.now ≡ rule_shape y.now) }
 {
     x.field == y.field && same_code(&x.code, &y.code)
 }
 
 fn same_code(xs: &[Instr], ys: &[Instr]) -> bool
-    ensures { IsTrue result ↔ (xs.now ≡ ys.now) }
+    ensures exact { IsTrue result ↔ (xs.now ≡ ys.now) }
 {
     xs == ys
 }

@@ -29,7 +29,7 @@ pub fn place_of(fields: &[Field], name: &str) -> usize
 
 /// Whether a field has this name.
 pub fn declares(fields: &[Field], name: &str) -> bool
-    ensures { result ≡ is_among (field_names fields.now) name.now }
+    ensures exact { result ≡ is_among (field_names fields.now) name.now }
 {
     for field in fields {
         if field.name.is(name) {
@@ -41,7 +41,7 @@ pub fn declares(fields: &[Field], name: &str) -> bool
 
 /// Whether two fields have one name.
 pub fn repeats(fields: &[Field]) -> bool
-    ensures { result ≡ has_twice (field_names fields.now) }
+    ensures exact { result ≡ has_twice (field_names fields.now) }
 {
     for (k, field) in fields.iter().enumerate() {
         if declares(&fields[k + 1..], field.name.as_str()) {
@@ -53,7 +53,7 @@ pub fn repeats(fields: &[Field]) -> bool
 
 /// Whether two next items have one name.
 pub fn assigns_twice(alloc: Global, items: &[Item]) -> Result<bool, AllocError>
-    ensures { IfOk result (λ twice. twice ≡ has_twice (map (λ n. n.name) (nexts_of (items_of items.now)))) }
+    ensures exact { IfOk result (λ twice. twice ≡ has_twice (map (λ n. n.name) (nexts_of (items_of items.now)))) }
 {
     let mut seen = BTreeSet::new(alloc);
     for item in items {
@@ -68,7 +68,7 @@ pub fn assigns_twice(alloc: Global, items: &[Item]) -> Result<bool, AllocError>
 
 /// Whether the expression has a name that is no field's.
 pub fn unknown_in(fields: &[Field], e: &Expr) -> bool
-    ensures { result ≡ names_unknown (field_names fields.now) (tree_of e.now) }
+    ensures exact { result ≡ names_unknown (field_names fields.now) (tree_of e.now) }
 {
     match e {
         Expr::Number(_) | Expr::Id | Expr::Degree | Expr::Round | Expr::NearId | Expr::NearWeight =>
@@ -86,7 +86,7 @@ pub fn unknown_in(fields: &[Field], e: &Expr) -> bool
 
 /// Whether the expression names a neighbour outside of an aggregate.
 pub fn outside_in(e: &Expr) -> bool
-    ensures { result ≡ looks_outside (tree_of e.now) }
+    ensures exact { result ≡ looks_outside (tree_of e.now) }
 {
     match e {
         Expr::Number(_) | Expr::Own(_) | Expr::Id | Expr::Degree | Expr::Round | Expr::Over(_, _) =>
@@ -100,7 +100,7 @@ pub fn outside_in(e: &Expr) -> bool
 
 /// How many aggregates the expression has, those inside of others aside, as far as a word counts.
 pub fn count_in(e: &Expr) -> u32
-    ensures { result ≡ min (length (parts (tree_of e.now))) M }
+    ensures exact { result ≡ min (length (parts (tree_of e.now))) M }
 {
     match e {
         Expr::Over(_, _) => 1,
@@ -122,7 +122,7 @@ pub fn count_in(e: &Expr) -> u32
 
 /// Whether an aggregate stands in an aggregate.
 pub fn nests_in(e: &Expr) -> bool
-    ensures { result ≡ nests (tree_of e.now) }
+    ensures exact { result ≡ nests (tree_of e.now) }
 {
     match e {
         Expr::Number(_)
@@ -142,7 +142,7 @@ pub fn nests_in(e: &Expr) -> bool
 
 /// Whether a next item has a name that is no field's.
 pub fn some_unknown(fields: &[Field], items: &[Item]) -> bool
-    ensures { result ≡ list_any (is_unknown (field_names fields.now)) (nexts_of (items_of items.now)) }
+    ensures exact { result ≡ list_any (is_unknown (field_names fields.now)) (nexts_of (items_of items.now)) }
 {
     for item in items {
         if let Item::Next { name, body } = item {
@@ -156,7 +156,7 @@ pub fn some_unknown(fields: &[Field], items: &[Item]) -> bool
 
 /// Whether an expression names a neighbour outside of an aggregate.
 pub fn some_outside(items: &[Item]) -> bool
-    ensures { result ≡ list_any (λ n. looks_outside n.body) (nexts_of (items_of items.now)) }
+    ensures exact { result ≡ list_any (λ n. looks_outside n.body) (nexts_of (items_of items.now)) }
 {
     for item in items {
         if let Item::Next { body, .. } = item {
@@ -170,7 +170,7 @@ pub fn some_outside(items: &[Item]) -> bool
 
 /// Whether an aggregate stands in an aggregate.
 pub fn some_nest(items: &[Item]) -> bool
-    ensures { result ≡ list_any (λ n. nests n.body) (nexts_of (items_of items.now)) }
+    ensures exact { result ≡ list_any (λ n. nests n.body) (nexts_of (items_of items.now)) }
 {
     for item in items {
         if let Item::Next { body, .. } = item {
@@ -184,7 +184,7 @@ pub fn some_nest(items: &[Item]) -> bool
 
 /// How many aggregates all expressions have, as far as a word counts.
 pub fn count_all(items: &[Item]) -> u32
-    ensures { result ≡ min (length (all_parts (nexts_of (items_of items.now)))) M }
+    ensures exact { result ≡ min (length (all_parts (nexts_of (items_of items.now)))) M }
 {
     let mut count = 0u32;
     for item in items {
@@ -197,8 +197,8 @@ pub fn count_all(items: &[Item]) -> u32
 
 /// The place of the field of this name.
 pub fn index_of(fields: &[Field], name: &str) -> Option<u32>
-    requires { length fields.now ≤ 8 }
-    ensures { result ≡ (if is_among (field_names fields.now) name.now then Some (place (field_names fields.now) name.now) else None) }
+    requires few { length fields.now ≤ 8 }
+    ensures exact { result ≡ (if is_among (field_names fields.now) name.now then Some (place (field_names fields.now) name.now) else None) }
 {
     for (k, field) in fields.iter().enumerate() {
         if field.name.is(name) {

@@ -12,8 +12,8 @@ use crate::table::{gathered, opening};
 
 /// Each field's opening value.
 pub fn opening_words(fields: &[Field], words: &mut [u32; 8])
-    requires { length fields.now ≤ 8 }
-    ensures { words.new ≡ updated (λ v w. v) (map (λ f. f.opening) fields.now) words.old }
+    requires few { length fields.now ≤ 8 }
+    ensures exact { words.new ≡ updated (λ v w. v) (map (λ f. f.opening) fields.now) words.old }
 {
     for (k, field) in fields.iter().enumerate() {
         words[k] = field.opening;
@@ -22,8 +22,8 @@ pub fn opening_words(fields: &[Field], words: &mut [u32; 8])
 
 /// Each aggregate's value over no neighbour.
 pub fn start_words(gatherers: &[Gatherer], words: &mut [u32; 16])
-    requires { length gatherers.now ≤ 16 }
-    ensures { words.new ≡ updated with_none (map part_shape gatherers.now) words.old }
+    requires few { length gatherers.now ≤ 16 }
+    ensures exact { words.new ≡ updated with_none (map part_shape gatherers.now) words.old }
 {
     for (k, gatherer) in gatherers.iter().enumerate() {
         words[k] = opening(gatherer.agg);
@@ -39,7 +39,7 @@ pub fn take_words(
 )
     requires few { length gatherers.now ≤ 16 }
     requires run { All IsPart gatherers.now }
-    ensures { words.new ≡ updated (with_near (seen frame.now)) (map part_shape gatherers.now) words.old }
+    ensures exact { words.new ≡ updated (with_near (seen frame.now)) (map part_shape gatherers.now) words.old }
 {
     for (k, gatherer) in gatherers.iter().enumerate() {
         let value = run(stack, &gatherer.code, frame);
@@ -49,8 +49,8 @@ pub fn take_words(
 
 /// The first `count` words, and 0 for the others.
 pub fn clear_words(count: usize, words: &mut [u32; 8])
-    requires { count ≤ 8 }
-    ensures { words.new ≡ cleared count words.old }
+    requires few { count ≤ 8 }
+    ensures exact { words.new ≡ cleared count words.old }
 {
     for k in count..8 {
         words[k] = 0;
@@ -59,8 +59,8 @@ pub fn clear_words(count: usize, words: &mut [u32; 8])
 
 /// The words of the fields that have a rule.
 pub fn finish_words(stack: &mut [u32; DEPTH], rules: &[Rule], frame: &Frame, words: &mut [u32; 8])
-    requires { All IsRule rules.now }
-    ensures { words.new ≡ written (seen frame.now) (map rule_shape rules.now) words.old }
+    requires run { All IsRule rules.now }
+    ensures exact { words.new ≡ written (seen frame.now) (map rule_shape rules.now) words.old }
 {
     for rule in rules {
         words[rule.field as usize] = run(stack, &rule.code, frame);

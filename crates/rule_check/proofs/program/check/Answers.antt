@@ -23,19 +23,19 @@ made c =
     let p : Inside = record { fields = c.in_ok-fields.fields; gatherers = c.in_ok-gatherers.gatherers; rules = c.in_ok-rules.rules } in
     let src = c.args.source.now in
     let e0 = c.items-items.ensures.same in
-    let e1 : c.in_ok-fields.fields.items ≡ fields_of src = c.in_ok-fields.ensures ∙ ap fields_of e0 in
+    let e1 : c.in_ok-fields.fields.items ≡ fields_of src = c.in_ok-fields.ensures.exact ∙ ap fields_of e0 in
     let passes : Passes src = record {
       few_fields = omega (arith, c.len.ensures, c.in_ok-fields.fields.ok.0, ap length e1, c.if-len-gt8.false);
-      fields_differ = ap (λ fs. has_twice (field_names fs)) (sym (c.deref.ensures.value ∙ e1)) ∙ sym c.repeats.ensures ∙ c.if-repeats.false;
-      nexts_differ = ap (λ is. has_twice (map (λ n. n.name) (nexts_of is))) (sym e0) ∙ sym c.in_ok-twice.ensures ∙ c.if-twice.false;
-      known = ap (λ fs. list_any (is_unknown (field_names fs)) (nexts_of src)) (sym (c.deref-2.ensures.value ∙ e1)) ∙ ap (λ is. list_any (is_unknown (field_names c.deref-2.result.now)) (nexts_of is)) (sym e0) ∙ sym c.some_unknown.ensures ∙ c.if-some_unknown.false;
-      inside = ap (λ is. list_any (λ n. looks_outside n.body) (nexts_of is)) (sym e0) ∙ sym c.some_outside.ensures ∙ c.if-some_outside.false;
-      flat = ap (λ is. list_any (λ n. nests n.body) (nexts_of is)) (sym e0) ∙ sym c.some_nest.ensures ∙ c.if-some_nest.false;
-      few_aggregates = omega (arith, c.count_all.ensures, ap (λ is. length (all_parts (nexts_of is))) e0, c.if-count_all-gt16.false);
+      fields_differ = ap (λ fs. has_twice (field_names fs)) (sym (c.deref.ensures.value ∙ e1)) ∙ sym c.repeats.ensures.exact ∙ c.if-repeats.false;
+      nexts_differ = ap (λ is. has_twice (map (λ n. n.name) (nexts_of is))) (sym e0) ∙ sym c.in_ok-twice.ensures.exact ∙ c.if-twice.false;
+      known = ap (λ fs. list_any (is_unknown (field_names fs)) (nexts_of src)) (sym (c.deref-2.ensures.value ∙ e1)) ∙ ap (λ is. list_any (is_unknown (field_names c.deref-2.result.now)) (nexts_of is)) (sym e0) ∙ sym c.some_unknown.ensures.exact ∙ c.if-some_unknown.false;
+      inside = ap (λ is. list_any (λ n. looks_outside n.body) (nexts_of is)) (sym e0) ∙ sym c.some_outside.ensures.exact ∙ c.if-some_outside.false;
+      flat = ap (λ is. list_any (λ n. nests n.body) (nexts_of is)) (sym e0) ∙ sym c.some_nest.ensures.exact ∙ c.if-some_nest.false;
+      few_aggregates = omega (arith, c.count_all.ensures.exact, ap (λ is. length (all_parts (nexts_of is))) e0, c.if-count_all-gt16.false);
     } in
     let well = well_formed src c.items-items.ensures.whole passes in
-    let rules = c.in_ok-rules.ensures ∙ ap (λ fs. map (rule_code (field_names fs)) (numbered 0 (nexts_of (items_of c.items-items.result.now)))) c.deref-4.ensures.value ∙ ap (λ is. map (rule_code (field_names p.fields.items)) (numbered 0 (nexts_of is))) e0 in
-    let sums = c.in_ok-gatherers.ensures ∙ ap (λ fs. map (part_code (field_names fs)) (all_parts (nexts_of (items_of c.items-items.result.now)))) c.deref-3.ensures.value ∙ ap (λ is. map (part_code (field_names p.fields.items)) (all_parts (nexts_of is))) e0 in
+    let rules = c.in_ok-rules.ensures.exact ∙ ap (λ fs. map (rule_code (field_names fs)) (numbered 0 (nexts_of (items_of c.items-items.result.now)))) c.deref-4.ensures.value ∙ ap (λ is. map (rule_code (field_names p.fields.items)) (numbered 0 (nexts_of is))) e0 in
+    let sums = c.in_ok-gatherers.ensures.exact ∙ ap (λ fs. map (part_code (field_names fs)) (all_parts (nexts_of (items_of c.items-items.result.now)))) c.deref-3.ensures.value ∙ ap (λ is. map (part_code (field_names p.fields.items)) (all_parts (nexts_of is))) e0 in
     record {
       stands_for = decoded_is p (rules_of src) e1 well rules sums;
       compiled = is_compiled p (rules_of src) e1 well rules sums;

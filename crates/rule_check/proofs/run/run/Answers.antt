@@ -9,6 +9,6 @@ pub loop-instr-init : goal.loop-instr-init
 loop-instr-init c = record {
   fits = omega arith;
   long = c.told-stack;
-  runs = c.requires;
+  runs = c.requires.runs;
   leaves = ap (exec (seen c.args.frame.now) c.args.code.now) (drop_all 127 c.args.stack.now (omega arith));
 }

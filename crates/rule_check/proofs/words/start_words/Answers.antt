@@ -10,5 +10,5 @@ loop-k-preserved c =
     let d = c.index-gatherers-k.result in
     record {
       long = simp length-set c.loop-k.invariant.long;
-      rest = updated_step part_shape with_none c.args.gatherers.now d c.loop-k.words c.loop-k.k c.opening.result (omega arith) (omega arith) (c.opening.ensures ∙ ap (λ g. start_of g.agg) c.index-gatherers-k.is) ∙ c.loop-k.invariant.rest;
+      rest = updated_step part_shape with_none c.args.gatherers.now d c.loop-k.words c.loop-k.k c.opening.result (omega arith) (omega arith) (c.opening.ensures.exact ∙ ap (λ g. start_of g.agg) c.index-gatherers-k.is) ∙ c.loop-k.invariant.rest;
     }

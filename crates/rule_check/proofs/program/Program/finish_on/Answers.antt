@@ -13,7 +13,7 @@ use Rattle.rule_check.proofs.Rest.{rest_of_finished}
 use Rattle.rule_check.proofs.program.Program.finish_on.Goals as goal
 
 pub finish_words-requires : goal.finish_words-requires
-finish_words-requires c = subst (All IsRule) (sym c.deref.ensures.value) (rules_ok c.self.inside c.self.invariant)
+finish_words-requires c = record { run = subst (All IsRule) (sym c.deref.ensures.value) (rules_ok c.self.inside c.self.invariant) }
 
 pub returns-clause-exact : goal.returns-clause-exact
 returns-clause-exact c =
@@ -23,10 +23,10 @@ returns-clause-exact c =
     let long : 8 ≤ length c.clear_words.new.words = omega (arith, c.clear_words.array_long) in
     let fields = c.len.ensures ∙ p.fields.ok.0 in
     ap state_from
-    (c.finish_words.ensures
+    (c.finish_words.ensures.exact
     ∙ ap (λ rs. written f (map rule_shape rs) c.clear_words.new.words) c.deref.ensures.value
     ∙ finish_words_are p c.self.invariant f c.clear_words.new.words long
-    ∙ ap (updated (finished_word (field_names p.fields.items) f (numbered 0 (decoded p).nexts)) (field_names p.fields.items)) (c.clear_words.ensures ∙ ap (λ n. cleared n a.node.now.own.now.words) fields))
+    ∙ ap (updated (finished_word (field_names p.fields.items) f (numbered 0 (decoded p).nexts)) (field_names p.fields.items)) (c.clear_words.ensures.exact ∙ ap (λ n. cleared n a.node.now.own.now.words) fields))
     ∙ ap (λ v. finished v a.node.now.round a.node.now.id a.node.now.degree a.node.now.own.now a.sums.now) c.self.view_is
 
 pub returns-clause-completes : goal.returns-clause-completes

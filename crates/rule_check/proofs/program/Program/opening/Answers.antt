@@ -8,7 +8,7 @@ use Rattle.rule_check.proofs.program.Program.opening.Goals as goal
 pub returns-clause-exact : goal.returns-clause-exact
 returns-clause-exact c =
     ap state_from
-    (c.opening_words.ensures
+    (c.opening_words.ensures.exact
     ∙ ap (λ fs. updated (λ v w. v) (map (λ f. f.opening) fs) (replicate 8 0)) c.deref.ensures.value)
     ∙ ap opening_of c.self.view_is
 

@@ -10,7 +10,7 @@ pub returns : goal.returns
 returns c = record {
   none = λ round id degree own.
       ap sums_from
-      (c.start_words.ensures
+      (c.start_words.ensures.exact
       ∙ ap (λ gs. updated with_none (map part_shape gs) (replicate 16 0)) c.deref.ensures.value
       ∙ start_words_are c.self.inside c.self.invariant round id degree own)
       ∙ ap (λ v. sums_at v (here_at v round id degree own [])) c.self.view_is;

@@ -17,7 +17,7 @@ returns-clause-step c = λ nears.
     let a = c.args in
     let f = frame a.node.now.id a.node.now.degree a.node.now.round a.node.now.own.now a.near.now (replicate 16 0) in
     ap sums_from
-    (c.take_words.ensures
+    (c.take_words.ensures.exact
     ∙ ap (λ gs. updated (with_near f) (map part_shape gs) a.sums.now.words) c.deref.ensures.value
     ∙ take_words_are c.self.inside c.self.invariant a.node.now.round a.node.now.id a.node.now.degree a.node.now.own.now a.near.now (replicate 16 0) a.sums.now.words nears)
     ∙ ap (λ v. taken v (here_at v a.node.now.round a.node.now.id a.node.now.degree a.node.now.own.now nears) a.near.now a.sums.now) c.self.view_is
