@@ -135,7 +135,10 @@ impl Program {
         State { words }
     }
 
-    /// The next state, in the step from `round`, of the node `id` with the state `own` and these neighbours.
+    /// The next state of the node `id` with the state `own`, in the step from `round`.
+    ///
+    /// There may be no neighbour, and at most 4,096. Their number is the degree, and their order
+    /// plays no part.
     pub fn next(&self, id: u32, own: State, round: u32, neighbours: &[Near]) -> State
         requires few { length neighbours.now ≤ 4096 }
         ensures exact { next_state self.now round id own neighbours.now ≡ result }
@@ -155,7 +158,7 @@ impl Program {
         self.finish_on(&mut stack, &node, &sums)
     }
 
-    /// The aggregates' values over no neighbour.
+    /// The aggregates' values over no neighbour, and 0 for those that the program doesn't have.
     pub fn start(&self) -> Sums
         ensures none { (round id degree : ℕ) (own : State) → result ≡ sums_at self.now (here_at self.now round id degree own []) }
     {
@@ -166,7 +169,8 @@ impl Program {
 
     /// Takes one neighbour more into the aggregates' values of the node `id`.
     ///
-    /// Neighbours may be taken in any order.
+    /// Up to 4,096 neighbours may be taken, in any order, each once and all with the same `id`,
+    /// `degree`, `own` and `round`; `degree` is the number of all neighbours.
     pub fn take(&self, sums: &mut Sums, id: u32, degree: u32, own: State, round: u32, near: &Near)
         ensures step { (nears : List Near) → sums.new ≡ taken self.now (here_at self.now round id degree own nears) near.now sums.old }
         ensures anywhere { (front back : List Near) → length (front ++ back) < 4096
@@ -183,7 +187,8 @@ impl Program {
         self.take_on(&mut stack, sums, &node, near);
     }
 
-    /// The next state by the aggregates' values over all `degree` neighbours.
+    /// The next state of the node `id` by the aggregates' values over all its `degree` neighbours:
+    /// what `next` gives for the list of those taken.
     pub fn finish(&self, id: u32, degree: u32, own: State, round: u32, sums: &Sums) -> State
         ensures exact { result ≡ finished self.now round id degree own sums.now }
         ensures completes { (nears : List Near) → length nears ≡ degree
