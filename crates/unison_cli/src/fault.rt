@@ -90,10 +90,8 @@ impl ServeFault {
             | ServeFault::Round(_)
             | ServeFault::Write { .. }
             | ServeFault::Memory => 1,
-            ServeFault::Lang(_)
-            | ServeFault::Check(_)
-            | ServeFault::Net(_)
-            | ServeFault::Plan(_) => 3,
+            ServeFault::Lang(_) | ServeFault::Check(_) | ServeFault::Net(_) | ServeFault::Plan(_) =>
+                3,
         }
     }
 

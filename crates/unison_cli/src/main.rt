@@ -4,6 +4,8 @@
 mod fault;
 mod request;
 mod serve;
+#[cfg(test)]
+mod tests;
 mod words;
 
 use crate::fault::ServeFault;

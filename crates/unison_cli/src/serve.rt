@@ -76,12 +76,7 @@ fn lockstep_report(
 }
 
 /// The text that a job writes.
-fn answer(
-    alloc: Global,
-    job: &Job,
-    program: &[u8],
-    network: &[u8],
-) -> Result<Vec<u8>, ServeFault>
+fn answer(alloc: Global, job: &Job, program: &[u8], network: &[u8]) -> Result<Vec<u8>, ServeFault>
     ensures served { IfOk result (λ text. IsServed job.now program.now network.now text.items) }
     ensures refused { IfErr result (IsRefusal job.now program.now network.now) }
     ensures unwritten { IfErr result IsUnwritten }

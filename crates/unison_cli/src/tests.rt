@@ -1,0 +1,356 @@
+//! Jobs from texts to bytes, statuses, fault lines and command lines.
+ghost use Rattle.std.specs.Prelude.{◌≡◌, ◌<◌, ◌^◌, false, Some};
+
+use crate::fault::ServeFault;
+use crate::request::{Job, Request, UsageFault};
+use crate::serve::serve;
+use crate::words::job_of;
+use lockstep::Tally;
+use std::alloc::{AllocError, Global};
+use std::io;
+use std::io::{ErrorKind, Write};
+use std::sync::Wait;
+use std::test::Fail;
+use std::thread::Threads;
+
+/// Takes `room` bytes in all, and then fails.
+#[derive(Drop)]
+struct Paper {
+    held: Vec<u8>,
+    room: usize,
+}
+
+impl Write for Paper {
+    ghost contents = { λ w. Some w.held.items };
+
+    fn write(&mut self, buf: &[u8]) -> io::Result<usize> {
+        let taken = buf.len().min(self.room);
+        if taken == 0 {
+            return Err(io::Error::from(ErrorKind::BrokenPipe));
+        }
+        self.held.extend_from_slice(&buf[..taken])?;
+        self.room -= taken;
+        Ok(taken)
+    }
+
+    fn flush(&mut self) -> io::Result<()> {
+        Ok(())
+    }
+}
+
+const PATH: &str = "nodes = 3\nlinks = [[0, 1], [1, 2]]\n[set]\ndist = [[0, 0]]\n";
+
+const PAIR: &str = "nodes = 2\nlinks = [[0, 1]]\n[set]\ns = [[0, 5], [1, 7]]\n";
+
+const DISTANCE: &str = "field dist = 4294967295; next dist = (dist min least (n.dist + 1));";
+
+const SWAP: &str = "field s = 0; next s = total n.s;";
+
+const ARITHMETIC: &str =
+    "field a = 9; field b = 9; field c = 9; field d = 9; next a = (7 / 0); next b = (7 % 0); next c = (3 - 5); next d = (65536 * 65536);";
+
+const GREATEST: &str =
+    "nodes = 3\nlinks = [[0, 1], [1, 2]]\n[set]\ns = [[0, 4294967295], [2, 1]]\n";
+
+const RULE_110: &str =
+    "field s = 0; next s = ((s | any ((n.id > id) & n.s)) & not ((any ((n.id < id) & n.s) & s) & any ((n.id > id) & n.s)));";
+
+const CELLS: &str =
+    "nodes = 8\nlinks = [[0, 1], [1, 2], [2, 3], [3, 4], [4, 5], [5, 6], [6, 7]]\n[set]\ns = [[6, 1]]\n";
+
+/// What was written, and the fault where there was one.
+fn served(
+    rt: &(impl Threads + Wait + Sync),
+    alloc: Global,
+    job: Job,
+    program: &[u8],
+    network: &[u8],
+    room: usize,
+) -> Result<(Vec<u8>, Option<ServeFault>), Fail> {
+    let mut schedule = Tally::new(io::empty());
+    let mut out = Tally::new(Paper {
+        held: Vec::new(alloc),
+        room,
+    });
+    let answer = serve(rt, alloc, &job, program, network, &mut schedule, &mut out);
+    let held = out.inner().held.clone()?;
+    Ok((held, answer.err()))
+}
+
+#[test]
+fn reports(rt: HostRuntime) -> Result<(), Fail> {
+    let alloc = rt.alloc();
+    let rows = [
+        (DISTANCE, PATH, 2, "round 2\n0 dist=0\n1 dist=1\n2 dist=2\n"),
+        (
+            DISTANCE,
+            PATH,
+            1,
+            "round 1\n0 dist=0\n1 dist=1\n2 dist=4294967295\n",
+        ),
+        (
+            DISTANCE,
+            PATH,
+            0,
+            "round 0\n0 dist=0\n1 dist=4294967295\n2 dist=4294967295\n",
+        ),
+        (SWAP, PAIR, 1, "round 1\n0 s=7\n1 s=5\n"),
+        (SWAP, PAIR, 2, "round 2\n0 s=5\n1 s=7\n"),
+        (
+            ARITHMETIC,
+            "nodes = 1\nlinks = []\n",
+            1,
+            "round 1\n0 a=0 b=7 c=0 d=4294967295\n",
+        ),
+        (SWAP, GREATEST, 1, "round 1\n0 s=0\n1 s=4294967295\n2 s=0\n"),
+        (
+            RULE_110,
+            CELLS,
+            3,
+            "round 3\n0 s=0\n1 s=0\n2 s=0\n3 s=1\n4 s=1\n5 s=0\n6 s=1\n7 s=0\n",
+        ),
+    ];
+    for (program, network, rounds, report) in rows {
+        let job = Job::Lockstep { rounds };
+        let (held, fault) = served(
+            &rt,
+            alloc,
+            job,
+            program.as_bytes(),
+            network.as_bytes(),
+            1000,
+        )?;
+        assert_eq!(rt;
+            held.as_slice(),
+            report.as_bytes(),
+            "{program} for {rounds} rounds"
+        );
+        assert_eq!(rt; fault, None);
+    }
+    Ok(())
+}
+
+#[test]
+fn canonical_spelling(rt: HostRuntime) -> Result<(), Fail> {
+    let text = b"field  s=007;#x\nnext s=(s+not s);";
+    let (held, fault) = served(&rt, rt.alloc(), Job::Check, text, b"", 1000)?;
+    assert_eq!(rt;
+        held.as_slice(),
+        b"field s = 7;\nnext s = (s + not s);\n".as_slice()
+    );
+    assert_eq!(rt; fault, None);
+    Ok(())
+}
+
+/// The fault line and the status of a job.
+fn line_of(
+    rt: &(impl Threads + Wait + Sync),
+    alloc: Global,
+    job: Job,
+    program: &[u8],
+    network: &[u8],
+) -> Result<(String, u8), Fail> {
+    let (held, fault) = served(rt, alloc, job, program, network, 1000)?;
+    let fault = fault.ok_or("a fault")?;
+    let (part, name) = fault.line();
+    let written = held.len();
+    Ok((
+        format!(in alloc; "{part} {name} {written}")?,
+        fault.status(),
+    ))
+}
+
+#[test]
+fn refused_programs(rt: HostRuntime) -> Result<(), Fail> {
+    let alloc = rt.alloc();
+    let rows = [
+        ("next s = n.s;", "program NeighbourOutside 0"),
+        ("next s = total total n.s;", "program NestedAggregate 0"),
+        ("next s = 4294967296;", "program Lex 0"),
+        ("next s = if s then", "program Syntax 0"),
+        ("next s = s + 1;", "program Syntax 0"),
+        ("next s = q;", "program UnknownName 0"),
+        ("field s = 1;", "program FieldTwice 0"),
+        ("next s = 1; next s = 2;", "program NextTwice 0"),
+    ];
+    for (rest, line) in rows {
+        let text = format!(in alloc; "field s = 0;{rest}")?;
+        for job in [Job::Check, Job::Lockstep { rounds: 1 }] {
+            let (found, status) = line_of(&rt, alloc, job, text.as_bytes(), PAIR.as_bytes())?;
+            assert_eq!(rt; found.as_str(), line);
+            assert_eq!(rt; status, 3);
+        }
+    }
+    Ok(())
+}
+
+#[test]
+fn texts_at_the_limits(rt: HostRuntime) -> Result<(), Fail> {
+    let alloc = rt.alloc();
+    let mut text = vec![in alloc; b' '; 65_536]?;
+    let (held, fault) = served(&rt, alloc, Job::Check, &text, b"", 1000)?;
+    assert_eq!(rt; held.len(), 0);
+    assert_eq!(rt; fault, None);
+    text.push(b' ')?;
+    let (found, status) = line_of(&rt, alloc, Job::Check, &text, b"")?;
+    assert_eq!(rt; found.as_str(), "program TooLong 0");
+    assert_eq!(rt; status, 3);
+    let most = Job::Lockstep {
+        rounds: 1_000_000_001,
+    };
+    let (found, status) = line_of(&rt, alloc, most, SWAP.as_bytes(), PAIR.as_bytes())?;
+    assert_eq!(rt; found.as_str(), "run TooManyRounds 0");
+    assert_eq!(rt; status, 1);
+    Ok(())
+}
+
+#[test]
+fn refused_networks(rt: HostRuntime) -> Result<(), Fail> {
+    let alloc = rt.alloc();
+    let rows = [
+        ("nodes =", "network NotToml 0"),
+        ("nodes = 2", "network BadShape 0"),
+        ("nodes = 2\nlinks = []\nedges = 1", "network UnknownKey 0"),
+        ("nodes = 0\nlinks = []", "network NodeCount 0"),
+        ("nodes = 3\nlinks = [[2, 2]]", "network SelfLink 0"),
+        ("nodes = 3\nlinks = [[0, 1], [1, 0]]", "network LinkTwice 0"),
+        ("nodes = 3\nlinks = [[0, 3]]", "network BadLink 0"),
+        ("nodes = 3\nphase = 3\nlinks = []", "network BadPhase 0"),
+        ("nodes = 3\nlinks = [[0, 1, -1]]", "network BadWeight 0"),
+        (
+            "nodes = 2\nlinks = [[0, 1]]\n[set]\nq = [[0, 1]]",
+            "plan UnknownField 0",
+        ),
+        (
+            "nodes = 2\nlinks = [[0, 1]]\n[set]\ns = [[2, 1]]",
+            "plan BadNode 0",
+        ),
+        (
+            "nodes = 2\nlinks = [[0, 1]]\n[set]\ns = [[0, -1]]",
+            "plan BadValue 0",
+        ),
+        (
+            "nodes = 2\nlinks = [[0, 1]]\n[set]\ns = [[0, 1], [0, 1]]",
+            "plan SetTwice 0",
+        ),
+    ];
+    for (network, line) in rows {
+        let job = Job::Lockstep { rounds: 1 };
+        let (found, status) = line_of(&rt, alloc, job, SWAP.as_bytes(), network.as_bytes())?;
+        assert_eq!(rt; found.as_str(), line);
+        assert_eq!(rt; status, 3);
+    }
+    let job = Job::Lockstep { rounds: 1 };
+    let (found, _) = line_of(
+        &rt,
+        alloc,
+        job,
+        SWAP.as_bytes(),
+        b"\xffnodes = 2\nlinks = []",
+    )?;
+    assert_eq!(rt; found.as_str(), "network NotToml 0");
+    Ok(())
+}
+
+/// A device that fails after so many bytes has taken exactly the first of them.
+#[test]
+fn devices_that_fail(rt: HostRuntime) -> Result<(), Fail> {
+    let alloc = rt.alloc();
+    let report = b"round 2\n0 dist=0\n1 dist=1\n2 dist=2\n";
+    for room in 0..report.len() {
+        let job = Job::Lockstep { rounds: 2 };
+        let (held, fault) = served(&rt, alloc, job, DISTANCE.as_bytes(), PATH.as_bytes(), room)?;
+        let written = room as u64;
+        assert_eq!(rt; fault, Some(ServeFault::Write { written }));
+        assert_eq!(rt; held.as_slice(), &report[..room]);
+        assert_eq!(rt; ServeFault::Write { written }.status(), 1);
+    }
+    Ok(())
+}
+
+fn owned(alloc: Global, words: &[&str]) -> Result<Vec<String>, AllocError> {
+    let mut all = Vec::new(alloc);
+    for word in words {
+        all.push(String::from_str(alloc, word)?)?;
+    }
+    Ok(all)
+}
+
+#[test]
+fn right_words(rt: HostRuntime) -> Result<(), Fail> {
+    let alloc = rt.alloc();
+    let words = owned(alloc, &["unison", "lockstep", "p", "n", "--rounds", "0002"])?;
+    let request = job_of(alloc, &words)?;
+    assert_eq!(rt; request.job, Job::Lockstep { rounds: 2 });
+    assert_eq!(rt; request.program.as_str(), "p");
+    assert_eq!(rt; request.network.as_ref().map(|n| n.as_str()), Some("n"));
+    let words = owned(alloc, &["unison", "check", "p"])?;
+    let request = job_of(alloc, &words)?;
+    assert_eq!(rt; request.job, Job::Check);
+    assert_eq!(rt; request.network.is_none(), true);
+    Ok(())
+}
+
+#[test]
+fn wrong_words(rt: HostRuntime) -> Result<(), Fail> {
+    let alloc = rt.alloc();
+    let lines: [&[&str]; 9] = [
+        &["unison"],
+        &["unison", "walk"],
+        &["unison", "run", "p", "n", "--rounds", "1", "--workers", "1"],
+        &["unison", "check"],
+        &["unison", "check", "p", "q"],
+        &["unison", "lockstep", "p", "n"],
+        &["unison", "lockstep", "p", "n", "--rounds"],
+        &[
+            "unison", "lockstep", "p", "n", "--rounds", "1", "--rounds", "1",
+        ],
+        &["unison", "lockstep", "p", "n", "q", "--rounds", "1"],
+    ];
+    for line in lines {
+        let words = owned(alloc, line)?;
+        let usage = matches!(job_of(alloc, &words), Err(UsageFault::Usage { .. }));
+        assert!(rt; usage, "{line:?}");
+    }
+    Ok(())
+}
+
+/// The text of a usage fault.
+fn usage_text(answer: Result<Request, UsageFault>) -> Option<String> {
+    match answer {
+        Err(UsageFault::Usage { text }) => Some(text),
+        Err(UsageFault::Help { text: _text }) => None,
+        Err(UsageFault::Memory) => None,
+        Ok(_request) => None,
+    }
+}
+
+#[test]
+fn wrong_numbers_name_the_option(rt: HostRuntime) -> Result<(), Fail> {
+    let alloc = rt.alloc();
+    for number in [
+        "+1",
+        "1000000001",
+        "",
+        "x",
+        "1 ",
+        "99999999999999999999",
+        "0x1",
+    ] {
+        let words = owned(alloc, &["unison", "lockstep", "p", "n", "--rounds", number])?;
+        let text = usage_text(job_of(alloc, &words)).ok_or("a usage fault")?;
+        assert_eq!(rt; text.as_str(), "rounds", "{number}");
+    }
+    Ok(())
+}
+
+#[test]
+fn help(rt: HostRuntime) -> Result<(), Fail> {
+    let alloc = rt.alloc();
+    for line in [["unison", "--help"], ["unison", "help"], ["unison", "-h"]] {
+        let words = owned(alloc, line.as_slice())?;
+        let help = matches!(job_of(alloc, &words), Err(UsageFault::Help { .. }));
+        assert!(rt; help, "{line:?}");
+    }
+    Ok(())
+}
