@@ -28,6 +28,7 @@ pub(crate) fn read_table(alloc: Global, bytes: &[u8]) -> Result<Table, NetFault>
     }
 }
 
+/// Whether the key is one of the four.
 fn is_known_key(key: &str) -> bool
     ensures { result ≡ is_known key.now }
 {
@@ -46,6 +47,7 @@ pub(crate) fn knows_keys(table: &Table) -> bool
     true
 }
 
+/// An array of two integers.
 fn read_pair(value: &Value) -> Option<(i64, i64)>
     ensures { result ≡ pair_of (view value.now) }
 {
@@ -58,7 +60,7 @@ fn read_pair(value: &Value) -> Option<(i64, i64)>
     Some((first, second))
 }
 
-/// A link of two or three integers, with weight 1 where there are two.
+/// A link: an array of two or three integers. With two the weight is 1.
 fn read_link(value: &Value) -> Option<(i64, i64, i64)>
     ensures { result ≡ link_of (view value.now) }
 {
@@ -75,6 +77,7 @@ fn read_link(value: &Value) -> Option<(i64, i64, i64)>
     Some((first, second, weight))
 }
 
+/// An array of arrays of two integers.
 fn read_pairs(alloc: Global, array: &Array) -> Result<Pairs, NetFault>
     ensures { IsAnswer (ok_or (pairs_of (array_view array.now)) NetFault.BadShape) result }
 {
@@ -95,6 +98,7 @@ fn member<'a>(table: &'a Table, key: &str) -> Option<&'a Value>
     table.get(key)
 }
 
+/// The integer at `nodes`.
 fn read_nodes(table: &Table) -> Result<i64, NetFault>
     ensures { IsAnswer (ok_or (nodes_of (table_view table.now)) NetFault.BadShape) result }
 {
@@ -102,6 +106,7 @@ fn read_nodes(table: &Table) -> Result<i64, NetFault>
     value.as_integer().ok_or(NetFault::BadShape)
 }
 
+/// An array of links.
 fn read_link_array(alloc: Global, array: &Array) -> Result<DraftLinks, NetFault>
     ensures { IsAnswer (ok_or (links_in (array_view array.now)) NetFault.BadShape) result }
 {
@@ -115,6 +120,7 @@ fn read_link_array(alloc: Global, array: &Array) -> Result<DraftLinks, NetFault>
     Ok(DraftLinks::new(items))
 }
 
+/// The links at `links`.
 fn read_links(alloc: Global, table: &Table) -> Result<DraftLinks, NetFault>
     ensures { IsAnswer (ok_or (links_of (table_view table.now)) NetFault.BadShape) result }
 {
@@ -123,6 +129,7 @@ fn read_links(alloc: Global, table: &Table) -> Result<DraftLinks, NetFault>
     read_link_array(alloc, array)
 }
 
+/// The integer at `phase`, or 0.
 fn read_phase(table: &Table) -> Result<i64, NetFault>
     ensures { IsAnswer (ok_or (phase_of (table_view table.now)) NetFault.BadShape) result }
 {
@@ -132,6 +139,7 @@ fn read_phase(table: &Table) -> Result<i64, NetFault>
     }
 }
 
+/// The pairs of one key of `set`.
 fn read_value_pairs(alloc: Global, value: &Value) -> Result<Pairs, NetFault>
     ensures { IsAnswer (ok_or (option_and_then pairs_of (as_array (view value.now))) NetFault.BadShape) result }
 {
@@ -139,12 +147,14 @@ fn read_value_pairs(alloc: Global, value: &Value) -> Result<Pairs, NetFault>
     read_pairs(alloc, array)
 }
 
+/// The name that a key is.
 fn read_name(alloc: Global, key: &str) -> Result<Name, NetFault>
     ensures { IsAnswer (Ok key.now) result }
 {
     Ok(Name::new(String::from_str(alloc, key)?))
 }
 
+/// The field sets of the table at `set`.
 fn read_sets(alloc: Global, table: &Table) -> Result<FieldSets, NetFault>
     ensures { IsAnswer (ok_or (sets_of (table_view table.now)) NetFault.BadShape) result }
 {
@@ -157,6 +167,7 @@ fn read_sets(alloc: Global, table: &Table) -> Result<FieldSets, NetFault>
     Ok(FieldSets::new(sets))
 }
 
+/// The field sets at `set`, or none.
 fn read_field_sets(alloc: Global, table: &Table) -> Result<FieldSets, NetFault>
     ensures { IsAnswer (ok_or (field_sets_of (table_view table.now)) NetFault.BadShape) result }
 {

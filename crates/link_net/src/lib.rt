@@ -30,6 +30,7 @@ pub fn read_network(alloc: Global, bytes: &[u8]) -> Result<NetFile, NetFault>
     describe_table(alloc, &table)
 }
 
+/// What a table describes.
 fn describe_table(alloc: Global, table: &Table) -> Result<NetFile, NetFault>
     ensures answer { IsAnswer (description_in (table_view table.now)) result }
 {
