@@ -5,3 +5,15 @@ pub mod Replaced
 pub mod Texts
 pub mod Nears
 pub mod Resumed
+pub mod Digits
+pub mod Fronts
+pub mod Once
+pub mod Names
+pub mod ReadNode
+pub mod ReadFields
+pub mod NodeLines
+pub mod ReportOnce
+pub mod Lines
+pub mod ReportLines
+pub mod BadLines
+pub mod Refusals

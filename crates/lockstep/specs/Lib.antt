@@ -8,3 +8,8 @@ pub mod Resume
 pub mod Answer
 pub mod Opening
 pub mod Pairs
+pub mod Lines
+pub mod Digits
+pub mod Front
+pub mod ReadReport
+pub mod NodeLines

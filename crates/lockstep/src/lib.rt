@@ -4,16 +4,19 @@
 mod config;
 mod difference;
 mod fault;
+mod number;
 mod opening;
 mod plan;
+mod reader;
 mod report_bytes;
 mod rounds;
 mod tally;
 
 pub use config::Config;
 pub use difference::{Difference, compare};
-pub use fault::{PlanFault, ResumeFault, RoundFault};
+pub use fault::{PlanFault, ReportFault, ResumeFault, RoundFault};
 pub use plan::Plan;
+pub use reader::read_report;
 pub use report_bytes::report;
 pub use rounds::lockstep;
 pub use tally::{Cut, DeviceFault, Tally, write_text};

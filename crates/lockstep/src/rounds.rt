@@ -16,7 +16,7 @@ use std::alloc::{AllocError, Global};
 use std::mem;
 
 /// The greatest round.
-const MOST_ROUNDS: u32 = 1_000_000_000;
+pub(crate) const MOST_ROUNDS: u32 = 1_000_000_000;
 
 /// Gathers the neighbours as a rule sees them.
 fn gather_nears(

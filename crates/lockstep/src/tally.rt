@@ -1,5 +1,5 @@
 //! Readers and writers that count their calls and keep a mark once a call failed.
-ghost use Rattle.std.specs.Prelude.{◌≡◌, ◌<◌, ◌≤◌, false, ◌||◌, length, take, IfOk, IfErr, OnOk, is_err};
+ghost use Rattle.std.specs.Prelude.{◌≡◌, ◌<◌, ◌≤◌, true, false, ◌||◌, length, take, IfOk, IfErr, OnOk, is_err};
 ghost use Rattle.std.specs.Io.KnownBytes.{Appends, WriteAppends, ReadConsumes};
 ghost use Rattle.lockstep.specs.Device.{counted};
 
@@ -67,6 +67,21 @@ impl<T> Tally<T> {
     {
         &self.inner
     }
+
+    /// Counts one call more.
+    fn count_call(&mut self)
+        ensures { self.new ≡ record { inner = self.old.inner; failed = self.old.failed; calls = counted self.old.calls } }
+    {
+        self.calls = self.calls.saturating_add(1);
+    }
+
+    /// Sets the mark.
+    fn refuse(&mut self) -> DeviceFault
+        ensures { self.new ≡ record { inner = self.old.inner; failed = true; calls = self.old.calls } }
+    {
+        self.failed = true;
+        DeviceFault
+    }
 }
 
 impl<W: Write> Tally<W> {
@@ -78,17 +93,11 @@ impl<W: Write> Tally<W> {
         ensures taken { IfOk result (λ n. (n ≤ length bytes.now) × (0 < length bytes.now → 0 < n)) }
         ensures bytes { WriteAppends (W.contents self.old.inner) (W.contents self.new.inner) result bytes.now }
     {
-        self.calls = self.calls.saturating_add(1);
+        self.count_call();
         match self.inner.write(bytes) {
-            Ok(0) if !bytes.is_empty() => {
-                self.failed = true;
-                Err(DeviceFault)
-            }
+            Ok(0) if !bytes.is_empty() => Err(self.refuse()),
             Ok(taken) => Ok(taken),
-            Err(_) => {
-                self.failed = true;
-                Err(DeviceFault)
-            }
+            Err(_) => Err(self.refuse()),
         }
     }
 }
@@ -101,13 +110,10 @@ impl<R: Read> Tally<R> {
         ensures given { IfOk result (λ n. n ≤ length buffer.new) }
         ensures bytes { ReadConsumes (R.remaining self.old.inner) (R.remaining self.new.inner) result buffer.new }
     {
-        self.calls = self.calls.saturating_add(1);
+        self.count_call();
         match self.inner.read(buffer) {
             Ok(given) => Ok(given),
-            Err(_) => {
-                self.failed = true;
-                Err(DeviceFault)
-            }
+            Err(_) => Err(self.refuse()),
         }
     }
 }
