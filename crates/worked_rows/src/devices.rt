@@ -1,0 +1,202 @@
+//! Counted readers and writers, over devices that take or give few bytes, or fail.
+ghost use Rattle.std.specs.Prelude.{Some, None};
+
+use lockstep::{Cut, DeviceFault, Tally, write_text};
+use std::alloc::Global;
+use std::io;
+use std::io::{ErrorKind, Read, Write};
+use std::test::Fail;
+
+/// Takes at most `most` bytes a call, and fails once `room` bytes are taken in all.
+#[derive(Drop)]
+struct Narrow {
+    held: Vec<u8>,
+    most: usize,
+    room: usize,
+    kind: ErrorKind,
+}
+
+impl Write for Narrow {
+    ghost contents = { λ w. Some w.held.items };
+
+    fn write(&mut self, buf: &[u8]) -> io::Result<usize> {
+        let taken = buf.len().min(self.most).min(self.room);
+        if taken == 0 && !buf.is_empty() {
+            return Err(io::Error::from(self.kind));
+        }
+        self.held.extend_from_slice(&buf[..taken])?;
+        self.room -= taken;
+        Ok(taken)
+    }
+
+    fn flush(&mut self) -> io::Result<()> {
+        Ok(())
+    }
+}
+
+/// A writer that takes at most `most` bytes a call and `room` in all, with nothing taken yet.
+fn writer(alloc: Global, most: usize, room: usize, kind: ErrorKind) -> Narrow {
+    Narrow {
+        held: Vec::new(alloc),
+        most,
+        room,
+        kind,
+    }
+}
+
+/// Takes no byte, and says so without an error.
+#[derive(Drop)]
+struct Full;
+
+impl Write for Full {
+    fn write(&mut self, _buf: &[u8]) -> io::Result<usize> {
+        Ok(0)
+    }
+
+    fn flush(&mut self) -> io::Result<()> {
+        Ok(())
+    }
+}
+
+/// Gives at most `most` bytes a call, and at their end either none or an error.
+#[derive(Drop)]
+struct Source<'a> {
+    rest: &'a [u8],
+    most: usize,
+    end: Option<ErrorKind>,
+}
+
+impl Read for Source<'_> {
+    fn read(&mut self, buf: &mut [u8]) -> io::Result<usize> {
+        let given = self.rest.len().min(self.most).min(buf.len());
+        if given == 0 && !buf.is_empty() {
+            return match self.end {
+                Some(kind) => Err(io::Error::from(kind)),
+                None => Ok(0),
+            };
+        }
+        let (first, rest) = self.rest.split_at(given);
+        buf[..given].copy_from_slice(first);
+        self.rest = rest;
+        Ok(given)
+    }
+}
+
+const TEXT: &[u8] = b"0 moves 1 s=7\n1 moves 1 s=5\n";
+
+#[test]
+fn whole_text(rt: HostRuntime) -> Result<(), Fail> {
+    for (most, calls) in [(1, 28), (10, 3), (28, 1), (100, 1)] {
+        let mut out = Tally::new(writer(rt.alloc(), most, 100, ErrorKind::BrokenPipe));
+        write_text(&mut out, TEXT)?;
+        assert!(rt; !out.failed());
+        assert_eq!(rt; out.calls(), calls);
+        assert_eq!(rt; out.inner().held.as_slice(), TEXT);
+    }
+    Ok(())
+}
+
+#[test]
+fn empty_text(rt: HostRuntime) -> Result<(), Fail> {
+    let mut out = Tally::new(writer(rt.alloc(), 1, 0, ErrorKind::BrokenPipe));
+    write_text(&mut out, b"")?;
+    assert!(rt; !out.failed());
+    assert_eq!(rt; out.calls(), 0);
+    Ok(())
+}
+
+#[test]
+fn cut_after_each_number_of_bytes(rt: HostRuntime) -> Result<(), Fail> {
+    for most in [1, 3, 100] {
+        for room in 0..TEXT.len() {
+            let mut out = Tally::new(writer(rt.alloc(), most, room, ErrorKind::Interrupted));
+            let answer = write_text(&mut out, TEXT);
+            let cut = Cut {
+                written: room as u64,
+            };
+            assert_eq!(rt; answer, Err(cut));
+            assert!(rt; out.failed());
+            assert_eq!(rt; out.inner().held.as_slice(), &TEXT[..room]);
+        }
+    }
+    Ok(())
+}
+
+#[test]
+fn text_to_a_full_device(rt: HostRuntime) {
+    let mut out = Tally::new(Full);
+    assert_eq!(rt; write_text(&mut out, TEXT), Err(Cut { written: 0 }));
+    assert!(rt; out.failed());
+    assert_eq!(rt; out.calls(), 1);
+}
+
+#[test]
+fn writes_with_marks(rt: HostRuntime) {
+    let mut out = Tally::new(writer(rt.alloc(), 4, 6, ErrorKind::WouldBlock));
+    assert!(rt; !out.failed());
+    assert_eq!(rt; out.calls(), 0);
+    assert_eq!(rt; out.write_some(b""), Ok(0));
+    assert_eq!(rt; out.write_some(b"abcdefg"), Ok(4));
+    assert_eq!(rt; out.write_some(b"efg"), Ok(2));
+    assert!(rt; !out.failed());
+    assert_eq!(rt; out.calls(), 3);
+    assert_eq!(rt; out.write_some(b"g"), Err(DeviceFault));
+    assert!(rt; out.failed());
+    assert_eq!(rt; out.write_some(b""), Ok(0));
+    assert!(rt; out.failed());
+    assert_eq!(rt; out.calls(), 5);
+    assert_eq!(rt; out.inner().held.as_slice(), b"abcdef".as_slice());
+}
+
+#[test]
+fn writes_to_a_full_device(rt: HostRuntime) {
+    let mut out = Tally::new(Full);
+    assert_eq!(rt; out.write_some(b""), Ok(0));
+    assert!(rt; !out.failed());
+    assert_eq!(rt; out.write_some(b"a"), Err(DeviceFault));
+    assert!(rt; out.failed());
+    assert_eq!(rt; out.calls(), 2);
+}
+
+#[test]
+fn reads_to_the_end(rt: HostRuntime) {
+    let mut input = Tally::new(Source {
+        rest: b"read 0 0\n",
+        most: 5,
+        end: None,
+    });
+    let mut buffer = [0; 8];
+    assert_eq!(rt; input.read_some(&mut buffer), Ok(5));
+    assert_eq!(rt; buffer, *b"read \0\0\0");
+    assert_eq!(rt; input.read_some(&mut buffer), Ok(4));
+    assert_eq!(rt; buffer, *b"0 0\n \0\0\0");
+    assert_eq!(rt; input.read_some(&mut buffer), Ok(0));
+    assert_eq!(rt; input.read_some(&mut []), Ok(0));
+    assert!(rt; !input.failed());
+    assert_eq!(rt; input.calls(), 4);
+    assert!(rt; input.inner().rest.is_empty());
+}
+
+#[test]
+fn reads_with_marks(rt: HostRuntime) {
+    for kind in [
+        ErrorKind::Interrupted,
+        ErrorKind::WouldBlock,
+        ErrorKind::BrokenPipe,
+    ] {
+        let mut input = Tally::new(Source {
+            rest: b"ab",
+            most: 1,
+            end: Some(kind),
+        });
+        let mut buffer = [0; 2];
+        assert_eq!(rt; input.read_some(&mut buffer), Ok(1));
+        assert_eq!(rt; input.read_some(&mut buffer), Ok(1));
+        assert!(rt; !input.failed());
+        assert_eq!(rt; input.read_some(&mut buffer), Err(DeviceFault));
+        assert!(rt; input.failed());
+        assert_eq!(rt; input.read_some(&mut []), Ok(0));
+        assert!(rt; input.failed());
+        assert_eq!(rt; input.calls(), 4);
+    }
+}

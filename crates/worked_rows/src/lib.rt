@@ -1,0 +1,25 @@
+//! Worked rows: what the calls of the libraries answer, with values from outside the code.
+#![tactic(auto)]
+
+#[cfg(test)]
+mod devices;
+#[cfg(test)]
+mod examples;
+#[cfg(test)]
+mod largest;
+#[cfg(test)]
+mod networks;
+#[cfg(test)]
+mod plans;
+#[cfg(test)]
+mod program_texts;
+#[cfg(test)]
+mod programs;
+#[cfg(test)]
+mod reports;
+#[cfg(test)]
+mod rounds;
+#[cfg(test)]
+mod texts;
+#[cfg(test)]
+mod values;
