@@ -1,0 +1,10 @@
+pub mod Counting
+pub mod Answers
+pub mod Gathered
+pub mod View
+pub mod Pictures
+pub mod PictureViews
+pub mod WorkViews
+pub mod Work
+pub mod Opening
+pub mod Finishing

@@ -1,0 +1,18 @@
+//! Nodes that read their neighbours' registers one at a time, and stay in step with the lockstep rounds.
+#![tactic(auto)]
+
+mod events;
+mod fault;
+mod laws;
+mod node;
+mod opening;
+mod results;
+mod step;
+mod work;
+mod world;
+
+pub use fault::OpenFault;
+pub use laws::stays_in_step;
+pub use step::{Answer, Step, WriteAnswer};
+pub use work::{Done, Work};
+pub use world::World;

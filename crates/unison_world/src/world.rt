@@ -1,0 +1,165 @@
+//! Worlds.
+ghost use Rattle.std.specs.Prelude.{◌≡◌, ℕ, ◌<◌, ◌%◌, ◌+◌, ◌≤◌, length, Some, None, if◌then◌else◌, IfOk};
+ghost use Rattle.std.specs.Arc.{arc_value};
+ghost use Rattle.lockstep.specs.Answer.{IsAnswer};
+ghost use Rattle.lockstep.specs.Configs.{most_rounds};
+ghost use Rattle.lockstep.specs.Plans.{IsPlan};
+ghost use Rattle.unison_world.specs.Counting.{moves_of, HasShape, InStep};
+ghost use Rattle.unison_world.specs.Opening.{opening_of};
+ghost use Rattle.unison_world.specs.View.{answer_in, world_after, is_node, state_of, opened};
+ghost use Rattle.unison_world.specs.Work.{IsPutAnswer, after_put, work_in};
+
+use crate::events::{ask_read, ask_write, read, write};
+use crate::fault::OpenFault;
+use crate::node::Node;
+use crate::opening::opening_nodes;
+use crate::results::{ask_put, put};
+use crate::step::{Answer, Step, WriteAnswer};
+use crate::work::{Done, Work};
+use lockstep::Plan;
+use phase_register::Phase;
+use rule_check::State;
+use std::alloc::{AllocError, Global};
+use std::marker::Model;
+use std::sync::Arc;
+
+/// The greatest stop.
+const MOST_ROUNDS: u32 = 1_000_000_000;
+
+/// The nodes of a plan, each with its register and its desk, which move up to a stop. Counts of moves and the stop
+/// count from round 0, and the nodes begin at the plan's start.
+#[derive(Drop)]
+pub struct World {
+    plan: Arc<Plan>,
+    stop: u32,
+    nodes: Vec<Node>,
+}
+
+impl Model for World {
+    ghost use Rattle.std.specs.Coded.{codes};
+    ghost use Rattle.std.specs.Arc.{arc_value};
+    ghost use Rattle.rule_lang.specs.TreeCode.{coded_tree};
+    ghost use Rattle.unison_world.specs.View.{WorldView};
+    ghost use Rattle.unison_world.specs.Pictures.{IsPicture, counts_of};
+
+    ghost Value = { WorldView };
+
+    ghost coded = { Prim.hlevel (codes, coded_tree) };
+
+    ghost view = { λ w. record { plan = arc_value w.plan; stop = w.stop; counts = counts_of w.nodes.items } };
+
+    ghost invariant = { λ w. IsPicture (arc_value w.plan) w.stop w.nodes.items };
+}
+
+impl World {
+    /// A world of a plan before any step, whose nodes move up to a stop. `StopTooLarge` comes above 1,000,000,000,
+    /// and else `StopBelowStart` below the plan's start, both before anything is done.
+    pub fn new(alloc: Global, plan: Arc<Plan>, stop: u32) -> Result<World, OpenFault>
+        ensures exact { IsAnswer OpenFault.Memory (opening_of (arc_value plan) stop) result }
+    {
+        if stop > MOST_ROUNDS {
+            return Err(OpenFault::StopTooLarge);
+        }
+        if stop < plan.start() {
+            return Err(OpenFault::StopBelowStart);
+        }
+        let nodes = opening_nodes(alloc, &plan)?;
+        Ok(World { plan, stop, nodes })
+    }
+
+    /// The answer that a step would have now.
+    pub fn ask(&self, step: Step) -> Answer
+        ensures answer { result ≡ answer_in self.now step }
+    {
+        match step {
+            Step::Read { node, slot } => ask_read(&self.plan, self.stop, &self.nodes, node, slot),
+            Step::Write { node } => ask_write(&self.plan, self.stop, &self.nodes, node),
+        }
+    }
+
+    /// One event, with its answer.
+    pub fn step(&mut self, step: Step) -> Answer
+        ensures answer { result ≡ answer_in self.old step }
+        ensures after { self.new ≡ world_after self.old step }
+    {
+        match step {
+            Step::Read { node, slot } => read(&self.plan, self.stop, &mut self.nodes, node, slot),
+            Step::Write { node } => write(&self.plan, self.stop, &mut self.nodes, node),
+        }
+    }
+
+    /// What a node's next state is computed from; none where there is no such node, it stands at the stop or it
+    /// isn't ready. Only the clone of the plan's `Arc` can be refused.
+    pub fn work(&self, node: u32) -> Result<Option<Work>, AllocError>
+        ensures work { IfOk result (λ work. work ≡ work_in self.now node) }
+    {
+        let Answer::Moved = self.ask(Step::Write { node }) else {
+            return Ok(None);
+        };
+        let this = &self.nodes[node as usize];
+        let plan = Arc::try_clone(&self.plan)?;
+        Ok(Some(Work {
+            plan,
+            node,
+            degree: this.desk.degree(),
+            own: this.register.now(),
+            round: this.moves,
+            sums: this.desk.sums(),
+        }))
+    }
+
+    /// Takes a result, where it was computed from what stands here for its node.
+    pub fn put(&mut self, done: &Done) -> WriteAnswer
+        ensures answer { IsPutAnswer self.old done.now.work result }
+        ensures after { self.new ≡ after_put self.old done.now.work result }
+    {
+        put(&self.plan, self.stop, &mut self.nodes, done)
+    }
+
+    /// The answer that `put` would give now.
+    pub fn ask_put(&self, done: &Done) -> WriteAnswer
+        ensures answer { IsPutAnswer self.now done.now.work result }
+    {
+        ask_put(&self.plan, self.stop, &self.nodes, done)
+    }
+
+    /// How many nodes there are.
+    pub fn nodes(&self) -> u32
+        ensures count { result ≡ length self.now.plan.network }
+        ensures plan { IsPlan self.now.plan }
+        ensures shape { HasShape self.now.plan.network self.now.counts }
+        ensures in_step { InStep self.now.plan.network self.now.stop self.now.counts }
+        ensures started { (u : ℕ) → u < length self.now.plan.network → self.now.plan.start ≤ moves_of self.now.counts u }
+    {
+        self.plan.network().nodes()
+    }
+
+    /// The stop, counted from round 0.
+    pub fn stop(&self) -> u32
+        ensures stop { result ≡ self.now.stop }
+        ensures limit { result ≤ most_rounds }
+    {
+        self.stop
+    }
+
+    /// How often a node has moved, the rounds before the plan's start included, or none where there is no such node.
+    pub fn moves(&self, node: u32) -> Option<u32>
+        ensures moves { result ≡ (if is_node self.now node then Some (moves_of self.now.counts node) else None) }
+    {
+        Some(self.nodes.get(node as usize)?.moves)
+    }
+
+    /// The state that a node shows, or none where there is no such node.
+    pub fn state(&self, node: u32) -> Option<State>
+        ensures state { result ≡ (if is_node self.now node then Some (state_of self.now node) else None) }
+    {
+        Some(self.nodes.get(node as usize)?.register.now())
+    }
+
+    /// The phase that a node shows, or none where there is no such node.
+    pub fn phase(&self, node: u32) -> Option<Phase>
+        ensures phase { result ≡ (if is_node self.now node then Some ((self.now.plan.phase + moves_of self.now.counts node) % 3) else None) }
+    {
+        Some(self.nodes.get(node as usize)?.register.phase())
+    }
+}
