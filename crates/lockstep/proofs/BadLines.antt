@@ -14,7 +14,7 @@ use Rattle.lockstep.specs.ReadReport.{IsStateOf, HasShape, FitsAt, IsFirstBadLin
 use Rattle.lockstep.specs.NodeLines.{StopsAtLine}
 use Rattle.lockstep.proofs.Lines.{first_line, no_line, get_front, get_behind}
 use Rattle.lockstep.proofs.ReportLines.{round_split, node_split, lines_from, count_lines, report_split, lines_append}
-use Rattle.lockstep.proofs.Replaced.{name_count}
+use Rattle.lockstep.proofs.Names.{name_count}
 
 -- without a round's line the first line is bad
 pub bad_round : (p : PlanView) (text : List ℕ) → IsFront round_line (λ t. t < 2 ^ 32) Anything text None → IsFirstBadLine p text 1

@@ -2,6 +2,8 @@ pub mod Writes
 pub mod Marks
 pub mod Values
 pub mod Replaced
+pub mod Openings
+pub mod Faultless
 pub mod Texts
 pub mod Nears
 pub mod Resumed

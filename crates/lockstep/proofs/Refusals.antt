@@ -1,24 +1,33 @@
 -- What reading the lines of nodes says of the whole report.
-use Rattle.std.proofs.Common.{◌≡◌, ℕ, ◌<◌, ◌≤◌, ◌^◌, List, ◌++◌, length, refl, sym, ap, subst, ◌∙◌, Result, Ok, Err}
-use Rattle.std.specs.Result.{IsErrAnd, IfErr, MatchResult}
+use Rattle.std.proofs.Common.{◌≡◌, ℕ, ◌<◌, ◌≤◌, ◌^◌, List, ◌++◌, length, refl, sym, ap, subst, ◌∙◌, arith, true, false, nat_lt, Result, Ok, Err}
+use Rattle.std.specs.Result.{IsErrAnd, IfErr}
+use Rattle.std.proofs.lemmas.Bool.Decides.{nat_tests}
 use Rattle.rule_check.specs.declared.state.State.{State}
 use Rattle.rule_check.specs.Value.{names_of}
 use Rattle.lockstep.specs.declared.fault.ReportFault.{ReportFault}
 use Rattle.lockstep.specs.declared.fault.ReportFault.TheVariants.{BadLine, TooManyRounds, Memory}
-use Rattle.lockstep.specs.Configs.{Configuration}
+use Rattle.lockstep.specs.Configs.{Configuration, most_rounds}
 use Rattle.lockstep.specs.Plans.{PlanView}
 use Rattle.lockstep.specs.Report.{round_line}
-use Rattle.lockstep.specs.ReadReport.{IsReportOf, IsRefusedReport}
+use Rattle.lockstep.specs.ReadReport.{IsReportOf, IsRefusedReport, within_limit}
+use Rattle.lockstep.specs.Answer.{IsAnswer}
 use Rattle.lockstep.specs.NodeLines.{HasNodeLines, IsStopped}
 use Rattle.lockstep.proofs.BadLines.{first_bad}
 use Rattle.lockstep.proofs.ReportOnce.{round_first, never_stops, states_same}
-use Rattle.lockstep.proofs.Replaced.{name_count}
+use Rattle.lockstep.proofs.Names.{name_count}
 
 config_same : (c : Configuration) (t fields : ℕ) (states : List State) → t ≡ c.rounds → fields ≡ c.fields → states ≡ c.states → ◌≡◌ {A = Configuration} (record { rounds = t; fields = fields; states = states }) c
 config_same c t fields states first second third =
     ap (λ r. record { rounds = r; fields = fields; states = states }) first
     ∙ ap (λ f. record { rounds = c.rounds; fields = f; states = states }) second
     ∙ ap (λ ss. record { rounds = c.rounds; fields = c.fields; states = ss }) third
+
+-- which side of the limit a round is on
+pub low_round : (c : Configuration) → c.rounds ≤ most_rounds → within_limit c ≡ Ok c
+low_round c low = let no : nat_lt most_rounds c.rounds ≡ false = grind (arith, nat_tests) in rw no
+
+pub high_round : (c : Configuration) → most_rounds < c.rounds → within_limit c ≡ Err TooManyRounds
+high_round c high = let yes : nat_lt most_rounds c.rounds ≡ true = grind (arith, nat_tests) in rw yes
 
 module _ (p : PlanView) (few : length p.program.fields ≤ 8) (text lines : List ℕ) (t : ℕ) (small : t < 2 ^ 32) (cut : text ≡ round_line t ++ lines) where
   -- the lines of all nodes behind the round's are a report
@@ -42,10 +51,10 @@ module _ (p : PlanView) (few : length p.program.fields ≤ 8) (text lines : List
   memory_alone TooManyRounds stop c report = absurd stop
   memory_alone Memory stop c report = refl
 
-  -- a report is refused for want of memory alone
-  pub err_memory : (r : Result Configuration ReportFault) (fault : ReportFault) → IsErrAnd r (λ e. e ≡ fault) → IsStopped (names_of p.program) (length p.program.fields) (length p.network) lines fault → (c : Configuration) → IsReportOf p text c → MatchResult r (λ config. config ≡ c) (λ f. f ≡ Memory)
+  -- the lines of a report's nodes are refused for want of memory alone
+  pub err_memory : (r : Result Configuration ReportFault) (fault : ReportFault) → IsErrAnd r (λ e. e ≡ fault) → IsStopped (names_of p.program) (length p.program.fields) (length p.network) lines fault → (c : Configuration) → IsReportOf p text c → IsAnswer Memory (within_limit c) r
   err_memory (Ok config) fault is stop c report = absurd is
-  err_memory (Err e) fault is stop c report = is ∙ memory_alone fault stop c report
+  err_memory (Err e) fault is stop c report = λ other. absurd (other (is ∙ memory_alone fault stop c report))
 
   refused : length p.network ≤ 65536 → (fault : ReportFault) → IsStopped (names_of p.program) (length p.program.fields) (length p.network) lines fault → IsRefusedReport p text fault
   refused narrow (BadLine line) stop = λ plain. first_bad p few narrow plain text lines t line small cut stop

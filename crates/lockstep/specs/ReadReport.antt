@@ -1,5 +1,5 @@
 -- Which configuration a report text is of, and where a text is none.
-use Rattle.std.specs.Prelude.{◌≡◌, ◌≤◌, ◌<◌, ℕ, ◌+◌, ◌-◌, ◌^◌, List, length, All, Option, slice_get}
+use Rattle.std.specs.Prelude.{◌≡◌, ◌≤◌, ◌<◌, ℕ, ◌+◌, ◌-◌, ◌^◌, List, length, All, Option, slice_get, Result, Ok, Err, nat_lt, if◌then◌else◌}
 use Rattle.rule_check.specs.declared.state.State.{State}
 use Rattle.rule_check.specs.Value.{names_of}
 use Rattle.lockstep.specs.declared.fault.ReportFault.{ReportFault}
@@ -42,6 +42,10 @@ pub record IsFirstBadLine (p : PlanView) (text : List ℕ) (number : ℕ) : Type
 -- the names of the plan's fields have no LF in them, as no word of a program text has
 abbrev pub HasLineNames : PlanView → Type 0
 HasLineNames p = All IsInLine (names_of p.program)
+
+-- the configuration of a report, where its round is within the limit
+abbrev pub within_limit : Configuration → Result Configuration ReportFault
+within_limit c = if nat_lt most_rounds c.rounds then Err TooManyRounds else Ok c
 
 -- why a text is refused; a round too large comes with a report text of the plan's shape
 abbrev pub IsRefusedReport : PlanView → List ℕ → ReportFault → Type 0

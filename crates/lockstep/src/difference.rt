@@ -8,16 +8,20 @@ use rule_check::State;
 /// The first node, and in it the first field, whose values differ, with both values.
 #[derive(Clone, Copy, Debug, PartialEq, Eq)]
 pub struct Difference {
+    /// The number of the node, from 0.
     pub node: u32,
+    /// The place of the field in order of declaration, from 0.
     pub field: u32,
+    /// The value in the first configuration.
     pub left: u32,
+    /// The value in the second one.
     pub right: u32,
 }
 
 /// The first of the fields in which the states differ.
 fn first_field(left: &State, right: &State, fields: u32) -> Option<u32>
-    requires { fields ≤ 8 }
-    ensures { MatchOption result
+    requires few { fields ≤ 8 }
+    ensures first { MatchOption result
         ((k : ℕ) → k < fields → slice_index left.now.words k ≡ slice_index right.now.words k)
         (λ f. (f < fields)
         × (slice_index left.now.words f ≡ slice_index right.now.words f → ⊥)

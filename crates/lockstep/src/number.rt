@@ -38,8 +38,8 @@ fn has_needless_zero(digits: &[u8]) -> bool
 
 /// Digits as text.
 fn text(digits: &[u8]) -> &str
-    requires { IsDigits digits.now }
-    ensures { result.now ≡ digits.now }
+    requires digits { IsDigits digits.now }
+    ensures same { result.now ≡ digits.now }
 {
     match str::from_utf8(digits) {
         Ok(text) => text,
@@ -49,8 +49,8 @@ fn text(digits: &[u8]) -> &str
 
 /// The number whose spelling the digits are.
 fn spelled(digits: &[u8]) -> Option<u32>
-    requires { IsDigits digits.now }
-    ensures { MatchOption result ((n : ℕ) → n < 2 ^ 32 → digits.now ≢ decimal n) (λ n. digits.now ≡ decimal n) }
+    requires digits { IsDigits digits.now }
+    ensures number { MatchOption result ((n : ℕ) → n < 2 ^ 32 → digits.now ≢ decimal n) (λ n. digits.now ≡ decimal n) }
 {
     if has_needless_zero(digits) {
         return None;

@@ -15,15 +15,15 @@ use std::alloc::{AllocError, Global};
 
 /// Whether the number lies from 0 on, below the bound.
 fn is_below(bound: u64, number: i64) -> bool
-    requires { bound < 2 ^ 63 }
-    ensures { result ≡ is_below bound number }
+    requires bound { bound < 2 ^ 63 }
+    ensures inside { result ≡ is_below bound number }
 {
     number >= 0 && number < bound as i64
 }
 
 /// The number as one below the bound, where it lies there.
 fn natural(bound: u64, number: i64) -> u64
-    requires { is_below bound number ≡ true }
+    requires inside { is_below bound number ≡ true }
     ensures value { result ≡ number_of number }
     ensures below { result < bound }
 {
@@ -53,7 +53,7 @@ fn repeats_node(seen: &mut [bool], pairs: &[(i64, i64)]) -> bool
     requires nodes { list_any (λ p. not (is_below (length seen.old) p.0)) pairs.now ≡ false }
     requires fresh { seen.old ≡ replicate (length seen.old) false }
     requires few { length seen.old ≤ 65536 }
-    ensures { result ≡ has_number_twice (nodes_in pairs.now) }
+    ensures twice { result ≡ has_number_twice (nodes_in pairs.now) }
 {
     for pair in pairs {
         let node = natural(seen.len() as u64, pair.0) as usize;
@@ -85,7 +85,7 @@ fn put_values(states: &mut [State], field: u32, pairs: &[(i64, i64)])
 fn sets_node_twice(alloc: Global, nodes: u32, sets: &[FieldSet]) -> Result<bool, AllocError>
     requires few { nodes ≤ 65536 }
     requires nodes { list_any (has_bad_node nodes) sets.now ≡ false }
-    ensures { IfOk result (λ twice. twice ≡ list_any sets_twice sets.now) }
+    ensures twice { IfOk result (λ twice. twice ≡ list_any sets_twice sets.now) }
 {
     for set in sets {
         let mut seen = vec![in alloc; false; nodes as usize]?;

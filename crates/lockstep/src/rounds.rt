@@ -27,7 +27,7 @@ fn gather_nears(
 ) -> Result<(), AllocError>
     requires paired { length weights.now ≡ length ids.now }
     requires within { All (λ w. w < length states.now) ids.now }
-    ensures { OnOk result (nears.new.items ≡ nears_of (state_in states.now) ids.now weights.now) }
+    ensures nears { OnOk result (nears.new.items ≡ nears_of (state_in states.now) ids.now weights.now) }
 {
     nears.clear();
     for slot in 0..ids.len() {
@@ -98,8 +98,8 @@ fn round_into(
     Ok(())
 }
 
-/// The configuration of a round, counted from round 0: from the plan's opening states, all nodes move at once
-/// once a round.
+/// The configuration of a round, counted from round 0, by the textbook synchronous round: from the plan's opening
+/// states on all nodes move at once, each by its own state and its neighbours' states before.
 ///
 /// `TooManyRounds` comes above 1,000,000,000, and else `RoundsBelowStart` below the plan's start, both before
 /// anything is done.

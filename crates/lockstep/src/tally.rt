@@ -16,6 +16,7 @@ pub struct DeviceFault;
 #[derive(Clone, Copy, Debug, PartialEq, Eq, Error)]
 #[error("only the first {written} bytes were written")]
 pub struct Cut {
+    /// How many bytes went out.
     pub written: u64,
 }
 

@@ -1,7 +1,7 @@
 use Rattle.std.proofs.Common.{◌≡◌, ◌≤◌, ◌∙◌, ap, subst, length, arith}
 use Rattle.link_net.specs.Neighbours.{IsNetwork}
 use Rattle.lockstep.specs.Plans.{openings_of}
-use Rattle.lockstep.proofs.Replaced.{plan_is}
+use Rattle.lockstep.proofs.Openings.{plan_is}
 use Rattle.lockstep.proofs.opening.opening_by.Goals as goal
 
 pub returns-clause-plan : goal.returns-clause-plan

@@ -4,7 +4,9 @@ use Rattle.rule_check.specs.declared.state.State.{State}
 use Rattle.rule_check.specs.Value.{names_of, opening_of}
 use Rattle.lockstep.specs.Configs.{IsPlain}
 use Rattle.lockstep.specs.Plans.{openings_of}
-use Rattle.lockstep.proofs.Replaced.{openings-none, openings-plain, faultless, name_count}
+use Rattle.lockstep.proofs.Names.{name_count}
+use Rattle.lockstep.proofs.Faultless.{faultless}
+use Rattle.lockstep.proofs.Openings.{openings-none, openings-plain}
 use Rattle.lockstep.proofs.opening.opening_states.Goals as goal
 
 pub loop-set-init : goal.loop-set-init

@@ -6,7 +6,8 @@ use Rattle.lockstep.specs.Opening.{with_value}
 use Rattle.lockstep.specs.Plans.{value_in}
 use Rattle.rule_check.specs.Value.{names_of, place, opening_of}
 use Rattle.rule_check.specs.WellFormed.{is_among}
-use Rattle.lockstep.proofs.Replaced.{openings-more, place-below, some_place, name_count}
+use Rattle.lockstep.proofs.Names.{place-below, some_place, name_count}
+use Rattle.lockstep.proofs.Openings.{openings-more}
 use Rattle.lockstep.proofs.opening.put_set.Goals as goal
 
 pub put_values-requires-clause-field : goal.put_values-requires-clause-field

@@ -4,11 +4,13 @@ use Rattle.lockstep.proofs.Marks.{fresh_twice}
 use Rattle.lockstep.proofs.opening.repeats_node.Goals as goal
 
 pub returns-then-seen-node : goal.returns-then-seen-node
-returns-then-seen-node c =
-    let whole = fresh_twice c.args.seen.now c.args.pairs.now c.requires.fresh c.requires.nodes in
-    grind (arith, common_steps)
+returns-then-seen-node c = record {
+  twice = let whole = fresh_twice c.args.seen.now c.args.pairs.now c.requires.fresh c.requires.nodes in
+      grind (arith, common_steps);
+}
 
 pub returns : goal.returns
-returns c =
-    let whole = fresh_twice c.args.seen.now c.args.pairs.now c.requires.fresh c.requires.nodes in
-    grind (arith, common_steps)
+returns c = record {
+  twice = let whole = fresh_twice c.args.seen.now c.args.pairs.now c.requires.fresh c.requires.nodes in
+      grind (arith, common_steps);
+}

@@ -25,7 +25,7 @@ pub next-requires : goal.next-requires
 next-requires c =
     let network = c.network-network.result.now in
     let at = state_in c.args.states.now in
-    let made = gathered network at c.args.node c.ids_of-ids.result.now c.weights_of-weights.result.now c.gather_nears.new.nears.items c.ids_of-ids.ensures c.weights_of-weights.ensures c.in_ok-gather_nears.ensures in
+    let made = gathered network at c.args.node c.ids_of-ids.result.now c.weights_of-weights.result.now c.gather_nears.new.nears.items c.ids_of-ids.ensures c.weights_of-weights.ensures c.in_ok-gather_nears.ensures.nears in
     let count : length c.as_slice.result.now ≡ length (row network c.args.node) = ap length (c.as_slice.ensures.value ∙ made) ∙ length-map (row network c.args.node) (near_at at) in
     let few = c.nodes-nodes.ensures.whole.degrees c.args.node in
     record { few = omega (arith, count, few) }
@@ -34,7 +34,7 @@ pub returns-clause-next : goal.returns-clause-next
 returns-clause-next c =
     let network = c.network-network.result.now in
     let at = state_in c.args.states.now in
-    let made = gathered network at c.args.node c.ids_of-ids.result.now c.weights_of-weights.result.now c.gather_nears.new.nears.items c.ids_of-ids.ensures c.weights_of-weights.ensures c.in_ok-gather_nears.ensures in
+    let made = gathered network at c.args.node c.ids_of-ids.result.now c.weights_of-weights.result.now c.gather_nears.new.nears.items c.ids_of-ids.ensures c.weights_of-weights.ensures c.in_ok-gather_nears.ensures.nears in
     let inside : c.args.node < length c.args.states.now = omega (arith, c.requires.node, c.requires.states) in
     let own = get_or_default c.args.states.now c.args.node (record { words = [] }) blank inside in
     sym c.next.ensures.exact

@@ -7,8 +7,8 @@ use Rattle.lockstep.specs.Report.{fields_text}
 use Rattle.lockstep.specs.ReadReport.{IsStateOf}
 use Rattle.lockstep.proofs.Fronts.{lead, line_none, line_open, line_whole}
 use Rattle.lockstep.proofs.ReadNode.{no_number_no_line, other_number, states_once}
-use Rattle.lockstep.proofs.Replaced.{name_count}
-use Rattle.lockstep.proofs.reader.read_node.Goals as goal
+use Rattle.lockstep.proofs.Names.{name_count}
+use Rattle.lockstep.proofs.report_reader.read_node.Goals as goal
 
 abbrev text : List (List ℕ) → State → List ℕ
 text names s = fields_text names s.words
@@ -36,7 +36,7 @@ returns-in_err-state c =
     let is : c.args.bytes.now ≡ decimal c.args.node ++ rest = c.in_ok-number.ensures.0 ∙ ap (λ n. decimal n ++ rest) c.if-number-node.false in
     rw c.from_residual-in_err-state.ensures (
     lead (line names) (IsStateOf fields) Anything (decimal c.args.node) c.args.bytes.now rest None is
-    (line_none (text names) (IsStateOf fields) rest c.in_err-state.ensures))
+    (line_none (text names) (IsStateOf fields) rest c.in_err-state.ensures.front))
 
 pub returns-in_err-more : goal.returns-in_err-more
 returns-in_err-more c =
@@ -46,7 +46,7 @@ returns-in_err-more c =
     let rest = c.in_ok-number.fields.now in
     let is : c.args.bytes.now ≡ decimal c.args.node ++ rest = c.in_ok-number.ensures.0 ∙ ap (λ n. decimal n ++ rest) c.if-number-node.false in
     let once = states_once names fields (name_count rules) (omega (arith, c.field_count-few.ensures.count, c.field_count-few.ensures.few)) in
-    let read = c.in_ok-state.ensures in
+    let read = c.in_ok-state.ensures.front in
     rw c.from_residual-in_err-more.ensures (
     lead (line names) (IsStateOf fields) Anything (decimal c.args.node) c.args.bytes.now rest None is
     (line_open (text names) (IsStateOf fields) rest c.in_ok-state.end.now c.in_ok-state.state once read.0 read.1 read.2 c.in_err-more.ensures))
@@ -58,6 +58,6 @@ returns c =
     let fields = length rules.fields in
     let rest = c.in_ok-number.fields.now in
     let is : c.args.bytes.now ≡ decimal c.args.node ++ rest = c.in_ok-number.ensures.0 ∙ ap (λ n. decimal n ++ rest) c.if-number-node.false in
-    let read = c.in_ok-state.ensures in
+    let read = c.in_ok-state.ensures.front in
     lead (line names) (IsStateOf fields) Anything (decimal c.args.node) c.args.bytes.now rest (Some (c.in_ok-state.state, c.in_ok-more.more.now)) is
     (line_whole (text names) (IsStateOf fields) rest c.in_ok-state.end.now c.in_ok-more.more.now c.in_ok-state.state read.0 read.1 c.in_ok-more.ensures)

@@ -3,7 +3,7 @@ use Rattle.std.specs.Fmt.{decimal}
 use Rattle.lockstep.specs.Front.{Anything}
 use Rattle.lockstep.proofs.Digits.{numbers_once}
 use Rattle.lockstep.proofs.Fronts.{lead, lead_none, line_none, line_open, line_whole}
-use Rattle.lockstep.proofs.reader.read_round.Goals as goal
+use Rattle.lockstep.proofs.report_reader.read_round.Goals as goal
 
 abbrev Small : ℕ → Type 0
 Small n = n < 2 ^ 32

@@ -1,7 +1,7 @@
 use Rattle.std.proofs.Common.{◌≡◌, ◌++◌, drop, string_bytes}
 use Rattle.rule_check.specs.Value.{names_of}
 use Rattle.lockstep.specs.Report.{node_lines, report_text}
-use Rattle.lockstep.proofs.report_bytes.report.Given as goal
+use Rattle.lockstep.proofs.report_writer.report.Given as goal
 
 abbrev pub invariant-loop-node : goal.invariant-loop-node
 invariant-loop-node l =

@@ -5,7 +5,7 @@ use Rattle.rule_check.specs.Value.{names_of}
 use Rattle.lockstep.specs.Report.{node_lines}
 use Rattle.lockstep.specs.ReadReport.{IsStateOf}
 use Rattle.lockstep.proofs.NodeLines.{lines_more}
-use Rattle.lockstep.proofs.reader.read_states.Goals as goal
+use Rattle.lockstep.proofs.report_reader.read_states.Goals as goal
 
 pub loop-node-preserved : goal.loop-node-preserved
 loop-node-preserved c =

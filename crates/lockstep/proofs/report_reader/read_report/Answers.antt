@@ -1,16 +1,17 @@
-use Rattle.std.proofs.Common.{◌≡◌, ◌≤◌, ◌∙◌, length, ap, subst, arith}
+use Rattle.std.proofs.Common.{◌≡◌, ◌≤◌, ◌∙◌, length, sym, ap, subst, arith, Ok}
 use Rattle.rule_check.specs.Value.{names_of}
+use Rattle.lockstep.specs.Configs.{Configuration}
 use Rattle.lockstep.specs.NodeLines.{HasNodeLines, IsStopped}
 use Rattle.lockstep.proofs.ReportOnce.{round_first}
 use Rattle.lockstep.proofs.BadLines.{bad_round}
-use Rattle.lockstep.proofs.Refusals.{is_report, only_report, err_memory, err_refused}
-use Rattle.lockstep.proofs.reader.read_report.Goals as goal
+use Rattle.lockstep.proofs.Refusals.{is_report, only_report, err_memory, err_refused, low_round, high_round}
+use Rattle.lockstep.proofs.report_reader.read_report.Goals as goal
 
 pub returns-in_default-clause-refused : goal.returns-in_default-clause-refused
 returns-in_default-clause-refused c = λ plain. bad_round c.args.plan.now c.args.text.now c.in_default.ensures
 
 pub returns-in_err-states-clause-every_report : goal.returns-in_err-states-clause-every_report
-returns-in_err-states-clause-every_report c report is low =
+returns-in_err-states-clause-every_report c report is =
     let p = c.args.plan.now in
     let lines = c.in-Some.lines.now in
     let fault = c.in_err-states.field-0.0 in
@@ -30,9 +31,9 @@ returns-in_err-states-clause-refused c =
 
 pub returns-then-rounds-gt-MOST_ROUNDS-clause-every_report :
     goal.returns-then-rounds-gt-MOST_ROUNDS-clause-every_report
-returns-then-rounds-gt-MOST_ROUNDS-clause-every_report c report is low =
+returns-then-rounds-gt-MOST_ROUNDS-clause-every_report c report is =
     let first = round_first c.args.plan.now c.args.text.now c.in-Some.lines.now c.in-Some.rounds report c.in-Some.ensures.0 c.in-Some.ensures.1 is in
-    absurd (omega (arith, first.0))
+    λ other. high_round report (omega (arith, first.0))
 
 pub returns-then-rounds-gt-MOST_ROUNDS-clause-refused :
     goal.returns-then-rounds-gt-MOST_ROUNDS-clause-refused
@@ -45,10 +46,11 @@ returns-then-rounds-gt-MOST_ROUNDS-clause-refused c =
     (_, is_report p c.phase-phase.ensures.whole.fields c.args.text.now lines c.in-Some.rounds c.in-Some.ensures.1 c.in-Some.ensures.0 states has, omega arith)
 
 pub returns-clause-every_report : goal.returns-clause-every_report
-returns-clause-every_report c report is low =
+returns-clause-every_report c report is =
     let p = c.args.plan.now in
     let lines = c.in-Some.lines.now in
     let states = c.in_ok-states.states.items in
     let nodes : c.nodes.result ≡ length p.network = c.nodes.ensures.count ∙ ap length c.network.ensures.network in
     let has = subst (λ n. HasNodeLines (names_of p.program) (length p.program.fields) n lines states) nodes (subst (λ r. HasNodeLines (names_of r) (length r.fields) c.nodes.result lines states) c.program.ensures.program c.in_ok-states.ensures.ok) in
-    c.of.ensures.parts ∙ only_report p c.phase-phase.ensures.whole.fields c.args.text.now lines c.in-Some.rounds c.in-Some.ensures.1 c.in-Some.ensures.0 states report has is
+    let same = only_report p c.phase-phase.ensures.whole.fields c.args.text.now lines c.in-Some.rounds c.in-Some.ensures.1 c.in-Some.ensures.0 states report has is in
+    low_round report (omega (arith, ap (λ (r : Configuration). r.rounds) same)) ∙ ap Ok (sym (c.of.ensures.parts ∙ same))

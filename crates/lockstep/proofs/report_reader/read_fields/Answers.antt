@@ -5,24 +5,25 @@ use Rattle.rule_check.specs.Value.{names_of}
 use Rattle.lockstep.specs.Report.{fields_text}
 use Rattle.lockstep.proofs.Once.{ends_fields}
 use Rattle.lockstep.proofs.ReadFields.{done_more, left_apart, left_more}
-use Rattle.lockstep.proofs.Replaced.{name_count}
-use Rattle.lockstep.proofs.reader.read_fields.Goals as goal
+use Rattle.lockstep.proofs.Names.{name_count}
+use Rattle.lockstep.proofs.report_reader.read_fields.Goals as goal
 
 pub returns-in_err-value : goal.returns-in_err-value
-returns-in_err-value c =
-    let names = names_of c.args.program.now in
-    let p = c.loop-place.place in
-    let inside : p < length names = omega (arith, name_count c.args.program.now, c.field_count-place-end.ensures.count) in
-    rw c.from_residual.ensures (λ s behind fits ends e.
-    let long : p < length s.words = omega (arith, fits.count, c.field_count-place-end.ensures.few) in
-    let left = c.loop-place.invariant.left s behind fits ends e in
-    c.in_err-value.ensures (get_or s.words p 0) _ (fits.small p 0 long) (ends_fields (drop (p + 1) names) (drop (p + 1) s.words) behind ends) (left_apart names s.words c.loop-place.rest.now behind p inside long left))
+returns-in_err-value c = record {
+  front = let names = names_of c.args.program.now in
+      let p = c.loop-place.place in
+      let inside : p < length names = omega (arith, name_count c.args.program.now, c.field_count-place-end.ensures.count) in
+      rw c.from_residual.ensures (λ s behind fits ends e.
+      let long : p < length s.words = omega (arith, fits.count, c.field_count-place-end.ensures.few) in
+      let left = c.loop-place.invariant.left s behind fits ends e in
+      c.in_err-value.ensures.front (get_or s.words p 0) _ (fits.small p 0 long) (ends_fields (drop (p + 1) names) (drop (p + 1) s.words) behind ends) (left_apart names s.words c.loop-place.rest.now behind p inside long left));
+}
 
 pub loop-place-preserved : goal.loop-place-preserved
 loop-place-preserved c =
     let names = names_of c.args.program.now in
     let p = c.loop-place.place in
-    let read = c.in_ok-value.ensures in
+    let read = c.in_ok-value.ensures.front in
     let inside : p < length names = omega (arith, name_count c.args.program.now, c.field_count-place-end.ensures.count) in
     let few : p < 8 = omega (arith, c.field_count-place-end.ensures.few) in
     let long : p < length c.loop-place.words = omega (arith, c.loop-place.invariant.count) in
@@ -38,16 +39,17 @@ loop-place-preserved c =
     }
 
 pub returns : goal.returns
-returns c =
-    let names = names_of c.args.program.now in
-    let p = c.loop-place.place in
-    let past : length names ≤ p = omega (arith, name_count c.args.program.now, c.field_count-place-end.ensures.count) in
-    let all : take p names ≡ names = take_all p names past in (
-      c.loop-place.invariant.done ∙ ap (λ ns. fields_text ns c.loop-place.words ++ c.loop-place.rest.now) all,
-      record {
-        count = c.loop-place.invariant.count;
-        small = c.loop-place.invariant.small;
-        plain = λ k far. c.loop-place.invariant.plain k (omega (arith, c.field_count-place-end.ensures.count));
-      },
-      c.loop-place.invariant.ends,
-    )
+returns c = record {
+  front = let names = names_of c.args.program.now in
+      let p = c.loop-place.place in
+      let past : length names ≤ p = omega (arith, name_count c.args.program.now, c.field_count-place-end.ensures.count) in
+      let all : take p names ≡ names = take_all p names past in (
+        c.loop-place.invariant.done ∙ ap (λ ns. fields_text ns c.loop-place.words ++ c.loop-place.rest.now) all,
+        record {
+          count = c.loop-place.invariant.count;
+          small = c.loop-place.invariant.small;
+          plain = λ k far. c.loop-place.invariant.plain k (omega (arith, c.field_count-place-end.ensures.count));
+        },
+        c.loop-place.invariant.ends,
+      );
+}

@@ -2,7 +2,7 @@ use Rattle.std.proofs.Common.{◌≡◌, ◌++◌, All, length, vec_len}
 use Rattle.rule_check.specs.Value.{names_of}
 use Rattle.lockstep.specs.Report.{node_lines}
 use Rattle.lockstep.specs.ReadReport.{IsStateOf}
-use Rattle.lockstep.proofs.reader.read_states.Given as goal
+use Rattle.lockstep.proofs.report_reader.read_states.Given as goal
 
 abbrev pub invariant-loop-node : goal.invariant-loop-node
 invariant-loop-node l = record {

@@ -4,7 +4,7 @@ use Rattle.rule_check.specs.Value.{names_of}
 use Rattle.lockstep.specs.Front.{Ends}
 use Rattle.lockstep.specs.Report.{fields_text}
 use Rattle.lockstep.specs.ReadReport.{IsStateOf}
-use Rattle.lockstep.proofs.reader.read_fields.Given as goal
+use Rattle.lockstep.proofs.report_reader.read_fields.Given as goal
 
 abbrev pub invariant-loop-place : goal.invariant-loop-place
 invariant-loop-place l = record {

@@ -1,4 +1,4 @@
-//! Reports.
+//! Reports that are written.
 ghost use Rattle.std.specs.Prelude.{◌≡◌, ◌++◌, ◌<◌, [], OnOk, IfOk, string_bytes, length, slice_index_or};
 ghost use Rattle.std.specs.Fmt.{decimal};
 ghost use Rattle.rule_check.specs.Value.{names_of};
@@ -23,8 +23,8 @@ fn put_field(
     place: u32,
     value: u32,
 ) -> Result<(), AllocError>
-    requires { place < length program.now.fields }
-    ensures { OnOk result (string_bytes out.new ≡ string_bytes out.old ++ field_text (slice_index_or (names_of program.now) place []) value) }
+    requires place { place < length program.now.fields }
+    ensures text { OnOk result (string_bytes out.new ≡ string_bytes out.old ++ field_text (slice_index_or (names_of program.now) place []) value) }
 {
     let name = program.field_name(place).unwrap_or("");
     out.push_str(" ")?;

@@ -2,8 +2,8 @@ use Rattle.std.proofs.Common.{arith, ◌≡◌, append_assoc, length, ◌<◌}
 use Rattle.std.proofs.lemmas.Grind.{common_steps}
 use Rattle.rule_check.specs.Value.{names_of}
 use Rattle.lockstep.proofs.Texts.{fields_more}
-use Rattle.lockstep.proofs.Replaced.{name_count}
-use Rattle.lockstep.proofs.report_bytes.put_fields.Goals as goal
+use Rattle.lockstep.proofs.Names.{name_count}
+use Rattle.lockstep.proofs.report_writer.put_fields.Goals as goal
 
 pub loop-place-preserved : goal.loop-place-preserved
 loop-place-preserved c =

@@ -1,7 +1,7 @@
 use Rattle.std.proofs.Common.{◌≡◌, ◌++◌, drop, string_bytes}
 use Rattle.rule_check.specs.Value.{names_of}
 use Rattle.lockstep.specs.Report.{fields_text}
-use Rattle.lockstep.proofs.report_bytes.put_fields.Given as goal
+use Rattle.lockstep.proofs.report_writer.put_fields.Given as goal
 
 abbrev pub invariant-loop-place : goal.invariant-loop-place
 invariant-loop-place l =

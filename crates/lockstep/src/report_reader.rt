@@ -1,11 +1,12 @@
-//! Reports read.
+//! Reports that are read.
 ghost use Rattle.std.specs.Prelude.{◌≡◌, ◌≤◌, ◌<◌, ◌^◌, ℕ, List, length, slice_index_or, [], IfOk, IfErr, MatchResult};
 ghost use Rattle.std.specs.Option.{option_map};
 ghost use Rattle.rule_check.specs.Value.{names_of};
 ghost use Rattle.lockstep.specs.Configs.{Configuration, most_rounds};
 ghost use Rattle.lockstep.specs.Front.{IsFront, Ends, Anything};
 ghost use Rattle.lockstep.specs.Report.{field_text, fields_text, node_line, node_lines, round_line};
-ghost use Rattle.lockstep.specs.ReadReport.{IsStateOf, HasShape, IsReportOf, IsRefusedReport};
+ghost use Rattle.lockstep.specs.ReadReport.{IsStateOf, IsReportOf, IsRefusedReport, within_limit};
+ghost use Rattle.lockstep.specs.Answer.{IsAnswer};
 ghost use Rattle.lockstep.specs.NodeLines.{HasNodeLines, IsStopped};
 ghost use Rattle.lockstep.specs.declared.fault.ReportFault.TheVariants.{BadLine, TooManyRounds, Memory};
 
@@ -19,8 +20,8 @@ use std::alloc::Global;
 
 /// The value of the field at a place, and what stands behind it.
 fn read_field<'a>(program: &Program, place: u32, bytes: &'a [u8]) -> Option<(u32, &'a [u8])>
-    requires { place < length program.now.fields }
-    ensures { IsFront (field_text (slice_index_or (names_of program.now) place [])) (λ n. n < 2 ^ 32) Ends bytes.now (option_map (λ x. (x.0, x.1.now)) result) }
+    requires place { place < length program.now.fields }
+    ensures front { IsFront (field_text (slice_index_or (names_of program.now) place [])) (λ n. n < 2 ^ 32) Ends bytes.now (option_map (λ x. (x.0, x.1.now)) result) }
 {
     let name = program.field_name(place).unwrap_or("");
     let named = behind(b" ", bytes)?;
@@ -31,8 +32,8 @@ fn read_field<'a>(program: &Program, place: u32, bytes: &'a [u8]) -> Option<(u32
 
 /// The state that the fields in order of declaration give, and what stands behind them.
 fn read_fields<'a>(program: &Program, bytes: &'a [u8]) -> Option<(State, &'a [u8])>
-    requires { Ends bytes.now }
-    ensures { IsFront (λ s. fields_text (names_of program.now) s.words) (IsStateOf (length program.now.fields)) Ends bytes.now (option_map (λ x. (x.0, x.1.now)) result) }
+    requires ends { Ends bytes.now }
+    ensures front { IsFront (λ s. fields_text (names_of program.now) s.words) (IsStateOf (length program.now.fields)) Ends bytes.now (option_map (λ x. (x.0, x.1.now)) result) }
 {
     let mut words = [0; 8];
     let mut rest = bytes;
@@ -75,7 +76,6 @@ fn read_states(
     nodes: u32,
     lines: &[u8],
 ) -> Result<Vec<State>, ReportFault>
-    requires few { nodes ≤ 65536 }
     ensures ok { IfOk result (λ v. HasNodeLines (names_of program.now) (length program.now.fields) nodes lines.now v.items) }
     ensures bad { IfErr result (λ fault. IsStopped (names_of program.now) (length program.now.fields) nodes lines.now fault) }
 {
@@ -104,9 +104,8 @@ fn read_states(
 /// first line that cannot stand at its place, or the first that is missing. Else `TooManyRounds` comes where the
 /// round is above 1,000,000,000.
 pub fn read_report(alloc: Global, plan: &Plan, text: &[u8]) -> Result<Config, ReportFault>
-    ensures report { IfOk result (λ config. IsReportOf plan.now text.now config) }
-    ensures every_report { (c : Configuration) → IsReportOf plan.now text.now c → c.rounds ≤ most_rounds
-        → MatchResult result (λ config. config ≡ c) (λ fault. fault ≡ Memory) }
+    ensures report { IfOk result (λ config. IsReportOf plan.now text.now config × (config.rounds ≤ most_rounds)) }
+    ensures every_report { (c : Configuration) → IsReportOf plan.now text.now c → IsAnswer ReportFault.Memory (within_limit c) result }
     ensures refused { IfErr result (IsRefusedReport plan.now text.now) }
 {
     let _phase = plan.phase();
