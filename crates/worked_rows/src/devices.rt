@@ -7,6 +7,9 @@ use std::io;
 use std::io::{ErrorKind, Read, Write};
 use std::test::Fail;
 
+/// The text that is written and read.
+const TEXT: &[u8] = b"0 moves 1 s=7\n1 moves 1 s=5\n";
+
 /// Takes at most `most` bytes a call, and fails once `room` bytes are taken in all.
 #[derive(Drop)]
 struct Narrow {
@@ -81,8 +84,6 @@ impl Read for Source<'_> {
         Ok(given)
     }
 }
-
-const TEXT: &[u8] = b"0 moves 1 s=7\n1 moves 1 s=5\n";
 
 #[test]
 fn whole_text(rt: HostRuntime) -> Result<(), Fail> {
@@ -198,5 +199,25 @@ fn reads_with_marks(rt: HostRuntime) {
         assert_eq!(rt; input.read_some(&mut []), Ok(0));
         assert!(rt; input.failed());
         assert_eq!(rt; input.calls(), 4);
+    }
+}
+
+#[test]
+fn reads_fail_after_each_number_of_bytes(rt: HostRuntime) {
+    for room in 0..TEXT.len() {
+        let mut input = Tally::new(Source {
+            rest: &TEXT[..room],
+            most: 1,
+            end: Some(ErrorKind::Interrupted),
+        });
+        for byte in &TEXT[..room] {
+            let mut buffer = [0];
+            assert_eq!(rt; input.read_some(&mut buffer), Ok(1));
+            assert_eq!(rt; buffer[0], *byte);
+        }
+        assert!(rt; !input.failed());
+        assert_eq!(rt; input.read_some(&mut [0]), Err(DeviceFault));
+        assert!(rt; input.failed());
+        assert_eq!(rt; input.calls(), room as u64 + 1);
     }
 }

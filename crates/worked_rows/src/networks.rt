@@ -1,6 +1,6 @@
 //! Network files: which are accepted, what they describe, and why the others are refused.
 
-use link_net::{NetFault, NetFile, read_network};
+use link_net::{Name, NetFault, NetFile, Pairs, read_network};
 use std::alloc::Global;
 use std::test::Fail;
 
@@ -108,12 +108,12 @@ fn slots_of_a_path(rt: HostRuntime) -> Result<(), Fail> {
     }
     let looks = [
         (1, 0, Some(0), Some(0)),
-        (1, 1, Some(2), Some(4294967295)),
+        (1, 1, Some(2), Some(4_294_967_295)),
         (0, 0, Some(1), Some(0)),
-        (2, 0, Some(1), Some(4294967295)),
+        (2, 0, Some(1), Some(4_294_967_295)),
         (1, 2, None, None),
         (3, 0, None, None),
-        (4294967295, 4294967295, None, None),
+        (4_294_967_295, 4_294_967_295, None, None),
     ];
     for (node, slot, neighbour, weight) in looks {
         assert_eq!(rt;
@@ -148,7 +148,7 @@ fn rows_of_a_path(rt: HostRuntime) -> Result<(), Fail> {
     assert_eq!(rt; network.neighbours(1).unwrap_or(&[]), [0, 2].as_slice());
     assert_eq!(rt;
         network.weights(1).unwrap_or(&[]),
-        [0, 4294967295].as_slice()
+        [0, 4_294_967_295].as_slice()
     );
     assert!(rt; network.neighbours(3).is_none());
     assert!(rt; network.weights(3).is_none());
@@ -173,5 +173,23 @@ fn same_networks(rt: HostRuntime) -> Result<(), Fail> {
         let other = read_network(alloc, text)?;
         assert_eq!(rt; one.network().same(other.network()), same, "{text:?}");
     }
+    Ok(())
+}
+
+#[test]
+fn network_out_of_its_file(rt: HostRuntime) -> Result<(), Fail> {
+    let network = described(rt.alloc())?.into_network();
+    assert_eq!(rt; network.nodes(), 3);
+    assert_eq!(rt; network.slot_of(1, 2), Some(1));
+    Ok(())
+}
+
+#[test]
+fn names_and_pairs(rt: HostRuntime) -> Result<(), Fail> {
+    let alloc = rt.alloc();
+    let name = Name::new(String::from_str(alloc, "dist")?);
+    assert_eq!(rt; name.as_str(), "dist");
+    let pairs = Pairs::new([(0, -7), (9, 1)].to_vec(alloc)?);
+    assert_eq!(rt; pairs.as_slice(), [(0, -7), (9, 1)].as_slice());
     Ok(())
 }

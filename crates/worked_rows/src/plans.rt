@@ -56,7 +56,7 @@ fn opening_of_a_plan(rt: HostRuntime) -> Result<(), Fail> {
     let openings = [
         (0, Some(state(7, 5))),
         (1, Some(state(7, 0))),
-        (2, Some(state(9, 4294967295))),
+        (2, Some(state(9, 4_294_967_295))),
         (3, None),
     ];
     for (node, want) in openings {

@@ -160,6 +160,14 @@ fn nesting(rt: HostRuntime) -> Result<(), Fail> {
         matches!(answer, Some(LangFault::Syntax { .. })),
         "{answer:?}"
     );
+    let sums = "(1 + ".repeat(alloc, 64)?;
+    let ends = ")".repeat(alloc, 64)?;
+    let text = format!(in alloc; "next s = {sums}1{ends};")?;
+    let answer = fault_of(alloc, text.as_bytes());
+    assert!(rt;
+        matches!(answer, Some(LangFault::Syntax { .. })),
+        "{answer:?}"
+    );
     Ok(())
 }
 

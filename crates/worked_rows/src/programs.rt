@@ -56,7 +56,9 @@ fn most_fields(rt: HostRuntime) -> Result<(), Fail> {
 #[test]
 fn most_aggregates(rt: HostRuntime) -> Result<(), Fail> {
     let alloc = rt.alloc();
-    assert_eq!(rt; fault_of(alloc, aggregates(alloc, 15)?.as_str()), None);
+    let program = program_of(alloc, aggregates(alloc, 15)?.as_bytes())?;
+    let next = program.next(0, state(0, 0), 0, &[near(1, 1, 6, 6)]);
+    assert_eq!(rt; next, state(15, 1));
     let refused = Some(Refusal::Check(CheckFault::TooManyAggregates));
     assert_eq!(rt; fault_of(alloc, aggregates(alloc, 16)?.as_str()), refused);
     Ok(())
@@ -115,7 +117,7 @@ fn names_of_fields(rt: HostRuntime) -> Result<(), Fail> {
         assert_eq!(rt; program.field_index(name), Some(place), "{name}");
     }
     assert!(rt; program.field_name(3).is_none());
-    assert!(rt; program.field_name(4294967295).is_none());
+    assert!(rt; program.field_name(4_294_967_295).is_none());
     for name in ["", "c", "B", "aa"] {
         assert_eq!(rt; program.field_index(name), None, "{name}");
     }
@@ -211,7 +213,7 @@ fn aggregates_of_no_neighbour(rt: HostRuntime) -> Result<(), Fail> {
         b"field s = 0; next s = (least n.s + ((all n.s + total n.s) + (any n.s + (most n.s + count n.s))));";
     let program = program_of(rt.alloc(), text)?;
     let mut want = [0; 16];
-    want[0] = 4294967295;
+    want[0] = 4_294_967_295;
     want[1] = 1;
     assert_eq!(rt; program.start().words, want);
     Ok(())

@@ -150,3 +150,22 @@ fn aggregates(rt: HostRuntime) -> Result<(), Fail> {
     }
     Ok(())
 }
+
+#[test]
+fn deepest_expressions(rt: HostRuntime) -> Result<(), Fail> {
+    let alloc = rt.alloc();
+    let ends = ")".repeat(alloc, 63)?;
+    let sums = "(1 + ".repeat(alloc, 63)?;
+    let sum = format!(in alloc; "{sums}1{ends}")?;
+    assert_eq!(rt; value_of(alloc, sum.as_str(), &[])?, 64);
+    let differences = "(100 - ".repeat(alloc, 63)?;
+    let difference = format!(in alloc; "{differences}1{ends}")?;
+    assert_eq!(rt; value_of(alloc, difference.as_str(), &[])?, 99);
+    let choices = "if s then v else ".repeat(alloc, 63)?;
+    let choice = format!(in alloc; "{choices}1")?;
+    assert_eq!(rt; value_of(alloc, choice.as_str(), &[])?, 9);
+    let last = "if not s then v else ".repeat(alloc, 62)?;
+    let last = format!(in alloc; "{last}id")?;
+    assert_eq!(rt; value_of(alloc, last.as_str(), &[])?, 6);
+    Ok(())
+}
