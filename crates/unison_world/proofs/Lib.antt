@@ -6,3 +6,4 @@ pub mod Writes
 pub mod Starts
 pub mod Standing
 pub mod Wholes
+pub mod Plains

@@ -3,6 +3,7 @@
 
 mod events;
 mod fault;
+mod finishing;
 mod laws;
 mod node;
 mod opening;
@@ -11,7 +12,7 @@ mod step;
 mod work;
 mod world;
 
-pub use fault::OpenFault;
+pub use fault::{FinishFault, OpenFault};
 pub use laws::stays_in_step;
 pub use step::{Answer, Step, WriteAnswer};
 pub use work::{Done, Work};

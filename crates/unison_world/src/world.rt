@@ -5,18 +5,20 @@ ghost use Rattle.lockstep.specs.Answer.{IsAnswer};
 ghost use Rattle.lockstep.specs.Configs.{most_rounds};
 ghost use Rattle.lockstep.specs.Plans.{IsPlan};
 ghost use Rattle.unison_world.specs.Counting.{moves_of, HasShape, InStep};
+ghost use Rattle.unison_world.specs.Finishing.{IsFinish};
 ghost use Rattle.unison_world.specs.Opening.{opening_of};
 ghost use Rattle.unison_world.specs.View.{answer_in, world_after, is_node, state_of, opened};
 ghost use Rattle.unison_world.specs.Work.{IsPutAnswer, after_put, work_in};
 
 use crate::events::{ask_read, ask_write, read, write};
-use crate::fault::OpenFault;
+use crate::fault::{FinishFault, OpenFault};
+use crate::finishing::{first_below, states_of};
 use crate::node::Node;
 use crate::opening::opening_nodes;
 use crate::results::{ask_put, put};
 use crate::step::{Answer, Step, WriteAnswer};
 use crate::work::{Done, Work};
-use lockstep::Plan;
+use lockstep::{Config, Plan};
 use phase_register::Phase;
 use rule_check::State;
 use std::alloc::{AllocError, Global};
@@ -161,5 +163,26 @@ impl World {
         ensures phase { result ≡ (if is_node self.now node then Some ((self.now.plan.phase + moves_of self.now.counts node) % 3) else None) }
     {
         Some(self.nodes.get(node as usize)?.register.phase())
+    }
+
+    /// The configuration of the stop, where the plan and the stop are the world's and every node stands at the stop.
+    /// `Foreign` comes where the plan or the stop isn't the world's, and else `Unfinished` with the least node below
+    /// the stop.
+    pub fn finish(self, alloc: Global, plan: &Plan, stop: u32) -> Result<Config, FinishFault>
+        ensures answer { IsFinish self plan.now stop result }
+    {
+        if !self.plan.same(plan) {
+            return Err(FinishFault::Foreign);
+        }
+        if self.stop != stop {
+            return Err(FinishFault::Foreign);
+        }
+        let _nodes = self.plan.network().nodes();
+        if let Some(node) = first_below(self.stop, &self.nodes) {
+            let moves = self.nodes[node as usize].moves;
+            return Err(FinishFault::Unfinished { node, moves });
+        }
+        let states = states_of(alloc, &self.nodes)?;
+        Ok(Config::of(plan, stop, states))
     }
 }
