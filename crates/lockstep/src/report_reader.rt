@@ -98,11 +98,13 @@ fn read_states(
     Ok(states)
 }
 
-/// The configuration whose report the text is.
+/// The configuration whose report the text is. A configuration has one report alone: no leading zeros, single
+/// spaces, the fields in order of declaration, and LF at each line's end.
 ///
 /// `BadLine` comes where the text is no report of a configuration with the plan's nodes and fields, and names the
 /// first line that cannot stand at its place, or the first that is missing. Else `TooManyRounds` comes where the
-/// round is above 1,000,000,000.
+/// round is above 1,000,000,000. The line's number is promised where no field's name has an LF in it, as no name
+/// in a program text has.
 pub fn read_report(alloc: Global, plan: &Plan, text: &[u8]) -> Result<Config, ReportFault>
     ensures report { IfOk result (λ config. IsReportOf plan.now text.now config × (config.rounds ≤ most_rounds)) }
     ensures every_report { (c : Configuration) → IsReportOf plan.now text.now c → IsAnswer ReportFault.Memory (within_limit c) result }

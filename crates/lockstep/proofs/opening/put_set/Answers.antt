@@ -1,12 +1,13 @@
-use Rattle.std.proofs.Common.{◌≡◌, ◌∙◌, sym, ap, arith, length, get_or}
+use Rattle.std.proofs.Common.{◌≡◌, false, ◌∙◌, sym, ap, arith, length, get_or}
 use Rattle.std.proofs.lemmas.Grind.{common_steps}
 use Rattle.rule_check.specs.declared.state.State.{State}
 use Rattle.lockstep.specs.Configs.{blank}
 use Rattle.lockstep.specs.Opening.{with_value}
 use Rattle.lockstep.specs.Plans.{value_in}
 use Rattle.rule_check.specs.Value.{names_of, place, opening_of}
-use Rattle.rule_check.specs.WellFormed.{is_among}
+use Rattle.rule_check.specs.WellFormed.{is_among, has_twice}
 use Rattle.lockstep.proofs.Names.{place-below, some_place, name_count}
+use Rattle.lockstep.proofs.Faultless.{names_differ}
 use Rattle.lockstep.proofs.Openings.{openings-more}
 use Rattle.lockstep.proofs.opening.put_set.Goals as goal
 
@@ -22,9 +23,11 @@ returns-in-Some c = record {
   more = λ before old.
       let names = names_of c.args.program.now in
       let at = some_place (is_among names c.as_str.result.now) c.in-Some.field (place names c.as_str.result.now) c.in-Some.ensures.index (ap (is_among names) c.as_str.ensures.text ∙ c.requires.known) in
+      let whole = c.field_count-few.ensures in
+      let differ : has_twice names ≡ false = grind (arith, common_steps, names_differ, whole) in
       let here : c.in-Some.field ≡ place names c.args.set.now.name = at ∙ ap (place names) c.as_str.ensures.text in
       let h = c.opening-opening.type_inv in
       let words : length (opening_of c.args.program.now).words ≡ 8 = ap (λ (o : State). length o.words) (sym c.opening-opening.ensures.exact) ∙ grind (arith, common_steps, h) in
-      openings-more c.args.program.now (length c.args.states.now) before c.args.set.now c.in-Some.field c.args.states.now c.put_values.new.states c.field_count-few.ensures.whole.fields_differ c.requires.known here
+      openings-more c.args.program.now (length c.args.states.now) before c.args.set.now c.in-Some.field c.args.states.now c.put_values.new.states differ c.requires.known here
       (omega (arith, words, name_count c.args.program.now, c.field_count-few.ensures.count, c.field_count-few.ensures.few)) old c.put_values.auto.states (λ u h. c.put_values.ensures.each u h ∙ ap (λ ps. with_value c.in-Some.field (value_in ps u) (get_or c.args.states.now u blank)) c.as_slice.ensures.items);
 }
