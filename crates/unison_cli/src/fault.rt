@@ -1,10 +1,10 @@
 //! Why a job was not done: the statuses and the fault lines.
 ghost use Rattle.std.specs.Prelude.{◌≡◌};
-ghost use Rattle.unison_cli.specs.declared.fault.ServeFault.TheVariants.{Lang, Check, Net, Plan as PlanRefused, Round, Memory};
+ghost use Rattle.unison_cli.specs.declared.fault.ServeFault.TheVariants.{Lang, Check, Net, Plan as PlanRefused, Report as ReportRefused, Round, Memory};
 ghost use Rattle.unison_cli.specs.Status.{status_of};
 
 use link_net::NetFault;
-use lockstep::{PlanFault, RoundFault};
+use lockstep::{PlanFault, ReportFault, RoundFault};
 use rule_check::CheckFault;
 use rule_lang::LangFault;
 use std::alloc::AllocError;
@@ -20,6 +20,8 @@ pub enum ServeFault {
     Net(NetFault),
     /// The program and the network make no plan.
     Plan(PlanFault),
+    /// The text to go on from is no report of the plan.
+    Report(ReportFault),
     /// The round asked for was refused.
     Round(RoundFault),
     /// The device refused after the first `written` bytes of the answer.
@@ -68,6 +70,14 @@ impl From<PlanFault> for ServeFault {
     }
 }
 
+impl From<ReportFault> for ServeFault {
+    ghost from_gives = { λ fault e. e ≡ ReportRefused fault };
+
+    fn from(fault: ReportFault) -> ServeFault {
+        ServeFault::Report(fault)
+    }
+}
+
 impl From<RoundFault> for ServeFault {
     ghost from_gives = { λ fault e. e ≡ Round fault };
 
@@ -78,7 +88,7 @@ impl From<RoundFault> for ServeFault {
 
 impl ServeFault {
     /// The status with which the program ends: 1 for want of memory, a device's fault and a fault of a run, 3 for
-    /// a refused program, network or plan.
+    /// a refused program, network, plan or report.
     pub fn status(&self) -> u8
         ensures status { result ≡ status_of self.now }
     {
@@ -87,11 +97,23 @@ impl ServeFault {
             | ServeFault::Check(CheckFault::Memory)
             | ServeFault::Net(NetFault::Memory)
             | ServeFault::Plan(PlanFault::Memory)
+            | ServeFault::Report(ReportFault::Memory)
             | ServeFault::Round(_)
             | ServeFault::Write { .. }
             | ServeFault::Memory => 1,
-            ServeFault::Lang(_) | ServeFault::Check(_) | ServeFault::Net(_) | ServeFault::Plan(_) =>
-                3,
+            ServeFault::Lang(_)
+            | ServeFault::Check(_)
+            | ServeFault::Net(_)
+            | ServeFault::Plan(_)
+            | ServeFault::Report(_) => 3,
+        }
+    }
+
+    /// The number of the line of a report or a schedule that the fault names, where it names one.
+    pub fn bad_line(&self) -> Option<u64> {
+        match self {
+            ServeFault::Report(ReportFault::BadLine { line }) => Some(*line),
+            _ => None,
         }
     }
 
@@ -102,6 +124,7 @@ impl ServeFault {
             ServeFault::Check(fault) => program_line(check_name(*fault)),
             ServeFault::Net(fault) => named("network", net_name(*fault)),
             ServeFault::Plan(fault) => named("plan", plan_name(*fault)),
+            ServeFault::Report(fault) => named("report", report_name(*fault)),
             ServeFault::Round(fault) => named("run", round_name(*fault)),
             ServeFault::Write { .. } => ("device", "Write"),
             ServeFault::Memory => ("memory", "Memory"),
@@ -167,6 +190,14 @@ fn plan_name(fault: PlanFault) -> Option<&'static str> {
         PlanFault::BadValue => Some("BadValue"),
         PlanFault::SetTwice => Some("SetTwice"),
         PlanFault::Memory => None,
+    }
+}
+
+fn report_name(fault: ReportFault) -> Option<&'static str> {
+    match fault {
+        ReportFault::BadLine { .. } => Some("BadLine"),
+        ReportFault::TooManyRounds => Some("TooManyRounds"),
+        ReportFault::Memory => None,
     }
 }
 

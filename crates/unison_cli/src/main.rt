@@ -67,11 +67,11 @@ fn file(rt: &HostRuntime, path: &str) -> Result<Vec<u8>, Ending> {
     fs::read(rt, path).map_err(|_| Ending::File)
 }
 
-/// The bytes of a file, or none where there is no path.
-fn file_or_none(rt: &HostRuntime, path: &Option<String>) -> Result<Vec<u8>, Ending> {
+/// The bytes of a file, where there is a path.
+fn file_at(rt: &HostRuntime, path: &Option<String>) -> Result<Option<Vec<u8>>, Ending> {
     match path {
-        Some(path) => file(rt, path.as_str()),
-        None => Ok(Vec::new(rt.alloc())),
+        Some(path) => Ok(Some(file(rt, path.as_str())?)),
+        None => Ok(None),
     }
 }
 
@@ -81,17 +81,24 @@ struct Task {
     job: Job,
     program: Vec<u8>,
     network: Vec<u8>,
+    /// The report to go on from.
+    report: Option<Vec<u8>>,
 }
 
 /// The job that the command line asks for, its files read.
 fn task_of(rt: &HostRuntime) -> Result<Task, Ending> {
     let request = request_of(rt)?;
     let program = file(rt, request.program.as_str())?;
-    let network = file_or_none(rt, &request.network)?;
+    let network = match file_at(rt, &request.network)? {
+        Some(bytes) => bytes,
+        None => Vec::new(rt.alloc()),
+    };
+    let report = file_at(rt, &request.from)?;
     Ok(Task {
         job: request.job,
         program,
         network,
+        report,
     })
 }
 
@@ -103,7 +110,10 @@ fn print_ending(rt: &HostRuntime, ending: &Ending) -> io::Result<()> {
         Ending::File => eprintln!(rt; "fault: file"),
         Ending::Serve(fault) => {
             let (part, name) = fault.line();
-            eprintln!(rt; "fault: {part} {name}")
+            match fault.bad_line() {
+                Some(line) => eprintln!(rt; "fault: {part} {name} {line}"),
+                None => eprintln!(rt; "fault: {part} {name}"),
+            }
         }
     }
 }
@@ -127,6 +137,7 @@ fn main(rt: HostRuntime) -> ExitCode {
         &task.job,
         &task.program,
         &task.network,
+        task.report.as_ref().map(|bytes| bytes.as_slice()),
         &mut schedule,
         &mut out,
     );

@@ -65,6 +65,7 @@ fn served(
     job: Job,
     program: &[u8],
     network: &[u8],
+    report: Option<&[u8]>,
     room: usize,
 ) -> Result<(Vec<u8>, Option<ServeFault>), Fail> {
     let mut schedule = Tally::new(io::empty());
@@ -72,7 +73,16 @@ fn served(
         held: Vec::new(alloc),
         room,
     });
-    let answer = serve(rt, alloc, &job, program, network, &mut schedule, &mut out);
+    let answer = serve(
+        rt,
+        alloc,
+        &job,
+        program,
+        network,
+        report,
+        &mut schedule,
+        &mut out,
+    );
     let held = out.inner().held.clone()?;
     Ok((held, answer.err()))
 }
@@ -118,6 +128,7 @@ fn reports(rt: HostRuntime) -> Result<(), Fail> {
             job,
             program.as_bytes(),
             network.as_bytes(),
+            None,
             1000,
         )?;
         assert_eq!(rt;
@@ -133,7 +144,7 @@ fn reports(rt: HostRuntime) -> Result<(), Fail> {
 #[test]
 fn canonical_spelling(rt: HostRuntime) -> Result<(), Fail> {
     let text = b"field  s=007;#x\nnext s=(s+not s);";
-    let (held, fault) = served(&rt, rt.alloc(), Job::Check, text, b"", 1000)?;
+    let (held, fault) = served(&rt, rt.alloc(), Job::Check, text, b"", None, 1000)?;
     assert_eq!(rt;
         held.as_slice(),
         b"field s = 7;\nnext s = (s + not s);\n".as_slice()
@@ -149,13 +160,15 @@ fn line_of(
     job: Job,
     program: &[u8],
     network: &[u8],
+    report: Option<&[u8]>,
 ) -> Result<(String, u8), Fail> {
-    let (held, fault) = served(rt, alloc, job, program, network, 1000)?;
+    let (held, fault) = served(rt, alloc, job, program, network, report, 1000)?;
     let fault = fault.ok_or("a fault")?;
     let (part, name) = fault.line();
     let written = held.len();
+    let line = fault.bad_line().unwrap_or(0);
     Ok((
-        format!(in alloc; "{part} {name} {written}")?,
+        format!(in alloc; "{part} {name} {line} {written}")?,
         fault.status(),
     ))
 }
@@ -164,19 +177,19 @@ fn line_of(
 fn refused_programs(rt: HostRuntime) -> Result<(), Fail> {
     let alloc = rt.alloc();
     let rows = [
-        ("next s = n.s;", "program NeighbourOutside 0"),
-        ("next s = total total n.s;", "program NestedAggregate 0"),
-        ("next s = 4294967296;", "program Lex 0"),
-        ("next s = if s then", "program Syntax 0"),
-        ("next s = s + 1;", "program Syntax 0"),
-        ("next s = q;", "program UnknownName 0"),
-        ("field s = 1;", "program FieldTwice 0"),
-        ("next s = 1; next s = 2;", "program NextTwice 0"),
+        ("next s = n.s;", "program NeighbourOutside 0 0"),
+        ("next s = total total n.s;", "program NestedAggregate 0 0"),
+        ("next s = 4294967296;", "program Lex 0 0"),
+        ("next s = if s then", "program Syntax 0 0"),
+        ("next s = s + 1;", "program Syntax 0 0"),
+        ("next s = q;", "program UnknownName 0 0"),
+        ("field s = 1;", "program FieldTwice 0 0"),
+        ("next s = 1; next s = 2;", "program NextTwice 0 0"),
     ];
     for (rest, line) in rows {
         let text = format!(in alloc; "field s = 0;{rest}")?;
         for job in [Job::Check, Job::Lockstep { rounds: 1 }] {
-            let (found, status) = line_of(&rt, alloc, job, text.as_bytes(), PAIR.as_bytes())?;
+            let (found, status) = line_of(&rt, alloc, job, text.as_bytes(), PAIR.as_bytes(), None)?;
             assert_eq!(rt; found.as_str(), line);
             assert_eq!(rt; status, 3);
         }
@@ -188,18 +201,18 @@ fn refused_programs(rt: HostRuntime) -> Result<(), Fail> {
 fn texts_at_the_limits(rt: HostRuntime) -> Result<(), Fail> {
     let alloc = rt.alloc();
     let mut text = vec![in alloc; b' '; 65_536]?;
-    let (held, fault) = served(&rt, alloc, Job::Check, &text, b"", 1000)?;
+    let (held, fault) = served(&rt, alloc, Job::Check, &text, b"", None, 1000)?;
     assert_eq!(rt; held.len(), 0);
     assert_eq!(rt; fault, None);
     text.push(b' ')?;
-    let (found, status) = line_of(&rt, alloc, Job::Check, &text, b"")?;
-    assert_eq!(rt; found.as_str(), "program TooLong 0");
+    let (found, status) = line_of(&rt, alloc, Job::Check, &text, b"", None)?;
+    assert_eq!(rt; found.as_str(), "program TooLong 0 0");
     assert_eq!(rt; status, 3);
     let most = Job::Lockstep {
         rounds: 1_000_000_001,
     };
-    let (found, status) = line_of(&rt, alloc, most, SWAP.as_bytes(), PAIR.as_bytes())?;
-    assert_eq!(rt; found.as_str(), "run TooManyRounds 0");
+    let (found, status) = line_of(&rt, alloc, most, SWAP.as_bytes(), PAIR.as_bytes(), None)?;
+    assert_eq!(rt; found.as_str(), "run TooManyRounds 0 0");
     assert_eq!(rt; status, 1);
     Ok(())
 }
@@ -208,35 +221,38 @@ fn texts_at_the_limits(rt: HostRuntime) -> Result<(), Fail> {
 fn refused_networks(rt: HostRuntime) -> Result<(), Fail> {
     let alloc = rt.alloc();
     let rows = [
-        ("nodes =", "network NotToml 0"),
-        ("nodes = 2", "network BadShape 0"),
-        ("nodes = 2\nlinks = []\nedges = 1", "network UnknownKey 0"),
-        ("nodes = 0\nlinks = []", "network NodeCount 0"),
-        ("nodes = 3\nlinks = [[2, 2]]", "network SelfLink 0"),
-        ("nodes = 3\nlinks = [[0, 1], [1, 0]]", "network LinkTwice 0"),
-        ("nodes = 3\nlinks = [[0, 3]]", "network BadLink 0"),
-        ("nodes = 3\nphase = 3\nlinks = []", "network BadPhase 0"),
-        ("nodes = 3\nlinks = [[0, 1, -1]]", "network BadWeight 0"),
+        ("nodes =", "network NotToml 0 0"),
+        ("nodes = 2", "network BadShape 0 0"),
+        ("nodes = 2\nlinks = []\nedges = 1", "network UnknownKey 0 0"),
+        ("nodes = 0\nlinks = []", "network NodeCount 0 0"),
+        ("nodes = 3\nlinks = [[2, 2]]", "network SelfLink 0 0"),
+        (
+            "nodes = 3\nlinks = [[0, 1], [1, 0]]",
+            "network LinkTwice 0 0",
+        ),
+        ("nodes = 3\nlinks = [[0, 3]]", "network BadLink 0 0"),
+        ("nodes = 3\nphase = 3\nlinks = []", "network BadPhase 0 0"),
+        ("nodes = 3\nlinks = [[0, 1, -1]]", "network BadWeight 0 0"),
         (
             "nodes = 2\nlinks = [[0, 1]]\n[set]\nq = [[0, 1]]",
-            "plan UnknownField 0",
+            "plan UnknownField 0 0",
         ),
         (
             "nodes = 2\nlinks = [[0, 1]]\n[set]\ns = [[2, 1]]",
-            "plan BadNode 0",
+            "plan BadNode 0 0",
         ),
         (
             "nodes = 2\nlinks = [[0, 1]]\n[set]\ns = [[0, -1]]",
-            "plan BadValue 0",
+            "plan BadValue 0 0",
         ),
         (
             "nodes = 2\nlinks = [[0, 1]]\n[set]\ns = [[0, 1], [0, 1]]",
-            "plan SetTwice 0",
+            "plan SetTwice 0 0",
         ),
     ];
     for (network, line) in rows {
         let job = Job::Lockstep { rounds: 1 };
-        let (found, status) = line_of(&rt, alloc, job, SWAP.as_bytes(), network.as_bytes())?;
+        let (found, status) = line_of(&rt, alloc, job, SWAP.as_bytes(), network.as_bytes(), None)?;
         assert_eq!(rt; found.as_str(), line);
         assert_eq!(rt; status, 3);
     }
@@ -247,8 +263,9 @@ fn refused_networks(rt: HostRuntime) -> Result<(), Fail> {
         job,
         SWAP.as_bytes(),
         b"\xffnodes = 2\nlinks = []",
+        None,
     )?;
-    assert_eq!(rt; found.as_str(), "network NotToml 0");
+    assert_eq!(rt; found.as_str(), "network NotToml 0 0");
     Ok(())
 }
 
@@ -259,12 +276,99 @@ fn devices_that_fail(rt: HostRuntime) -> Result<(), Fail> {
     let report = b"round 2\n0 dist=0\n1 dist=1\n2 dist=2\n";
     for room in 0..report.len() {
         let job = Job::Lockstep { rounds: 2 };
-        let (held, fault) = served(&rt, alloc, job, DISTANCE.as_bytes(), PATH.as_bytes(), room)?;
+        let (held, fault) = served(
+            &rt,
+            alloc,
+            job,
+            DISTANCE.as_bytes(),
+            PATH.as_bytes(),
+            None,
+            room,
+        )?;
         let written = room as u64;
         assert_eq!(rt; fault, Some(ServeFault::Write { written }));
         assert_eq!(rt; held.as_slice(), &report[..room]);
         assert_eq!(rt; ServeFault::Write { written }.status(), 1);
     }
+    Ok(())
+}
+
+const ONE: &str = "nodes = 1\nlinks = []\n";
+
+const ROUNDS: &str = "field s = 0; next s = (s + round);";
+
+/// A report of yesterday is where the rounds go on.
+#[test]
+fn resumed_reports(rt: HostRuntime) -> Result<(), Fail> {
+    let alloc = rt.alloc();
+    let rows = [
+        (
+            DISTANCE,
+            PATH,
+            "round 1\n0 dist=0\n1 dist=1\n2 dist=4294967295\n",
+            2,
+            "round 2\n0 dist=0\n1 dist=1\n2 dist=2\n",
+        ),
+        (
+            DISTANCE,
+            PATH,
+            "round 1\n0 dist=0\n1 dist=1\n2 dist=4294967295\n",
+            1,
+            "round 1\n0 dist=0\n1 dist=1\n2 dist=4294967295\n",
+        ),
+        (ROUNDS, ONE, "round 3\n0 s=3\n", 4, "round 4\n0 s=6\n"),
+    ];
+    for (program, network, from, rounds, report) in rows {
+        let job = Job::Lockstep { rounds };
+        let (held, fault) = served(
+            &rt,
+            alloc,
+            job,
+            program.as_bytes(),
+            network.as_bytes(),
+            Some(from.as_bytes()),
+            1000,
+        )?;
+        assert_eq!(rt; held.as_slice(), report.as_bytes(), "{program} from {from}");
+        assert_eq!(rt; fault, None);
+    }
+    Ok(())
+}
+
+#[test]
+fn refused_reports(rt: HostRuntime) -> Result<(), Fail> {
+    let alloc = rt.alloc();
+    let rows = [
+        ("", "report BadLine 1 0"),
+        ("round 3\n", "report BadLine 2 0"),
+        ("round 3\n0 s=03\n", "report BadLine 2 0"),
+        ("round 3\n0 s=3\n\n", "report BadLine 3 0"),
+        ("round 1000000001\n0 s=3\n", "report TooManyRounds 0 0"),
+    ];
+    for (from, line) in rows {
+        let job = Job::Lockstep { rounds: 4 };
+        let (found, status) = line_of(
+            &rt,
+            alloc,
+            job,
+            ROUNDS.as_bytes(),
+            ONE.as_bytes(),
+            Some(from.as_bytes()),
+        )?;
+        assert_eq!(rt; found.as_str(), line);
+        assert_eq!(rt; status, 3);
+    }
+    let job = Job::Lockstep { rounds: 2 };
+    let (found, status) = line_of(
+        &rt,
+        alloc,
+        job,
+        ROUNDS.as_bytes(),
+        ONE.as_bytes(),
+        Some(b"round 3\n0 s=3\n"),
+    )?;
+    assert_eq!(rt; found.as_str(), "run RoundsBelowStart 0 0");
+    assert_eq!(rt; status, 1);
     Ok(())
 }
 
@@ -284,6 +388,15 @@ fn right_words(rt: HostRuntime) -> Result<(), Fail> {
     assert_eq!(rt; request.job, Job::Lockstep { rounds: 2 });
     assert_eq!(rt; request.program.as_str(), "p");
     assert_eq!(rt; request.network.as_ref().map(|n| n.as_str()), Some("n"));
+    assert_eq!(rt; request.from.is_none(), true);
+    let words = owned(
+        alloc,
+        &[
+            "unison", "lockstep", "p", "n", "--rounds", "2", "--from", "f",
+        ],
+    )?;
+    let request = job_of(alloc, &words)?;
+    assert_eq!(rt; request.from.as_ref().map(|f| f.as_str()), Some("f"));
     let words = owned(alloc, &["unison", "check", "p"])?;
     let request = job_of(alloc, &words)?;
     assert_eq!(rt; request.job, Job::Check);

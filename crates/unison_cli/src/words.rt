@@ -40,6 +40,14 @@ fn rounds_option<'a>(alloc: Global) -> Arg<'a> {
         .action(ArgAction::Set)
 }
 
+fn from_option<'a>(alloc: Global) -> Arg<'a> {
+    Arg::new(alloc, "from")
+        .long("from")
+        .value_name("FILE")
+        .help("A report to go on from: its states and its round are the start")
+        .action(ArgAction::Set)
+}
+
 fn check_command<'a>(alloc: Global) -> Result<Command<'a>, AllocError> {
     Command::new(alloc, "check")
         .about("Check a program and print its canonical spelling")
@@ -51,7 +59,8 @@ fn lockstep_command<'a>(alloc: Global) -> Result<Command<'a>, AllocError> {
         .about("Run a program in lockstep on a network and print the report of a round")
         .arg(program_path(alloc))?
         .arg(network_path(alloc))?
-        .arg(rounds_option(alloc))
+        .arg(rounds_option(alloc))?
+        .arg(from_option(alloc))
 }
 
 /// The whole command with its subcommands.
@@ -137,11 +146,12 @@ fn request_in(alloc: Global, name: &str, matches: &ArgMatches<'_>) -> Result<Req
     let job = job_in(alloc, name, matches)?;
     let program = path_of(alloc, matches, "program")?;
     let network = text_of(alloc, matches, "network")?;
+    let from = text_of(alloc, matches, "from")?;
     Ok(Request {
         job,
         program,
         network,
-        from: None,
+        from,
         schedule: None,
         trace: None,
     })
