@@ -7,3 +7,4 @@ pub mod Starts
 pub mod Standing
 pub mod Wholes
 pub mod Plains
+pub mod Turnings

@@ -144,14 +144,20 @@ found plan stop nodes u j w k node theirs drawn h e b d ne =
       unstopped = ne;
     }
 
+-- what a node sees of the neighbour at a slot
+pub sees-there : (plan : PlanView) (stop : ℕ) (nodes : List Node) (u j own : ℕ) (node theirs : Node) → IsDrawn plan nodes → InStep plan.network stop (counts_of nodes)
+    → slice_get nodes u ≡ Some node → j < degree plan.network u → slice_get nodes (neighbour plan.network u j) ≡ Some theirs → own ≡ node.register.phase
+    → Shows node.moves theirs.moves (lockstep plan node.moves (neighbour plan.network u j)) (look_by_phases own theirs.register)
+sees-there plan stop nodes u j own node theirs drawn is at slot there e =
+    let near = is.near u j slot in
+    let m = moves_at nodes u node at in
+    let t = moves_at nodes (neighbour plan.network u j) theirs there in
+    seen plan (neighbour plan.network u j) own node.moves theirs (drawn.each (neighbour plan.network u j) theirs there) (e ∙ (drawn.each u node at).phase) (omega arith) (omega arith)
+
 -- what the reader sees there
 pub sees : (plan : PlanView) (stop : ℕ) (nodes : List Node) (u j own : ℕ) (node theirs : Node) → IsDrawn plan nodes → InStep plan.network stop (counts_of nodes) → Found plan stop nodes u j node theirs → own ≡ node.register.phase
     → Shows node.moves theirs.moves (lockstep plan node.moves (neighbour plan.network u j)) (look_by_phases own theirs.register)
-sees plan stop nodes u j own node theirs drawn is f e =
-    let near = is.near u j f.slot in
-    let m = moves_at nodes u node f.at in
-    let t = moves_at nodes (neighbour plan.network u j) theirs f.there in
-    seen plan (neighbour plan.network u j) own node.moves theirs (drawn.each (neighbour plan.network u j) theirs f.there) (e ∙ (drawn.each u node f.at).phase) (omega arith) (omega arith)
+sees plan stop nodes u j own node theirs drawn is f e = sees-there plan stop nodes u j own node theirs drawn is f.at f.slot f.there e
 
 pub same_node : (nodes : List Node) (u : ℕ) (a b : Node) → u < length nodes → a ≡ get_or nodes u a → b ≡ get_or nodes u b → a ≡ b
 same_node nodes u a b h e f = same_Some a b (sym (slice_get_read nodes (length nodes) u a refl h e) ∙ slice_get_read nodes (length nodes) u b refl h f)

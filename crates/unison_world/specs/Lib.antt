@@ -8,3 +8,4 @@ pub mod WorkViews
 pub mod Work
 pub mod Opening
 pub mod Finishing
+pub mod Turns

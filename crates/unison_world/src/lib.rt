@@ -9,11 +9,12 @@ mod node;
 mod opening;
 mod results;
 mod step;
+mod turns;
 mod work;
 mod world;
 
 pub use fault::{FinishFault, OpenFault};
 pub use laws::stays_in_step;
-pub use step::{Answer, Step, WriteAnswer};
+pub use step::{Answer, Step, TurnAnswer, WriteAnswer};
 pub use work::{Done, Work};
 pub use world::World;

@@ -7,6 +7,7 @@ ghost use Rattle.lockstep.specs.Plans.{IsPlan};
 ghost use Rattle.unison_world.specs.Counting.{moves_of, HasShape, InStep};
 ghost use Rattle.unison_world.specs.Finishing.{IsFinish};
 ghost use Rattle.unison_world.specs.Opening.{opening_of};
+ghost use Rattle.unison_world.specs.Turns.{turn_answer, world_after_turn};
 ghost use Rattle.unison_world.specs.View.{answer_in, world_after, is_node, state_of, opened};
 ghost use Rattle.unison_world.specs.Work.{IsPutAnswer, after_put, work_in};
 
@@ -16,7 +17,8 @@ use crate::finishing::{first_below, states_of};
 use crate::node::Node;
 use crate::opening::opening_nodes;
 use crate::results::{ask_put, put};
-use crate::step::{Answer, Step, WriteAnswer};
+use crate::step::{Answer, Step, TurnAnswer, WriteAnswer};
+use crate::turns::turn;
 use crate::work::{Done, Work};
 use lockstep::{Config, Plan};
 use phase_register::Phase;
@@ -41,6 +43,7 @@ impl Model for World {
     ghost use Rattle.std.specs.Coded.{codes};
     ghost use Rattle.std.specs.Arc.{arc_value};
     ghost use Rattle.rule_lang.specs.TreeCode.{coded_tree};
+    ghost use Rattle.unison_world.specs.Turns.{turn_answer, world_after_turn};
     ghost use Rattle.unison_world.specs.View.{WorldView};
     ghost use Rattle.unison_world.specs.Pictures.{IsPicture, counts_of};
 
@@ -88,6 +91,16 @@ impl World {
             Step::Read { node, slot } => read(&self.plan, self.stop, &mut self.nodes, node, slot),
             Step::Write { node } => write(&self.plan, self.stop, &mut self.nodes, node),
         }
+    }
+
+    /// A whole turn of a node. `NoNode` comes where there is no such node, else `Stopped` where it stands at the stop,
+    /// else `Behind` where a neighbour has moved less often; then nothing changes. Else every slot that is not marked
+    /// is read by rising number, and the node moves.
+    pub fn turn(&mut self, node: u32) -> TurnAnswer
+        ensures answer { result ≡ turn_answer self.old.plan.network self.old.stop self.old.counts node }
+        ensures after { self.new ≡ world_after_turn self.old node }
+    {
+        turn(&self.plan, self.stop, &mut self.nodes, node)
     }
 
     /// What a node's next state is computed from; none where there is no such node, it stands at the stop or it
