@@ -8,6 +8,7 @@ pub record Configuration : Type 0 where
   pub fields : ℕ
   pub states : List State
 
+-- the greatest round
 abbrev pub most_rounds : ℕ
 most_rounds = 1000000000
 

@@ -3,6 +3,7 @@ use Rattle.std.specs.Prelude.{ℕ, ◌==◌, List, [], ◌∷◌, Bool, false, I
 use Rattle.std.specs.List.{AllByRecursion}
 use Rattle.std.specs.Char.{is_ascii_digit}
 
+-- each byte is a decimal digit
 abbrev pub IsDigits : List ℕ → Type 0
 IsDigits bytes = AllByRecursion (λ b. IsTrue (is_ascii_digit b)) bytes
 

@@ -4,6 +4,7 @@ use Rattle.rule_check.specs.declared.state.State.{State}
 use Rattle.rule_check.specs.declared.state.Near.{Near}
 use Rattle.lockstep.specs.Lockstep.{near_at}
 
+-- each number with the weight at its place, and the state that `at` gives it
 abbrev pub nears_of : (ℕ → State) → List ℕ → List ℕ → List Near
 nears_of at [] weights = []
 nears_of at (id ∷ ids) [] = []

@@ -88,10 +88,11 @@ replaced names sets u state = record { words = updated (λ name w. unwrap_or (va
 abbrev pub openings_of : Rules → ℕ → List FieldSet → List State
 openings_of program nodes sets = map (λ u. replaced (names_of program) sets u (opening_of program)) (range_with_len 0 nodes)
 
--- the plan of a program on a described network, its start being round 0, or the first fault of `set`
+-- the plan of a program on a described network, its start being round 0, where `set` has no fault, or that fault
 abbrev pub plan_by : Rules → Description → Option PlanFault → Result PlanView PlanFault
 plan_by program d (Some fault) = Err fault
 plan_by program d None = Ok (record { program = program; network = d.network; phase = d.phase; opening = openings_of program (length d.network) d.sets; start = 0 })
 
+-- the plan of a program on a described network, or the first fault of `set` for its fields and nodes
 abbrev pub plan_of : Rules → Description → Result PlanView PlanFault
 plan_of program d = plan_by program d (set_fault (names_of program) (length d.network) d.sets)

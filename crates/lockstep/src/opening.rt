@@ -30,6 +30,7 @@ fn natural(bound: u64, number: i64) -> u64
     number as u64
 }
 
+/// Whether a number in the pairs is no node.
 fn has_bad_node(nodes: u32, set: &FieldSet) -> bool
     ensures { result ≡ has_bad_node nodes set.now }
 {
@@ -39,6 +40,7 @@ fn has_bad_node(nodes: u32, set: &FieldSet) -> bool
         .any(|pair| !is_below(nodes as u64, pair.0))
 }
 
+/// Whether a value in the pairs lies outside 0 to 4,294,967,295.
 fn has_bad_value(set: &FieldSet) -> bool
     ensures { result ≡ has_bad_value set.now }
 {
@@ -96,6 +98,7 @@ fn sets_node_twice(alloc: Global, nodes: u32, sets: &[FieldSet]) -> Result<bool,
     Ok(false)
 }
 
+/// Whether a key is no field of the program.
 fn has_unknown_field(program: &Program, sets: &[FieldSet]) -> bool
     ensures { result ≡ list_any (λ set. not (is_among (names_of program.now) set.name)) sets.now }
 {
@@ -103,12 +106,14 @@ fn has_unknown_field(program: &Program, sets: &[FieldSet]) -> bool
         .any(|set| program.field_index(set.name.as_str()).is_none())
 }
 
+/// Whether a number in some pairs is no node.
 fn has_bad_nodes(nodes: u32, sets: &[FieldSet]) -> bool
     ensures { result ≡ list_any (has_bad_node nodes) sets.now }
 {
     sets.iter().any(|set| has_bad_node(nodes, set))
 }
 
+/// Whether a value in some pairs lies outside 0 to 4,294,967,295.
 fn has_bad_values(sets: &[FieldSet]) -> bool
     ensures { result ≡ list_any has_bad_value sets.now }
 {

@@ -9,6 +9,7 @@ use crate::plan::Plan;
 use rule_check::{Program, State};
 use std::alloc::{AllocError, Global};
 
+/// The number in decimal digits.
 fn put_number(alloc: Global, out: &mut String, value: u32) -> Result<(), AllocError>
     ensures { OnOk result (string_bytes out.new ≡ string_bytes out.old ++ decimal value) }
 {
