@@ -98,7 +98,7 @@ fn what_need_not_be_said(rt: HostRuntime) -> Result<(), Fail> {
 }
 
 #[test]
-fn slots_of_a_path(rt: HostRuntime) -> Result<(), Fail> {
+fn degrees_of_a_path(rt: HostRuntime) -> Result<(), Fail> {
     let file = described(rt.alloc())?;
     let network = file.network();
     assert_eq!(rt; network.links(), 2);
@@ -106,6 +106,13 @@ fn slots_of_a_path(rt: HostRuntime) -> Result<(), Fail> {
     for (node, want) in degrees {
         assert_eq!(rt; network.degree(node), want, "node {node}");
     }
+    Ok(())
+}
+
+#[test]
+fn neighbours_of_a_path(rt: HostRuntime) -> Result<(), Fail> {
+    let file = described(rt.alloc())?;
+    let network = file.network();
     let looks = [
         (1, 0, Some(0), Some(0)),
         (1, 1, Some(2), Some(4_294_967_295)),
@@ -123,6 +130,13 @@ fn slots_of_a_path(rt: HostRuntime) -> Result<(), Fail> {
         );
         assert_eq!(rt; network.weight(node, slot), weight, "slot {slot} of {node}");
     }
+    Ok(())
+}
+
+#[test]
+fn slots_of_a_path(rt: HostRuntime) -> Result<(), Fail> {
+    let file = described(rt.alloc())?;
+    let network = file.network();
     let slots = [
         (1, 2, Some(1)),
         (1, 0, Some(0)),
