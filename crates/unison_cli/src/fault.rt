@@ -110,7 +110,7 @@ impl ServeFault {
     }
 
     /// The number of the line of a report or a schedule that the fault names, where it names one.
-    pub fn bad_line(&self) -> Option<u64> {
+    pub(crate) fn bad_line(&self) -> Option<u64> {
         match self {
             ServeFault::Report(ReportFault::BadLine { line }) => Some(*line),
             _ => None,
@@ -118,7 +118,7 @@ impl ServeFault {
     }
 
     /// The part and the name of the fault line.
-    pub fn line(&self) -> (&'static str, &'static str) {
+    pub(crate) fn line(&self) -> (&'static str, &'static str) {
         match self {
             ServeFault::Lang(fault) => program_line(lang_name(*fault)),
             ServeFault::Check(fault) => program_line(check_name(*fault)),
