@@ -8,3 +8,5 @@ pub mod Standing
 pub mod Wholes
 pub mod Plains
 pub mod Turnings
+pub mod Progressing
+pub mod Sweepings

@@ -68,11 +68,12 @@ neighbour_is network u j = get_or-map_each (λ (a : ℕ × ℕ). a.0) (row netwo
 pub neighbours_many : (network : Neighbours) (u : ℕ) → length (neighbours_of network u) ≡ degree network u
 neighbours_many network u = length-map (row network u) (λ (a : ℕ × ℕ). a.0)
 
-abbrev Has : ℕ → List ℕ → Type 0
+-- a number stands in the list
+abbrev pub Has : ℕ → List ℕ → Type 0
 Has k [] = ⊥
 Has k (j ∷ js) = (k ≡ j) ⊎ Has k js
 
-has_range : (a n k : ℕ) → a ≤ k → k < a + n → Has k (range_with_len a n)
+pub has_range : (a n k : ℕ) → a ≤ k → k < a + n → Has k (range_with_len a n)
 has_range a zero k h l = absurd (omega arith)
 has_range a (suc n) k h l = ⊎_elim (λ e. inl e) (λ e. inr (has_range (a + 1) n k (omega arith) (omega arith))) (cases_eq k a)
 

@@ -9,3 +9,4 @@ pub mod Work
 pub mod Opening
 pub mod Finishing
 pub mod Turns
+pub mod Progress

@@ -1,12 +1,12 @@
 -- Whole turns of a node, and sweeps.
-use Rattle.std.specs.Prelude.{ℕ, ◌+◌, ◌≤◌, Bool, not, ◌==◌, nat_le, nat_lt, List, [], ◌∷◌, ◌++◌, length, map, if◌then◌else◌, ◌<◌}
+use Rattle.std.specs.Prelude.{ℕ, zero, suc, min, ◌+◌, ◌≤◌, Bool, not, ◌==◌, nat_le, nat_lt, List, [], ◌∷◌, ◌++◌, length, map, if◌then◌else◌, ◌<◌}
 use Rattle.std.specs.List.{filter, list_any}
-use Rattle.link_net.specs.Neighbours.{Neighbours, degree, row, numbers_below}
+use Rattle.link_net.specs.Neighbours.{Neighbours, IsNetwork, degree, row, numbers_below}
 use Rattle.unison_world.specs.declared.step.Step.{Step}
 use Rattle.unison_world.specs.declared.step.Step.TheVariants.{Read, Write}
 use Rattle.unison_world.specs.declared.step.TurnAnswer.{TurnAnswer}
 use Rattle.unison_world.specs.declared.step.TurnAnswer.TheVariants.{Moved, Behind, Stopped, NoNode}
-use Rattle.unison_world.specs.Counting.{Counts, moves_of, is_marked, run}
+use Rattle.unison_world.specs.Counting.{Counts, moves_of, is_marked, at_start, run}
 use Rattle.unison_world.specs.View.{WorldView, with_counts}
 
 -- the neighbours of a node by rising number
@@ -68,3 +68,14 @@ moves_in_sweep w = moves_in_turns w.plan.network w.stop w.counts (numbers_below 
 -- every node has moved at least this often
 abbrev pub AtLeast : WorldView → ℕ → Type 0
 AtLeast w m = (u : ℕ) → u < length w.plan.network → m ≤ moves_of w.counts u
+
+-- the counts after so many sweeps
+abbrev pub after_sweeps : Neighbours → ℕ → ℕ → Counts → Counts
+after_sweeps network stop zero c = c
+after_sweeps network stop (suc s) c = after_turns network stop (after_sweeps network stop s c) (numbers_below (length network))
+
+-- after s sweeps from the start each node has moved at least s times, or stands at the stop
+abbrev pub SweepsRise : Type 0
+SweepsRise =
+    (network : Neighbours) (start stop s u : ℕ) → IsNetwork network → start ≤ stop → u < length network
+    → min (start + s) stop ≤ moves_of (after_sweeps network stop s (at_start network start)) u

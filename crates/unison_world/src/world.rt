@@ -1,14 +1,15 @@
 //! Worlds.
-ghost use Rattle.std.specs.Prelude.{◌≡◌, ℕ, ◌<◌, ◌%◌, ◌+◌, ◌≤◌, length, Some, None, if◌then◌else◌, IfOk};
+ghost use Rattle.std.specs.Prelude.{◌≡◌, ℕ, ◌<◌, ◌%◌, ◌+◌, ◌≤◌, min, length, Some, None, if◌then◌else◌, IfOk};
 ghost use Rattle.std.specs.Arc.{arc_value};
 ghost use Rattle.lockstep.specs.Answer.{IsAnswer};
 ghost use Rattle.lockstep.specs.Configs.{most_rounds};
 ghost use Rattle.lockstep.specs.Plans.{IsPlan};
-ghost use Rattle.unison_world.specs.Counting.{moves_of, HasShape, InStep};
+ghost use Rattle.unison_world.specs.Counting.{at_start, moves_of, HasShape, InStep};
 ghost use Rattle.unison_world.specs.Finishing.{IsFinish};
 ghost use Rattle.unison_world.specs.Opening.{opening_of};
-ghost use Rattle.unison_world.specs.Turns.{turn_answer, world_after_turn};
-ghost use Rattle.unison_world.specs.View.{answer_in, world_after, is_node, state_of, opened};
+ghost use Rattle.unison_world.specs.Progress.{steps_left};
+ghost use Rattle.unison_world.specs.Turns.{AtLeast, moves_in_sweep, turn_answer, world_after_sweep, world_after_turn};
+ghost use Rattle.unison_world.specs.View.{answer_in, with_counts, world_after, is_node, state_of, opened};
 ghost use Rattle.unison_world.specs.Work.{IsPutAnswer, after_put, work_in};
 
 use crate::events::{ask_read, ask_write, read, write};
@@ -18,7 +19,7 @@ use crate::node::Node;
 use crate::opening::opening_nodes;
 use crate::results::{ask_put, put};
 use crate::step::{Answer, Step, TurnAnswer, WriteAnswer};
-use crate::turns::turn;
+use crate::turns::{run_sweeps, sweep, turn};
 use crate::work::{Done, Work};
 use lockstep::{Config, Plan};
 use phase_register::Phase;
@@ -43,7 +44,8 @@ impl Model for World {
     ghost use Rattle.std.specs.Coded.{codes};
     ghost use Rattle.std.specs.Arc.{arc_value};
     ghost use Rattle.rule_lang.specs.TreeCode.{coded_tree};
-    ghost use Rattle.unison_world.specs.Turns.{turn_answer, world_after_turn};
+    ghost use Rattle.unison_world.specs.Progress.{steps_left};
+    ghost use Rattle.unison_world.specs.Turns.{AtLeast, moves_in_sweep, turn_answer, world_after_sweep, world_after_turn};
     ghost use Rattle.unison_world.specs.View.{WorldView};
     ghost use Rattle.unison_world.specs.Pictures.{IsPicture, counts_of};
 
@@ -100,7 +102,24 @@ impl World {
         ensures answer { result ≡ turn_answer self.old.plan.network self.old.stop self.old.counts node }
         ensures after { self.new ≡ world_after_turn self.old node }
     {
-        turn(&self.plan, self.stop, &mut self.nodes, node)
+        turn(&self.plan, self.stop, &mut self.nodes, node).answer
+    }
+
+    /// A sweep: a turn of each node by rising number; how many nodes moved.
+    pub fn sweep(&mut self) -> u32
+        ensures moves { result ≡ moves_in_sweep self.old }
+        ensures after { self.new ≡ world_after_sweep self.old }
+        ensures rises { (m : ℕ) → AtLeast self.old m → AtLeast self.new (min (m + 1) self.old.stop) }
+    {
+        sweep(&self.plan, self.stop, &mut self.nodes).moves
+    }
+
+    /// Sweeps until every node stands at the stop; how many reads were taken and moves made.
+    pub fn run_sweeps(&mut self) -> u64
+        ensures after { self.new ≡ with_counts self.old (at_start self.old.plan.network self.old.stop) }
+        ensures steps { result ≡ steps_left self.old.plan.network self.old.stop self.old.counts }
+    {
+        run_sweeps(&self.plan, self.stop, &mut self.nodes)
     }
 
     /// What a node's next state is computed from; none where there is no such node, it stands at the stop or it

@@ -1,16 +1,21 @@
-use Rattle.std.proofs.Common.{arith, ◌≡◌, ◌∙◌, sym, ap, ◌+◌, true, refl}
+use Rattle.std.proofs.Common.{arith, ◌≡◌, ◌∙◌, sym, ap, refl}
 use Rattle.std.proofs.lemmas.Bool.{false≢true}
 use Rattle.link_net.specs.Neighbours.{degree}
-use Rattle.lockstep.specs.Lockstep.{lockstep}
 use Rattle.unison_world.specs.declared.node.Node.{Node}
-use Rattle.unison_world.specs.Counting.{all_marked, change}
-use Rattle.unison_world.specs.Pictures.{counts_of}
+use Rattle.unison_world.specs.Counting.{change}
+use Rattle.unison_world.specs.Pictures.{counts_of, moved_node}
 use Rattle.unison_world.specs.declared.step.Step.TheVariants.{Write}
 use Rattle.unison_world.proofs.Sights.{moves_at, same_node}
 use Rattle.unison_world.proofs.Taken.{drawn-set}
 use Rattle.unison_world.proofs.Writes.{Unstopped, unstopped_here, ready_marked, unready_marked, answer-ready, answer-unready, counts-moved, picture-moved, Completes, next-is}
+use Rattle.std.proofs.Common.{ℕ, List, set}
+use Rattle.rule_check.specs.declared.state.State.{State}
+use Rattle.lockstep.specs.Plans.{PlanView}
+use Rattle.unison_node.specs.Desks.{IsReady}
+use Rattle.unison_world.specs.declared.step.Answer.TheVariants as answer
+use Rattle.unison_world.specs.Counting.{answer_of, after}
+use Rattle.unison_world.specs.Pictures.{IsDrawn}
 use Rattle.unison_world.proofs.events.write.Goals as goal
-use Rattle.unison_world.proofs.events.write.Goals.{After-nodes-1}
 
 pub returns-then-not-ready-clause-answer : goal.returns-then-not-ready-clause-answer
 returns-then-not-ready-clause-answer c =
@@ -34,30 +39,39 @@ advance-requires c =
     let v = moves_at items c.args.node c.index-this.result.now f.at in
     record { below = omega arith }
 
-here : (c : After-nodes-1) → Unstopped c.args.plan.now c.args.stop c.args.nodes.now.items c.args.node c.index-this.result.now
-here c =
-    unstopped_here c.args.plan.now c.args.stop c.args.nodes.now.items c.args.node c.index-this.result.now c.requires.drawn (omega arith) c.index-this.ensures c.if-this-stop.false
+-- what the move of a ready node leaves
+module _ (plan : PlanView) (stop : ℕ) (nodes : List Node) (u : ℕ) (this : Node) (f : Unstopped plan stop nodes u this) (ready : IsReady this.desk) where
+  answers_moved : answer.Moved ≡ answer_of plan.network stop (counts_of nodes) (Write u)
+  answers_moved = sym (answer-ready plan.network stop (counts_of nodes) u f.inside f.unstopped (ready_marked nodes u (degree plan.network u) this f.at f.picture.slots ready))
 
-same_here : (c : After-nodes-1) → c.index-this.result.now ≡ c.index_mut.result.now
-same_here c = same_node c.args.nodes.now.items c.args.node c.index-this.result.now c.index_mut.result.now (omega arith) c.index-this.ensures c.index_mut.ensures.value
+  module _ (s : State) (completes : Completes plan u this s) where
+    moves_counts : counts_of (set nodes u (moved_node plan.program this s)) ≡ after plan.network stop (counts_of nodes) (Write u)
+    moves_counts = counts-moved plan.program nodes u this s f.at ∙ ap (change (counts_of nodes) (Write u)) answers_moved
 
-all_here : (c : After-nodes-1) → all_marked (counts_of c.args.nodes.now.items) c.args.node (degree c.args.plan.now.network c.args.node) ≡ true
-all_here c = ready_marked c.args.nodes.now.items c.args.node (degree c.args.plan.now.network c.args.node) c.index-this.result.now (here c).at (here c).picture.slots (c.if-not-ready.ensures.all.0 refl)
+    moves_drawn : IsDrawn plan nodes → IsDrawn plan (set nodes u (moved_node plan.program this s))
+    moves_drawn drawn = drawn-set plan nodes u (moved_node plan.program this s) drawn (picture-moved plan u this s f.picture (next-is plan u this s f.picture ready completes))
 
 pub returns-clause-answer : goal.returns-clause-answer
-returns-clause-answer c = sym (answer-ready c.args.plan.now.network c.args.stop (counts_of c.args.nodes.now.items) c.args.node (here c).inside (here c).unstopped (all_here c))
+returns-clause-answer c =
+    let f = unstopped_here c.args.plan.now c.args.stop c.args.nodes.now.items c.args.node c.index-this.result.now c.requires.drawn (omega arith) c.index-this.ensures c.if-this-stop.false in
+    answers_moved c.args.plan.now c.args.stop c.args.nodes.now.items c.args.node c.index-this.result.now f (c.if-not-ready.ensures.all.0 refl)
 
 pub returns-clause-counts : goal.returns-clause-counts
 returns-clause-counts c =
     let items = c.args.nodes.now.items in
-    rw c.advance.ensures.moved (counts-moved c.program-program.result.now items c.args.node c.index_mut.result.now c.next-state.result (rw (same_here c) at (here c).at))
-    ∙ ap (change (counts_of items) (Write c.args.node)) (returns-clause-answer c)
+    let this = c.index-this.result.now in
+    let f = unstopped_here c.args.plan.now c.args.stop items c.args.node this c.requires.drawn (omega arith) c.index-this.ensures c.if-this-stop.false in
+    let same = same_node items c.args.node this c.index_mut.result.now (omega arith) c.index-this.ensures c.index_mut.ensures.value in
+    let completes : Completes c.args.plan.now c.args.node this c.next-state.result = rw c.program-program.ensures.program at c.next-state.ensures.completes in
+    rw c.advance.ensures.moved (rw (← same) (rw c.program-program.ensures.program
+    (moves_counts c.args.plan.now c.args.stop items c.args.node this f (c.if-not-ready.ensures.all.0 refl) c.next-state.result completes)))
 
 pub returns-clause-drawn : goal.returns-clause-drawn
 returns-clause-drawn c =
-    let plan = c.args.plan.now in
+    let items = c.args.nodes.now.items in
     let this = c.index-this.result.now in
-    let p = (here c).picture in
-    let completes : Completes plan c.args.node this c.next-state.result = rw c.program-program.ensures.program at c.next-state.ensures.completes in
-    let next : c.next-state.result ≡ lockstep plan (this.moves + 1) c.args.node = next-is plan c.args.node this c.next-state.result p (c.if-not-ready.ensures.all.0 refl) completes in
-    rw c.advance.ensures.moved (rw (← same_here c) (rw c.program-program.ensures.program (drawn-set plan c.args.nodes.now.items c.args.node _ c.requires.drawn (picture-moved plan c.args.node this c.next-state.result p next))))
+    let f = unstopped_here c.args.plan.now c.args.stop items c.args.node this c.requires.drawn (omega arith) c.index-this.ensures c.if-this-stop.false in
+    let same = same_node items c.args.node this c.index_mut.result.now (omega arith) c.index-this.ensures c.index_mut.ensures.value in
+    let completes : Completes c.args.plan.now c.args.node this c.next-state.result = rw c.program-program.ensures.program at c.next-state.ensures.completes in
+    rw c.advance.ensures.moved (rw (← same) (rw c.program-program.ensures.program
+    (moves_drawn c.args.plan.now c.args.stop items c.args.node this f (c.if-not-ready.ensures.all.0 refl) c.next-state.result completes c.requires.drawn)))
