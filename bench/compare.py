@@ -3,7 +3,7 @@ import subprocess
 import sys
 import time
 
-top, work = sys.argv[1], sys.argv[2]
+top, work, worlds = sys.argv[1:4]
 ROUNDS = 100
 BOTH = "field dist = 4294967295; field s = 0;\n"
 PROGRAMS = {
@@ -31,6 +31,36 @@ def checksum(report, field):
     return total
 
 
+def seconds_of(job, program, network, stop):
+    """The least seconds of three calls of the program over worlds, and the number that it prints."""
+    least, count = None, 0
+    for _ in range(3):
+        start = time.perf_counter()
+        done = subprocess.run([worlds, job, program, network, str(stop)], check=True, capture_output=True)
+        taken = time.perf_counter() - start
+        least = taken if least is None else min(least, taken)
+        count = int(done.stdout)
+    return least, count
+
+
+def sweeps():
+    """20 rounds by whole sweeps of a world, beside 20 lockstep rounds."""
+    stop = 20
+    path = f"{work}/distance.rules"
+    print(f"\n{'network':8} {'sweeps':>9} {'steps a second':>16} {'lockstep':>10} {'ratio':>7}")
+    for kind in ("random", "torus", "path"):
+        network = f"{work}/{kind}.toml"
+        taken = {}
+        for job in ("sweeps", "rounds"):
+            taken[job], count = seconds_of(job, path, network, stop)
+            taken[job] -= seconds_of(job, path, network, 0)[0]
+            if job == "sweeps":
+                steps = count
+        rate = steps / taken["sweeps"]
+        ratio = taken["sweeps"] / taken["rounds"]
+        print(f"{kind:8} {taken['sweeps']:7.3f} s {rate:16,.0f} {taken['rounds']:8.3f} s {ratio:7.1f}")
+
+
 def main():
     print(f"{'program':9} {'network':8} {'read and print':>15} {'rounds':>9} {'by hand':>9} {'ratio':>7}")
     for name, text in PROGRAMS.items():
@@ -51,6 +81,7 @@ def main():
             if checksum(timed[0][1], FIELD[name]) != int(hand[0][1]):
                 sys.exit(f"{name} on {kind}: the product and the loop differ")
             print(f"{name:9} {kind:8} {rest:13.3f} s {rounds:7.3f} s {loop:7.3f} s {rounds / loop:7.1f}")
+    sweeps()
 
 
 main()

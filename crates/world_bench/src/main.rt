@@ -1,0 +1,92 @@
+//! Runs a plan to a round, by whole sweeps of a world or by lockstep rounds, for `bench/run` to time.
+#![tactic(auto)]
+
+use link_net::read_network;
+use lockstep::{Plan, lockstep};
+use rule_check::check;
+use rule_lang::read_program;
+use std::alloc::{AllocError, AllocFailed};
+use std::process::ExitCode;
+use std::sync::Arc;
+use std::{env, fs, io};
+use unison_world::World;
+
+/// Why nothing was run.
+#[derive(Debug, Drop)]
+enum Fault {
+    Words,
+    File,
+    Refused,
+    Memory,
+}
+
+impl From<AllocError> for Fault {
+    fn from(_error: AllocError) -> Fault {
+        Fault::Memory
+    }
+}
+
+impl<T: Drop> From<AllocFailed<T>> for Fault {
+    fn from(_error: AllocFailed<T>) -> Fault {
+        Fault::Memory
+    }
+}
+
+/// The plan of the files of a program and a network.
+fn plan_of(rt: &HostRuntime, program: &str, network: &str) -> Result<Plan, Fault> {
+    let alloc = rt.alloc();
+    let program = fs::read(rt, program).map_err(|_| Fault::File)?;
+    let network = fs::read(rt, network).map_err(|_| Fault::File)?;
+    let source = read_program(alloc, &program).map_err(|_| Fault::Refused)?;
+    let program = check(alloc, &source).map_err(|_| Fault::Refused)?;
+    let network = read_network(alloc, &network).map_err(|_| Fault::Refused)?;
+    Plan::new(alloc, program, network).map_err(|_| Fault::Refused)
+}
+
+/// The reads and moves that whole sweeps took to a stop.
+fn sweeps(rt: &HostRuntime, plan: Plan, stop: u32) -> Result<u64, Fault> {
+    let plan = Arc::new(rt.alloc(), plan)?;
+    let mut world = World::new(rt.alloc(), plan, stop).map_err(|_| Fault::Refused)?;
+    Ok(world.run_sweeps())
+}
+
+/// The nodes whose states lockstep rounds gave.
+fn rounds(rt: &HostRuntime, plan: &Plan, round: u32) -> Result<u64, Fault> {
+    let config = lockstep(rt.alloc(), plan, round).map_err(|_| Fault::Refused)?;
+    Ok(config.nodes() as u64)
+}
+
+/// What the words ask for: `sweeps` or `rounds`, a program, a network and a round.
+fn run(rt: &HostRuntime) -> Result<u64, Fault> {
+    let words: Vec<String> = match env::args(rt) {
+        Ok(words) => words.collect(rt.alloc())?,
+        Err(_) => return Err(Fault::Memory),
+    };
+    let [_name, job, program, network, round] = words.as_slice() else {
+        return Err(Fault::Words);
+    };
+    let round = round.as_str().parse::<u32>().map_err(|_| Fault::Words)?;
+    let plan = plan_of(rt, program.as_str(), network.as_str())?;
+    if job.as_str() == "sweeps" {
+        sweeps(rt, plan, round)
+    } else {
+        rounds(rt, &plan, round)
+    }
+}
+
+fn print_answer(rt: &HostRuntime, answer: &Result<u64, Fault>) -> io::Result<()> {
+    match answer {
+        Ok(count) => println!(rt; "{count}"),
+        Err(fault) => eprintln!(rt; "{fault:?}"),
+    }
+}
+
+fn main(rt: HostRuntime) -> ExitCode {
+    let answer = run(&rt);
+    let _ = print_answer(&rt, &answer);
+    if answer.is_ok() {
+        ExitCode::SUCCESS
+    } else {
+        ExitCode::FAILURE
+    }
+}
