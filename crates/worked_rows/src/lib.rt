@@ -18,8 +18,14 @@ mod programs;
 #[cfg(test)]
 mod reports;
 #[cfg(test)]
+mod results;
+#[cfg(test)]
 mod rounds;
 #[cfg(test)]
 mod texts;
 #[cfg(test)]
 mod values;
+#[cfg(test)]
+mod walks;
+#[cfg(test)]
+mod worlds;
