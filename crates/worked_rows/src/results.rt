@@ -89,6 +89,25 @@ fn result_of_another_program(rt: HostRuntime) -> Result<(), Fail> {
 }
 
 #[test]
+fn result_of_other_states(rt: HostRuntime) -> Result<(), Fail> {
+    let mut world = world_of(rt.alloc(), SWAP, PAIR, 10)?;
+    assert_steps(&rt, &mut world, &[(read(0, 0), Answer::Taken)]);
+    let done = done_of(&world, 0)?;
+    for (set, want, nodes) in [
+        ("[0, 6], [1, 7]", WriteAnswer::Stale, [(0, 6), (0, 7)]),
+        ("[0, 5], [1, 8]", WriteAnswer::Stale, [(0, 5), (0, 8)]),
+        ("[0, 5], [1, 7]", WriteAnswer::Moved, [(1, 7), (0, 7)]),
+    ] {
+        let network = format!(in rt.alloc(); "nodes = 2\nlinks = [[0, 1]]\n[set]\ns = [{set}]\n")?;
+        let mut other = world_of(rt.alloc(), SWAP, network.as_str(), 10)?;
+        assert_steps(&rt, &mut other, &[(read(0, 0), Answer::Taken)]);
+        assert_put(&rt, &mut other, &done, want);
+        assert_nodes(&rt, &other, &nodes);
+    }
+    Ok(())
+}
+
+#[test]
 fn result_of_a_node_that_is_not_there(rt: HostRuntime) -> Result<(), Fail> {
     let mut world = world_of(rt.alloc(), SWAP, PAIR, 10)?;
     assert_steps(&rt, &mut world, &[(read(1, 0), Answer::Taken)]);
