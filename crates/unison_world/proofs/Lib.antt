@@ -10,3 +10,4 @@ pub mod Plains
 pub mod Turnings
 pub mod Progressing
 pub mod Sweepings
+pub mod Totals

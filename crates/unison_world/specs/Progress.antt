@@ -5,7 +5,7 @@ use Rattle.link_net.specs.Neighbours.{Neighbours, degree, numbers_below}
 use Rattle.unison_world.specs.declared.step.Step.{Step}
 use Rattle.unison_world.specs.declared.step.Answer.{Answer}
 use Rattle.unison_world.specs.declared.step.Answer.TheVariants.{Taken, Moved}
-use Rattle.unison_world.specs.Counting.{Counts, moves_of, marks_of, run, answers, HasShape}
+use Rattle.unison_world.specs.Counting.{Counts, moves_of, marks_of, at_start, run, answers, HasShape}
 
 -- how many slots are marked
 abbrev pub marks_in : List Bool → ℕ
@@ -38,3 +38,9 @@ abbrev pub CountsChanges : Type 0
 CountsChanges =
     (network : Neighbours) (stop : ℕ) (c : Counts) (steps : List Step) → HasShape network c
     → steps_done network (run network stop c steps) ≡ steps_done network c + sum_by one_if_changed (answers network stop c steps)
+
+-- from a start to a stop each round takes two reads a link and a write a node
+abbrev pub StepsFromStart : Type 0
+StepsFromStart =
+    (network : Neighbours) (start stop : ℕ)
+    → steps_left network stop (at_start network start) ≡ (stop - start) * (sum_by length network + length network)

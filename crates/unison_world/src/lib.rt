@@ -14,7 +14,7 @@ mod work;
 mod world;
 
 pub use fault::{FinishFault, OpenFault};
-pub use laws::{counts_changes, stays_in_step, sweeps_rise};
+pub use laws::{counts_changes, stays_in_step, steps_from_start, sweeps_rise};
 pub use step::{Answer, Step, TurnAnswer, WriteAnswer};
 pub use work::{Done, Work};
 pub use world::World;
