@@ -1,5 +1,5 @@
 //! Results that are put into a world.
-ghost use Rattle.std.specs.Prelude.{◌≡◌, ◌≤◌, ◌<◌, ◌↔◌, IsTrue, true, length, ◌&&◌};
+ghost use Rattle.std.specs.Prelude.{◌≡◌, ℕ, ◌≤◌, ◌<◌, ◌↔◌, IsTrue, true, length, ◌&&◌};
 ghost use Rattle.lockstep.specs.Configs.{most_rounds};
 ghost use Rattle.unison_world.specs.Counting.{InStep};
 ghost use Rattle.unison_world.specs.Pictures.{IsDrawn, counts_of};
@@ -13,12 +13,14 @@ use crate::work::{Done, Work};
 use lockstep::Plan;
 use rule_check::{State, Sums};
 
+/// Whether two states are equal.
 fn are_same(left: &State, right: &State) -> bool
     ensures { IsTrue result ↔ (left.now ≡ right.now) }
 {
     left == right
 }
 
+/// Whether two rows of aggregates are equal.
 fn sums_same(left: &Sums, right: &Sums) -> bool
     ensures { IsTrue result ↔ (left.now ≡ right.now) }
 {
@@ -26,10 +28,10 @@ fn sums_same(left: &Sums, right: &Sums) -> bool
 }
 
 /// Whether a result was computed from what stands here for its node.
-pub fn fits(plan: &Plan, stop: u32, nodes: &Vec<Node>, work: &Work) -> bool
+fn fits(plan: &Plan, nodes: &Vec<Node>, work: &Work) -> bool
     requires drawn { IsDrawn plan.now nodes.now.items }
     requires node { work.now.node < length nodes.now.items }
-    ensures fits { IsTrue result ↔ Fits (view_of plan.now stop nodes.now.items) work.now }
+    ensures fits { (stop : ℕ) → IsTrue result ↔ Fits (view_of plan.now stop nodes.now.items) work.now }
 {
     let this = &nodes[work.node as usize];
     if !work.plan.program().same(plan.program()) {
@@ -56,7 +58,7 @@ pub fn ask_put(plan: &Plan, stop: u32, nodes: &Vec<Node>, done: &Done) -> WriteA
         Answer::NoNode => WriteAnswer::NoNode,
         Answer::Stopped => WriteAnswer::Stopped,
         Answer::Moved => {
-            if fits(plan, stop, nodes, done.work()) {
+            if fits(plan, nodes, done.work()) {
                 WriteAnswer::Moved
             } else {
                 WriteAnswer::Stale

@@ -16,8 +16,8 @@ returns c =
     let own = c.if-not-are_same.ensures.0 refl ∙ c.now.ensures.state in
     let many = c.if-work-degree.false ∙ c.degree.ensures.count in
     rw (← c.work.view_is) (record {
-      fits = (
-        λ t. fits_by plan c.args.stop items _ this at p program own c.if-work-this.false many (c.sums_same.ensures.0 t ∙ c.sums.ensures.sums),
-        λ f. (let k = fits_tells plan c.args.stop items _ this at p f in c.sums_same.ensures.1 (k.4 ∙ sym c.sums.ensures.sums)),
+      fits = λ stop. (
+        λ t. fits_by plan stop items _ this at p program own c.if-work-this.false many (c.sums_same.ensures.0 t ∙ c.sums.ensures.sums),
+        λ f. (let k = fits_tells plan stop items _ this at p f in c.sums_same.ensures.1 (k.4 ∙ sym c.sums.ensures.sums)),
       );
     })
