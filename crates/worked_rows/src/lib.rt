@@ -20,7 +20,11 @@ mod reports;
 #[cfg(test)]
 mod results;
 #[cfg(test)]
+mod resumed;
+#[cfg(test)]
 mod rounds;
+#[cfg(test)]
+mod sweeps;
 #[cfg(test)]
 mod texts;
 #[cfg(test)]
