@@ -2,7 +2,8 @@
 use Rattle.std.specs.Prelude.{ℕ, ◌≡◌, ◌≤◌, All, Bool, true, false, not, ◌||◌, List, [], ◌∷◌, length, map, Option, Some, None, nat_lt, if◌then◌else◌}
 use Rattle.std.specs.List.{list_any, flat_map}
 use Rattle.std.specs.Str.{bytes_eq}
-use Rattle.rule_lang.specs.Tree.{Tree, NumberTree, OwnTree, IdTree, DegreeTree, RoundTree, NearTree, NearIdTree, NearWeightTree, InfixTree, NotTree, OverTree, ChoiceTree, depth}
+use Rattle.rule_lang.specs.Tree.{Tree, NumberTree, OwnTree, IdTree, DegreeTree, RoundTree, NearTree, NearIdTree, NearWeightTree, InfixTree, NotTree, OverTree, ChoiceTree, depth, IsName}
+use Rattle.rule_lang.specs.Tokens.{IsWord}
 use Rattle.rule_check.specs.declared.fault.CheckFault.{CheckFault}
 use Rattle.rule_check.specs.declared.fault.CheckFault.TheVariants.{TooManyFields, FieldTwice, NextTwice, UnknownName, NeighbourOutside, NestedAggregate, TooManyAggregates}
 use Rattle.rule_check.specs.Value.{Rules, Next, Part, parts, names_of}
@@ -84,7 +85,11 @@ first_fault rules =
     (if list_any (λ n. nests n.body) rules.nexts then Some NestedAggregate else
     (if nat_lt 16 (length (all_parts rules.nexts)) then Some TooManyAggregates else None))))))
 
--- a program without a fault, none of its expressions deeper than 64
+-- a field's name is a letter, then letters, digits and `_`, and no reserved word
+abbrev pub IsFieldName : List ℕ → Type 0
+IsFieldName name = IsWord name × IsName name
+
+-- a program without a fault, its fields' names words that are not reserved, none of its expressions deeper than 64
 pub record IsWellFormed (rules : Rules) : Type 0 where
   pub few_fields : length rules.fields ≤ 8
   pub fields_differ : has_twice (names_of rules) ≡ false
@@ -94,3 +99,4 @@ pub record IsWellFormed (rules : Rules) : Type 0 where
   pub flat : list_any (λ n. nests n.body) rules.nexts ≡ false
   pub few_aggregates : length (all_parts rules.nexts) ≤ 16
   pub shallow : All (λ n. depth n.body ≤ 64) rules.nexts
+  pub names : All IsFieldName (names_of rules)

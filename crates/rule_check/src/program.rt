@@ -1,12 +1,12 @@
 //! A checked program.
 
-ghost use Rattle.std.specs.Prelude.{◌≡◌, ◌≤◌, ◌<◌, ℕ, List, [], ◌∷◌, ◌++◌, length, ◌≢◌, IfOk, IfErr, IsTrue, ◌↔◌, Option, slice_get, slice_index, if◌then◌else◌};
+ghost use Rattle.std.specs.Prelude.{◌≡◌, ◌≤◌, ◌<◌, ℕ, All, List, [], ◌∷◌, ◌++◌, length, ◌≢◌, IfOk, IfErr, IsTrue, ◌↔◌, Option, slice_get, slice_index, if◌then◌else◌};
 ghost use Rattle.std.specs.Option.{option_map};
 ghost use Rattle.rule_check.specs.declared.state.State.{State};
 ghost use Rattle.rule_check.specs.declared.state.Near.{Near};
 ghost use Rattle.rule_check.specs.Value.{here_at, next_state, names_of, place, opening_of};
 ghost use Rattle.rule_check.specs.Gathering.{sums_at, taken, finished};
-ghost use Rattle.rule_check.specs.WellFormed.{first_fault, is_among};
+ghost use Rattle.rule_check.specs.WellFormed.{first_fault, is_among, IsFieldName};
 ghost use Rattle.rule_check.specs.Items.{rules_of};
 ghost use Rattle.rule_check.specs.Frames.{standing};
 
@@ -92,11 +92,12 @@ pub fn check(alloc: Global, source: &Source) -> Result<Program, CheckFault>
 }
 
 impl Program {
-    /// How many fields there are, of a program that has no fault.
+    /// How many fields there are, of a program that has no fault, and whose fields' names are words.
     pub fn field_count(&self) -> u32
         ensures count { result ≡ length self.now.fields }
         ensures few { result ≤ 8 }
         ensures well_formed { first_fault self.now ≡ None }
+        ensures names { All IsFieldName (names_of self.now) }
     {
         self.fields.len() as u32
     }
