@@ -10,9 +10,9 @@ use Rattle.lockstep.specs.Plans.{PlanView}
 use Rattle.lockstep.specs.Front.{IsFront, Anything}
 use Rattle.lockstep.specs.Lines.{lines_of}
 use Rattle.lockstep.specs.Report.{node_line, node_lines, round_line, report_text}
-use Rattle.lockstep.specs.ReadReport.{IsStateOf, HasShape, FitsAt, IsFirstBadLine, HasLineNames}
+use Rattle.lockstep.specs.ReadReport.{IsStateOf, HasShape, FitsAt, IsFirstBadLine}
 use Rattle.lockstep.specs.NodeLines.{StopsAtLine}
-use Rattle.lockstep.proofs.Lines.{first_line, no_line, get_front, get_behind}
+use Rattle.lockstep.proofs.Lines.{IsInLine, first_line, no_line, get_front, get_behind}
 use Rattle.lockstep.proofs.ReportLines.{round_split, node_split, lines_from, count_lines, report_split, lines_append}
 use Rattle.lockstep.proofs.Names.{name_count}
 
@@ -39,7 +39,7 @@ blank_fits fields = record {
   plain = λ k far. blank_words k;
 }
 
-module _ (p : PlanView) (few : length p.program.fields ≤ 8) (narrow : length p.network ≤ 65536) (plain : HasLineNames p) where
+module _ (p : PlanView) (few : length p.program.fields ≤ 8) (narrow : length p.network ≤ 65536) (plain : All IsInLine (names_of p.program)) where
   -- the line behind the good ones is that of no node
   no_node : (lines : List ℕ) (number : ℕ) (stop : StopsAtLine (names_of p.program) (length p.program.fields) (length p.network) lines number) (tail : List State) → length stop.good + length tail ≡ length p.network → All (IsStateOf (length p.program.fields)) tail → slice_get (lines_of (node_lines (names_of p.program) (length stop.good) tail)) 0 ≡ slice_get (lines_of stop.rest) 0 → ⊥
   no_node lines number stop [] size fits same = stop.too_many (omega arith) (no_line stop.rest (sym same))

@@ -16,6 +16,7 @@ pub mod ReadFields
 pub mod NodeLines
 pub mod ReportOnce
 pub mod Lines
+pub mod FieldNames
 pub mod ReportLines
 pub mod BadLines
 pub mod Refusals

@@ -1,7 +1,12 @@
 -- The lines of texts.
 use Rattle.std.proofs.Common.{◌≡◌, ◌≢◌, ℕ, zero, suc, ◌<◌, ◌==◌, Bool, true, false, List, [], ◌∷◌, ◌++◌, length, refl, ap, ◌∙◌, arith, Some, None, slice_get, if◌then◌else◌}
 use Rattle.std.proofs.lemmas.Bool.Decides.{nat_tests, Decides-eqb}
-use Rattle.lockstep.specs.Lines.{put_byte, lines_of, IsInLine}
+use Rattle.std.specs.List.{AllByRecursion}
+use Rattle.lockstep.specs.Lines.{put_byte, lines_of}
+
+-- no LF stands among the bytes
+abbrev pub IsInLine : List ℕ → Type 0
+IsInLine bytes = AllByRecursion (λ b. b ≢ 10) bytes
 
 other_byte : (b : ℕ) → b ≢ 10 → (b == 10) ≡ false
 other_byte b other = grind (arith, nat_tests)

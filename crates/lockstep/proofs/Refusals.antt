@@ -1,9 +1,10 @@
 -- What reading the lines of nodes says of the whole report.
-use Rattle.std.proofs.Common.{◌≡◌, ℕ, ◌<◌, ◌≤◌, ◌^◌, List, ◌++◌, length, refl, sym, ap, subst, ◌∙◌, arith, true, false, nat_lt, Result, Ok, Err}
+use Rattle.std.proofs.Common.{◌≡◌, ℕ, ◌<◌, ◌≤◌, ◌^◌, List, ◌++◌, length, refl, sym, ap, subst, ◌∙◌, arith, All, true, false, nat_lt, Result, Ok, Err}
 use Rattle.std.specs.Result.{IsErrAnd, IfErr}
 use Rattle.std.proofs.lemmas.Bool.Decides.{nat_tests}
 use Rattle.rule_check.specs.declared.state.State.{State}
 use Rattle.rule_check.specs.Value.{names_of}
+use Rattle.rule_check.specs.WellFormed.{IsFieldName}
 use Rattle.lockstep.specs.declared.fault.ReportFault.{ReportFault}
 use Rattle.lockstep.specs.declared.fault.ReportFault.TheVariants.{BadLine, TooManyRounds, Memory}
 use Rattle.lockstep.specs.Configs.{Configuration, most_rounds}
@@ -15,6 +16,7 @@ use Rattle.lockstep.specs.NodeLines.{HasNodeLines, IsStopped}
 use Rattle.lockstep.proofs.BadLines.{first_bad}
 use Rattle.lockstep.proofs.ReportOnce.{round_first, never_stops, states_same}
 use Rattle.lockstep.proofs.Names.{name_count}
+use Rattle.lockstep.proofs.FieldNames.{names_in_line}
 
 config_same : (c : Configuration) (t fields : ℕ) (states : List State) → t ≡ c.rounds → fields ≡ c.fields → states ≡ c.states → ◌≡◌ {A = Configuration} (record { rounds = t; fields = fields; states = states }) c
 config_same c t fields states first second third =
@@ -56,12 +58,12 @@ module _ (p : PlanView) (few : length p.program.fields ≤ 8) (text lines : List
   err_memory (Ok config) fault is stop c report = absurd is
   err_memory (Err e) fault is stop c report = λ other. absurd (other (is ∙ memory_alone fault stop c report))
 
-  refused : length p.network ≤ 65536 → (fault : ReportFault) → IsStopped (names_of p.program) (length p.program.fields) (length p.network) lines fault → IsRefusedReport p text fault
-  refused narrow (BadLine line) stop = λ plain. first_bad p few narrow plain text lines t line small cut stop
-  refused narrow TooManyRounds stop = absurd stop
-  refused narrow Memory stop = tt
+  refused : length p.network ≤ 65536 → All IsFieldName (names_of p.program) → (fault : ReportFault) → IsStopped (names_of p.program) (length p.program.fields) (length p.network) lines fault → IsRefusedReport p text fault
+  refused narrow names (BadLine line) stop = first_bad p few narrow (names_in_line (names_of p.program) names) text lines t line small cut stop
+  refused narrow names TooManyRounds stop = absurd stop
+  refused narrow names Memory stop = tt
 
   -- why a text with a round's line is refused
-  pub err_refused : length p.network ≤ 65536 → (r : Result Configuration ReportFault) (fault : ReportFault) → IsErrAnd r (λ e. e ≡ fault) → IsStopped (names_of p.program) (length p.program.fields) (length p.network) lines fault → IfErr r (IsRefusedReport p text)
-  err_refused narrow (Ok config) fault is stop = tt
-  err_refused narrow (Err e) fault is stop = subst (IsRefusedReport p text) (sym is) (refused narrow fault stop)
+  pub err_refused : length p.network ≤ 65536 → All IsFieldName (names_of p.program) → (r : Result Configuration ReportFault) (fault : ReportFault) → IsErrAnd r (λ e. e ≡ fault) → IsStopped (names_of p.program) (length p.program.fields) (length p.network) lines fault → IfErr r (IsRefusedReport p text)
+  err_refused narrow names (Ok config) fault is stop = tt
+  err_refused narrow names (Err e) fault is stop = subst (IsRefusedReport p text) (sym is) (refused narrow names fault stop)

@@ -5,11 +5,11 @@ use Rattle.rule_lang.proofs.Bytes.{digit_bounds}
 use Rattle.rule_check.specs.declared.state.State.{State}
 use Rattle.lockstep.specs.Digits.{IsDigits}
 use Rattle.lockstep.specs.Configs.{blank}
-use Rattle.lockstep.specs.Lines.{lines_of, IsInLine}
+use Rattle.lockstep.specs.Lines.{lines_of}
 use Rattle.lockstep.specs.Report.{field_text, fields_text, node_line, node_lines, round_line}
 use Rattle.lockstep.specs.ReadReport.{IsStateOf}
 use Rattle.lockstep.proofs.Digits.{decimal_digits}
-use Rattle.lockstep.proofs.Lines.{line_split, inline_append}
+use Rattle.lockstep.proofs.Lines.{IsInLine, line_split, inline_append}
 use Rattle.lockstep.proofs.Once.{line_apart, round_apart, SmallWords, small_words}
 use Rattle.lockstep.proofs.ReportOnce.{all_behind}
 

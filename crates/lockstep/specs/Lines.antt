@@ -1,6 +1,5 @@
 -- Lines of a text.
-use Rattle.std.specs.Prelude.{◌≢◌, ℕ, ◌==◌, List, [], ◌∷◌, if◌then◌else◌}
-use Rattle.std.specs.List.{AllByRecursion}
+use Rattle.std.specs.Prelude.{ℕ, ◌==◌, List, [], ◌∷◌, if◌then◌else◌}
 
 -- the byte in front of a line, or a line of its own
 abbrev pub put_byte : ℕ → List (List ℕ) → List (List ℕ)
@@ -11,7 +10,3 @@ put_byte b (line ∷ lines) = (b ∷ line) ∷ lines
 abbrev pub lines_of : List ℕ → List (List ℕ)
 lines_of [] = []
 lines_of (b ∷ bytes) = if b == 10 then (10 ∷ []) ∷ lines_of bytes else put_byte b (lines_of bytes)
-
--- no LF stands among the bytes
-abbrev pub IsInLine : List ℕ → Type 0
-IsInLine bytes = AllByRecursion (λ b. b ≢ 10) bytes

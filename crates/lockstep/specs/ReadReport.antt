@@ -7,7 +7,7 @@ use Rattle.lockstep.specs.declared.fault.ReportFault.TheVariants.{BadLine, TooMa
 use Rattle.lockstep.specs.Configs.{Configuration, IsPlain, most_rounds}
 use Rattle.lockstep.specs.Plans.{PlanView}
 use Rattle.lockstep.specs.Report.{report_text}
-use Rattle.lockstep.specs.Lines.{lines_of, IsInLine}
+use Rattle.lockstep.specs.Lines.{lines_of}
 
 -- a state of a program with so many fields: eight words below 2 ^ 32, those behind the fields 0
 pub record IsStateOf (fields : ℕ) (state : State) : Type 0 where
@@ -39,16 +39,12 @@ pub record IsFirstBadLine (p : PlanView) (text : List ℕ) (number : ℕ) : Type
   pub before : (place : ℕ) → place + 1 < number → FitsAt p place (slice_get (lines_of text) place)
   pub bad : FitsAt p (number - 1) (slice_get (lines_of text) (number - 1)) → ⊥
 
--- the names of the plan's fields have no LF in them, as no word of a program text has
-abbrev pub HasLineNames : PlanView → Type 0
-HasLineNames p = All IsInLine (names_of p.program)
-
 -- the configuration of a report, where its round is within the limit
 abbrev pub within_limit : Configuration → Result Configuration ReportFault
 within_limit c = if nat_lt most_rounds c.rounds then Err TooManyRounds else Ok c
 
 -- why a text is refused; a round too large comes with a report text of the plan's shape
 abbrev pub IsRefusedReport : PlanView → List ℕ → ReportFault → Type 0
-IsRefusedReport p text (BadLine line) = HasLineNames p → IsFirstBadLine p text line
+IsRefusedReport p text (BadLine line) = IsFirstBadLine p text line
 IsRefusedReport p text TooManyRounds = (c : Configuration) × IsReportOf p text c × (most_rounds < c.rounds)
 IsRefusedReport p text Memory = Unit {0}

@@ -103,18 +103,19 @@ fn read_states(
 ///
 /// `BadLine` comes where the text is no report of a configuration with the plan's nodes and fields, and names the
 /// first line that cannot stand at its place, or the first that is missing. Else `TooManyRounds` comes where the
-/// round is above 1,000,000,000. The line's number is promised where no field's name has an LF in it, as no name
-/// in a program text has.
+/// round is above 1,000,000,000.
 pub fn read_report(alloc: Global, plan: &Plan, text: &[u8]) -> Result<Config, ReportFault>
     ensures report { IfOk result (λ config. IsReportOf plan.now text.now config × (config.rounds ≤ most_rounds)) }
     ensures every_report { (c : Configuration) → IsReportOf plan.now text.now c → IsAnswer ReportFault.Memory (within_limit c) result }
     ensures refused { IfErr result (IsRefusedReport plan.now text.now) }
 {
     let _phase = plan.phase();
+    let program = plan.program();
+    let _names = program.field_count();
     let Some((rounds, lines)) = read_round(text) else {
         return Err(ReportFault::BadLine { line: 1 });
     };
-    let states = read_states(alloc, plan.program(), plan.network().nodes(), lines)?;
+    let states = read_states(alloc, program, plan.network().nodes(), lines)?;
     if rounds > MOST_ROUNDS {
         return Err(ReportFault::TooManyRounds);
     }
