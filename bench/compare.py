@@ -1,4 +1,5 @@
 """Times the product and the hand-written loops on the same files, and prints the ratios."""
+import os
 import subprocess
 import sys
 import time
@@ -61,7 +62,18 @@ def sweeps():
         print(f"{kind:8} {taken['sweeps']:7.3f} s {rate:16,.0f} {taken['rounds']:8.3f} s {ratio:7.1f}")
 
 
+def reading():
+    """The seconds in which the file of a network alone is read, and the numbers of its bytes and links."""
+    print(f"{'network':8} {'bytes':>10} {'links':>8} {'read alone':>11}")
+    for kind in ("random", "torus", "path"):
+        network = f"{work}/{kind}.toml"
+        seconds, links = seconds_of("read", "none", network, 0)
+        print(f"{kind:8} {os.path.getsize(network):10,} {links:8,} {seconds:9.3f} s")
+    print()
+
+
 def main():
+    reading()
     print(f"{'program':9} {'network':8} {'read and print':>15} {'rounds':>9} {'by hand':>9} {'ratio':>7}")
     for name, text in PROGRAMS.items():
         path = f"{work}/{name}.rules"

@@ -14,7 +14,10 @@ use crate::serve::serve;
 use crate::words::job_of;
 use lockstep::Tally;
 use std::alloc::AllocError;
+use std::io::{BufWriter, Write};
 use std::process::ExitCode;
+use std::sync::Wait;
+use std::thread::Threads;
 use std::{env, fs, io};
 
 /// Why the program ends with a status other than 0, or after help.
@@ -22,7 +25,10 @@ use std::{env, fs, io};
 enum Ending {
     Help(String),
     Usage(String),
+    /// A file could not be read or written.
     File,
+    /// Standard output refused what the buffer held.
+    Output,
     Serve(ServeFault),
 }
 
@@ -31,7 +37,7 @@ impl Ending {
         match self {
             Ending::Help(_) => 0,
             Ending::Usage(_) => 2,
-            Ending::File => 1,
+            Ending::File | Ending::Output => 1,
             Ending::Serve(fault) => fault.status(),
         }
     }
@@ -44,6 +50,12 @@ impl From<UsageFault> for Ending {
             UsageFault::Usage { text } => Ending::Usage(text),
             UsageFault::Memory => Ending::Serve(ServeFault::Memory),
         }
+    }
+}
+
+impl From<ServeFault> for Ending {
+    fn from(fault: ServeFault) -> Ending {
+        Ending::Serve(fault)
     }
 }
 
@@ -108,6 +120,7 @@ fn print_ending(rt: &HostRuntime, ending: &Ending) -> io::Result<()> {
         Ending::Help(text) => print!(rt; "{text}"),
         Ending::Usage(text) => eprintln!(rt; "fault: usage\n{text}"),
         Ending::File => eprintln!(rt; "fault: file"),
+        Ending::Output => eprintln!(rt; "fault: device Write"),
         Ending::Serve(fault) => {
             let (part, name) = fault.line();
             match fault.bad_line() {
@@ -124,15 +137,17 @@ fn end(rt: &HostRuntime, ending: &Ending) -> ExitCode {
     ExitCode::from(ending.status())
 }
 
-fn main(rt: HostRuntime) -> ExitCode {
-    let task = match task_of(&rt) {
-        Ok(task) => task,
-        Err(ending) => return end(&rt, &ending),
-    };
+/// Does the job, and hands the buffer's last bytes to standard output. The status with which the program ends.
+fn run(rt: &HostRuntime, threads: &(impl Threads + Wait + Sync)) -> Result<u8, Ending> {
+    let task = task_of(rt)?;
     let mut schedule = Tally::new(io::empty());
-    let mut out = Tally::new(io::writer(&rt));
+    let mut output = match BufWriter::new(rt.alloc(), io::writer(rt)) {
+        Ok(output) => output,
+        Err(_) => return Err(Ending::Serve(ServeFault::Memory)),
+    };
+    let mut out = Tally::new(&mut output);
     let served = serve(
-        &rt,
+        threads,
         rt.alloc(),
         &task.job,
         &task.program,
@@ -140,9 +155,16 @@ fn main(rt: HostRuntime) -> ExitCode {
         task.report.as_ref().map(|bytes| bytes.as_slice()),
         &mut schedule,
         &mut out,
-    );
-    match served {
-        Ok(served) => ExitCode::from(served.status),
-        Err(fault) => end(&rt, &Ending::Serve(fault)),
+    )?;
+    match output.flush() {
+        Ok(()) => Ok(served.status),
+        Err(_) => Err(Ending::Output),
+    }
+}
+
+fn main(rt: HostRuntime) -> ExitCode {
+    match run(&rt, &rt) {
+        Ok(status) => ExitCode::from(status),
+        Err(ending) => end(&rt, &ending),
     }
 }

@@ -116,6 +116,24 @@ fn reports(rt: HostRuntime) -> Result<(), Fail> {
         (
             RULE_110,
             CELLS,
+            0,
+            "round 0\n0 s=0\n1 s=0\n2 s=0\n3 s=0\n4 s=0\n5 s=0\n6 s=1\n7 s=0\n",
+        ),
+        (
+            RULE_110,
+            CELLS,
+            1,
+            "round 1\n0 s=0\n1 s=0\n2 s=0\n3 s=0\n4 s=0\n5 s=1\n6 s=1\n7 s=0\n",
+        ),
+        (
+            RULE_110,
+            CELLS,
+            2,
+            "round 2\n0 s=0\n1 s=0\n2 s=0\n3 s=0\n4 s=1\n5 s=1\n6 s=1\n7 s=0\n",
+        ),
+        (
+            RULE_110,
+            CELLS,
             3,
             "round 3\n0 s=0\n1 s=0\n2 s=0\n3 s=1\n4 s=1\n5 s=0\n6 s=1\n7 s=0\n",
         ),
@@ -194,6 +212,45 @@ fn refused_programs(rt: HostRuntime) -> Result<(), Fail> {
             assert_eq!(rt; status, 3);
         }
     }
+    Ok(())
+}
+
+/// Nesting is 64 at most: the leaf and 63 prefix forms round it.
+#[test]
+fn nesting_at_the_limit(rt: HostRuntime) -> Result<(), Fail> {
+    let alloc = rt.alloc();
+    let mut text = String::from_str(alloc, "next s = ")?;
+    for _ in 0..63 {
+        text.push_str("not ")?;
+    }
+    let mut deeper = text.clone()?;
+    deeper.push_str("not ")?;
+    for half in [&mut text, &mut deeper] {
+        half.push_str("s;\n")?;
+    }
+    let accepted = format!(in alloc; "field s = 0;\n{text}")?;
+    let refused = format!(in alloc; "field s = 0;\n{deeper}")?;
+    let (held, fault) = served(&rt, alloc, Job::Check, accepted.as_bytes(), b"", None, 1000)?;
+    assert_eq!(rt; held.as_slice(), accepted.as_bytes());
+    assert_eq!(rt; fault, None);
+    let (found, status) = line_of(&rt, alloc, Job::Check, refused.as_bytes(), b"", None)?;
+    assert_eq!(rt; found.as_str(), "program Syntax 0 0");
+    assert_eq!(rt; status, 3);
+    Ok(())
+}
+
+/// The empty text is a program without fields: its canonical spelling is empty, and its report has bare numbers.
+#[test]
+fn empty_program(rt: HostRuntime) -> Result<(), Fail> {
+    let alloc = rt.alloc();
+    let (held, fault) = served(&rt, alloc, Job::Check, b"", b"", None, 1000)?;
+    assert_eq!(rt; held.len(), 0);
+    assert_eq!(rt; fault, None);
+    let job = Job::Lockstep { rounds: 1 };
+    let network = b"nodes = 2\nlinks = []\n";
+    let (held, fault) = served(&rt, alloc, job, b"", network, None, 1000)?;
+    assert_eq!(rt; held.as_slice(), b"round 1\n0\n1\n".as_slice());
+    assert_eq!(rt; fault, None);
     Ok(())
 }
 

@@ -74,8 +74,8 @@ impl Done {
         &self.work
     }
 
-    /// The node's number.
-    pub(crate) fn node(&self) -> u32
+    /// The number of the node that the state is for.
+    pub fn node(&self) -> u32
         ensures node { result ≡ self.now.work.node }
     {
         self.work.node

@@ -1,7 +1,7 @@
-//! Runs a plan to a round, by whole sweeps of a world or by lockstep rounds, for `bench/run` to time.
+//! Reads a network, or runs a plan to a round by whole sweeps of a world or by lockstep rounds, for `bench/run` to time.
 #![tactic(auto)]
 
-use link_net::read_network;
+use link_net::{NetFile, read_network};
 use lockstep::{Plan, lockstep};
 use rule_check::check;
 use rule_lang::read_program;
@@ -32,15 +32,19 @@ impl<T: Drop> From<AllocFailed<T>> for Fault {
     }
 }
 
+/// What the file of a network describes.
+fn network_of(rt: &HostRuntime, network: &str) -> Result<NetFile, Fault> {
+    let text = fs::read(rt, network).map_err(|_| Fault::File)?;
+    read_network(rt.alloc(), &text).map_err(|_| Fault::Refused)
+}
+
 /// The plan of the files of a program and a network.
 fn plan_of(rt: &HostRuntime, program: &str, network: &str) -> Result<Plan, Fault> {
     let alloc = rt.alloc();
     let program = fs::read(rt, program).map_err(|_| Fault::File)?;
-    let network = fs::read(rt, network).map_err(|_| Fault::File)?;
     let source = read_program(alloc, &program).map_err(|_| Fault::Refused)?;
     let program = check(alloc, &source).map_err(|_| Fault::Refused)?;
-    let network = read_network(alloc, &network).map_err(|_| Fault::Refused)?;
-    Plan::new(alloc, program, network).map_err(|_| Fault::Refused)
+    Plan::new(alloc, program, network_of(rt, network)?).map_err(|_| Fault::Refused)
 }
 
 /// The reads and moves that whole sweeps took to a stop.
@@ -56,7 +60,8 @@ fn rounds(rt: &HostRuntime, plan: &Plan, round: u32) -> Result<u64, Fault> {
     Ok(config.nodes() as u64)
 }
 
-/// What the words ask for: `sweeps` or `rounds`, a program, a network and a round.
+/// What the words ask for: `read`, `sweeps` or `rounds`, a program, a network and a round. `read` reads the network
+/// alone and gives the number of its links.
 fn run(rt: &HostRuntime) -> Result<u64, Fault> {
     let words: Vec<String> = match env::args(rt) {
         Ok(words) => words.collect(rt.alloc())?,
@@ -66,6 +71,9 @@ fn run(rt: &HostRuntime) -> Result<u64, Fault> {
         return Err(Fault::Words);
     };
     let round = round.as_str().parse::<u32>().map_err(|_| Fault::Words)?;
+    if job.as_str() == "read" {
+        return Ok(network_of(rt, network.as_str())?.network().links() as u64);
+    }
     let plan = plan_of(rt, program.as_str(), network.as_str())?;
     if job.as_str() == "sweeps" {
         sweeps(rt, plan, round)
