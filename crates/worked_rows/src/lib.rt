@@ -8,6 +8,12 @@ mod examples;
 #[cfg(test)]
 mod largest;
 #[cfg(test)]
+mod memory_answers;
+#[cfg(test)]
+mod memory_of_texts;
+#[cfg(test)]
+mod memory_of_worlds;
+#[cfg(test)]
 mod networks;
 #[cfg(test)]
 mod plans;

@@ -59,7 +59,7 @@ pub(crate) fn assert_nodes(rt: &impl Abort, world: &World, wanted: &[(u32, u32)]
 }
 
 /// Asserts what a world answers to turns of these nodes, in their order.
-fn assert_turns(rt: &impl Abort, world: &mut World, turns: &[(u32, TurnAnswer)]) {
+pub(crate) fn assert_turns(rt: &impl Abort, world: &mut World, turns: &[(u32, TurnAnswer)]) {
     for (node, want) in turns {
         assert_eq!(rt; world.turn(*node), *want, "turn of {node}");
     }
