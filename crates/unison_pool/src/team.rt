@@ -1,0 +1,94 @@
+//! All workers of a run.
+
+use crate::gate::Gate;
+use crate::shared::Shared;
+use crate::worker::Part;
+use lockstep::Plan;
+use std::alloc::{AllocError, AllocFailed, Global};
+use std::sync::Wait;
+use std::thread;
+use std::thread::{JoinHandle, Scope, Threads};
+use unison_trace::LogFault;
+
+/// Why the workers of a run were told to end.
+#[derive(Clone, Copy)]
+pub enum Halted {
+    /// The start of a thread was refused.
+    NoThread,
+    /// A worker met a fault.
+    Fault(LogFault),
+}
+
+impl From<AllocError> for Halted {
+    fn from(_error: AllocError) -> Halted {
+        Halted::Fault(LogFault::Memory)
+    }
+}
+
+impl<T: Drop> From<AllocFailed<T>> for Halted {
+    fn from(_error: AllocFailed<T>) -> Halted {
+        Halted::Fault(LogFault::Memory)
+    }
+}
+
+/// What the workers of a run are made of.
+#[derive_where(Clone, Copy)]
+pub struct Team<'a, R, G> {
+    pub rt: &'a R,
+    pub alloc: Global,
+    pub plan: &'a Plan,
+    pub shared: &'a Shared,
+    pub gate: &'a G,
+    pub stop: u32,
+}
+
+impl<R: Threads + Wait + Sync, G: Gate + Sync> Team<'_, R, G> {
+    /// Starts so many workers and joins them. A refused thread is answered before any worker's fault, and of several
+    /// workers' faults that of the least worker.
+    pub fn drive_all(&self, workers: u32) -> Result<(), Halted> {
+        thread::scope(
+            thread::scope_env(),
+            self.rt,
+            move |scope| -> Result<(), Halted> {
+                let mut threads = Vec::with_capacity(self.alloc, workers as usize)?;
+                let started = self.start_all(scope, workers, &mut threads);
+                if started.is_err() {
+                    self.shared.halt();
+                }
+                let joined = join_all(self.rt, threads);
+                started.and(joined)
+            },
+        )
+    }
+
+    fn start_all<'s, E>(
+        &'s self,
+        scope: &'s Scope<'s, E>,
+        workers: u32,
+        threads: &mut Vec<JoinHandle<Result<(), LogFault>>>,
+    ) -> Result<(), Halted> {
+        for worker in 0..workers {
+            let part = Part { worker, workers };
+            let Ok(thread) = scope.spawn(move || self.drive(part)) else {
+                return Err(Halted::NoThread);
+            };
+            threads.push(thread)?;
+        }
+        Ok(())
+    }
+}
+
+/// Joins the workers, and gives the fault of the least that met one.
+fn join_all<R: Threads>(
+    rt: &R,
+    threads: Vec<JoinHandle<Result<(), LogFault>>>,
+) -> Result<(), Halted> {
+    let mut joined = Ok(());
+    for thread in threads {
+        let met = thread.join(rt);
+        if let (Ok(()), Err(fault)) = (joined, met) {
+            joined = Err(Halted::Fault(fault));
+        }
+    }
+    joined
+}

@@ -1,0 +1,103 @@
+//! What one worker does.
+ghost use Rattle.std.specs.Prelude.{◌<◌};
+
+use crate::gate::Gate;
+use crate::team::Team;
+use std::sync::Wait;
+use std::thread;
+use unison_trace::LogFault;
+use unison_world::{Step, WriteAnswer};
+
+/// The part of the nodes that a worker drives: those whose number leaves the worker's modulo the number of workers.
+#[derive(Clone, Copy)]
+pub struct Part {
+    pub worker: u32,
+    pub workers: u32,
+    ghost one_of: { worker < workers },
+}
+
+/// A node that a worker drives, and how often it has moved.
+#[derive(Clone, Copy)]
+struct Driven {
+    node: u32,
+    moves: u32,
+}
+
+/// What came of one pass over the nodes of a worker.
+#[derive(Clone, Copy)]
+enum Pass {
+    /// All of them stood at the stop.
+    Ended,
+    /// Some stood below the stop, and none moved.
+    Idle,
+    /// Some moved.
+    Moved,
+}
+
+impl<R: Wait, G: Gate> Team<'_, R, G> {
+    /// Drives a worker's nodes until all of them stand at the stop or the workers are to end. A fault tells the other
+    /// workers to end.
+    pub fn drive(&self, part: Part) -> Result<(), LogFault> {
+        let met = self.make_passes(part);
+        if met.is_err() {
+            self.shared.halt();
+        }
+        met
+    }
+
+    fn make_passes(&self, part: Part) -> Result<(), LogFault> {
+        let mut nodes = self.nodes_of(part)?;
+        for _ in self.rt.forever() {
+            if self.shared.is_halted() {
+                return Ok(());
+            }
+            match self.make_pass(part.worker, &mut nodes)? {
+                Pass::Ended => return Ok(()),
+                Pass::Idle => thread::yield_now(),
+                Pass::Moved => {}
+            }
+        }
+        unreachable!()
+    }
+
+    /// The nodes of a part by rising number, each at the start.
+    fn nodes_of(&self, part: Part) -> Result<Vec<Driven>, LogFault> {
+        let moves = self.plan.start();
+        let mut nodes = Vec::new(self.alloc);
+        let all = self.plan.network().nodes();
+        for node in (part.worker..all).step_by(part.workers as usize) {
+            nodes.push(Driven { node, moves })?;
+        }
+        Ok(nodes)
+    }
+
+    /// Goes through a worker's nodes by rising number.
+    fn make_pass(&self, worker: u32, nodes: &mut Vec<Driven>) -> Result<Pass, LogFault> {
+        let mut pass = Pass::Ended;
+        for driven in nodes {
+            if driven.moves < self.stop {
+                if self.advance(worker, driven.node)? {
+                    driven.moves += 1;
+                    pass = Pass::Moved;
+                } else if let Pass::Ended = pass {
+                    pass = Pass::Idle;
+                }
+            }
+        }
+        Ok(pass)
+    }
+
+    /// Reads each slot of a node, moves the node where it is ready then, and says whether it moved.
+    fn advance(&self, worker: u32, node: u32) -> Result<bool, LogFault> {
+        for slot in 0..self.plan.network().degree(node).unwrap_or(0) {
+            self.shared.step(self.rt, Step::Read { node, slot })?;
+        }
+        let Some(work) = self.shared.work(self.rt, node)? else {
+            return Ok(false);
+        };
+        self.gate.before_compute(worker, node);
+        let done = work.compute();
+        let answer = self.shared.put(self.rt, &done)?;
+        Ok(matches!(answer, WriteAnswer::Moved))
+    }
+}
