@@ -1,3 +1,5 @@
 pub mod Histories
 pub mod Refusals
 pub mod Traces
+pub mod Schedules
+pub mod ReadLines

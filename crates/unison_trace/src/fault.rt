@@ -1,6 +1,7 @@
-//! Why a step isn't stored.
+//! Why a step isn't stored, and why a text is no schedule.
 ghost use Rattle.std.specs.Prelude.{◌≡◌};
 ghost use Rattle.unison_trace.specs.declared.fault.LogFault.TheVariants.{Memory as LogMemory};
+ghost use Rattle.unison_trace.specs.declared.fault.ScheduleFault.TheVariants.{Memory as ScheduleMemory};
 
 use std::alloc::{AllocError, AllocFailed};
 use thiserror::Error;
@@ -29,5 +30,35 @@ impl<T: Drop> From<AllocFailed<T>> for LogFault {
 
     fn from(_error: AllocFailed<T>) -> LogFault {
         LogFault::Memory
+    }
+}
+
+/// Why a text is no schedule. `BadLine` comes before `TooManySteps`.
+#[derive(Clone, Copy, Debug, PartialEq, Eq, Error)]
+pub enum ScheduleFault {
+    /// The first line that is no step's, counted from 1.
+    #[error("line {line} is no line of a schedule")]
+    BadLine { line: u64 },
+    /// There are more than 1,000,000 steps.
+    #[error("there are more than 1000000 steps")]
+    TooManySteps,
+    /// Want of memory.
+    #[error("not enough memory")]
+    Memory,
+}
+
+impl From<AllocError> for ScheduleFault {
+    ghost from_gives = { λ _ e. e ≡ ScheduleMemory };
+
+    fn from(_error: AllocError) -> ScheduleFault {
+        ScheduleFault::Memory
+    }
+}
+
+impl<T: Drop> From<AllocFailed<T>> for ScheduleFault {
+    ghost from_gives = { λ _ e. e ≡ ScheduleMemory };
+
+    fn from(_error: AllocFailed<T>) -> ScheduleFault {
+        ScheduleFault::Memory
     }
 }

@@ -3,7 +3,12 @@
 
 mod fault;
 mod logged;
+mod number;
+mod schedule_reader;
+mod schedule_writer;
 mod stored;
 
-pub use fault::LogFault;
+pub use fault::{LogFault, ScheduleFault};
 pub use logged::{Finished, Logged, steps_needed};
+pub use schedule_reader::read_schedule;
+pub use schedule_writer::write_schedule;
