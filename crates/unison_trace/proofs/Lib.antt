@@ -1,3 +1,4 @@
 pub mod Leading
 pub mod ReadPairs
 pub mod ScheduleLines
+pub mod ReplayLines

@@ -3,3 +3,5 @@ pub mod Refusals
 pub mod Traces
 pub mod Schedules
 pub mod ReadLines
+pub mod Replays
+pub mod ReplayFaults

@@ -4,11 +4,15 @@
 mod fault;
 mod logged;
 mod number;
+mod replay;
+mod report_writer;
 mod schedule_reader;
 mod schedule_writer;
 mod stored;
 
-pub use fault::{LogFault, ScheduleFault};
+pub use fault::{LogFault, ReplayFault, ScheduleFault};
 pub use logged::{Finished, Logged, steps_needed};
+pub use replay::replay_over;
+pub use report_writer::replay_report;
 pub use schedule_reader::read_schedule;
 pub use schedule_writer::write_schedule;
