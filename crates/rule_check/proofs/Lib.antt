@@ -15,3 +15,4 @@ pub mod Order
 pub mod Rest
 pub mod Equal
 pub mod Twice
+pub mod Cleared

@@ -14,7 +14,9 @@ mod table;
 mod well_formed;
 mod words;
 
+pub use code::Instr;
 pub use fault::CheckFault;
 pub use law::order_of_neighbours;
+pub use parts::{Gatherer, Rule};
 pub use program::{Program, check};
 pub use state::{Near, State, Sums};

@@ -10,6 +10,8 @@ ghost use Rattle.rule_check.specs.WellFormed.{first_fault, is_among, IsFieldName
 ghost use Rattle.rule_check.specs.Items.{rules_of};
 ghost use Rattle.rule_check.specs.Frames.{standing};
 
+mod codes;
+
 use crate::emit::{collect_fields, collect_parts, collect_rules};
 use crate::fault::CheckFault;
 use crate::parts::{Field, Gatherer, Rule};
