@@ -1,4 +1,7 @@
 //! All workers of a run.
+ghost use Rattle.std.specs.Prelude.{◌≡◌};
+ghost use Rattle.unison_trace.specs.declared.fault.LogFault.TheVariants.{Memory};
+ghost use Rattle.unison_pool.specs.declared.team.Halted.TheVariants.{Fault};
 
 use crate::gate::Gate;
 use crate::shared::Shared;
@@ -20,12 +23,16 @@ pub enum Halted {
 }
 
 impl From<AllocError> for Halted {
+    ghost from_gives = { λ _ e. e ≡ Fault Memory };
+
     fn from(_error: AllocError) -> Halted {
         Halted::Fault(LogFault::Memory)
     }
 }
 
 impl<T: Drop> From<AllocFailed<T>> for Halted {
+    ghost from_gives = { λ _ e. e ≡ Fault Memory };
+
     fn from(_error: AllocFailed<T>) -> Halted {
         Halted::Fault(LogFault::Memory)
     }
