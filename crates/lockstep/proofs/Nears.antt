@@ -1,21 +1,36 @@
 -- The neighbours as a rule sees them, one more and all.
-use Rattle.std.proofs.Common.{◌≡◌, ℕ, ◌+◌, ◌<◌, ◌≤◌, List, [], ◌∷◌, length, drop, map, get_or, refl, ap, ◌∙◌, sym, arith, suc, All, Option, Some, None, slice_get, zero-add}
+use Rattle.std.proofs.Common.{◌≡◌, ℕ, ◌+◌, ◌<◌, ◌≤◌, List, [], ◌∷◌, length, map, get_or, refl, subst, zero, ap, ◌∙◌, sym, arith, suc, All, Option, Some, None, slice_get, zero-add}
 use Rattle.std.specs.List.{range_with_len}
 use Rattle.std.specs.Option.{option_map, unwrap_or}
 use Rattle.std.proofs.lemmas.Option.{unwrap_or-slice_get}
-use Rattle.std.proofs.lemmas.List.{drop_more, length-map, get_or-map, ext_get_or}
+use Rattle.std.proofs.lemmas.List.{length-map, get_or-map, get_or_default, ext_get_or}
 use Rattle.std.proofs.lemmas.List.FromFn.{get_or-map-range_with_len, length-map-range_with_len}
 use Rattle.rule_check.specs.declared.state.State.{State}
+use Rattle.rule_check.specs.declared.state.Near.{Near}
 use Rattle.rule_check.specs.Value.{next_state}
 use Rattle.link_net.specs.Neighbours.{Neighbours, row, neighbour, IsNetwork}
-use Rattle.lockstep.specs.Configs.{blank}
+use Rattle.lockstep.specs.Configs.{blank, IsPlain}
 use Rattle.lockstep.specs.Plans.{PlanView}
 use Rattle.lockstep.specs.Lockstep.{near_at, nears_in, state_in, round_from, lockstep, lockstep_states, lockstep-start, lockstep-more}
 use Rattle.lockstep.specs.Pairs.{nears_of}
 
-pub nears_more : (at : ℕ → State) (ids weights : List ℕ) (i : ℕ) → i < length ids → i < length weights → nears_of at (drop i ids) (drop i weights) ≡ near_at at (get_or ids i 0, get_or weights i 0) ∷ nears_of at (drop (i + 1) ids) (drop (i + 1) weights)
-nears_more at ids weights i inside long =
-    ap (λ ns. nears_of at ns (drop i weights)) (drop_more ids i 0 inside) ∙ ap (nears_of at (get_or ids i 0 ∷ drop (i + 1) ids)) (drop_more weights i 0 long)
+-- as many neighbours as numbers
+pub nears_count : (at : ℕ → State) (ids weights : List ℕ) → length weights ≡ length ids → length (nears_of at ids weights) ≡ length ids
+nears_count at [] weights paired = refl
+nears_count at (id ∷ ids) [] paired = absurd (omega (arith, paired))
+nears_count at (id ∷ ids) (w ∷ weights) paired = ap suc (nears_count at ids weights (omega (arith, paired)))
+
+near_there : (at : ℕ → State) (ids weights : List ℕ) (i : ℕ) (d : Near) → i < length ids → i < length weights → get_or (nears_of at ids weights) i d ≡ near_at at (get_or ids i 0, get_or weights i 0)
+near_there at [] weights i d inside long = absurd (omega (arith, inside))
+near_there at (id ∷ ids) [] i d inside long = absurd (omega (arith, long))
+near_there at (id ∷ ids) (w ∷ weights) zero d inside long = refl
+near_there at (id ∷ ids) (w ∷ weights) (suc i) d inside long = near_there at ids weights i d (omega (arith, inside)) (omega (arith, long))
+
+-- the neighbour at a place, as it is read
+pub near_read : (states : List State) (ids weights : List ℕ) (i : ℕ) (none : State) (d : Near) → i < length ids → i < length weights → All (λ w. w < length states) ids → ◌≡◌ {A = Near} (record { id = get_or ids i 0; weight = get_or weights i 0; state = get_or states (get_or ids i 0) none }) (get_or (nears_of (state_in states) ids weights) i d)
+near_read states ids weights i none d inside long within =
+    ap (λ s. record { id = get_or ids i 0; weight = get_or weights i 0; state = s }) (get_or_default states (get_or ids i 0) none blank (within i 0 inside))
+    ∙ sym (near_there (state_in states) ids weights i d inside long)
 
 -- a row's numbers and weights give what the row gives
 pub nears_row : (at : ℕ → State) (row : List (ℕ × ℕ)) → nears_of at (map (λ a. a.0) row) (map (λ a. a.1) row) ≡ map (near_at at) row
@@ -83,3 +98,8 @@ round_whole p t states next count each =
     ext_get_or blank next _ (count ∙ sym (length-map-range_with_len (round_from p t (state_in states)) 0 n))
     (λ u h. let inside : u < n = omega (arith, h, count) in
     each u inside ∙ sym (get_or-map-range_with_len (round_from p t (state_in states)) 0 n u u blank inside (zero-add u)))
+
+-- and plain
+pub round_plain : (fields : ℕ) (next : List State) (n : ℕ) → length next ≡ n → ((u : ℕ) → u < n → IsPlain fields (state_in next u)) → All (IsPlain fields) next
+round_plain fields next n count each k d inside =
+    subst (IsPlain fields) (get_or_default next k blank d inside) (each k (omega (arith, inside, count)))
