@@ -10,6 +10,7 @@ use Rattle.unison_trace.specs.declared.fault.ScheduleFault.{ScheduleFault}
 use Rattle.unison_trace.specs.declared.fault.ScheduleFault.TheVariants as schedule
 use Rattle.unison_trace.specs.declared.fault.ReplayFault.{ReplayFault}
 use Rattle.unison_trace.specs.declared.fault.ReplayFault.TheVariants.{Read, TooManyTurns, Schedule, Opening, Write, Memory}
+use Rattle.unison_trace.specs.Histories.{most_steps}
 use Rattle.unison_trace.specs.Schedules.{HasSteps, IsRefusedSchedule}
 use Rattle.unison_trace.specs.Replays.{IsReplayOf}
 
@@ -26,7 +27,7 @@ from_opening fault = Opening fault
 -- why a text gives no report: it is no schedule, or else its steps have no world
 abbrev pub IsRefusedText : PlanView → ℕ → List ℕ → ReplayFault → Type 0
 IsRefusedText plan stop text (Schedule fault) = (fault ≢ schedule.Memory) × IsRefusedSchedule text fault
-IsRefusedText plan stop text (Opening fault) = (fault ≢ opening.Memory) × (opening_of plan stop ≡ Err fault) × ((steps : List Step) × HasSteps text steps)
+IsRefusedText plan stop text (Opening fault) = (fault ≢ opening.Memory) × (opening_of plan stop ≡ Err fault) × ((steps : List Step) × HasSteps text steps × (length steps ≤ most_steps))
 IsRefusedText plan stop text Memory = Unit {0}
 IsRefusedText plan stop text Read = ⊥
 IsRefusedText plan stop text TooManyTurns = ⊥
@@ -37,12 +38,22 @@ pub record IsInput (had left : Option (List ℕ)) (text : List ℕ) : Type 0 whe
   pub given : Consumes had left text
   pub whole : IsAtEnd left
 
+-- how many reads are made at most; as many as give bytes are too many
+abbrev pub too_many_reads : ℕ
+too_many_reads = 27000001
+
+-- so many reads gave bytes, each at least one
+pub record IsTooLong (had left : Option (List ℕ)) : Type 0 where
+  pub text : List ℕ
+  pub given : Consumes had left text
+  pub long : too_many_reads ≤ length text
+
 -- why the input isn't read to its end
-abbrev pub IsInputFault : ReplayFault → Type 0
-IsInputFault Read = Unit {0}
-IsInputFault TooManyTurns = Unit {0}
-IsInputFault Memory = Unit {0}
-IsInputFault fault = ⊥
+abbrev pub IsInputFault : Option (List ℕ) → Option (List ℕ) → ReplayFault → Type 0
+IsInputFault had left Read = Unit {0}
+IsInputFault had left TooManyTurns = IsTooLong had left
+IsInputFault had left Memory = Unit {0}
+IsInputFault had left fault = ⊥
 
 -- the report of the text that was read is what was written
 pub record IsReplayed (plan : PlanView) (stop : ℕ) (had left held holds : Option (List ℕ)) : Type 0 where
@@ -67,12 +78,14 @@ pub record IsRefusedInput (plan : PlanView) (stop : ℕ) (had left : Option (Lis
   pub input : IsInput had left text
   pub refused : IsRefusedText plan stop text fault
 
--- what each fault says; of the reader's the calls' number and the mark tell
+-- what each fault says; that the reader failed its mark tells
 abbrev pub IsReplayFault : PlanView → ℕ → Option (List ℕ) → Option (List ℕ) → Option (List ℕ) → Option (List ℕ) → ReplayFault → Type 0
 IsReplayFault plan stop had left held holds (Schedule fault) = IsRefusedInput plan stop had left (Schedule fault)
 IsReplayFault plan stop had left held holds (Opening fault) = IsRefusedInput plan stop had left (Opening fault)
 IsReplayFault plan stop had left held holds (Write written) = IsCut plan stop had left held holds written
-IsReplayFault plan stop had left held holds fault = Unit {0}
+IsReplayFault plan stop had left held holds TooManyTurns = IsTooLong had left
+IsReplayFault plan stop had left held holds Read = Unit {0}
+IsReplayFault plan stop had left held holds Memory = Unit {0}
 
 -- whether the answer is that a part alone was written
 abbrev pub is_cut : Result (Unit {0}) ReplayFault → Bool

@@ -5,7 +5,7 @@ ghost use Rattle.std.specs.Io.KnownBytes.{Appends, Consumes, IsAtEnd};
 ghost use Rattle.unison_world.specs.Counting.{run};
 ghost use Rattle.unison_world.specs.View.{with_counts};
 ghost use Rattle.unison_trace.specs.Replays.{IsReplayOf};
-ghost use Rattle.unison_trace.specs.ReplayFaults.{IsInput, IsInputFault, IsRefusedText, IsReplayFault, IsReplayed, is_cut};
+ghost use Rattle.unison_trace.specs.ReplayFaults.{too_many_reads, IsInput, IsInputFault, IsRefusedText, IsReplayFault, IsReplayed, is_cut};
 
 use crate::fault::ReplayFault;
 use crate::report_writer::replay_report;
@@ -35,9 +35,9 @@ fn read_input<R: Read>(alloc: Global, input: &mut Tally<R>) -> Result<Vec<u8>, R
     requires calls { input.old.calls < 2 ^ 63 }
     ensures whole { IfOk result (λ v. IsInput (R.remaining input.old.inner) (R.remaining input.new.inner) v.items) }
     ensures mark { IsTrue input.new.failed ↔ (result ≡ Err ReplayFault.Read) }
-    ensures calls { input.new.calls ≤ input.old.calls + 27000001 }
-    ensures turns { result ≡ Err ReplayFault.TooManyTurns → input.new.calls ≡ input.old.calls + 27000001 }
-    ensures faults { IfErr result IsInputFault }
+    ensures calls { input.new.calls ≤ input.old.calls + too_many_reads }
+    ensures turns { result ≡ Err ReplayFault.TooManyTurns → input.new.calls ≡ input.old.calls + too_many_reads }
+    ensures faults { IfErr result (IsInputFault (R.remaining input.old.inner) (R.remaining input.new.inner)) }
 {
     let mut bytes = Vec::new(alloc);
     let mut block = zeros(alloc, BLOCK)?;
@@ -94,8 +94,8 @@ pub fn replay_over<R: Read, W: Write>(
     ensures replayed { OnOk result (IsReplayed (arc_value plan) stop (R.remaining schedule.old.inner) (R.remaining schedule.new.inner) (W.contents out.old.inner) (W.contents out.new.inner)) }
     ensures faults { IfErr result (IsReplayFault (arc_value plan) stop (R.remaining schedule.old.inner) (R.remaining schedule.new.inner) (W.contents out.old.inner) (W.contents out.new.inner)) }
     ensures read_mark { IsTrue schedule.new.failed ↔ (result ≡ Err ReplayFault.Read) }
-    ensures calls { schedule.new.calls ≤ schedule.old.calls + 27000001 }
-    ensures turns { result ≡ Err ReplayFault.TooManyTurns → schedule.new.calls ≡ schedule.old.calls + 27000001 }
+    ensures calls { schedule.new.calls ≤ schedule.old.calls + too_many_reads }
+    ensures turns { result ≡ Err ReplayFault.TooManyTurns → schedule.new.calls ≡ schedule.old.calls + too_many_reads }
     ensures write_mark { out.new.failed ≡ is_cut result }
     ensures unwritten { IfErr result (λ fault. is_cut (Err fault) ≡ false → out.new ≡ out.old) }
 {

@@ -10,11 +10,12 @@ ghost use Rattle.unison_trace.specs.ReadLines.{AreSmall, number_line, pair_line}
 
 use crate::fault::ScheduleFault;
 use crate::number::{behind, read_number};
+use crate::stored;
 use std::alloc::{AllocError, Global};
 use unison_world::Step;
 
 /// The greatest number of steps in a schedule.
-const MOST_STEPS: u64 = 1_000_000;
+const MOST_STEPS: u64 = stored::MOST_STEPS as u64;
 
 /// The number that ends the line at the front, and what stands behind the line.
 fn read_last(bytes: &[u8]) -> Option<(u32, &[u8])>

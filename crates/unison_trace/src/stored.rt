@@ -8,8 +8,8 @@ use std::alloc::Global;
 use std::marker::Model;
 use unison_world::Step;
 
-/// The greatest number of steps that are stored.
-const MOST_STEPS: u32 = 1_000_000;
+/// The greatest number of steps that are stored, or stand in a schedule.
+pub const MOST_STEPS: u32 = 1_000_000;
 
 /// Steps in order, no more than a limit.
 #[derive(Drop)]
