@@ -8,9 +8,9 @@ use Rattle.std.proofs.lemmas.Bool.Decides.{Decides-eqb}
 use Rattle.rule_lang.proofs.Bytes.{digit_bounds}
 use Rattle.lockstep.specs.Digits.{IsDigits}
 use Rattle.lockstep.specs.Front.{IsFront, Anything}
-use Rattle.lockstep.specs.Lines.{lines_of, IsInLine}
+use Rattle.lockstep.specs.Lines.{lines_of}
 use Rattle.lockstep.proofs.Digits.{decimal_digits, number_once}
-use Rattle.lockstep.proofs.Lines.{line_split, inline_append, first_line, no_line}
+use Rattle.lockstep.proofs.Lines.{IsInLine, line_split, inline_append, first_line, no_line}
 use Rattle.unison_world.specs.declared.step.Step.{Step}
 use Rattle.unison_world.specs.declared.step.Step.TheVariants.{Read, Write}
 use Rattle.unison_trace.specs.Histories.{most_steps}
