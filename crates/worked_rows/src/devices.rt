@@ -12,8 +12,8 @@ const TEXT: &[u8] = b"0 moves 1 s=7\n1 moves 1 s=5\n";
 
 /// Takes at most `most` bytes a call, and fails once `room` bytes are taken in all.
 #[derive(Drop)]
-struct Narrow {
-    held: Vec<u8>,
+pub(crate) struct Narrow {
+    pub(crate) held: Vec<u8>,
     most: usize,
     room: usize,
     kind: ErrorKind,
@@ -38,7 +38,7 @@ impl Write for Narrow {
 }
 
 /// A writer that takes at most `most` bytes a call and `room` in all, with nothing taken yet.
-fn writer(alloc: Global, most: usize, room: usize, kind: ErrorKind) -> Narrow {
+pub(crate) fn writer(alloc: Global, most: usize, room: usize, kind: ErrorKind) -> Narrow {
     Narrow {
         held: Vec::new(alloc),
         most,
@@ -63,10 +63,10 @@ impl Write for Full {
 
 /// Gives at most `most` bytes a call, and at their end either none or an error.
 #[derive(Drop)]
-struct Source<'a> {
-    rest: &'a [u8],
-    most: usize,
-    end: Option<ErrorKind>,
+pub(crate) struct Source<'a> {
+    pub(crate) rest: &'a [u8],
+    pub(crate) most: usize,
+    pub(crate) end: Option<ErrorKind>,
 }
 
 impl Read for Source<'_> {

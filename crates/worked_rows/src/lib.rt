@@ -8,7 +8,13 @@ mod examples;
 #[cfg(test)]
 mod largest;
 #[cfg(test)]
+mod logs;
+#[cfg(test)]
 mod memory_answers;
+#[cfg(test)]
+mod memory_of_logs;
+#[cfg(test)]
+mod memory_of_replays;
 #[cfg(test)]
 mod memory_of_texts;
 #[cfg(test)]
@@ -22,6 +28,8 @@ mod program_texts;
 #[cfg(test)]
 mod programs;
 #[cfg(test)]
+mod replays;
+#[cfg(test)]
 mod reports;
 #[cfg(test)]
 mod results;
@@ -29,6 +37,8 @@ mod results;
 mod resumed;
 #[cfg(test)]
 mod rounds;
+#[cfg(test)]
+mod schedules;
 #[cfg(test)]
 mod sweeps;
 #[cfg(test)]

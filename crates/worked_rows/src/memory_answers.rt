@@ -1,9 +1,9 @@
 //! What a row says that is run with its requests for memory refused, one after the other.
 //!
 //! A test whose name has `memory_is_refused` is run by `.ci/refuse_memory` with its first, second, .. request refused,
-//! and by the gate with ample memory. It prints `answer` where it has the row's answer, which it has compared, and
-//! `memory` where a call answered want of memory. Anything else fails the test; so does `memory` where nothing was
-//! refused.
+//! and by the gate with ample memory. It prints `answer` where it has the row's answer, which it has compared,
+//! `memory` where a call answered want of memory, and `no thread` where a run answered that no thread was started.
+//! Anything else fails the test; so do the last two where nothing was refused.
 
 use crate::texts::Refusal;
 use link_net::NetFault;
@@ -12,6 +12,8 @@ use rule_check::CheckFault;
 use rule_lang::LangFault;
 use std::alloc::{AllocError, AllocFailed};
 use std::test::Fail;
+use unison_pool::RunFault;
+use unison_trace::{ReplayFault, ScheduleFault};
 use unison_world::{FinishFault, OpenFault};
 
 /// Why a row has no answer: the fault of the first call that refused.
@@ -22,6 +24,9 @@ pub enum Stopped {
     Resume(ResumeFault),
     Open(OpenFault),
     Finish(FinishFault),
+    Schedule(ScheduleFault),
+    Replay(ReplayFault),
+    Run(RunFault),
     Memory,
 }
 
@@ -55,6 +60,24 @@ impl From<FinishFault> for Stopped {
     }
 }
 
+impl From<ScheduleFault> for Stopped {
+    fn from(fault: ScheduleFault) -> Stopped {
+        Stopped::Schedule(fault)
+    }
+}
+
+impl From<ReplayFault> for Stopped {
+    fn from(fault: ReplayFault) -> Stopped {
+        Stopped::Replay(fault)
+    }
+}
+
+impl From<RunFault> for Stopped {
+    fn from(fault: RunFault) -> Stopped {
+        Stopped::Run(fault)
+    }
+}
+
 impl From<RoundFault> for Stopped {
     fn from(fault: RoundFault) -> Stopped {
         Stopped::Text(Refusal::Round(fault))
@@ -81,7 +104,19 @@ fn is_memory(stopped: Stopped) -> bool {
         Stopped::Resume(fault) => fault == ResumeFault::Memory,
         Stopped::Open(fault) => fault == OpenFault::Memory,
         Stopped::Finish(fault) => fault == FinishFault::Memory,
+        Stopped::Schedule(fault) => fault == ScheduleFault::Memory,
+        Stopped::Replay(fault) => is_memory_of_replays(fault),
+        Stopped::Run(fault) => fault == RunFault::Memory,
         Stopped::Memory => true,
+    }
+}
+
+/// Whether a replay wanted memory.
+fn is_memory_of_replays(fault: ReplayFault) -> bool {
+    match fault {
+        ReplayFault::Schedule(fault) => fault == ScheduleFault::Memory,
+        ReplayFault::Opening(fault) => fault == OpenFault::Memory,
+        fault => fault == ReplayFault::Memory,
     }
 }
 
@@ -98,11 +133,13 @@ fn is_memory_of_texts(refusal: Refusal) -> bool {
     }
 }
 
-/// Prints what a row found: the answer, which it has compared, or want of memory. Any other fault fails the test.
+/// Prints what a row found: the answer, which it has compared, want of memory or a refused thread. Any other fault
+/// fails the test.
 pub(crate) fn tell(rt: &impl Print, found: Result<(), Stopped>) -> Result<(), Fail> {
     match found {
         Ok(()) => println!(rt; "answer")?,
         Err(stopped) if is_memory(stopped) => println!(rt; "memory")?,
+        Err(Stopped::Run(RunFault::NoThread)) => println!(rt; "no thread")?,
         Err(stopped) => return Err(Fail::new(format_args!("{stopped:?}"))),
     }
     Ok(())
