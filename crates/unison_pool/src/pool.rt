@@ -30,8 +30,12 @@ const MOST_STEPS: u32 = 1_000_000;
 /// called before each computation, while the worker holds no lock.
 ///
 /// `WorkerCount` comes for no worker or more than 64, else `StopTooLarge` above 1,000,000,000, and else
-/// `StopBelowStart` below the plan's start, all before anything is done. Then a thread that could not be started is
-/// answered before any worker's fault, and of these that of the least worker.
+/// `StopBelowStart` below the plan's start, all before anything is done. Then `NoThread` comes before any worker's
+/// fault, and of these that of the least worker: `Memory`, or `TraceFull` where more steps are needed than may be
+/// stored. What stood under the lock is finished only where no fault was met: it is `Foreign` where its plan, its stop
+/// or the presence of its trace is not what was asked, and else `Unfinished` where a node stands below the stop.
+///
+/// A run waits for its lock and for its workers: it need not return, and what it promises holds where it does.
 pub fn run<R: Threads + Wait + Sync, G: Gate + Sync>(
     rt: &R,
     alloc: Global,

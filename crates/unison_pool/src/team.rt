@@ -50,8 +50,8 @@ pub struct Team<'a, R, G> {
 }
 
 impl<R: Threads + Wait + Sync, G: Gate + Sync> Team<'_, R, G> {
-    /// Starts so many workers and joins them. A refused thread is answered before any worker's fault, and of several
-    /// workers' faults that of the least worker.
+    /// Starts so many workers and joins them. Where a thread is refused the workers that were started are told to end.
+    /// A refused thread is answered before any worker's fault, and of several workers' faults that of the least worker.
     pub fn drive_all(&self, workers: u32) -> Result<(), Halted> {
         thread::scope(
             thread::scope_env(),
@@ -68,6 +68,7 @@ impl<R: Threads + Wait + Sync, G: Gate + Sync> Team<'_, R, G> {
         )
     }
 
+    /// Starts the workers by rising number, up to the first thread that is refused.
     fn start_all<'s, E>(
         &'s self,
         scope: &'s Scope<'s, E>,

@@ -45,6 +45,8 @@ impl<R: Wait, G: Gate> Team<'_, R, G> {
         met
     }
 
+    /// Makes passes until all of the worker's nodes stood at the stop in one. After a pass in which none moved the other
+    /// threads come first.
     fn make_passes(&self, part: Part) -> Result<(), LogFault> {
         let mut nodes = self.nodes_of(part)?;
         for _ in self.rt.forever() {
