@@ -13,7 +13,7 @@ use Rattle.unison_world.specs.View.{WorldView, answer_in, world_after}
 use Rattle.unison_world.specs.Work.{after_put}
 use Rattle.unison_world.specs.WorkViews.{WorkView}
 
--- the greatest number of steps that are stored
+-- the greatest number of steps that are stored, or stand in a schedule
 abbrev pub most_steps : ℕ
 most_steps = 1000000
 
@@ -66,6 +66,7 @@ abbrev pub IsHistoryOf : WorldView → Option Log → Type 0
 IsHistoryOf world None = Unit {0}
 IsHistoryOf world (Some log) = IsLogOf world log
 
+-- what holds of every history
 abbrev pub IsHistory : History → Type 0
 IsHistory h = IsHistoryOf h.world h.log
 

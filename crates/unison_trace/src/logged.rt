@@ -1,5 +1,5 @@
 //! A world beside the steps that changed it.
-ghost use Rattle.std.specs.Prelude.{◌≡◌, IsTrue, IfOk, IfErr, OnOk, OnErr, IfSome, option_map, MatchResult};
+ghost use Rattle.std.specs.Prelude.{◌≡◌, IsTrue, IfOk, IfErr, OnOk, OnErr, IfSome, option_map};
 ghost use Rattle.std.specs.Arc.{arc_value};
 ghost use Rattle.lockstep.specs.Answer.{IsAnswer};
 ghost use Rattle.unison_world.specs.Finishing.{IsFinish};

@@ -1,7 +1,6 @@
 //! Replays.
-ghost use Rattle.std.specs.Prelude.{◌≡◌, ◌↔◌, ◌+◌, ◌≤◌, ◌<◌, ◌^◌, true, false, IsTrue, IfOk, IfErr, OnOk, Err, length};
+ghost use Rattle.std.specs.Prelude.{◌≡◌, ◌↔◌, ◌+◌, ◌≤◌, ◌<◌, ◌^◌, false, IsTrue, IfOk, IfErr, OnOk, Err, length};
 ghost use Rattle.std.specs.Arc.{arc_value};
-ghost use Rattle.std.specs.Io.KnownBytes.{Appends, Consumes, IsAtEnd};
 ghost use Rattle.unison_world.specs.Counting.{run};
 ghost use Rattle.unison_world.specs.View.{with_counts};
 ghost use Rattle.unison_trace.specs.Replays.{IsReplayOf};
