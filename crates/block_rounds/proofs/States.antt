@@ -1,0 +1,80 @@
+-- States and columns.
+use Rattle.std.proofs.Common.{◌≡◌, ◌<◌, ◌≤◌, ◌+◌, ◌⊎◌, inl, inr, ℕ, zero, suc, List, [], ◌∷◌, ◌++◌, length, map, refl, sym, ap, ◌∙◌, arith, slice_index, slice_index_or, zero-add}
+use Rattle.std.specs.Global.{Vec}
+use Rattle.std.specs.List.{range_with_len}
+use Rattle.std.proofs.lemmas.Bool.{cases_lt}
+use Rattle.std.proofs.lemmas.List.{same_lists, length-map, get_or-map, get_or_default}
+use Rattle.std.proofs.lemmas.List.FromFn.{map-range_with_len_more, length-map-range_with_len}
+use Rattle.rule_check.specs.declared.state.State.{State}
+use Rattle.link_net.specs.Neighbours.{numbers_below}
+use Rattle.row_code.specs.Steps.{lane}
+use Rattle.row_code.specs.Block.{column_words, state_at}
+use Rattle.row_code.proofs.Columns.{no_column}
+use Rattle.row_code.proofs.Nodes.{range_at}
+use Rattle.block_rounds.specs.Rounds.{IsPlain}
+
+abbrev make_state : List ℕ → State
+make_state ws = record { words = ws }
+
+-- eight words that are those of a node are its state
+pub state_is : (words : List ℕ) (columns : List (Vec ℕ)) (u : ℕ) → length words ≡ 8 → ((j : ℕ) → j < 8 → slice_index words j ≡ lane (column_words columns) u j) → make_state words ≡ state_at columns u
+state_is words columns u long are =
+    let word = lane (column_words columns) u in
+    ap make_state (same_lists words (map word (range_with_len 0 8)) (long ∙ sym (length-map-range_with_len word 0 8))
+    (λ j d h.
+    let inside : j < 8 = omega (arith, h, long) in
+    get_or_default words j d 0 h ∙ are j inside ∙ sym (range_at word 8 j d inside)))
+
+word_either : (words : List ℕ) (columns : List (Vec ℕ)) (n u j : ℕ) → ((j : ℕ) → j < n → slice_index words j ≡ lane (column_words columns) u j) → ((j : ℕ) → n ≤ j → slice_index words j ≡ 0) → length columns ≤ n
+    → ((j < n) ⊎ (n ≤ j)) → slice_index words j ≡ lane (column_words columns) u j
+word_either words columns n u j here rest past (inl h) = here j h
+word_either words columns n u j here rest past (inr h) =
+    rest j h ∙ sym (no_column (column_words columns) u j (omega (arith, h, past, length-map columns (λ (column : Vec ℕ). column.items))))
+
+-- words that are read up to the last column, and 0 behind it
+pub state_read : (words : List ℕ) (columns : List (Vec ℕ)) (n u : ℕ) → length words ≡ 8 → ((j : ℕ) → j < n → slice_index words j ≡ lane (column_words columns) u j) → ((j : ℕ) → n ≤ j → slice_index words j ≡ 0) → length columns ≤ n
+    → make_state words ≡ state_at columns u
+state_read words columns n u long here rest past = state_is words columns u long (λ j _. word_either words columns n u j here rest past (cases_lt j n))
+
+-- one state more
+pub states_more : (f : ℕ → State) (n : ℕ) → map f (numbers_below (n + 1)) ≡ map f (numbers_below n) ++ f n ∷ []
+states_more f n = map-range_with_len_more f 0 n n (zero-add n)
+
+-- a word of a column that is known
+lane_by : (columns : List (Vec ℕ)) (k u : ℕ) (words : List ℕ) → k < length columns → ((d : Vec ℕ) → (slice_index_or columns k d).items ≡ words) → lane (column_words columns) u k ≡ slice_index words u
+lane_by [] k u words inside are = absurd (omega (arith, inside))
+lane_by (x ∷ xs) zero u words inside are = ap (λ (ws : List ℕ). slice_index ws u) (are x)
+lane_by (x ∷ xs) (suc k) u words inside are = lane_by xs k u words (omega (arith, inside)) are
+
+word_made : (columns : List (Vec ℕ)) (states : List State) (fields u k : ℕ) (d : State) → length columns ≡ fields
+    → ((k : ℕ) (d : Vec ℕ) → k < fields → (slice_index_or columns k d).items ≡ map (λ state. slice_index state.words k) states)
+    → u < length states → IsPlain fields (slice_index_or states u d) → ((k < fields) ⊎ (fields ≤ k))
+    → slice_index (slice_index_or states u d).words k ≡ lane (column_words columns) u k
+word_made columns states fields u k d many made inside plain (inl h) =
+    let word = λ (state : State). slice_index state.words k in
+    sym (lane_by columns k u (map word states) (omega (arith, h, many)) (λ e. made k e h) ∙ get_or-map word states u d 0 inside)
+word_made columns states fields u k d many made inside plain (inr h) =
+    plain k h ∙ sym (no_column (column_words columns) u k (omega (arith, h, many, length-map columns (λ (column : Vec ℕ). column.items))))
+
+-- columns that are made of states have them
+pub states_kept : (columns : List (Vec ℕ)) (states : List State) (fields u : ℕ) (d : State) → length columns ≡ fields
+    → ((k : ℕ) (d : Vec ℕ) → k < fields → (slice_index_or columns k d).items ≡ map (λ state. slice_index state.words k) states)
+    → u < length states → length (slice_index_or states u d).words ≡ 8 → IsPlain fields (slice_index_or states u d) → state_at columns u ≡ slice_index_or states u d
+states_kept columns states fields u d many made inside long plain =
+    sym (state_is (slice_index_or states u d).words columns u long (λ k _. word_made columns states fields u k d many made inside plain (cases_lt k fields)))
+
+-- columns with the same words, one by one
+pub words_same : (left right : List (Vec ℕ)) → length left ≡ length right → ((j : ℕ) (d : Vec ℕ) → j < length left → (slice_index_or left j d).items ≡ (slice_index_or right j d).items) → column_words left ≡ column_words right
+words_same [] [] many same = refl
+words_same [] (y ∷ ys) many same = absurd (omega (arith, many))
+words_same (x ∷ xs) [] many same = absurd (omega (arith, many))
+words_same (x ∷ xs) (y ∷ ys) many same =
+    ap (λ (w : List ℕ). w ∷ column_words xs) (same 0 x (omega arith))
+    ∙ ap (λ (ws : List (List ℕ)). y.items ∷ ws) (words_same xs ys (omega (arith, many)) (λ j d h. same (suc j) d (omega (arith, h))))
+
+-- and one of columns that have the same words
+pub same_at : (left right : List (Vec ℕ)) (k : ℕ) (d e : Vec ℕ) → k < length left → k < length right → column_words left ≡ column_words right → (slice_index_or left k d).items ≡ (slice_index_or right k e).items
+same_at left right k d e here there same =
+    sym (get_or-map (λ (column : Vec ℕ). column.items) left k d [] here)
+    ∙ ap (λ (ws : List (List ℕ)). slice_index_or ws k []) same
+    ∙ get_or-map (λ (column : Vec ℕ). column.items) right k e [] there

@@ -1,0 +1,11 @@
+use Rattle.std.proofs.Common.{◌≡◌, ◌<◌, ℕ, length, slice_index_or}
+use Rattle.block_rounds.specs.declared.batch.Slot.{Slot}
+use Rattle.block_rounds.specs.Batches.{IsSlot}
+use Rattle.block_rounds.proofs.batch.batch_of.Given as goal
+
+-- the first slots are made
+abbrev pub invariant-loop-slot : goal.invariant-loop-slot
+invariant-loop-slot l = record {
+  count : length l.slots.items ≡ l.slot;
+  made : (j : ℕ) (d : Slot) → j < l.slot → IsSlot l.network l.nodes j (slice_index_or l.slots.items j d);
+}

@@ -1,0 +1,12 @@
+//! Rounds of a program over all nodes of a network, a block of nodes at a time.
+#![tactic(auto)]
+
+mod batch;
+mod columns;
+mod layout;
+mod nodes;
+mod order;
+mod round;
+
+pub use columns::{columns_of, same_columns, states_of};
+pub use layout::Layout;

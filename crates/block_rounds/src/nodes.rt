@@ -1,0 +1,28 @@
+//! Single looks at a network.
+ghost use Rattle.std.specs.Prelude.{◌≡◌, ◌≤◌};
+ghost use Rattle.link_net.specs.Neighbours.{degree, neighbour, weight};
+
+use link_net::Network;
+
+/// How many neighbours a node has.
+pub fn degree_of(network: &Network, node: u32) -> u32
+    ensures exact { result ≡ degree network.now node }
+    ensures few { result ≤ 4096 }
+{
+    let _nodes = network.nodes();
+    network.degree(node).unwrap_or(0)
+}
+
+/// The neighbour at a slot of a node, or 0 where there is none.
+pub fn neighbour_of(network: &Network, node: u32, slot: u32) -> u32
+    ensures exact { result ≡ neighbour network.now node slot }
+{
+    network.neighbour(node, slot).unwrap_or(0)
+}
+
+/// The weight of the link to the neighbour at a slot of a node, or 0 where there is none.
+pub fn weight_of(network: &Network, node: u32, slot: u32) -> u32
+    ensures exact { result ≡ weight network.now node slot }
+{
+    network.weight(node, slot).unwrap_or(0)
+}

@@ -1,0 +1,80 @@
+//! A round over batches.
+ghost use Rattle.std.specs.Prelude.{◌≡◌, ◌<◌, ◌≤◌, ℕ, All, None, length, slice_index, slice_index_or};
+ghost use Rattle.rule_check.specs.WellFormed.{first_fault};
+ghost use Rattle.link_net.specs.Neighbours.{IsNetwork};
+ghost use Rattle.row_code.specs.Block.{Lane};
+ghost use Rattle.block_rounds.specs.Batches.{IsBatch, nodes_of};
+ghost use Rattle.block_rounds.specs.Rounds.{HaveWords, IsNext};
+ghost use Rattle.block_rounds.specs.Gathered.{gathered};
+
+use crate::batch::Batch;
+use link_net::Network;
+use row_code::Block;
+
+/// Gathers the aggregates of a batch's nodes over all their neighbours.
+fn gather(network: &Network, batch: &Batch, block: &mut Block<'_>, round: u32, from: &[Vec<u32>])
+    requires batch { IsBatch network.now batch.now }
+    requires network { IsNetwork network.now }
+    requires sound { first_fault block.old.rules ≡ None }
+    requires fields { length from.now ≡ length block.old.rules.fields }
+    requires nodes { HaveWords (length network.now) from.now }
+    ensures rules { block.new.rules ≡ block.old.rules }
+    ensures count { length block.new.lanes ≡ length batch.now.nodes.items }
+    ensures lanes { (i : ℕ) (d : Lane) → i < length batch.now.nodes.items
+        → slice_index_or block.new.lanes i d ≡ gathered block.old.rules network.now round from.now (slice_index batch.now.nodes.items i) }
+{
+    block.enter(round, &batch.nodes, &batch.degrees, from);
+    for slot in &batch.slots {
+        block.take(&slot.neighbours, &slot.weights, from);
+    }
+}
+
+/// Writes the next states of a batch's nodes.
+fn step(
+    network: &Network,
+    batch: &Batch,
+    block: &mut Block<'_>,
+    round: u32,
+    from: &[Vec<u32>],
+    to: &mut [Vec<u32>],
+)
+    requires batch { IsBatch network.now batch.now }
+    requires network { IsNetwork network.now }
+    requires sound { first_fault block.old.rules ≡ None }
+    requires fields { length from.now ≡ length block.old.rules.fields }
+    requires next_fields { length to.old ≡ length block.old.rules.fields }
+    requires nodes { HaveWords (length network.now) from.now }
+    requires next_nodes { HaveWords (length network.now) to.old }
+    ensures rules { block.new.rules ≡ block.old.rules }
+    ensures nodes { HaveWords (length network.now) to.new }
+    ensures done { All (IsNext block.old.rules network.now round from.now to.new) batch.now.nodes.items }
+    ensures kept { (u : ℕ) → IsNext block.old.rules network.now round from.now to.old u → IsNext block.old.rules network.now round from.now to.new u }
+{
+    gather(network, batch, block, round, from);
+    block.finish(&batch.nodes, to);
+}
+
+/// Writes the next states of all nodes of these batches.
+pub fn step_all(
+    network: &Network,
+    batches: &[Batch],
+    block: &mut Block<'_>,
+    round: u32,
+    from: &[Vec<u32>],
+    to: &mut [Vec<u32>],
+)
+    requires batches { All (IsBatch network.now) batches.now }
+    requires sound { first_fault block.old.rules ≡ None }
+    requires fields { length from.now ≡ length block.old.rules.fields }
+    requires next_fields { length to.old ≡ length block.old.rules.fields }
+    requires nodes { HaveWords (length network.now) from.now }
+    requires next_nodes { HaveWords (length network.now) to.old }
+    ensures rules { block.new.rules ≡ block.old.rules }
+    ensures nodes { HaveWords (length network.now) to.new }
+    ensures done { All (IsNext block.old.rules network.now round from.now to.new) (nodes_of batches.now) }
+{
+    let _nodes = network.nodes();
+    for batch in batches {
+        step(network, batch, block, round, from, to);
+    }
+}
