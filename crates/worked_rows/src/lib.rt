@@ -16,6 +16,8 @@ mod memory_of_logs;
 #[cfg(test)]
 mod memory_of_replays;
 #[cfg(test)]
+mod memory_of_shared_rounds;
+#[cfg(test)]
 mod memory_of_texts;
 #[cfg(test)]
 mod memory_of_worlds;
@@ -39,6 +41,8 @@ mod resumed;
 mod rounds;
 #[cfg(test)]
 mod schedules;
+#[cfg(test)]
+mod shared_rounds;
 #[cfg(test)]
 mod sweeps;
 #[cfg(test)]

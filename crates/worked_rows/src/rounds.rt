@@ -24,7 +24,7 @@ fn state(first: u32, second: u32) -> State {
 }
 
 /// The text of a path of so many nodes, with the first at distance 0.
-fn path(alloc: Global, nodes: u32) -> Result<String, Fail> {
+pub(crate) fn path(alloc: Global, nodes: u32) -> Result<String, Fail> {
     let mut text = format!(in alloc; "nodes = {nodes}\nlinks = [")?;
     for other in 1..nodes {
         let node = other - 1;
@@ -102,7 +102,7 @@ fn configuration_of_states(rt: HostRuntime) -> Result<(), Fail> {
 }
 
 /// The first difference of two configurations of one shape.
-fn difference(left: &Config, right: &Config) -> Result<Option<Difference>, Refusal> {
+pub(crate) fn difference(left: &Config, right: &Config) -> Result<Option<Difference>, Refusal> {
     if left.nodes() != right.nodes() || left.fields() != right.fields() {
         return Err(Refusal::Shape);
     }
