@@ -1,10 +1,10 @@
 -- States and columns.
-use Rattle.std.proofs.Common.{◌≡◌, ◌<◌, ◌≤◌, ◌+◌, ◌⊎◌, inl, inr, ℕ, zero, suc, List, [], ◌∷◌, ◌++◌, length, map, refl, sym, ap, ◌∙◌, arith, slice_index, slice_index_or, zero-add}
+use Rattle.std.proofs.Common.{◌≡◌, ◌<◌, ◌≤◌, ◌+◌, ◌⊎◌, inl, inr, ℕ, zero, suc, List, [], ◌∷◌, ◌++◌, length, map, refl, sym, ap, ◌∙◌, arith, slice_index, slice_index_or, zero-add, All, subst}
 use Rattle.std.specs.Global.{Vec}
 use Rattle.std.specs.List.{range_with_len}
 use Rattle.std.proofs.lemmas.Bool.{cases_lt}
-use Rattle.std.proofs.lemmas.List.{same_lists, length-map, get_or-map, get_or_default}
-use Rattle.std.proofs.lemmas.List.FromFn.{map-range_with_len_more, length-map-range_with_len}
+use Rattle.std.proofs.lemmas.List.{same_lists, length-map, get_or-map, get_or_default, get_or_past}
+use Rattle.std.proofs.lemmas.List.FromFn.{map-range_with_len_more, length-map-range_with_len, get_or-map-range_with_len}
 use Rattle.rule_check.specs.declared.state.State.{State}
 use Rattle.link_net.specs.Neighbours.{numbers_below}
 use Rattle.row_code.specs.Steps.{lane}
@@ -78,3 +78,18 @@ same_at left right k d e here there same =
     sym (get_or-map (λ (column : Vec ℕ). column.items) left k d [] here)
     ∙ ap (λ (ws : List (List ℕ)). slice_index_or ws k []) same
     ∙ get_or-map (λ (column : Vec ℕ). column.items) right k e [] there
+
+word_past : (columns : List (Vec ℕ)) (u k : ℕ) → length columns ≤ k → ((k < 8) ⊎ (8 ≤ k)) → slice_index (state_at columns u).words k ≡ 0
+word_past columns u k past (inl h) =
+    range_at (lane (column_words columns) u) 8 k 0 h ∙ no_column (column_words columns) u k (omega (arith, past, length-map columns (λ (column : Vec ℕ). column.items)))
+word_past columns u k past (inr h) =
+    let word = lane (column_words columns) u in
+    get_or_past (map word (range_with_len 0 8)) k 0 (omega (arith, h, length-map-range_with_len word 0 8))
+
+-- the words behind the columns are 0
+pub plain_all : (columns : List (Vec ℕ)) (n : ℕ) (states : List State) → states ≡ map (state_at columns) (numbers_below n) → All (IsPlain (length columns)) states
+plain_all columns n states are k d h =
+    let inside : k < n = omega (arith, h, ap length are, length-map-range_with_len (state_at columns) 0 n) in
+    subst (IsPlain (length columns))
+    (sym (ap (λ (xs : List State). slice_index_or xs k d) are ∙ get_or-map-range_with_len (state_at columns) 0 n k k d inside (zero-add k)))
+    (λ j past. word_past columns k j past (cases_lt j 8))

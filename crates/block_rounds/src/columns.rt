@@ -74,6 +74,7 @@ pub fn states_of(
     requires few { length columns.now ≤ 8 }
     requires nodes { HaveWords nodes columns.now }
     ensures exact { IfOk result (λ states. states.items ≡ map (state_at columns.now) (numbers_below nodes)) }
+    ensures plain { IfOk result (λ states. All (IsPlain (length columns.now)) states.items) }
 {
     let mut states = Vec::with_capacity(alloc, nodes)?;
     for node in 0..nodes {

@@ -1,7 +1,7 @@
 use Rattle.std.proofs.Common.{◌∙◌, ◌++◌, ◌∷◌, [], ap, sym, map}
 use Rattle.link_net.specs.Neighbours.{numbers_below}
 use Rattle.row_code.specs.Block.{state_at}
-use Rattle.block_rounds.proofs.States.{states_more}
+use Rattle.block_rounds.proofs.States.{states_more, plain_all}
 use Rattle.block_rounds.proofs.columns.states_of.Goals as goal
 
 pub loop-node-preserved : goal.loop-node-preserved
@@ -12,3 +12,6 @@ loop-node-preserved c =
     ∙ ap (λ xs. xs ++ c.state_of.result ∷ []) l.invariant
     ∙ ap (λ s. map (state_at columns) (numbers_below l.node) ++ s ∷ []) c.state_of.ensures.exact
     ∙ sym (states_more (state_at columns) l.node)
+
+pub returns-clause-plain : goal.returns-clause-plain
+returns-clause-plain c = plain_all c.args.columns.now c.loop-node.node c.loop-node.states.items c.loop-node.invariant
