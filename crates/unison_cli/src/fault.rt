@@ -1,13 +1,16 @@
 //! Why a job was not done: the statuses and the fault lines.
 ghost use Rattle.std.specs.Prelude.{◌≡◌};
-ghost use Rattle.unison_cli.specs.declared.fault.ServeFault.TheVariants.{Lang, Check, Net, Plan as PlanRefused, Report as ReportRefused, Round, Memory};
-ghost use Rattle.unison_cli.specs.Status.{status_of};
+ghost use Rattle.unison_cli.specs.declared.fault.ServeFault.TheVariants.{Lang, Check, Net, Plan as PlanRefused, Report as ReportRefused, Round, Run, Replay, Memory};
+ghost use Rattle.unison_cli.specs.Status.{replay_status, status_of};
 
 use link_net::NetFault;
 use lockstep::{PlanFault, ReportFault, RoundFault};
 use rule_check::CheckFault;
 use rule_lang::LangFault;
-use std::alloc::AllocError;
+use std::alloc::{AllocError, AllocFailed};
+use unison_pool::RunFault;
+use unison_trace::{ReplayFault, ScheduleFault};
+use unison_world::OpenFault;
 
 /// The first fault on the way from the texts to the answer.
 #[derive(Clone, Copy, Debug, PartialEq, Eq)]
@@ -24,6 +27,10 @@ pub enum ServeFault {
     Report(ReportFault),
     /// The round asked for was refused.
     Round(RoundFault),
+    /// The run by workers gave no configuration.
+    Run(RunFault),
+    /// The replay was refused.
+    Replay(ReplayFault),
     /// The device refused after the first `written` bytes of the answer.
     Write { written: u64 },
     /// Want of memory.
@@ -86,9 +93,33 @@ impl From<RoundFault> for ServeFault {
     }
 }
 
+impl From<RunFault> for ServeFault {
+    ghost from_gives = { λ fault e. e ≡ Run fault };
+
+    fn from(fault: RunFault) -> ServeFault {
+        ServeFault::Run(fault)
+    }
+}
+
+impl From<ReplayFault> for ServeFault {
+    ghost from_gives = { λ fault e. e ≡ Replay fault };
+
+    fn from(fault: ReplayFault) -> ServeFault {
+        ServeFault::Replay(fault)
+    }
+}
+
+impl<T: Drop> From<AllocFailed<T>> for ServeFault {
+    ghost from_gives = { λ _ e. e ≡ Memory };
+
+    fn from(_error: AllocFailed<T>) -> ServeFault {
+        ServeFault::Memory
+    }
+}
+
 impl ServeFault {
     /// The status with which the program ends: 1 for want of memory, a device's fault and a fault of a run, 3 for
-    /// a refused program, network, plan or report.
+    /// a refused program, network, plan, report or schedule.
     pub fn status(&self) -> u8
         ensures status { result ≡ status_of self.now }
     {
@@ -99,8 +130,10 @@ impl ServeFault {
             | ServeFault::Plan(PlanFault::Memory)
             | ServeFault::Report(ReportFault::Memory)
             | ServeFault::Round(_)
+            | ServeFault::Run(_)
             | ServeFault::Write { .. }
             | ServeFault::Memory => 1,
+            ServeFault::Replay(fault) => replay_status(*fault),
             ServeFault::Lang(_)
             | ServeFault::Check(_)
             | ServeFault::Net(_)
@@ -112,7 +145,10 @@ impl ServeFault {
     /// The number of the line of a report or a schedule that the fault names, where it names one.
     pub(crate) fn bad_line(&self) -> Option<u64> {
         match self {
-            ServeFault::Report(ReportFault::BadLine { line }) => Some(*line),
+            ServeFault::Report(ReportFault::BadLine { line })
+            | ServeFault::Replay(ReplayFault::Schedule(ScheduleFault::BadLine { line })) => {
+                Some(*line)
+            }
             _ => None,
         }
     }
@@ -120,20 +156,32 @@ impl ServeFault {
     /// The part and the name of the fault line.
     pub(crate) fn line(&self) -> (&'static str, &'static str) {
         match self {
-            ServeFault::Lang(fault) => program_line(lang_name(*fault)),
-            ServeFault::Check(fault) => program_line(check_name(*fault)),
+            ServeFault::Lang(fault) => named("program", lang_name(*fault)),
+            ServeFault::Check(fault) => named("program", check_name(*fault)),
             ServeFault::Net(fault) => named("network", net_name(*fault)),
             ServeFault::Plan(fault) => named("plan", plan_name(*fault)),
             ServeFault::Report(fault) => named("report", report_name(*fault)),
             ServeFault::Round(fault) => named("run", round_name(*fault)),
+            ServeFault::Run(fault) => named("run", run_name(*fault)),
+            ServeFault::Replay(fault) => replay_line(*fault),
             ServeFault::Write { .. } => ("device", "Write"),
             ServeFault::Memory => ("memory", "Memory"),
         }
     }
 }
 
-fn program_line(name: Option<&'static str>) -> (&'static str, &'static str) {
-    named("program", name)
+/// The status for a refused replay: 3 for a refused schedule, else 1.
+fn replay_status(fault: ReplayFault) -> u8
+    ensures status { result ≡ replay_status fault }
+{
+    match fault {
+        ReplayFault::Schedule(ScheduleFault::Memory)
+        | ReplayFault::Read
+        | ReplayFault::Opening(_)
+        | ReplayFault::Write { .. }
+        | ReplayFault::Memory => 1,
+        ReplayFault::TooManyTurns | ReplayFault::Schedule(_) => 3,
+    }
 }
 
 /// The part with the name, or want of memory where there is no name.
@@ -206,5 +254,46 @@ fn round_name(fault: RoundFault) -> Option<&'static str> {
         RoundFault::TooManyRounds => Some("TooManyRounds"),
         RoundFault::RoundsBelowStart => Some("RoundsBelowStart"),
         RoundFault::Memory => None,
+    }
+}
+
+fn run_name(fault: RunFault) -> Option<&'static str> {
+    match fault {
+        RunFault::WorkerCount => Some("WorkerCount"),
+        RunFault::StopTooLarge => Some("StopTooLarge"),
+        RunFault::NoThread => Some("NoThread"),
+        RunFault::TraceFull { .. } => Some("TraceFull"),
+        RunFault::Foreign => Some("Foreign"),
+        RunFault::Unfinished { .. } => Some("Unfinished"),
+        RunFault::Memory => None,
+        RunFault::StopBelowStart => Some("StopBelowStart"),
+    }
+}
+
+/// The line of a refused replay: a schedule's fault, that of a run's opening, or a device's.
+fn replay_line(fault: ReplayFault) -> (&'static str, &'static str) {
+    match fault {
+        ReplayFault::Read => ("device", "Read"),
+        ReplayFault::TooManyTurns => ("schedule", "TooManyTurns"),
+        ReplayFault::Schedule(fault) => named("schedule", schedule_name(fault)),
+        ReplayFault::Opening(fault) => named("run", open_name(fault)),
+        ReplayFault::Write { .. } => ("device", "Write"),
+        ReplayFault::Memory => ("memory", "Memory"),
+    }
+}
+
+fn schedule_name(fault: ScheduleFault) -> Option<&'static str> {
+    match fault {
+        ScheduleFault::BadLine { .. } => Some("BadLine"),
+        ScheduleFault::TooManySteps => Some("TooManySteps"),
+        ScheduleFault::Memory => None,
+    }
+}
+
+fn open_name(fault: OpenFault) -> Option<&'static str> {
+    match fault {
+        OpenFault::StopTooLarge => Some("StopTooLarge"),
+        OpenFault::StopBelowStart => Some("StopBelowStart"),
+        OpenFault::Memory => None,
     }
 }

@@ -1,20 +1,24 @@
 //! Unison: synchronous programs on networks whose nodes move at their own pace.
 #![tactic(auto)]
 
+mod comparison;
 mod fault;
 mod request;
 mod serve;
+#[cfg(test)]
+mod memory_tests;
 #[cfg(test)]
 mod tests;
 mod words;
 
 use crate::fault::ServeFault;
 use crate::request::{Job, Request, UsageFault};
-use crate::serve::serve;
+use crate::serve::{Served, serve};
 use crate::words::job_of;
 use lockstep::Tally;
 use std::alloc::AllocError;
-use std::io::{BufWriter, Write};
+use std::fs::File;
+use std::io::{BufWriter, ErrorKind, Read, Write};
 use std::process::ExitCode;
 use std::sync::Wait;
 use std::thread::Threads;
@@ -74,9 +78,18 @@ fn request_of(rt: &HostRuntime) -> Result<Request, Ending> {
     Ok(job_of(rt.alloc(), words.as_slice())?)
 }
 
+/// The ending where a file refuses, or where memory does.
+fn file_fault(error: &io::Error) -> Ending {
+    if error.kind() == ErrorKind::OutOfMemory {
+        Ending::Serve(ServeFault::Memory)
+    } else {
+        Ending::File
+    }
+}
+
 /// The bytes of a file.
 fn file(rt: &HostRuntime, path: &str) -> Result<Vec<u8>, Ending> {
-    fs::read(rt, path).map_err(|_| Ending::File)
+    fs::read(rt, path).map_err(|error| file_fault(&error))
 }
 
 /// The bytes of a file, where there is a path.
@@ -87,7 +100,34 @@ fn file_at(rt: &HostRuntime, path: &Option<String>) -> Result<Option<Vec<u8>>, E
     }
 }
 
-/// A job and the bytes of its files.
+/// A file that is open for reading, or nothing to read.
+#[derive(Drop)]
+enum Input {
+    Nothing,
+    Opened(File),
+}
+
+impl Read for Input {
+    fn read(&mut self, buffer: &mut [u8]) -> io::Result<usize> {
+        match self {
+            Input::Nothing => Ok(0),
+            Input::Opened(file) => file.read(buffer),
+        }
+    }
+}
+
+/// The opened file, where there is a path.
+fn input_at(rt: &HostRuntime, path: &Option<String>) -> Result<Input, Ending> {
+    match path {
+        Some(path) => match File::open(rt, path.as_str()) {
+            Ok(file) => Ok(Input::Opened(file)),
+            Err(error) => Err(file_fault(&error)),
+        },
+        None => Ok(Input::Nothing),
+    }
+}
+
+/// A job, the bytes of its files, the schedule, and where the trace goes.
 #[derive(Drop)]
 struct Task {
     job: Job,
@@ -95,9 +135,12 @@ struct Task {
     network: Vec<u8>,
     /// The report to go on from.
     report: Option<Vec<u8>>,
+    schedule: Input,
+    /// The path of the trace.
+    trace: Option<String>,
 }
 
-/// The job that the command line asks for, its files read.
+/// The job that the command line asks for, its files read and its schedule opened.
 fn task_of(rt: &HostRuntime) -> Result<Task, Ending> {
     let request = request_of(rt)?;
     let program = file(rt, request.program.as_str())?;
@@ -106,11 +149,14 @@ fn task_of(rt: &HostRuntime) -> Result<Task, Ending> {
         None => Vec::new(rt.alloc()),
     };
     let report = file_at(rt, &request.from)?;
+    let schedule = input_at(rt, &request.schedule)?;
     Ok(Task {
         job: request.job,
         program,
         network,
         report,
+        schedule,
+        trace: request.trace,
     })
 }
 
@@ -137,10 +183,13 @@ fn end(rt: &HostRuntime, ending: &Ending) -> ExitCode {
     ExitCode::from(ending.status())
 }
 
-/// Does the job, and hands the buffer's last bytes to standard output. The status with which the program ends.
-fn run(rt: &HostRuntime, threads: &(impl Threads + Wait + Sync)) -> Result<u8, Ending> {
-    let task = task_of(rt)?;
-    let mut schedule = Tally::new(io::empty());
+/// Does a task's job, and hands the buffer's last bytes to standard output.
+fn answer(
+    rt: &HostRuntime,
+    threads: &(impl Threads + Wait + Sync),
+    task: &mut Task,
+) -> Result<Served, Ending> {
+    let mut schedule = Tally::new(&mut task.schedule);
     let mut output = match BufWriter::new(rt.alloc(), io::writer(rt)) {
         Ok(output) => output,
         Err(_) => return Err(Ending::Serve(ServeFault::Memory)),
@@ -157,9 +206,27 @@ fn run(rt: &HostRuntime, threads: &(impl Threads + Wait + Sync)) -> Result<u8, E
         &mut out,
     )?;
     match output.flush() {
-        Ok(()) => Ok(served.status),
+        Ok(()) => Ok(served),
         Err(_) => Err(Ending::Output),
     }
+}
+
+/// Writes the trace into its file, where there are both.
+fn keep_trace(rt: &HostRuntime, path: &Option<String>, trace: &Option<Vec<u8>>) -> Result<(), Ending> {
+    match (path, trace) {
+        (Some(path), Some(trace)) => {
+            fs::write(rt, path.as_str(), trace.as_slice()).map_err(|error| file_fault(&error))
+        }
+        _ => Ok(()),
+    }
+}
+
+/// Does what the command line asks for. The status with which the program ends.
+fn run(rt: &HostRuntime, threads: &(impl Threads + Wait + Sync)) -> Result<u8, Ending> {
+    let mut task = task_of(rt)?;
+    let served = answer(rt, threads, &mut task)?;
+    keep_trace(rt, &task.trace, &served.trace)?;
+    Ok(served.status)
 }
 
 fn main(rt: HostRuntime) -> ExitCode {

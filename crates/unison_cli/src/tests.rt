@@ -3,15 +3,20 @@ ghost use Rattle.std.specs.Prelude.{◌≡◌, ◌<◌, ◌^◌, false, Some};
 
 use crate::fault::ServeFault;
 use crate::request::{Job, Request, UsageFault};
-use crate::serve::serve;
+use crate::serve::{Served, serve};
 use crate::words::job_of;
-use lockstep::Tally;
+use crate::comparison::difference_line;
+use link_net::read_network;
+use lockstep::{Difference, Plan, Tally};
+use rule_check::check;
+use rule_lang::read_program;
 use std::alloc::{AllocError, Global};
 use std::io;
-use std::io::{ErrorKind, Write};
+use std::io::{ErrorKind, Read, Write};
 use std::sync::Wait;
 use std::test::Fail;
 use std::thread::Threads;
+use unison_trace::ReplayFault;
 
 /// Takes `room` bytes in all, and then fails.
 #[derive(Drop)]
@@ -58,17 +63,17 @@ const RULE_110: &str =
 const CELLS: &str =
     "nodes = 8\nlinks = [[0, 1], [1, 2], [2, 3], [3, 4], [4, 5], [5, 6], [6, 7]]\n[set]\ns = [[6, 1]]\n";
 
-/// What was written, and the fault where there was one.
-fn served(
+/// What was written, and what `serve` answered.
+fn answered(
     rt: &(impl Threads + Wait + Sync),
     alloc: Global,
     job: Job,
-    program: &[u8],
-    network: &[u8],
+    texts: [&[u8]; 3],
     report: Option<&[u8]>,
     room: usize,
-) -> Result<(Vec<u8>, Option<ServeFault>), Fail> {
-    let mut schedule = Tally::new(io::empty());
+) -> Result<(Vec<u8>, Result<Served, ServeFault>), Fail> {
+    let [program, network, steps] = texts;
+    let mut schedule = Tally::new(steps);
     let mut out = Tally::new(Paper {
         held: Vec::new(alloc),
         room,
@@ -84,6 +89,21 @@ fn served(
         &mut out,
     );
     let held = out.inner().held.clone()?;
+    Ok((held, answer))
+}
+
+/// What was written, and the fault where there was one, without a schedule.
+fn served(
+    rt: &(impl Threads + Wait + Sync),
+    alloc: Global,
+    job: Job,
+    program: &[u8],
+    network: &[u8],
+    report: Option<&[u8]>,
+    room: usize,
+) -> Result<(Vec<u8>, Option<ServeFault>), Fail> {
+    let texts = [program, network, b"".as_slice()];
+    let (held, answer) = answered(rt, alloc, job, texts, report, room)?;
     Ok((held, answer.err()))
 }
 
@@ -429,6 +449,257 @@ fn refused_reports(rt: HostRuntime) -> Result<(), Fail> {
     Ok(())
 }
 
+/// The four steps of a pair: node 1 reads a neighbour that is ahead, and uses its previous state.
+const STEPS: &str = "read 0 0\nwrite 0\nread 1 0\nwrite 1\n";
+
+#[test]
+fn replays(rt: HostRuntime) -> Result<(), Fail> {
+    let alloc = rt.alloc();
+    let from = Some("round 1\n0 dist=0\n1 dist=1\n2 dist=4294967295\n".as_bytes());
+    let rows = [
+        (SWAP, PAIR, None, 10, STEPS, "0 moves 1 s=7\n1 moves 1 s=5\n"),
+        (SWAP, PAIR, None, 10, "", "0 moves 0 s=5\n1 moves 0 s=7\n"),
+        (
+            SWAP,
+            PAIR,
+            None,
+            10,
+            "write 9\n",
+            "0 moves 0 s=5\n1 moves 0 s=7\n",
+        ),
+        (
+            SWAP,
+            PAIR,
+            None,
+            10,
+            "read 0 1\n",
+            "0 moves 0 s=5\n1 moves 0 s=7\n",
+        ),
+        (
+            ROUNDS,
+            ONE,
+            None,
+            4,
+            "write 0\nwrite 0\nwrite 0\nwrite 0\n",
+            "0 moves 4 s=6\n",
+        ),
+        (
+            DISTANCE,
+            PATH,
+            from,
+            3,
+            "",
+            "0 moves 1 dist=0\n1 moves 1 dist=1\n2 moves 1 dist=4294967295\n",
+        ),
+    ];
+    for (program, network, report, stop, steps, want) in rows {
+        let texts = [program.as_bytes(), network.as_bytes(), steps.as_bytes()];
+        let job = Job::Replay { stop };
+        let (held, answer) = answered(&rt, alloc, job, texts, report, 1000)?;
+        assert_eq!(rt; held.as_slice(), want.as_bytes(), "{steps:?} to {stop}");
+        assert_eq!(rt; answer.is_ok(), true);
+    }
+    Ok(())
+}
+
+/// The fault line and the status of a replay of a pair, and how many bytes were written.
+fn replay_line(
+    rt: &(impl Threads + Wait + Sync),
+    alloc: Global,
+    stop: u32,
+    steps: &str,
+) -> Result<(String, u8), Fail> {
+    let texts = [SWAP.as_bytes(), PAIR.as_bytes(), steps.as_bytes()];
+    let (held, answer) = answered(rt, alloc, Job::Replay { stop }, texts, None, 1000)?;
+    let fault = answer.err().ok_or("a fault")?;
+    let (part, name) = fault.line();
+    let written = held.len();
+    let line = fault.bad_line().unwrap_or(0);
+    Ok((
+        format!(in alloc; "{part} {name} {line} {written}")?,
+        fault.status(),
+    ))
+}
+
+#[test]
+fn refused_replays(rt: HostRuntime) -> Result<(), Fail> {
+    let alloc = rt.alloc();
+    let rows = [
+        (10, "write 0", "schedule BadLine 1 0", 3),
+        (10, "write 0\nwrite 00\n", "schedule BadLine 2 0", 3),
+        (1_000_000_001, STEPS, "run StopTooLarge 0 0", 1),
+    ];
+    for (stop, steps, line, status) in rows {
+        let (found, ends) = replay_line(&rt, alloc, stop, steps)?;
+        assert_eq!(rt; found.as_str(), line, "{steps:?} to {stop}");
+        assert_eq!(rt; ends, status);
+    }
+    Ok(())
+}
+
+/// Gives an error in place of bytes.
+#[derive(Drop)]
+struct Torn;
+
+impl Read for Torn {
+    fn read(&mut self, _buffer: &mut [u8]) -> io::Result<usize> {
+        Err(io::Error::from(ErrorKind::Interrupted))
+    }
+}
+
+/// The schedule's device fails, or the writer's in mid-text.
+#[test]
+fn replays_whose_devices_fail(rt: HostRuntime) -> Result<(), Fail> {
+    let alloc = rt.alloc();
+    let texts = [SWAP.as_bytes(), PAIR.as_bytes(), STEPS.as_bytes()];
+    let job = Job::Replay { stop: 10 };
+    let (held, answer) = answered(&rt, alloc, job, texts, None, 10)?;
+    let fault = answer.err().ok_or("a fault")?;
+    assert_eq!(rt; fault, ServeFault::Replay(ReplayFault::Write { written: 10 }));
+    assert_eq!(rt; (fault.line(), fault.status()), (("device", "Write"), 1));
+    assert_eq!(rt; held.as_slice(), b"0 moves 1 ".as_slice());
+    let mut schedule = Tally::new(Torn);
+    let mut out = Tally::new(Paper {
+        held: Vec::new(alloc),
+        room: 1000,
+    });
+    let [program, network, _] = texts;
+    let answer = serve(
+        &rt,
+        alloc,
+        &job,
+        program,
+        network,
+        None,
+        &mut schedule,
+        &mut out,
+    );
+    let fault = answer.err().ok_or("a fault")?;
+    assert_eq!(rt; (fault.line(), fault.status()), (("device", "Read"), 1));
+    assert_eq!(rt; out.calls(), 0);
+    Ok(())
+}
+
+const RING: &str =
+    "nodes = 6\nlinks = [[0, 1], [1, 2], [2, 3], [3, 4], [4, 5], [5, 0]]\n[set]\ns = [[0, 1], [2, 1], [3, 1]]\n";
+
+const MAJORITY: &str =
+    "field s = 0; next s = if ((count n.s * 2) > degree) then 1 else if ((count n.s * 2) < degree) then 0 else s;";
+
+#[test]
+fn runs(rt: HostRuntime) -> Result<(), Fail> {
+    let alloc = rt.alloc();
+    let three = Some("round 3\n0 s=3\n".as_bytes());
+    let rows = [
+        (DISTANCE, PATH, None, 2, 1, "round 2\n0 dist=0\n1 dist=1\n2 dist=2\n"),
+        (DISTANCE, PATH, None, 2, 3, "round 2\n0 dist=0\n1 dist=1\n2 dist=2\n"),
+        (MAJORITY, RING, None, 4, 2, "round 4\n0 s=0\n1 s=1\n2 s=1\n3 s=1\n4 s=0\n5 s=0\n"),
+        (ROUNDS, ONE, three, 4, 1, "round 4\n0 s=6\n"),
+    ];
+    for (program, network, report, rounds, workers, want) in rows {
+        let texts = [program.as_bytes(), network.as_bytes(), b"".as_slice()];
+        let job = Job::Run {
+            rounds,
+            workers,
+            traced: false,
+        };
+        let (held, answer) = answered(&rt, alloc, job, texts, report, 1000)?;
+        let served = answer?;
+        assert_eq!(rt; held.as_slice(), want.as_bytes(), "{workers} workers");
+        assert_eq!(rt; (served.status, served.trace.is_none()), (0, true));
+    }
+    Ok(())
+}
+
+/// The trace of a run, replayed, ends where the run did: 72 steps, or those from the report's round on.
+#[test]
+fn traces(rt: HostRuntime) -> Result<(), Fail> {
+    let alloc = rt.alloc();
+    let three = Some("round 3\n0 s=3\n".as_bytes());
+    let rows = [
+        (
+            MAJORITY,
+            RING,
+            None,
+            72,
+            "0 moves 4 s=0\n1 moves 4 s=1\n2 moves 4 s=1\n3 moves 4 s=1\n4 moves 4 s=0\n5 moves 4 s=0\n",
+        ),
+        (ROUNDS, ONE, three, 1, "0 moves 4 s=6\n"),
+    ];
+    for (program, network, report, steps, want) in rows {
+        let texts = [program.as_bytes(), network.as_bytes(), b"".as_slice()];
+        let job = Job::Run {
+            rounds: 4,
+            workers: 2,
+            traced: true,
+        };
+        let (_, answer) = answered(&rt, alloc, job, texts, report, 1000)?;
+        let trace = answer?.trace.ok_or("a trace")?;
+        let lines = trace.iter().filter(|byte| **byte == b'\n').count();
+        assert_eq!(rt; lines, steps);
+        let texts = [program.as_bytes(), network.as_bytes(), trace.as_slice()];
+        let (held, _) = answered(&rt, alloc, Job::Replay { stop: 4 }, texts, report, 1000)?;
+        assert_eq!(rt; held.as_slice(), want.as_bytes());
+    }
+    Ok(())
+}
+
+#[test]
+fn comparisons(rt: HostRuntime) -> Result<(), Fail> {
+    let alloc = rt.alloc();
+    for (program, network, rounds, workers) in [(DISTANCE, PATH, 2, 3), (MAJORITY, RING, 4, 2)] {
+        let texts = [program.as_bytes(), network.as_bytes(), b"".as_slice()];
+        let job = Job::Compare { rounds, workers };
+        let (held, answer) = answered(&rt, alloc, job, texts, None, 1000)?;
+        assert_eq!(rt; held.as_slice(), b"same\n".as_slice());
+        assert_eq!(rt; answer?.status, 0);
+    }
+    Ok(())
+}
+
+#[test]
+fn refused_runs(rt: HostRuntime) -> Result<(), Fail> {
+    let alloc = rt.alloc();
+    let three = Some("round 3\n0 s=3\n".as_bytes());
+    let rows = [
+        (Job::Run { rounds: 4, workers: 0, traced: false }, "run WorkerCount 0 0"),
+        (Job::Run { rounds: 4, workers: 65, traced: true }, "run WorkerCount 0 0"),
+        (Job::Run { rounds: 1_000_000_001, workers: 1, traced: false }, "run StopTooLarge 0 0"),
+        (Job::Run { rounds: 2, workers: 1, traced: false }, "run StopBelowStart 0 0"),
+        (Job::Compare { rounds: 2, workers: 1 }, "run RoundsBelowStart 0 0"),
+        (Job::Compare { rounds: 4, workers: 0 }, "run WorkerCount 0 0"),
+        (Job::Replay { stop: 2 }, "run StopBelowStart 0 0"),
+    ];
+    for (job, line) in rows {
+        let (found, status) = line_of(&rt, alloc, job, ROUNDS.as_bytes(), ONE.as_bytes(), three)?;
+        assert_eq!(rt; found.as_str(), line, "{job:?}");
+        assert_eq!(rt; status, 1);
+    }
+    Ok(())
+}
+
+/// A difference is told with the node, the field's name and both values.
+#[test]
+fn told_difference(rt: HostRuntime) -> Result<(), Fail> {
+    let alloc = rt.alloc();
+    let source = read_program(alloc, b"field dist = 0; field s = 0;")?;
+    let plan = Plan::new(alloc, check(alloc, &source)?, read_network(alloc, PAIR.as_bytes())?)?;
+    let difference = Difference {
+        node: 1,
+        field: 1,
+        left: 5,
+        right: 7,
+    };
+    let inside = difference.node < plan.network().nodes()
+        && difference.field < plan.program().field_count();
+    if !inside {
+        return Err(Fail::from("no such place"));
+    }
+    let line = difference_line(alloc, &plan, &difference)?;
+    assert_eq!(rt; line.as_slice(), b"node 1 field s lockstep 5 run 7\n".as_slice());
+    Ok(())
+}
+
 fn owned(alloc: Global, words: &[&str]) -> Result<Vec<String>, AllocError> {
     let mut all = Vec::new(alloc);
     for word in words {
@@ -440,34 +711,82 @@ fn owned(alloc: Global, words: &[&str]) -> Result<Vec<String>, AllocError> {
 #[test]
 fn right_words(rt: HostRuntime) -> Result<(), Fail> {
     let alloc = rt.alloc();
-    let words = owned(alloc, &["unison", "lockstep", "p", "n", "--rounds", "0002"])?;
-    let request = job_of(alloc, &words)?;
-    assert_eq!(rt; request.job, Job::Lockstep { rounds: 2 });
-    assert_eq!(rt; request.program.as_str(), "p");
-    assert_eq!(rt; request.network.as_ref().map(|n| n.as_str()), Some("n"));
-    assert_eq!(rt; request.from.is_none(), true);
-    let words = owned(
-        alloc,
-        &[
-            "unison", "lockstep", "p", "n", "--rounds", "2", "--from", "f",
-        ],
-    )?;
-    let request = job_of(alloc, &words)?;
-    assert_eq!(rt; request.from.as_ref().map(|f| f.as_str()), Some("f"));
-    let words = owned(alloc, &["unison", "check", "p"])?;
-    let request = job_of(alloc, &words)?;
-    assert_eq!(rt; request.job, Job::Check);
-    assert_eq!(rt; request.network.is_none(), true);
+    let rows: [(&[&str], Job); 6] = [
+        (&["unison", "check", "p"], Job::Check),
+        (
+            &["unison", "lockstep", "p", "n", "--rounds", "0002"],
+            Job::Lockstep { rounds: 2 },
+        ),
+        (
+            &["unison", "run", "p", "n", "--workers", "64", "--rounds", "0"],
+            Job::Run { rounds: 0, workers: 64, traced: false },
+        ),
+        (
+            &["unison", "run", "p", "n", "--rounds", "3", "--workers", "1", "--trace", "t"],
+            Job::Run { rounds: 3, workers: 1, traced: true },
+        ),
+        (
+            &["unison", "replay", "p", "n", "s", "--stop", "1000000000"],
+            Job::Replay { stop: 1_000_000_000 },
+        ),
+        (
+            &["unison", "compare", "p", "n", "--rounds=7", "--workers=2"],
+            Job::Compare { rounds: 7, workers: 2 },
+        ),
+    ];
+    for (line, job) in rows {
+        let words = owned(alloc, line)?;
+        let request = job_of(alloc, &words)?;
+        assert_eq!(rt; request.job, job, "{line:?}");
+        assert_eq!(rt; request.program.as_str(), "p");
+    }
+    Ok(())
+}
+
+/// Each path stands where its word does, and is missing where it is not given.
+#[test]
+fn right_paths(rt: HostRuntime) -> Result<(), Fail> {
+    let alloc = rt.alloc();
+    let rows: [(&[&str], [&str; 4]); 5] = [
+        (&["unison", "check", "p"], ["-", "-", "-", "-"]),
+        (&["unison", "lockstep", "p", "n", "--rounds", "2"], ["n", "-", "-", "-"]),
+        (
+            &["unison", "run", "p", "n", "--rounds", "3", "--workers", "1", "--trace", "t", "--from", "f"],
+            ["n", "f", "-", "t"],
+        ),
+        (
+            &["unison", "replay", "p", "n", "s", "--stop", "3", "--from", "f"],
+            ["n", "f", "s", "-"],
+        ),
+        (
+            &["unison", "compare", "p", "n", "--rounds", "3", "--workers", "1", "--from", "f"],
+            ["n", "f", "-", "-"],
+        ),
+    ];
+    for (line, paths) in rows {
+        let words = owned(alloc, line)?;
+        let request = job_of(alloc, &words)?;
+        let found = [
+            request.network.as_ref().map_or("-", |path| path.as_str()),
+            request.from.as_ref().map_or("-", |path| path.as_str()),
+            request.schedule.as_ref().map_or("-", |path| path.as_str()),
+            request.trace.as_ref().map_or("-", |path| path.as_str()),
+        ];
+        assert_eq!(rt; found, paths, "{line:?}");
+    }
     Ok(())
 }
 
 #[test]
 fn wrong_words(rt: HostRuntime) -> Result<(), Fail> {
     let alloc = rt.alloc();
-    let lines: [&[&str]; 9] = [
+    let lines: [&[&str]; 12] = [
         &["unison"],
         &["unison", "walk"],
-        &["unison", "run", "p", "n", "--rounds", "1", "--workers", "1"],
+        &["unison", "run", "p", "n", "--rounds", "1"],
+        &["unison", "run", "p", "n", "--workers", "1"],
+        &["unison", "compare", "p", "n", "--rounds", "1", "--workers", "1", "--trace", "t"],
+        &["unison", "replay", "p", "n", "--stop", "1"],
         &["unison", "check"],
         &["unison", "check", "p", "q"],
         &["unison", "lockstep", "p", "n"],
@@ -510,6 +829,25 @@ fn wrong_numbers_name_the_option(rt: HostRuntime) -> Result<(), Fail> {
         let words = owned(alloc, &["unison", "lockstep", "p", "n", "--rounds", number])?;
         let text = usage_text(job_of(alloc, &words)).ok_or("a usage fault")?;
         assert_eq!(rt; text.as_str(), "rounds", "{number}");
+    }
+    Ok(())
+}
+
+/// Each option names itself; of two bad ones the rounds come first.
+#[test]
+fn wrong_options(rt: HostRuntime) -> Result<(), Fail> {
+    let alloc = rt.alloc();
+    let rows: [(&[&str], &str); 5] = [
+        (&["unison", "run", "p", "n", "--rounds", "1", "--workers", "0"], "workers"),
+        (&["unison", "run", "p", "n", "--rounds", "1", "--workers", "65"], "workers"),
+        (&["unison", "run", "p", "n", "--workers", "65", "--rounds", "x"], "rounds"),
+        (&["unison", "compare", "p", "n", "--workers", "", "--rounds", "1"], "workers"),
+        (&["unison", "replay", "p", "n", "s", "--stop", "1000000001"], "stop"),
+    ];
+    for (line, option) in rows {
+        let words = owned(alloc, line)?;
+        let text = usage_text(job_of(alloc, &words)).ok_or("a usage fault")?;
+        assert_eq!(rt; text.as_str(), option, "{line:?}");
     }
     Ok(())
 }

@@ -1,5 +1,6 @@
 //! The command line: which job the words ask for.
 ghost use Rattle.std.specs.Prelude.{◌≡◌, ◌≤◌, IfOk, IfSome};
+ghost use Rattle.lockstep.specs.Configs.{most_rounds};
 ghost use Rattle.unison_cli.specs.Requests.{IsWithinLimits};
 
 use crate::request::{Job, Request, UsageFault};
@@ -9,6 +10,9 @@ use std::alloc::{AllocError, Global};
 
 /// The greatest round.
 const MOST_ROUNDS: u32 = 1_000_000_000;
+
+/// The greatest number of workers.
+const MOST_WORKERS: u32 = 64;
 
 fn path<'a>(alloc: Global, id: &'a str, name: &'a str, help: &'a str) -> Arg<'a> {
     Arg::new(alloc, id)
@@ -31,21 +35,69 @@ fn network_path<'a>(alloc: Global) -> Arg<'a> {
     )
 }
 
-fn rounds_option<'a>(alloc: Global) -> Arg<'a> {
-    Arg::new(alloc, "rounds")
-        .long("rounds")
-        .required(true)
-        .value_name("T")
-        .help("The round to report, counted from round 0: 0 to 1000000000")
+fn schedule_path<'a>(alloc: Global) -> Arg<'a> {
+    path(
+        alloc,
+        "schedule",
+        "SCHEDULE",
+        "The file of the steps: lines `read NODE SLOT` and `write NODE`",
+    )
+}
+
+fn option<'a>(alloc: Global, id: &'a str, name: &'a str, help: &'a str) -> Arg<'a> {
+    Arg::new(alloc, id)
+        .long(id)
+        .value_name(name)
+        .help(help)
         .action(ArgAction::Set)
 }
 
+fn rounds_option<'a>(alloc: Global) -> Arg<'a> {
+    option(
+        alloc,
+        "rounds",
+        "T",
+        "The round to report, counted from round 0: 0 to 1000000000",
+    )
+    .required(true)
+}
+
+fn stop_option<'a>(alloc: Global) -> Arg<'a> {
+    option(
+        alloc,
+        "stop",
+        "T",
+        "The round at which a node stops, counted from round 0: 0 to 1000000000",
+    )
+    .required(true)
+}
+
+fn workers_option<'a>(alloc: Global) -> Arg<'a> {
+    option(
+        alloc,
+        "workers",
+        "W",
+        "How many threads drive the nodes: 1 to 64",
+    )
+    .required(true)
+}
+
+fn trace_option<'a>(alloc: Global) -> Arg<'a> {
+    option(
+        alloc,
+        "trace",
+        "FILE",
+        "Where to write the steps that were made, as a schedule of at most 1000000",
+    )
+}
+
 fn from_option<'a>(alloc: Global) -> Arg<'a> {
-    Arg::new(alloc, "from")
-        .long("from")
-        .value_name("FILE")
-        .help("A report to go on from: its states and its round are the start")
-        .action(ArgAction::Set)
+    option(
+        alloc,
+        "from",
+        "FILE",
+        "A report to go on from: its states and its round are the start",
+    )
 }
 
 fn check_command<'a>(alloc: Global) -> Result<Command<'a>, AllocError> {
@@ -63,14 +115,48 @@ fn lockstep_command<'a>(alloc: Global) -> Result<Command<'a>, AllocError> {
         .arg(from_option(alloc))
 }
 
+fn run_command<'a>(alloc: Global) -> Result<Command<'a>, AllocError> {
+    Command::new(alloc, "run")
+        .about("Run a program by threads, node by node, and print the report of a round")
+        .arg(program_path(alloc))?
+        .arg(network_path(alloc))?
+        .arg(rounds_option(alloc))?
+        .arg(workers_option(alloc))?
+        .arg(trace_option(alloc))?
+        .arg(from_option(alloc))
+}
+
+fn replay_command<'a>(alloc: Global) -> Result<Command<'a>, AllocError> {
+    Command::new(alloc, "replay")
+        .about("Make the steps of a schedule and print each node's moves and state")
+        .arg(program_path(alloc))?
+        .arg(network_path(alloc))?
+        .arg(schedule_path(alloc))?
+        .arg(stop_option(alloc))?
+        .arg(from_option(alloc))
+}
+
+fn compare_command<'a>(alloc: Global) -> Result<Command<'a>, AllocError> {
+    Command::new(alloc, "compare")
+        .about("Compare a run by threads with the lockstep rounds and print `same`, or the first difference")
+        .arg(program_path(alloc))?
+        .arg(network_path(alloc))?
+        .arg(rounds_option(alloc))?
+        .arg(workers_option(alloc))?
+        .arg(from_option(alloc))
+}
+
 /// The whole command with its subcommands.
 pub fn command<'a>(alloc: Global) -> Result<Command<'a>, AllocError> {
     Command::new(alloc, "unison")
         .bin_name("unison")?
-        .about("A runner for synchronous programs on networks")
+        .about("A runner for synchronous programs on networks whose nodes move at their own pace")
         .subcommand_required(true)
         .subcommand(check_command(alloc)?)?
-        .subcommand(lockstep_command(alloc)?)
+        .subcommand(lockstep_command(alloc)?)?
+        .subcommand(run_command(alloc)?)?
+        .subcommand(replay_command(alloc)?)?
+        .subcommand(compare_command(alloc)?)
 }
 
 /// The number that decimal digits write, where it lies between the bounds.
@@ -130,14 +216,66 @@ fn path_of(alloc: Global, matches: &ArgMatches<'_>, id: &str) -> Result<String, 
     }
 }
 
+/// The round that `--rounds` names.
+fn rounds_in(alloc: Global, matches: &ArgMatches<'_>) -> Result<u32, UsageFault>
+    ensures within { IfOk result (λ n. n ≤ most_rounds) }
+{
+    option_number(alloc, matches, "rounds", 0, MOST_ROUNDS)
+}
+
+/// The number of threads that `--workers` names.
+fn workers_in(alloc: Global, matches: &ArgMatches<'_>) -> Result<u32, UsageFault>
+    ensures within { IfOk result (λ n. (1 ≤ n) × (n ≤ 64)) }
+{
+    option_number(alloc, matches, "workers", 1, MOST_WORKERS)
+}
+
+fn run_in(alloc: Global, matches: &ArgMatches<'_>) -> Result<Job, UsageFault>
+    ensures within { IfOk result IsWithinLimits }
+{
+    let rounds = rounds_in(alloc, matches)?;
+    let workers = workers_in(alloc, matches)?;
+    let traced = matches.get_str("trace").is_some();
+    Ok(Job::Run {
+        rounds,
+        workers,
+        traced,
+    })
+}
+
+fn replay_in(alloc: Global, matches: &ArgMatches<'_>) -> Result<Job, UsageFault>
+    ensures within { IfOk result IsWithinLimits }
+{
+    let stop = option_number(alloc, matches, "stop", 0, MOST_ROUNDS)?;
+    Ok(Job::Replay { stop })
+}
+
+fn compare_in(alloc: Global, matches: &ArgMatches<'_>) -> Result<Job, UsageFault>
+    ensures within { IfOk result IsWithinLimits }
+{
+    let rounds = rounds_in(alloc, matches)?;
+    let workers = workers_in(alloc, matches)?;
+    Ok(Job::Compare { rounds, workers })
+}
+
+fn lockstep_in(alloc: Global, matches: &ArgMatches<'_>) -> Result<Job, UsageFault>
+    ensures within { IfOk result IsWithinLimits }
+{
+    let rounds = rounds_in(alloc, matches)?;
+    Ok(Job::Lockstep { rounds })
+}
+
+/// The job that the subcommand's name and options ask for.
 fn job_in(alloc: Global, name: &str, matches: &ArgMatches<'_>) -> Result<Job, UsageFault>
     ensures within { IfOk result IsWithinLimits }
 {
-    if name == "lockstep" {
-        let rounds = option_number(alloc, matches, "rounds", 0, MOST_ROUNDS)?;
-        return Ok(Job::Lockstep { rounds });
+    match name {
+        "lockstep" => lockstep_in(alloc, matches),
+        "run" => run_in(alloc, matches),
+        "replay" => replay_in(alloc, matches),
+        "compare" => compare_in(alloc, matches),
+        _ => Ok(Job::Check),
     }
-    Ok(Job::Check)
 }
 
 fn request_in(alloc: Global, name: &str, matches: &ArgMatches<'_>) -> Result<Request, UsageFault>
@@ -147,13 +285,15 @@ fn request_in(alloc: Global, name: &str, matches: &ArgMatches<'_>) -> Result<Req
     let program = path_of(alloc, matches, "program")?;
     let network = text_of(alloc, matches, "network")?;
     let from = text_of(alloc, matches, "from")?;
+    let schedule = text_of(alloc, matches, "schedule")?;
+    let trace = text_of(alloc, matches, "trace")?;
     Ok(Request {
         job,
         program,
         network,
         from,
-        schedule: None,
-        trace: None,
+        schedule,
+        trace,
     })
 }
 

@@ -2,6 +2,8 @@
 #![tactic(auto)]
 
 #[cfg(test)]
+mod damaged;
+#[cfg(test)]
 mod devices;
 #[cfg(test)]
 mod examples;
@@ -15,6 +17,8 @@ mod memory_answers;
 mod memory_of_logs;
 #[cfg(test)]
 mod memory_of_replays;
+#[cfg(test)]
+mod memory_of_runs;
 #[cfg(test)]
 mod memory_of_shared_rounds;
 #[cfg(test)]
@@ -51,5 +55,7 @@ mod texts;
 mod values;
 #[cfg(test)]
 mod walks;
+#[cfg(test)]
+mod workers;
 #[cfg(test)]
 mod worlds;

@@ -1,14 +1,17 @@
-//! Reads a network, or runs a plan to a round by whole sweeps of a world or by lockstep rounds, for `bench/run` to time.
+//! Reads a network, or brings a plan to a round: by lockstep rounds, by parallel ones, by whole sweeps of a world or by workers.
+//! For `bench/run` to time.
 #![tactic(auto)]
 
 use link_net::{NetFile, read_network};
-use lockstep::{Plan, lockstep};
+use lockstep::{Plan, lockstep, lockstep_par};
 use rule_check::check;
 use rule_lang::read_program;
-use std::alloc::{AllocError, AllocFailed};
+use std::alloc::{AllocError, AllocFailed, Global};
 use std::process::ExitCode;
-use std::sync::Arc;
+use std::sync::{Arc, Wait};
+use std::thread::Threads;
 use std::{env, fs, io};
+use unison_pool::{OpenGate, run};
 use unison_world::World;
 
 /// Why nothing was run.
@@ -60,25 +63,56 @@ fn rounds(rt: &HostRuntime, plan: &Plan, round: u32) -> Result<u64, Fault> {
     Ok(config.nodes() as u64)
 }
 
-/// What the words ask for: `read`, `sweeps` or `rounds`, a program, a network and a round. `read` reads the network
-/// alone and gives the number of its links.
-fn run(rt: &HostRuntime) -> Result<u64, Fault> {
+/// The nodes whose states parallel lockstep rounds gave.
+fn parallel_rounds(
+    rt: &(impl Threads + Wait + Sync),
+    alloc: Global,
+    plan: &Plan,
+    round: u32,
+) -> Result<u64, Fault> {
+    let config = lockstep_par(rt, alloc, plan, round).map_err(|_| Fault::Refused)?;
+    Ok(config.nodes() as u64)
+}
+
+/// The nodes that workers brought to a stop.
+fn workers(
+    rt: &(impl Threads + Wait + Sync),
+    alloc: Global,
+    plan: Plan,
+    stop: u32,
+    count: u32,
+) -> Result<u64, Fault> {
+    let plan = Arc::new(alloc, plan)?;
+    let finished = run(rt, alloc, &plan, stop, count, None, &OpenGate).map_err(|_| Fault::Refused)?;
+    Ok(finished.config.nodes() as u64)
+}
+
+/// The number that a word writes.
+fn number(word: &String) -> Result<u32, Fault> {
+    word.as_str().parse::<u32>().map_err(|_| Fault::Words)
+}
+
+/// What the words ask for: `read`, `rounds`, `parallel`, `sweeps` or `workers`, a program, a network, a round and a number
+/// of workers. `read` reads the network alone and gives the number of its links.
+fn answer(rt: &HostRuntime, threads: &(impl Threads + Wait + Sync)) -> Result<u64, Fault> {
     let words: Vec<String> = match env::args(rt) {
         Ok(words) => words.collect(rt.alloc())?,
         Err(_) => return Err(Fault::Memory),
     };
-    let [_name, job, program, network, round] = words.as_slice() else {
+    let [_name, job, program, network, round, count] = words.as_slice() else {
         return Err(Fault::Words);
     };
-    let round = round.as_str().parse::<u32>().map_err(|_| Fault::Words)?;
     if job.as_str() == "read" {
         return Ok(network_of(rt, network.as_str())?.network().links() as u64);
     }
+    let round = number(round)?;
     let plan = plan_of(rt, program.as_str(), network.as_str())?;
-    if job.as_str() == "sweeps" {
-        sweeps(rt, plan, round)
-    } else {
-        rounds(rt, &plan, round)
+    match job.as_str() {
+        "rounds" => rounds(rt, &plan, round),
+        "parallel" => parallel_rounds(threads, rt.alloc(), &plan, round),
+        "sweeps" => sweeps(rt, plan, round),
+        "workers" => workers(threads, rt.alloc(), plan, round, number(count)?),
+        _ => Err(Fault::Words),
     }
 }
 
@@ -90,7 +124,7 @@ fn print_answer(rt: &HostRuntime, answer: &Result<u64, Fault>) -> io::Result<()>
 }
 
 fn main(rt: HostRuntime) -> ExitCode {
-    let answer = run(&rt);
+    let answer = answer(&rt, &rt);
     let _ = print_answer(&rt, &answer);
     if answer.is_ok() {
         ExitCode::SUCCESS

@@ -1,0 +1,394 @@
+//! Runs of workers: what they report, which steps they store, when they refuse, and that they work side by side.
+
+use crate::texts::{plan_of, report_of};
+use crate::worlds::{assert_nodes, assert_steps, world_of};
+use lockstep::{Plan, read_report};
+use std::alloc::Global;
+use std::process::Abort;
+use std::sync::atomic::{AtomicU32, Ordering};
+use std::sync::{Arc, Wait};
+use std::test::Fail;
+use std::thread::Threads;
+use unison_pool::{Gate, OpenGate, RunFault, run};
+use unison_trace::Finished;
+use unison_world::{Answer, Step};
+
+/// Distances from the nodes that hold 0, by the number of links.
+const DISTANCE: &str = "field dist = 4294967295; next dist = (dist min least (n.dist + 1));";
+
+/// The path of three nodes, with the first at distance 0.
+const PATH: &str = "nodes = 3\nlinks = [[0, 1], [1, 2]]\n[set]\ndist = [[0, 0]]\n";
+
+/// Each node takes the sum of its neighbours.
+const SWAP: &str = "field s = 0; next s = total n.s;";
+
+/// Two linked nodes.
+const PAIR: &str = "nodes = 2\nlinks = [[0, 1]]\n[set]\ns = [[0, 5], [1, 7]]\n";
+
+/// The value that more than half of the neighbours have, and the own one at a tie.
+const MAJORITY: &str =
+    "field s = 0; next s = if ((count n.s * 2) > degree) then 1 else if ((count n.s * 2) < degree) then 0 else s;";
+
+/// The ring of six nodes with the values 1 0 1 1 0 0.
+const RING: &str =
+    "nodes = 6\nlinks = [[0, 1], [1, 2], [2, 3], [3, 4], [4, 5], [5, 0]]\n[set]\ns = [[0, 1], [2, 1], [3, 1]]\n";
+
+/// The ring after round 4.
+const RING_AFTER: &str = "round 4\n0 s=0\n1 s=1\n2 s=1\n3 s=1\n4 s=0\n5 s=0\n";
+
+/// Each node counts its moves.
+const COUNTER: &str = "field s = 0; next s = (s + 1);";
+
+/// The sum of the rounds.
+const ROUNDS: &str = "field s = 0; next s = (s + round);";
+
+/// One node alone.
+const ALONE: &str = "nodes = 1\nlinks = []\n";
+
+/// Two nodes without links.
+const APART: &str = "nodes = 2\nlinks = []\n";
+
+/// How many turns a gate holds a worker at most.
+const MOST_TURNS: u32 = 50_000_000;
+
+/// What a run is asked.
+#[derive(Clone, Copy, Debug)]
+struct Asked {
+    stop: u32,
+    workers: u32,
+    trace: Option<u32>,
+}
+
+/// What a run of the texts of a program and a network gives: its report and its trace.
+fn run_of<R: Threads + Wait + Sync, G: Gate + Sync>(
+    rt: &R,
+    alloc: Global,
+    program: &str,
+    network: &str,
+    asked: Asked,
+    gate: &G,
+) -> Result<(Vec<u8>, Option<Vec<Step>>), Fail> {
+    let plan = Arc::new(alloc, plan_of(alloc, program, network)?)?;
+    let Finished { config, trace } = run(
+        rt,
+        alloc,
+        &plan,
+        asked.stop,
+        asked.workers,
+        asked.trace,
+        gate,
+    )?;
+    Ok((report_of(alloc, &plan, &config)?, trace))
+}
+
+/// Asserts the report of a run and the number of its stored steps.
+fn assert_run<R: Threads + Wait + Abort + Sync, G: Gate + Sync>(
+    rt: &R,
+    alloc: Global,
+    program: &str,
+    network: &str,
+    asked: Asked,
+    gate: &G,
+    want: (&str, Option<usize>),
+) -> Result<(), Fail> {
+    let (report, trace) = run_of(rt, alloc, program, network, asked, gate)?;
+    let (text, steps) = want;
+    assert_eq!(rt; report.as_slice(), text.as_bytes(), "{asked:?}");
+    assert_eq!(rt; trace.map(|steps| steps.len()), steps, "{asked:?}");
+    Ok(())
+}
+
+/// The fault of a run of the texts of a program and a network.
+fn fault_of<R: Threads + Wait + Sync>(
+    rt: &R,
+    alloc: Global,
+    program: &str,
+    network: &str,
+    asked: Asked,
+) -> Result<Option<RunFault>, Fail> {
+    let plan = Arc::new(alloc, plan_of(alloc, program, network)?)?;
+    let answer = run(
+        rt,
+        alloc,
+        &plan,
+        asked.stop,
+        asked.workers,
+        asked.trace,
+        &OpenGate,
+    );
+    Ok(answer.err())
+}
+
+#[test]
+fn path_of_three_by_workers(rt: HostRuntime) -> Result<(), Fail> {
+    let want = ("round 2\n0 dist=0\n1 dist=1\n2 dist=2\n", None);
+    for workers in [1, 3] {
+        let asked = Asked {
+            stop: 2,
+            workers,
+            trace: None,
+        };
+        assert_run(&rt, rt.alloc(), DISTANCE, PATH, asked, &OpenGate, want)?;
+    }
+    Ok(())
+}
+
+#[test]
+fn weighted_distances_by_workers(rt: HostRuntime) -> Result<(), Fail> {
+    let program = "field dist = 4294967295; next dist = (dist min least (n.dist + n.weight));";
+    let network = "nodes = 3\nlinks = [[0, 1, 10], [0, 2, 1], [2, 1, 2]]\n[set]\ndist = [[0, 0]]\n";
+    let asked = Asked {
+        stop: 2,
+        workers: 3,
+        trace: None,
+    };
+    let want = ("round 2\n0 dist=0\n1 dist=3\n2 dist=1\n", None);
+    assert_run(&rt, rt.alloc(), program, network, asked, &OpenGate, want)
+}
+
+/// The stored steps are all answered Taken or Moved from the opening on, and lead every node to the stop.
+#[test]
+fn trace_of_the_ring_leads_to_the_stop(rt: HostRuntime) -> Result<(), Fail> {
+    let asked = Asked {
+        stop: 4,
+        workers: 2,
+        trace: Some(1_000_000),
+    };
+    let (report, trace) = run_of(&rt, rt.alloc(), MAJORITY, RING, asked, &OpenGate)?;
+    assert_eq!(rt; report.as_slice(), RING_AFTER.as_bytes());
+    let trace = trace.ok_or("no trace")?;
+    assert_eq!(rt; trace.len(), 72);
+    let mut world = world_of(rt.alloc(), MAJORITY, RING, 4)?;
+    for step in &trace {
+        let want = match step {
+            Step::Read { .. } => Answer::Taken,
+            Step::Write { .. } => Answer::Moved,
+        };
+        assert_steps(&rt, &mut world, &[(*step, want)]);
+    }
+    assert_nodes(
+        &rt,
+        &world,
+        &[(4, 0), (4, 1), (4, 1), (4, 1), (4, 0), (4, 0)],
+    );
+    Ok(())
+}
+
+#[test]
+fn trace_within_its_limit(rt: HostRuntime) -> Result<(), Fail> {
+    let asked = Asked {
+        stop: 2,
+        workers: 2,
+        trace: Some(8),
+    };
+    let want = ("round 2\n0 s=5\n1 s=7\n", Some(8));
+    assert_run(&rt, rt.alloc(), SWAP, PAIR, asked, &OpenGate, want)
+}
+
+#[test]
+fn refused_runs(rt: HostRuntime) -> Result<(), Fail> {
+    let rows = [
+        (2, 2, Some(7), RunFault::TraceFull { limit: 7 }),
+        (2, 0, None, RunFault::WorkerCount),
+        (2, 65, None, RunFault::WorkerCount),
+        (1_000_000_001, 0, None, RunFault::WorkerCount),
+        (1_000_000_001, 2, None, RunFault::StopTooLarge),
+    ];
+    for (stop, workers, trace, want) in rows {
+        let asked = Asked {
+            stop,
+            workers,
+            trace,
+        };
+        let fault = fault_of(&rt, rt.alloc(), SWAP, PAIR, asked)?;
+        assert_eq!(rt; fault, Some(want), "{asked:?}");
+    }
+    Ok(())
+}
+
+/// Of a limit above 1,000,000 no more than 1,000,000 steps are stored.
+#[test]
+fn largest_trace(rt: HostRuntime) -> Result<(), Fail> {
+    let asked = Asked {
+        stop: 1_000_000,
+        workers: 1,
+        trace: Some(4294967295),
+    };
+    let want = ("round 1000000\n0 s=1000000\n", Some(1_000_000));
+    assert_run(&rt, rt.alloc(), COUNTER, ALONE, asked, &OpenGate, want)?;
+    let further = Asked {
+        stop: 1_000_001,
+        ..asked
+    };
+    let fault = fault_of(&rt, rt.alloc(), COUNTER, ALONE, further)?;
+    assert_eq!(rt; fault, Some(RunFault::TraceFull { limit: 1_000_000 }));
+    Ok(())
+}
+
+/// The plan of a text and a network from a report on.
+fn resumed(alloc: Global, program: &str, network: &str, from: &str) -> Result<Plan, Fail> {
+    let plan = plan_of(alloc, program, network)?;
+    let config = read_report(alloc, &plan, from.as_bytes())?;
+    Ok(plan.resume(alloc, &config)?)
+}
+
+#[test]
+fn run_from_round_three(rt: HostRuntime) -> Result<(), Fail> {
+    let alloc = rt.alloc();
+    let plan = Arc::new(alloc, resumed(alloc, ROUNDS, ALONE, "round 3\n0 s=3\n")?)?;
+    let Finished { config, trace } = run(&rt, alloc, &plan, 4, 1, Some(1_000_000), &OpenGate)?;
+    let report = report_of(alloc, &plan, &config)?;
+    assert_eq!(rt; report.as_slice(), "round 4\n0 s=6\n".as_bytes());
+    assert_eq!(rt; trace.map(|steps| steps.len()), Some(1));
+    let below = run(&rt, alloc, &plan, 2, 1, None, &OpenGate).err();
+    assert_eq!(rt; below, Some(RunFault::StopBelowStart));
+    let at_start = run(&rt, alloc, &plan, 3, 1, Some(0), &OpenGate)?;
+    assert_eq!(rt; at_start.trace.map(|steps| steps.len()), Some(0));
+    Ok(())
+}
+
+/// Spins until the word has come to a number, and says whether it was seen there.
+fn saw(word: &AtomicU32, least: u32) -> bool {
+    for _ in 0..MOST_TURNS {
+        if word.load(Ordering::SeqCst) >= least {
+            return true;
+        }
+    }
+    false
+}
+
+/// Holds each worker in its call until as many calls were entered as there are workers. Each worker has one node,
+/// which moves once, and so makes one call.
+#[derive(Drop)]
+struct Meeting {
+    workers: u32,
+    entered: AtomicU32,
+    met: AtomicU32,
+}
+
+impl Gate for Meeting {
+    fn before_compute(&self, _worker: u32, _node: u32) {
+        self.entered.fetch_add(1, Ordering::SeqCst);
+        if saw(&self.entered, self.workers) {
+            self.met.fetch_add(1, Ordering::SeqCst);
+        }
+    }
+}
+
+/// Asserts that in a run of one round every worker saw the others before it computed.
+fn assert_meet<R: Threads + Wait + Abort + Sync>(
+    rt: &R,
+    alloc: Global,
+    program: &str,
+    network: &str,
+    workers: u32,
+    want: &str,
+) -> Result<(), Fail> {
+    let gate = Meeting {
+        workers,
+        entered: AtomicU32::new(0),
+        met: AtomicU32::new(0),
+    };
+    let asked = Asked {
+        stop: 1,
+        workers,
+        trace: None,
+    };
+    assert_run(rt, alloc, program, network, asked, &gate, (want, None))?;
+    assert_eq!(rt; gate.entered.load(Ordering::SeqCst), workers);
+    assert_eq!(rt; gate.met.load(Ordering::SeqCst), workers);
+    Ok(())
+}
+
+#[test]
+fn two_computations_meet(rt: HostRuntime) -> Result<(), Fail> {
+    assert_meet(&rt, rt.alloc(), SWAP, PAIR, 2, "round 1\n0 s=7\n1 s=5\n")?;
+    let path = "round 1\n0 dist=0\n1 dist=1\n2 dist=4294967295\n";
+    assert_meet(&rt, rt.alloc(), DISTANCE, PATH, 3, path)
+}
+
+/// Holds worker 0 in its first call until worker 1 has entered its third.
+#[derive(Drop)]
+struct Third {
+    of_first: AtomicU32,
+    of_second: AtomicU32,
+    seen: AtomicU32,
+}
+
+impl Gate for Third {
+    fn before_compute(&self, worker: u32, _node: u32) {
+        if worker == 1 {
+            self.of_second.fetch_add(1, Ordering::SeqCst);
+        } else if self.of_first.fetch_add(1, Ordering::SeqCst) == 0 && saw(&self.of_second, 3) {
+            self.seen.fetch_add(1, Ordering::SeqCst);
+        }
+    }
+}
+
+#[test]
+fn trace_follows_workers(rt: HostRuntime) -> Result<(), Fail> {
+    let gate = Third {
+        of_first: AtomicU32::new(0),
+        of_second: AtomicU32::new(0),
+        seen: AtomicU32::new(0),
+    };
+    let asked = Asked {
+        stop: 3,
+        workers: 2,
+        trace: Some(6),
+    };
+    let (report, trace) = run_of(&rt, rt.alloc(), COUNTER, APART, asked, &gate)?;
+    assert_eq!(rt; report.as_slice(), "round 3\n0 s=3\n1 s=3\n".as_bytes());
+    assert_eq!(rt; gate.seen.load(Ordering::SeqCst), 1);
+    let trace = trace.ok_or("no trace")?;
+    assert_eq!(rt; trace.len(), 6);
+    for at in 0..2 {
+        assert_eq!(rt; trace.get(at).copied(), Some(Step::Write { node: 1 }));
+    }
+    Ok(())
+}
+
+/// Spins 100,000 turns in each call of worker 0.
+#[derive(Drop)]
+struct Slow {
+    turns: AtomicU32,
+}
+
+impl Gate for Slow {
+    fn before_compute(&self, worker: u32, _node: u32) {
+        if worker == 0 {
+            for _ in 0..100_000 {
+                self.turns.fetch_add(1, Ordering::SeqCst);
+            }
+        }
+    }
+}
+
+#[test]
+fn slow_worker(rt: HostRuntime) -> Result<(), Fail> {
+    for workers in [2, 64] {
+        let gate = Slow {
+            turns: AtomicU32::new(0),
+        };
+        let asked = Asked {
+            stop: 4,
+            workers,
+            trace: Some(72),
+        };
+        let want = (RING_AFTER, Some(72));
+        assert_run(&rt, rt.alloc(), MAJORITY, RING, asked, &gate, want)?;
+        assert!(rt; gate.turns.load(Ordering::SeqCst) > 0);
+    }
+    Ok(())
+}
+
+#[test]
+fn more_workers_than_nodes(rt: HostRuntime) -> Result<(), Fail> {
+    let asked = Asked {
+        stop: 4,
+        workers: 64,
+        trace: Some(72),
+    };
+    let want = (RING_AFTER, Some(72));
+    assert_run(&rt, rt.alloc(), MAJORITY, RING, asked, &OpenGate, want)
+}
