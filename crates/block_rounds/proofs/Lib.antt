@@ -5,3 +5,5 @@ pub mod Sums
 pub mod Words
 pub mod Steps
 pub mod States
+pub mod Copies
+pub mod Parting

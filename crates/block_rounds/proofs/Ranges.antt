@@ -44,7 +44,7 @@ nodes_more batches batch rest front back nodes all parts are =
     ∙ all
 
 -- what holds of all holds of the last of them
-pub all_back : (P : ℕ → Type 0) (front back rest : List ℕ) → front ++ back ≡ rest → All P rest → All P back
+pub all_back : {X : Type 0} (P : X → Type 0) (front back rest : List X) → front ++ back ≡ rest → All P rest → All P back
 all_back P front back rest parts all k d h =
     let place : length front + k < length rest = omega (arith, h, length-append front back, ap length parts) in
     let is : slice_index_or rest (length front + k) d ≡ slice_index_or back k d =

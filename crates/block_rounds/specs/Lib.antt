@@ -1,3 +1,4 @@
 pub mod Rounds
 pub mod Batches
 pub mod Gathered
+pub mod Shares

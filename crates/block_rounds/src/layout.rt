@@ -4,7 +4,7 @@ ghost use Rattle.std.specs.List.Sorted.{IsPermutation};
 ghost use Rattle.rule_check.specs.WellFormed.{first_fault};
 ghost use Rattle.link_net.specs.Neighbours.{Neighbours};
 ghost use Rattle.row_code.specs.Block.{state_at};
-ghost use Rattle.block_rounds.specs.Batches.{AreFalling, IsBatch, nodes_of};
+ghost use Rattle.block_rounds.specs.Batches.{AreFalling, IsBatch, IsLayout, nodes_of};
 ghost use Rattle.block_rounds.specs.Rounds.{HaveWords, round_by};
 
 use crate::batch::{Batch, batch_of};
@@ -61,6 +61,20 @@ impl<'a> Layout<'a> {
         let nodes = by_falling_degree(alloc, network)?;
         let batches = batches_of(alloc, network, &nodes)?;
         Ok(Layout { network, batches })
+    }
+
+    /// The batches, which have each node once.
+    pub(crate) fn batches(&self) -> &[Batch]
+        ensures whole { IsLayout self.now result.now }
+    {
+        self.batches.as_slice()
+    }
+
+    /// The network.
+    pub(crate) fn network(&self) -> &'a Network
+        ensures network { result.now ≡ self.now }
+    {
+        self.network
     }
 
     /// Writes the states of all nodes one round after those in `from` into `to`, in the step from a round. Both have
