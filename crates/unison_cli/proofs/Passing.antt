@@ -1,5 +1,5 @@
 -- What a job's plan says of its texts.
-use Rattle.std.proofs.Common.{◌≡◌, ◌≢◌, ℕ, true, false, List, Option, Some, None, refl, subst, sym}
+use Rattle.std.proofs.Common.{◌≡◌, ◌≢◌, ℕ, List, Option, refl, subst}
 use Rattle.lockstep.specs.Plans.{PlanView}
 use Rattle.unison_trace.specs.declared.fault.ReplayFault.{ReplayFault}
 use Rattle.unison_cli.specs.declared.request.Job.{Job}

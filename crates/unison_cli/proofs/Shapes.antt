@@ -1,10 +1,8 @@
 -- Rounds that are not refused, and the configurations that they have.
-use Rattle.std.proofs.Common.{◌≡◌, ◌≢◌, ℕ, Bool, true, false, Ok, Err, Option, Some, None, nat_lt, ◌==◌, ◌||◌, if◌then◌else◌, length, ap, ◌∙◌, refl, subst, sym}
+use Rattle.std.proofs.Common.{◌≡◌, ℕ, Bool, true, false, Ok, Err, Some, None, nat_lt, ◌==◌, ◌||◌, if◌then◌else◌, length, refl, subst, sym}
 use Rattle.std.proofs.lemmas.List.FromFn.{length-map-range_with_len}
-use Rattle.lockstep.specs.Compare.{IsFirstDifference}
 use Rattle.lockstep.specs.Configs.{Configuration, most_rounds}
 use Rattle.lockstep.specs.Plans.{PlanView}
-use Rattle.lockstep.specs.declared.difference.Difference.{Difference}
 use Rattle.lockstep.specs.declared.fault.RoundFault.TheVariants.{TooManyRounds, RoundsBelowStart}
 use Rattle.lockstep.specs.Lockstep.{lockstep, lockstep_config, rounds_of}
 use Rattle.unison_pool.specs.declared.fault.RunFault.TheVariants.{WorkerCount, StopTooLarge, StopBelowStart}

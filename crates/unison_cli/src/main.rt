@@ -3,10 +3,10 @@
 
 mod comparison;
 mod fault;
-mod request;
-mod serve;
 #[cfg(test)]
 mod memory_tests;
+mod request;
+mod serve;
 #[cfg(test)]
 mod tests;
 mod words;
@@ -212,7 +212,11 @@ fn answer(
 }
 
 /// Writes the trace into its file, where there are both.
-fn keep_trace(rt: &HostRuntime, path: &Option<String>, trace: &Option<Vec<u8>>) -> Result<(), Ending> {
+fn keep_trace(
+    rt: &HostRuntime,
+    path: &Option<String>,
+    trace: &Option<Vec<u8>>,
+) -> Result<(), Ending> {
     match (path, trace) {
         (Some(path), Some(trace)) => {
             fs::write(rt, path.as_str(), trace.as_slice()).map_err(|error| file_fault(&error))

@@ -126,9 +126,7 @@ fn tell_job(
             println!(rt; "memory")?
         }
         answer => {
-            return Err(Fail::new(format_args!(
-                "{answer:?} with {left} bytes left to write"
-            )));
+            return Err(Fail::new(format_args!("{answer:?} with {left} bytes left to write")));
         }
     }
     Ok(())
@@ -255,9 +253,11 @@ fn is_lockstep(alloc: Global, words: &[&str]) -> Result<bool, UsageFault> {
     let words = owned_words(alloc, words)?;
     let request = job_of(alloc, &words)?;
     let network = request.network.as_ref().map(|path| path.as_str());
-    Ok(request.job == Job::Lockstep { rounds: 2 }
-        && request.program.as_str() == "p"
-        && network == Some("n"))
+    Ok(
+        request.job == Job::Lockstep { rounds: 2 }
+            && request.program.as_str() == "p"
+            && network == Some("n"),
+    )
 }
 
 #[test]

@@ -8,9 +8,9 @@ ghost use Rattle.unison_trace.specs.ReplayFaults.{IsReplayed, IsReplayFault};
 ghost use Rattle.unison_cli.specs.declared.request.Job.{Job};
 ghost use Rattle.unison_cli.specs.Served.{AreTextOf, HasPlan, HasPlanShape, HasPlanText, HasResumed, HasTrace, IsAccepted, IsDone, IsPlanRefusal, IsPlanServed, IsPlanTrace, IsRefusal, IsReportRefusal, IsResumedAs, IsRoundReport, IsServeRefusal, IsServed, IsTraceText, IsUnscheduled, IsUnwritten, NeedsNetwork, is_short, same_text, trace_limit};
 
+use crate::comparison::difference_line;
 use crate::fault::ServeFault;
 use crate::request::Job;
-use crate::comparison::difference_line;
 use link_net::read_network;
 use lockstep::{
     Config, Cut, Plan, ResumeFault, Tally, compare, lockstep_par, read_report, report, write_text,

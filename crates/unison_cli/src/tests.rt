@@ -1,11 +1,11 @@
 //! Jobs from texts to bytes, statuses, fault lines and command lines.
 ghost use Rattle.std.specs.Prelude.{◌≡◌, ◌<◌, ◌^◌, false, Some};
 
+use crate::comparison::difference_line;
 use crate::fault::ServeFault;
 use crate::request::{Job, Request, UsageFault};
 use crate::serve::{Served, serve};
 use crate::words::job_of;
-use crate::comparison::difference_line;
 use link_net::read_network;
 use lockstep::{Difference, Plan, Tally};
 use rule_check::check;
@@ -68,11 +68,12 @@ fn answered(
     rt: &(impl Threads + Wait + Sync),
     alloc: Global,
     job: Job,
-    texts: [&[u8]; 3],
+    program: &[u8],
+    network: &[u8],
     report: Option<&[u8]>,
+    steps: &[u8],
     room: usize,
 ) -> Result<(Vec<u8>, Result<Served, ServeFault>), Fail> {
-    let [program, network, steps] = texts;
     let mut schedule = Tally::new(steps);
     let mut out = Tally::new(Paper {
         held: Vec::new(alloc),
@@ -102,8 +103,16 @@ fn served(
     report: Option<&[u8]>,
     room: usize,
 ) -> Result<(Vec<u8>, Option<ServeFault>), Fail> {
-    let texts = [program, network, b"".as_slice()];
-    let (held, answer) = answered(rt, alloc, job, texts, report, room)?;
+    let (held, answer) = answered(
+        rt,
+        alloc,
+        job,
+        program,
+        network,
+        report,
+        b"".as_slice(),
+        room,
+    )?;
     Ok((held, answer.err()))
 }
 
@@ -245,9 +254,8 @@ fn nesting_at_the_limit(rt: HostRuntime) -> Result<(), Fail> {
     }
     let mut deeper = text.clone()?;
     deeper.push_str("not ")?;
-    for half in [&mut text, &mut deeper] {
-        half.push_str("s;\n")?;
-    }
+    text.push_str("s;\n")?;
+    deeper.push_str("s;\n")?;
     let accepted = format!(in alloc; "field s = 0;\n{text}")?;
     let refused = format!(in alloc; "field s = 0;\n{deeper}")?;
     let (held, fault) = served(&rt, alloc, Job::Check, accepted.as_bytes(), b"", None, 1000)?;
@@ -457,7 +465,14 @@ fn replays(rt: HostRuntime) -> Result<(), Fail> {
     let alloc = rt.alloc();
     let from = Some("round 1\n0 dist=0\n1 dist=1\n2 dist=4294967295\n".as_bytes());
     let rows = [
-        (SWAP, PAIR, None, 10, STEPS, "0 moves 1 s=7\n1 moves 1 s=5\n"),
+        (
+            SWAP,
+            PAIR,
+            None,
+            10,
+            STEPS,
+            "0 moves 1 s=7\n1 moves 1 s=5\n",
+        ),
         (SWAP, PAIR, None, 10, "", "0 moves 0 s=5\n1 moves 0 s=7\n"),
         (
             SWAP,
@@ -493,9 +508,17 @@ fn replays(rt: HostRuntime) -> Result<(), Fail> {
         ),
     ];
     for (program, network, report, stop, steps, want) in rows {
-        let texts = [program.as_bytes(), network.as_bytes(), steps.as_bytes()];
         let job = Job::Replay { stop };
-        let (held, answer) = answered(&rt, alloc, job, texts, report, 1000)?;
+        let (held, answer) = answered(
+            &rt,
+            alloc,
+            job,
+            program.as_bytes(),
+            network.as_bytes(),
+            report,
+            steps.as_bytes(),
+            1000,
+        )?;
         assert_eq!(rt; held.as_slice(), want.as_bytes(), "{steps:?} to {stop}");
         assert_eq!(rt; answer.is_ok(), true);
     }
@@ -509,8 +532,16 @@ fn replay_line(
     stop: u32,
     steps: &str,
 ) -> Result<(String, u8), Fail> {
-    let texts = [SWAP.as_bytes(), PAIR.as_bytes(), steps.as_bytes()];
-    let (held, answer) = answered(rt, alloc, Job::Replay { stop }, texts, None, 1000)?;
+    let (held, answer) = answered(
+        rt,
+        alloc,
+        Job::Replay { stop },
+        SWAP.as_bytes(),
+        PAIR.as_bytes(),
+        None,
+        steps.as_bytes(),
+        1000,
+    )?;
     let fault = answer.err().ok_or("a fault")?;
     let (part, name) = fault.line();
     let written = held.len();
@@ -551,11 +582,22 @@ impl Read for Torn {
 #[test]
 fn replays_whose_devices_fail(rt: HostRuntime) -> Result<(), Fail> {
     let alloc = rt.alloc();
-    let texts = [SWAP.as_bytes(), PAIR.as_bytes(), STEPS.as_bytes()];
     let job = Job::Replay { stop: 10 };
-    let (held, answer) = answered(&rt, alloc, job, texts, None, 10)?;
+    let (held, answer) = answered(
+        &rt,
+        alloc,
+        job,
+        SWAP.as_bytes(),
+        PAIR.as_bytes(),
+        None,
+        STEPS.as_bytes(),
+        10,
+    )?;
     let fault = answer.err().ok_or("a fault")?;
-    assert_eq!(rt; fault, ServeFault::Replay(ReplayFault::Write { written: 10 }));
+    assert_eq!(rt;
+        fault,
+        ServeFault::Replay(ReplayFault::Write { written: 10 })
+    );
     assert_eq!(rt; (fault.line(), fault.status()), (("device", "Write"), 1));
     assert_eq!(rt; held.as_slice(), b"0 moves 1 ".as_slice());
     let mut schedule = Tally::new(Torn);
@@ -563,7 +605,7 @@ fn replays_whose_devices_fail(rt: HostRuntime) -> Result<(), Fail> {
         held: Vec::new(alloc),
         room: 1000,
     });
-    let [program, network, _] = texts;
+    let (program, network) = (SWAP.as_bytes(), PAIR.as_bytes());
     let answer = serve(
         &rt,
         alloc,
@@ -591,19 +633,48 @@ fn runs(rt: HostRuntime) -> Result<(), Fail> {
     let alloc = rt.alloc();
     let three = Some("round 3\n0 s=3\n".as_bytes());
     let rows = [
-        (DISTANCE, PATH, None, 2, 1, "round 2\n0 dist=0\n1 dist=1\n2 dist=2\n"),
-        (DISTANCE, PATH, None, 2, 3, "round 2\n0 dist=0\n1 dist=1\n2 dist=2\n"),
-        (MAJORITY, RING, None, 4, 2, "round 4\n0 s=0\n1 s=1\n2 s=1\n3 s=1\n4 s=0\n5 s=0\n"),
+        (
+            DISTANCE,
+            PATH,
+            None,
+            2,
+            1,
+            "round 2\n0 dist=0\n1 dist=1\n2 dist=2\n",
+        ),
+        (
+            DISTANCE,
+            PATH,
+            None,
+            2,
+            3,
+            "round 2\n0 dist=0\n1 dist=1\n2 dist=2\n",
+        ),
+        (
+            MAJORITY,
+            RING,
+            None,
+            4,
+            2,
+            "round 4\n0 s=0\n1 s=1\n2 s=1\n3 s=1\n4 s=0\n5 s=0\n",
+        ),
         (ROUNDS, ONE, three, 4, 1, "round 4\n0 s=6\n"),
     ];
     for (program, network, report, rounds, workers, want) in rows {
-        let texts = [program.as_bytes(), network.as_bytes(), b"".as_slice()];
         let job = Job::Run {
             rounds,
             workers,
             traced: false,
         };
-        let (held, answer) = answered(&rt, alloc, job, texts, report, 1000)?;
+        let (held, answer) = answered(
+            &rt,
+            alloc,
+            job,
+            program.as_bytes(),
+            network.as_bytes(),
+            report,
+            b"".as_slice(),
+            1000,
+        )?;
         let served = answer?;
         assert_eq!(rt; held.as_slice(), want.as_bytes(), "{workers} workers");
         assert_eq!(rt; (served.status, served.trace.is_none()), (0, true));
@@ -627,18 +698,34 @@ fn traces(rt: HostRuntime) -> Result<(), Fail> {
         (ROUNDS, ONE, three, 1, "0 moves 4 s=6\n"),
     ];
     for (program, network, report, steps, want) in rows {
-        let texts = [program.as_bytes(), network.as_bytes(), b"".as_slice()];
         let job = Job::Run {
             rounds: 4,
             workers: 2,
             traced: true,
         };
-        let (_, answer) = answered(&rt, alloc, job, texts, report, 1000)?;
+        let (_, answer) = answered(
+            &rt,
+            alloc,
+            job,
+            program.as_bytes(),
+            network.as_bytes(),
+            report,
+            b"".as_slice(),
+            1000,
+        )?;
         let trace = answer?.trace.ok_or("a trace")?;
         let lines = trace.iter().filter(|byte| **byte == b'\n').count();
         assert_eq!(rt; lines, steps);
-        let texts = [program.as_bytes(), network.as_bytes(), trace.as_slice()];
-        let (held, _) = answered(&rt, alloc, Job::Replay { stop: 4 }, texts, report, 1000)?;
+        let (held, _) = answered(
+            &rt,
+            alloc,
+            Job::Replay { stop: 4 },
+            program.as_bytes(),
+            network.as_bytes(),
+            report,
+            trace.as_slice(),
+            1000,
+        )?;
         assert_eq!(rt; held.as_slice(), want.as_bytes());
     }
     Ok(())
@@ -648,9 +735,17 @@ fn traces(rt: HostRuntime) -> Result<(), Fail> {
 fn comparisons(rt: HostRuntime) -> Result<(), Fail> {
     let alloc = rt.alloc();
     for (program, network, rounds, workers) in [(DISTANCE, PATH, 2, 3), (MAJORITY, RING, 4, 2)] {
-        let texts = [program.as_bytes(), network.as_bytes(), b"".as_slice()];
         let job = Job::Compare { rounds, workers };
-        let (held, answer) = answered(&rt, alloc, job, texts, None, 1000)?;
+        let (held, answer) = answered(
+            &rt,
+            alloc,
+            job,
+            program.as_bytes(),
+            network.as_bytes(),
+            None,
+            b"".as_slice(),
+            1000,
+        )?;
         assert_eq!(rt; held.as_slice(), b"same\n".as_slice());
         assert_eq!(rt; answer?.status, 0);
     }
@@ -662,12 +757,52 @@ fn refused_runs(rt: HostRuntime) -> Result<(), Fail> {
     let alloc = rt.alloc();
     let three = Some("round 3\n0 s=3\n".as_bytes());
     let rows = [
-        (Job::Run { rounds: 4, workers: 0, traced: false }, "run WorkerCount 0 0"),
-        (Job::Run { rounds: 4, workers: 65, traced: true }, "run WorkerCount 0 0"),
-        (Job::Run { rounds: 1_000_000_001, workers: 1, traced: false }, "run StopTooLarge 0 0"),
-        (Job::Run { rounds: 2, workers: 1, traced: false }, "run StopBelowStart 0 0"),
-        (Job::Compare { rounds: 2, workers: 1 }, "run RoundsBelowStart 0 0"),
-        (Job::Compare { rounds: 4, workers: 0 }, "run WorkerCount 0 0"),
+        (
+            Job::Run {
+                rounds: 4,
+                workers: 0,
+                traced: false,
+            },
+            "run WorkerCount 0 0",
+        ),
+        (
+            Job::Run {
+                rounds: 4,
+                workers: 65,
+                traced: true,
+            },
+            "run WorkerCount 0 0",
+        ),
+        (
+            Job::Run {
+                rounds: 1_000_000_001,
+                workers: 1,
+                traced: false,
+            },
+            "run StopTooLarge 0 0",
+        ),
+        (
+            Job::Run {
+                rounds: 2,
+                workers: 1,
+                traced: false,
+            },
+            "run StopBelowStart 0 0",
+        ),
+        (
+            Job::Compare {
+                rounds: 2,
+                workers: 1,
+            },
+            "run RoundsBelowStart 0 0",
+        ),
+        (
+            Job::Compare {
+                rounds: 4,
+                workers: 0,
+            },
+            "run WorkerCount 0 0",
+        ),
         (Job::Replay { stop: 2 }, "run StopBelowStart 0 0"),
     ];
     for (job, line) in rows {
@@ -683,7 +818,11 @@ fn refused_runs(rt: HostRuntime) -> Result<(), Fail> {
 fn told_difference(rt: HostRuntime) -> Result<(), Fail> {
     let alloc = rt.alloc();
     let source = read_program(alloc, b"field dist = 0; field s = 0;")?;
-    let plan = Plan::new(alloc, check(alloc, &source)?, read_network(alloc, PAIR.as_bytes())?)?;
+    let plan = Plan::new(
+        alloc,
+        check(alloc, &source)?,
+        read_network(alloc, PAIR.as_bytes())?,
+    )?;
     let difference = Difference {
         node: 1,
         field: 1,
@@ -696,7 +835,10 @@ fn told_difference(rt: HostRuntime) -> Result<(), Fail> {
         return Err(Fail::from("no such place"));
     }
     let line = difference_line(alloc, &plan, &difference)?;
-    assert_eq!(rt; line.as_slice(), b"node 1 field s lockstep 5 run 7\n".as_slice());
+    assert_eq!(rt;
+        line.as_slice(),
+        b"node 1 field s lockstep 5 run 7\n".as_slice()
+    );
     Ok(())
 }
 
@@ -718,20 +860,53 @@ fn right_words(rt: HostRuntime) -> Result<(), Fail> {
             Job::Lockstep { rounds: 2 },
         ),
         (
-            &["unison", "run", "p", "n", "--workers", "64", "--rounds", "0"],
-            Job::Run { rounds: 0, workers: 64, traced: false },
+            &[
+                "unison",
+                "run",
+                "p",
+                "n",
+                "--workers",
+                "64",
+                "--rounds",
+                "0",
+            ],
+            Job::Run {
+                rounds: 0,
+                workers: 64,
+                traced: false,
+            },
         ),
         (
-            &["unison", "run", "p", "n", "--rounds", "3", "--workers", "1", "--trace", "t"],
-            Job::Run { rounds: 3, workers: 1, traced: true },
+            &[
+                "unison",
+                "run",
+                "p",
+                "n",
+                "--rounds",
+                "3",
+                "--workers",
+                "1",
+                "--trace",
+                "t",
+            ],
+            Job::Run {
+                rounds: 3,
+                workers: 1,
+                traced: true,
+            },
         ),
         (
             &["unison", "replay", "p", "n", "s", "--stop", "1000000000"],
-            Job::Replay { stop: 1_000_000_000 },
+            Job::Replay {
+                stop: 1_000_000_000,
+            },
         ),
         (
             &["unison", "compare", "p", "n", "--rounds=7", "--workers=2"],
-            Job::Compare { rounds: 7, workers: 2 },
+            Job::Compare {
+                rounds: 7,
+                workers: 2,
+            },
         ),
     ];
     for (line, job) in rows {
@@ -749,17 +924,46 @@ fn right_paths(rt: HostRuntime) -> Result<(), Fail> {
     let alloc = rt.alloc();
     let rows: [(&[&str], [&str; 4]); 5] = [
         (&["unison", "check", "p"], ["-", "-", "-", "-"]),
-        (&["unison", "lockstep", "p", "n", "--rounds", "2"], ["n", "-", "-", "-"]),
         (
-            &["unison", "run", "p", "n", "--rounds", "3", "--workers", "1", "--trace", "t", "--from", "f"],
+            &["unison", "lockstep", "p", "n", "--rounds", "2"],
+            ["n", "-", "-", "-"],
+        ),
+        (
+            &[
+                "unison",
+                "run",
+                "p",
+                "n",
+                "--rounds",
+                "3",
+                "--workers",
+                "1",
+                "--trace",
+                "t",
+                "--from",
+                "f",
+            ],
             ["n", "f", "-", "t"],
         ),
         (
-            &["unison", "replay", "p", "n", "s", "--stop", "3", "--from", "f"],
+            &[
+                "unison", "replay", "p", "n", "s", "--stop", "3", "--from", "f",
+            ],
             ["n", "f", "s", "-"],
         ),
         (
-            &["unison", "compare", "p", "n", "--rounds", "3", "--workers", "1", "--from", "f"],
+            &[
+                "unison",
+                "compare",
+                "p",
+                "n",
+                "--rounds",
+                "3",
+                "--workers",
+                "1",
+                "--from",
+                "f",
+            ],
             ["n", "f", "-", "-"],
         ),
     ];
@@ -785,7 +989,18 @@ fn wrong_words(rt: HostRuntime) -> Result<(), Fail> {
         &["unison", "walk"],
         &["unison", "run", "p", "n", "--rounds", "1"],
         &["unison", "run", "p", "n", "--workers", "1"],
-        &["unison", "compare", "p", "n", "--rounds", "1", "--workers", "1", "--trace", "t"],
+        &[
+            "unison",
+            "compare",
+            "p",
+            "n",
+            "--rounds",
+            "1",
+            "--workers",
+            "1",
+            "--trace",
+            "t",
+        ],
         &["unison", "replay", "p", "n", "--stop", "1"],
         &["unison", "check"],
         &["unison", "check", "p", "q"],
@@ -838,11 +1053,53 @@ fn wrong_numbers_name_the_option(rt: HostRuntime) -> Result<(), Fail> {
 fn wrong_options(rt: HostRuntime) -> Result<(), Fail> {
     let alloc = rt.alloc();
     let rows: [(&[&str], &str); 5] = [
-        (&["unison", "run", "p", "n", "--rounds", "1", "--workers", "0"], "workers"),
-        (&["unison", "run", "p", "n", "--rounds", "1", "--workers", "65"], "workers"),
-        (&["unison", "run", "p", "n", "--workers", "65", "--rounds", "x"], "rounds"),
-        (&["unison", "compare", "p", "n", "--workers", "", "--rounds", "1"], "workers"),
-        (&["unison", "replay", "p", "n", "s", "--stop", "1000000001"], "stop"),
+        (
+            &["unison", "run", "p", "n", "--rounds", "1", "--workers", "0"],
+            "workers",
+        ),
+        (
+            &[
+                "unison",
+                "run",
+                "p",
+                "n",
+                "--rounds",
+                "1",
+                "--workers",
+                "65",
+            ],
+            "workers",
+        ),
+        (
+            &[
+                "unison",
+                "run",
+                "p",
+                "n",
+                "--workers",
+                "65",
+                "--rounds",
+                "x",
+            ],
+            "rounds",
+        ),
+        (
+            &[
+                "unison",
+                "compare",
+                "p",
+                "n",
+                "--workers",
+                "",
+                "--rounds",
+                "1",
+            ],
+            "workers",
+        ),
+        (
+            &["unison", "replay", "p", "n", "s", "--stop", "1000000001"],
+            "stop",
+        ),
     ];
     for (line, option) in rows {
         let words = owned(alloc, line)?;

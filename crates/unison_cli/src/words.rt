@@ -138,7 +138,9 @@ fn replay_command<'a>(alloc: Global) -> Result<Command<'a>, AllocError> {
 
 fn compare_command<'a>(alloc: Global) -> Result<Command<'a>, AllocError> {
     Command::new(alloc, "compare")
-        .about("Compare a run by threads with the lockstep rounds and print `same`, or the first difference")
+        .about(
+            "Compare a run by threads with the lockstep rounds and print `same`, or the first difference",
+        )
         .arg(program_path(alloc))?
         .arg(network_path(alloc))?
         .arg(rounds_option(alloc))?

@@ -34,17 +34,19 @@ fn is_line(alloc: Global, line: &[u8], start: &str) -> Result<bool, Fail> {
 /// The first of the three lines that is not as it should be, the missing one, or one more than there are to be.
 fn first_bad_line(alloc: Global, text: &[u8]) -> Result<Option<u64>, Fail> {
     let starts = ["round ", "0 s=", "1 s="];
-    let mut count = 0;
-    for line in text.split_inclusive(|byte| *byte == b'\n') {
-        count += 1;
-        let Some(start) = starts.get(count - 1) else {
+    for (number, line) in text.split_inclusive(|byte| *byte == b'\n').enumerate() {
+        let Some(start) = starts.get(number) else {
             return Ok(Some(4));
         };
         if !is_line(alloc, line, start)? {
-            return Ok(Some(count as u64));
+            return Ok(Some((number as u64).saturating_add(1)));
         }
     }
-    Ok(if count < 3 { Some(count as u64 + 1) } else { None })
+    let lines = text.split_inclusive(|byte| *byte == b'\n').count();
+    if lines < starts.len() {
+        return Ok(Some((lines as u64).saturating_add(1)));
+    }
+    Ok(None)
 }
 
 #[test]
@@ -55,7 +57,10 @@ fn any_byte_changed(rt: HostRuntime) -> Result<(), Fail> {
         for byte in 0..=255u8 {
             let mut text = Vec::from_slice(alloc, REPORT)?;
             text[place] = byte;
-            match (first_bad_line(alloc, &text)?, read_report(alloc, &plan, &text)) {
+            match (
+                first_bad_line(alloc, &text)?,
+                read_report(alloc, &plan, &text),
+            ) {
                 (None, Ok(config)) => assert_eq!(rt; report(alloc, &plan, &config)?, text),
                 (Some(line), Err(fault)) => {
                     assert_eq!(rt; fault, ReportFault::BadLine { line }, "{byte} at {place}")
@@ -72,7 +77,11 @@ fn cut_at_any_byte(rt: HostRuntime) -> Result<(), Fail> {
     let alloc = rt.alloc();
     let plan = plan_of(alloc, SWAP, PAIR)?;
     for length in 0..REPORT.len() {
-        let line = 1 + REPORT[..length].iter().filter(|byte| **byte == b'\n').count() as u64;
+        let line = 1
+            + REPORT[..length]
+                .iter()
+                .filter(|byte| **byte == b'\n')
+                .count() as u64;
         let fault = read_report(alloc, &plan, &REPORT[..length]).err();
         assert_eq!(rt; fault, Some(ReportFault::BadLine { line }), "{length}");
     }

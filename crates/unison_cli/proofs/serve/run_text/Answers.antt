@@ -1,4 +1,4 @@
-use Rattle.std.proofs.Common.{◌≡◌, ◌∙◌, ap, sym, length}
+use Rattle.std.proofs.Common.{◌∙◌, ap, sym, length}
 use Rattle.std.specs.Arc.{arc_value}
 use Rattle.unison_cli.proofs.Shapes.{lockstep_shape}
 use Rattle.unison_cli.proofs.serve.run_text.Goals as goal

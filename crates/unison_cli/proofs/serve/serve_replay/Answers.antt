@@ -1,8 +1,7 @@
-use Rattle.std.proofs.Common.{◌≡◌, false, true, option_map}
+use Rattle.std.proofs.Common.{option_map}
 use Rattle.std.proofs.lemmas.Result.{err_from_is_err_and}
 use Rattle.unison_trace.specs.declared.fault.ReplayFault.TheVariants as replay
 use Rattle.unison_cli.specs.declared.request.Job.TheVariants.{Replay}
-use Rattle.unison_cli.specs.declared.fault.ServeFault.TheVariants as fault
 use Rattle.unison_cli.proofs.Passing.{serve_refusal, not_replay}
 use Rattle.unison_cli.proofs.serve.serve_replay.Goals as goal
 
