@@ -16,3 +16,5 @@ pub mod Rest
 pub mod Equal
 pub mod Twice
 pub mod Cleared
+pub mod AnyRound
+pub mod RoundCode

@@ -11,3 +11,4 @@ pub mod Shapes
 pub mod Items
 pub mod Fields
 pub mod Order
+pub mod Rounds

@@ -7,6 +7,7 @@ mod fault;
 mod law;
 mod parts;
 mod program;
+mod round;
 mod run;
 mod same;
 mod state;
@@ -16,7 +17,7 @@ mod words;
 
 pub use code::Instr;
 pub use fault::CheckFault;
-pub use law::order_of_neighbours;
+pub use law::{order_of_neighbours, round_plays_no_part};
 pub use parts::{Gatherer, Rule};
 pub use program::{Program, check};
 pub use state::{Near, State, Sums};

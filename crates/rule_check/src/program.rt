@@ -8,6 +8,7 @@ ghost use Rattle.rule_check.specs.Value.{here_at, next_state, names_of, place, o
 ghost use Rattle.rule_check.specs.Gathering.{sums_at, taken, finished};
 ghost use Rattle.rule_check.specs.WellFormed.{first_fault, is_among, IsFieldName};
 ghost use Rattle.rule_check.specs.Items.{rules_of};
+ghost use Rattle.rule_check.specs.Rounds.{reads_round};
 ghost use Rattle.rule_check.specs.Frames.{standing};
 
 mod codes;
@@ -15,6 +16,7 @@ mod codes;
 use crate::emit::{collect_fields, collect_parts, collect_rules};
 use crate::fault::CheckFault;
 use crate::parts::{Field, Gatherer, Rule};
+use crate::round::{parts_read_round, rules_read_round};
 use crate::run::{DEPTH, Frame, Node};
 use crate::same::{same_fields, same_parts, same_rules};
 use crate::state::{Near, State, Sums};
@@ -126,6 +128,15 @@ impl Program {
         same_fields(&self.fields, &other.fields)
             && same_parts(&self.gatherers, &other.gatherers)
             && same_rules(&self.rules, &other.rules)
+    }
+
+    /// Whether a `next` item's expression has the word `round`, in an aggregate or outside.
+    ///
+    /// Where it has not, the next state is the same whatever round the step starts from.
+    pub fn uses_round(&self) -> bool
+        ensures exact { result ≡ reads_round self.now }
+    {
+        rules_read_round(&self.rules) || parts_read_round(&self.gatherers)
     }
 
     /// The state that each node has at first.
