@@ -1,5 +1,5 @@
 -- The code that is lent is that of the program's next items.
-use Rattle.std.proofs.Common.{ap, ◌∙◌, sym, subst, map, arith, ◌≤◌, ◌≡◌, length}
+use Rattle.std.proofs.Common.{ap, ◌∙◌, sym, subst, map, length}
 use Rattle.std.specs.Prelude.{All}
 use Rattle.rule_check.specs.Value.{cleared, alone}
 use Rattle.rule_check.specs.Machine.{frame}
