@@ -7,6 +7,7 @@ pub mod Faultless
 pub mod Texts
 pub mod Nears
 pub mod Resumed
+pub mod Held
 pub mod Digits
 pub mod Fronts
 pub mod Once

@@ -1,6 +1,7 @@
 -- A configuration: the states of all nodes after a round.
-use Rattle.std.specs.Prelude.{ℕ, ◌≡◌, ◌≤◌, List, length, All, replicate, slice_index, slice_index_or}
+use Rattle.std.specs.Prelude.{ℕ, ◌≤◌, List, length, All, replicate, slice_index, slice_index_or}
 use Rattle.rule_check.specs.declared.state.State.{State}
+pub use Rattle.block_rounds.specs.Rounds.{IsPlain}
 
 -- the round, how many fields the program has, and the states by rising number of the node
 pub record Configuration : Type 0 where
@@ -15,10 +16,6 @@ most_rounds = 1000000000
 -- a state that stands nowhere
 abbrev pub blank : State
 blank = record { words = replicate 8 0 }
-
--- the words behind the fields are 0
-abbrev pub IsPlain : ℕ → State → Type 0
-IsPlain fields state = (k : ℕ) → fields ≤ k → slice_index state.words k ≡ 0
 
 -- a configuration that some plan may have
 pub record IsConfiguration (c : Configuration) : Type 0 where

@@ -7,7 +7,7 @@ pub mod Lockstep
 pub mod Resume
 pub mod Answer
 pub mod Opening
-pub mod Pairs
+pub mod Columns
 pub mod Lines
 pub mod Digits
 pub mod Front

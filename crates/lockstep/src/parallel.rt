@@ -1,23 +1,19 @@
 //! Lockstep rounds in threads.
-ghost use Rattle.std.specs.Prelude.{◌≡◌, ℕ, ◌+◌, ◌*◌, ◌<◌, ◌≤◌, length};
+ghost use Rattle.std.specs.Prelude.{◌≡◌, ◌+◌, ◌*◌, length};
 ghost use Rattle.std.specs.List.{sum_by};
 ghost use denote.Param.Send.{IsSync};
-ghost use Rattle.lockstep.specs.Lockstep.{state_in, round_from, rounds_of};
-ghost use Rattle.lockstep.specs.Configs.{IsPlain};
 ghost use Rattle.lockstep.specs.Answer.{IsAnswer};
+ghost use Rattle.lockstep.specs.Lockstep.{rounds_of};
 
 use crate::config::Config;
 use crate::fault::RoundFault;
 use crate::plan::Plan;
-use crate::rounds::{Step, lockstep, next_states, rounds_by};
-use rayon::prelude::*;
-use rule_check::State;
+use crate::rounds::{Step, lockstep, look_up, rounds_by};
+use block_rounds::{Layout, Team};
+use rayon::current_num_threads;
+use row_code::RowCode;
 use std::alloc::Global;
 use std::thread::Threads;
-
-/// How many nodes a block has. A thread's share are many blocks, so that shares are even, and a block is many nodes,
-/// so that its call costs little.
-const BLOCK: usize = 64;
 
 /// The least work of a round, as `work_of` counts it, that is shared among threads. On a machine with four cores
 /// the threads of a round take some 0.2 ms to start and to join, and one thread does as much work as this in 0.3 ms
@@ -33,27 +29,19 @@ fn work_of(plan: &Plan) -> u32
     (network.nodes() + ends) * plan.program().field_count()
 }
 
-/// Blocks of nodes, in as many threads as there are processors.
+/// Shares of the batches, each in a thread.
 #[derive(Drop)]
-struct InBlocks<'a, R> {
+struct InThreads<'a, R> {
     rt: &'a R,
+    team: Team<'a>,
 }
 
-impl<R: Threads + Sync> Step for InBlocks<'_, R> {
-    ghost can_step = { λ way. IsSync R.row };
+impl<R: Threads + Sync> Step for InThreads<'_, R> {
+    ghost serves = { λ way p. IsSync R.row × (way.team.rules ≡ p.program) × (way.team.network ≡ p.network) };
 
-    fn step(&self, plan: &Plan, round: u32, states: &[State], next: &mut [State]) {
-        par_chunks_mut_for_each(
-            self.rt,
-            next,
-            BLOCK,
-            |first: usize, block: &mut [State]|
-                requires { (length states.now ≡ length plan.now.network) × (first + length block.now ≤ length plan.now.network) }
-                ensures { (k : ℕ) → k < length block.entry.now
-                    → (state_in block.exit.now k ≡ round_from plan.entry.now round (state_in states.entry.now) (first + k))
-                    × IsPlain (length plan.entry.now.program.fields) (state_in block.exit.now k) }
-            { next_states(plan, round, states, first, block) },
-        );
+    fn step(&mut self, plan: &Plan, round: u32, from: &[Vec<u32>], to: &mut [Vec<u32>]) {
+        let _fields = plan.program().field_count();
+        self.team.round(self.rt, round, from, to);
     }
 }
 
@@ -70,8 +58,13 @@ pub fn lockstep_par(
 ) -> Result<Config, RoundFault>
     ensures exact { IsAnswer RoundFault.Memory (rounds_of plan.now rounds) result }
 {
-    if work_of(plan) < LEAST_WORK {
+    if rounds == plan.start() || work_of(plan) < LEAST_WORK {
         return lockstep(alloc, plan, rounds);
     }
-    rounds_by(&InBlocks { rt }, alloc, plan, rounds)
+    look_up(plan, rounds)?;
+    let fields = plan.program().field_count() as usize;
+    let code = RowCode::new(alloc, plan.program())?;
+    let layout = Layout::new(alloc, plan.network())?;
+    let team = Team::new(alloc, &code, fields, &layout, current_num_threads(rt))?;
+    Ok(rounds_by(&mut InThreads { rt, team }, alloc, plan, rounds)?)
 }

@@ -1,152 +1,113 @@
 //! Lockstep rounds.
-ghost use Rattle.std.specs.Prelude.{◌≡◌, ℕ, ◌+◌, ◌<◌, ◌≤◌, All, length, map, slice_index_or};
-ghost use Rattle.std.specs.List.{range_with_len};
-ghost use Rattle.rule_check.specs.Value.{here_at};
-ghost use Rattle.rule_check.specs.Gathering.{sums_at};
-ghost use Rattle.link_net.specs.Neighbours.{row};
-ghost use Rattle.lockstep.specs.Lockstep.{state_in, round_from, rounds_of};
-ghost use Rattle.lockstep.specs.Pairs.{nears_of};
-ghost use Rattle.lockstep.specs.Configs.{IsPlain};
+ghost use Rattle.std.specs.Prelude.{◌≡◌, ◌<◌, ◌≤◌, ℕ, IfOk, MatchResult, Err, length};
+ghost use Rattle.row_code.specs.Block.{state_at};
 ghost use Rattle.lockstep.specs.Answer.{IsAnswer};
+ghost use Rattle.lockstep.specs.Columns.{AreColumns, HaveRound};
+ghost use Rattle.lockstep.specs.Configs.{most_rounds};
+ghost use Rattle.lockstep.specs.Lockstep.{round_from, rounds_of, lockstep_config};
+ghost use Rattle.lockstep.specs.Plans.{PlanView};
 
 use crate::config::Config;
 use crate::fault::RoundFault;
 use crate::plan::Plan;
-use link_net::Network;
-use rule_check::{Near, Program, State, Sums};
-use std::alloc::Global;
+use block_rounds::{Layout, columns_of, states_of};
+use row_code::{Block, RowCode};
+use std::alloc::{AllocError, Global};
 use std::mem;
 
 /// The greatest round.
 pub(crate) const MOST_ROUNDS: u32 = 1_000_000_000;
 
-/// The neighbours of a node by rising number.
-fn ids_of(network: &Network, node: u32) -> &[u32]
-    ensures { result.now ≡ map (λ a. a.0) (row network.now node) }
-{
-    network.neighbours(node).unwrap_or(&[])
-}
-
-/// The weights of the links to the neighbours of a node, by rising number of the neighbour.
-fn weights_of(network: &Network, node: u32) -> &[u32]
-    ensures { result.now ≡ map (λ a. a.1) (row network.now node) }
-{
-    network.weights(node).unwrap_or(&[])
-}
-
-/// The aggregates' values of a node over its neighbours with these numbers and weights.
-fn gather(
-    program: &Program,
-    round: u32,
-    states: &[State],
-    node: u32,
-    ids: &[u32],
-    weights: &[u32],
-) -> Sums
-    requires node { node < length states.now }
-    requires few { length ids.now ≤ 4096 }
-    requires paired { length weights.now ≡ length ids.now }
-    requires within { All (λ w. w < length states.now) ids.now }
-    ensures sums { result ≡ sums_at program.now (here_at program.now round node (length ids.now) (state_in states.now node) (nears_of (state_in states.now) ids.now weights.now)) }
-{
-    let own = states[node as usize];
-    let degree = ids.len() as u32;
-    let mut sums = program.start();
-    for slot in 0..ids.len() {
-        let id = ids[slot];
-        let near = Near {
-            id,
-            weight: weights[slot],
-            state: states[id as usize],
-        };
-        program.take(&mut sums, node, degree, own, round, &near);
-    }
-    sums
-}
-
-/// The state of a node one round later.
-fn next_of(plan: &Plan, round: u32, states: &[State], node: u32) -> State
-    requires node { node < length plan.now.network }
-    requires states { length states.now ≡ length plan.now.network }
-    ensures next { result ≡ round_from plan.now round (state_in states.now) node }
-    ensures plain { IsPlain (length plan.now.program.fields) result }
-{
-    let network = plan.network();
-    let _nodes = network.nodes();
-    let ids = ids_of(network, node);
-    let weights = weights_of(network, node);
-    let program = plan.program();
-    let sums = gather(program, round, states, node, ids, weights);
-    program.finish(node, ids.len() as u32, states[node as usize], round, &sums)
-}
-
-/// Writes the states one round later of the nodes from `first` on, as many as the block holds.
-pub(crate) fn next_states(
-    plan: &Plan,
-    round: u32,
-    states: &[State],
-    first: usize,
-    block: &mut [State],
-)
-    requires states { length states.now ≡ length plan.now.network }
-    requires block { first + length block.old ≤ length plan.now.network }
-    ensures next { (k : ℕ) → k < length block.old → state_in block.new k ≡ round_from plan.now round (state_in states.now) (first + k) }
-    ensures plain { (k : ℕ) → k < length block.old → IsPlain (length plan.now.program.fields) (state_in block.new k) }
-{
-    let _nodes = plan.network().nodes();
-    for place in 0..block.len() {
-        block[place] = next_of(plan, round, states, (first + place) as u32);
-    }
-}
-
-/// A way to make a round. `can_step` says what it needs, as the leave to share the handle of threads.
+/// A way to make a round of some plans.
 pub(crate) trait Step {
-    ghost can_step: { Self → Type 0 };
+    ghost serves: { Self → PlanView → Type 0 };
 
-    /// Writes the states of all nodes one round later.
-    fn step(&self, plan: &Plan, round: u32, states: &[State], next: &mut [State])
-        requires way { can_step self.now }
-        requires states { length states.now ≡ length plan.now.network }
-        requires next { length next.old ≡ length plan.now.network }
-        ensures next { (u : ℕ) → u < length plan.now.network → state_in next.new u ≡ round_from plan.now round (state_in states.now) u }
-        ensures plain { (u : ℕ) → u < length plan.now.network → IsPlain (length plan.now.program.fields) (state_in next.new u) };
+    /// Writes the states of all nodes one round after those in `from` into `to`, by columns.
+    fn step(&mut self, plan: &Plan, round: u32, from: &[Vec<u32>], to: &mut [Vec<u32>])
+        requires way { serves self.old plan.now }
+        requires from { AreColumns plan.now from.now }
+        requires to { AreColumns plan.now to.old }
+        ensures way { serves self.new plan.now }
+        ensures to { AreColumns plan.now to.new }
+        ensures next { (u : ℕ) → u < length plan.now.network → state_at to.new u ≡ round_from plan.now round (state_at from.now) u };
 }
 
-/// All nodes in turn.
-struct InTurn;
+/// All batches in turn.
+#[derive(Drop)]
+struct InTurn<'a> {
+    layout: &'a Layout<'a>,
+    block: Block<'a>,
+}
 
-impl Step for InTurn {
-    ghost can_step = { λ way. Unit {0} };
+impl Step for InTurn<'_> {
+    ghost serves = { λ way p. (way.block.rules ≡ p.program) × (way.layout.now ≡ p.network) };
 
-    fn step(&self, plan: &Plan, round: u32, states: &[State], next: &mut [State]) {
-        next_states(plan, round, states, 0, next);
+    fn step(&mut self, plan: &Plan, round: u32, from: &[Vec<u32>], to: &mut [Vec<u32>]) {
+        let _fields = plan.program().field_count();
+        self.layout.round(&mut self.block, round, from, to);
     }
 }
 
-/// The configuration of a round, each round made in this way.
-pub(crate) fn rounds_by<S: Step>(
-    way: &S,
-    alloc: Global,
-    plan: &Plan,
-    rounds: u32,
-) -> Result<Config, RoundFault>
-    requires way { S.can_step way.now }
-    ensures exact { IsAnswer RoundFault.Memory (rounds_of plan.now rounds) result }
+/// Whether the plan has this round.
+pub(crate) fn look_up(plan: &Plan, rounds: u32) -> Result<(), RoundFault>
+    ensures there { MatchResult result (λ _. (plan.now.start ≤ rounds) × (rounds ≤ most_rounds)) (λ fault. rounds_of plan.now rounds ≡ Err fault) }
 {
-    let _phase = plan.phase();
     if rounds > MOST_ROUNDS {
         return Err(RoundFault::TooManyRounds);
     }
     if rounds < plan.start() {
         return Err(RoundFault::RoundsBelowStart);
     }
-    let mut states = plan.openings().to_vec(alloc)?;
-    let mut next = plan.openings().to_vec(alloc)?;
+    Ok(())
+}
+
+/// The states after a round by columns, each round from the plan's start on made in this way.
+fn columns_after<S: Step>(
+    way: &mut S,
+    alloc: Global,
+    plan: &Plan,
+    rounds: u32,
+) -> Result<Vec<Vec<u32>>, AllocError>
+    requires way { S.serves way.old plan.now }
+    requires late { plan.now.start ≤ rounds }
+    ensures round { IfOk result (λ columns. HaveRound plan.now rounds columns.items) }
+{
+    let _phase = plan.phase();
+    let fields = plan.program().field_count() as usize;
+    let mut from = columns_of(alloc, fields, plan.openings())?;
+    let mut to = columns_of(alloc, fields, plan.openings())?;
     for round in plan.start()..rounds {
-        way.step(plan, round, &states, &mut next);
-        mem::swap(&mut states, &mut next);
+        way.step(plan, round, &from, &mut to);
+        mem::swap(&mut from, &mut to);
     }
+    Ok(from)
+}
+
+/// The configuration of a round, each round from the plan's start on made in this way.
+pub(crate) fn rounds_by<S: Step>(
+    way: &mut S,
+    alloc: Global,
+    plan: &Plan,
+    rounds: u32,
+) -> Result<Config, AllocError>
+    requires way { S.serves way.old plan.now }
+    requires late { plan.now.start ≤ rounds }
+    requires few { rounds ≤ most_rounds }
+    ensures config { IfOk result (λ config. config ≡ lockstep_config plan.now rounds) }
+{
+    let _phase = plan.phase();
+    let columns = columns_after(way, alloc, plan, rounds)?;
+    let states = states_of(alloc, plan.network().nodes() as usize, &columns)?;
     Ok(Config::of(plan, rounds, states))
+}
+
+/// The configuration of the plan's start.
+fn opening_config(alloc: Global, plan: &Plan) -> Result<Config, AllocError>
+    ensures config { IfOk result (λ config. config ≡ lockstep_config plan.now plan.now.start) }
+{
+    let _phase = plan.phase();
+    let states = plan.openings().to_vec(alloc)?;
+    Ok(Config::of(plan, plan.start(), states))
 }
 
 /// The configuration of a round, counted from round 0, by the textbook synchronous round: from the plan's opening
@@ -157,5 +118,16 @@ pub(crate) fn rounds_by<S: Step>(
 pub fn lockstep(alloc: Global, plan: &Plan, rounds: u32) -> Result<Config, RoundFault>
     ensures exact { IsAnswer RoundFault.Memory (rounds_of plan.now rounds) result }
 {
-    rounds_by(&InTurn, alloc, plan, rounds)
+    look_up(plan, rounds)?;
+    if rounds == plan.start() {
+        return Ok(opening_config(alloc, plan)?);
+    }
+    let code = RowCode::new(alloc, plan.program())?;
+    let layout = Layout::new(alloc, plan.network())?;
+    let block = Block::new(alloc, &code)?;
+    let mut way = InTurn {
+        layout: &layout,
+        block,
+    };
+    Ok(rounds_by(&mut way, alloc, plan, rounds)?)
 }

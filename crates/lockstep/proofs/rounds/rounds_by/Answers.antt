@@ -1,37 +1,27 @@
-use Rattle.std.proofs.Common.{◌≡◌, ◌≤◌, ◌∙◌, ap, sym, subst, length, map, All, arith}
-use Rattle.std.specs.List.{range_with_len}
-use Rattle.std.proofs.lemmas.Grind.{common_steps}
-use Rattle.lockstep.specs.Configs.{IsPlain}
-use Rattle.lockstep.specs.Lockstep.{lockstep_states, state_in, round_from}
-use Rattle.lockstep.proofs.Nears.{states_start, states_more, round_whole, round_plain}
+use Rattle.std.proofs.Common.{◌∙◌, ap, refl, length, map, ℕ, List}
+use Rattle.std.specs.Global.{Vec}
+use Rattle.std.proofs.lemmas.List.FromFn.{length-map-range_with_len}
+use Rattle.link_net.specs.Neighbours.{numbers_below}
+use Rattle.row_code.specs.Block.{state_at}
+use Rattle.lockstep.proofs.Held.{held_states, config_is}
 use Rattle.lockstep.proofs.rounds.rounds_by.Goals as goal
 
-pub loop-round-init : goal.loop-round-init
-loop-round-init g c =
-    let plan = c.args.plan.now in
-    let whole = c.phase-phase.ensures.whole in
-    let made : c.in_ok-states.states.items ≡ plan.opening = c.in_ok-states.ensures.items_if_clones_equal (λ x y e. e) ∙ c.openings.ensures in
-    record {
-      count = grind (arith, common_steps, whole.opening);
-      spare = grind (arith, common_steps, whole.opening);
-      plain = subst (All (IsPlain (length plan.program.fields))) (sym made) whole.plain;
-      done = made ∙ states_start plan (length plan.network) whole.opening ∙ ap (λ t. lockstep_states plan t (length plan.network)) (sym c.start-round.ensures.start);
-    }
+pub of-requires-clause-nodes : goal.of-requires-clause-nodes
+of-requires-clause-nodes g c =
+    c.in_ok-states.states.ok.0
+    ∙ ap length c.in_ok-states.ensures.exact
+    ∙ length-map-range_with_len (state_at c.deref.result.now) 0 c.nodes.result
+    ∙ c.nodes.ensures.count
+    ∙ ap length c.network.ensures.network
 
-pub loop-round-preserved : goal.loop-round-preserved
-loop-round-preserved g c =
-    let plan = c.args.plan.now in
-    let round = c.loop-round.round in
-    let whole = c.phase-phase.ensures.whole in
-    let late : plan.start ≤ round = omega (arith, c.start-round.ensures.start, c.loop-round.auto.round) in
-    let made : c.swap.new.x.items ≡ c.step.new.next = grind (arith, common_steps, c.swap.ensures.x_after, c.step.auto.next) in
-    let count : length c.step.new.next ≡ length plan.network = grind (arith, common_steps) in
+pub returns : goal.returns
+returns g c =
+    let p = c.args.plan.now in
+    let columns = c.in_ok-columns.columns.items in
     record {
-      count = grind (arith, common_steps);
-      spare = grind (arith, common_steps);
-      plain = subst (All (IsPlain (length plan.program.fields))) (sym made) (round_plain (length plan.program.fields) c.step.new.next (length plan.network) count c.step.ensures.plain);
-      done =
-          made ∙ round_whole plan round c.deref.result.now c.step.new.next count c.step.ensures.next
-          ∙ ap (λ ss. map (round_from plan round (state_in ss)) (range_with_len 0 (length plan.network))) c.deref.ensures.value
-          ∙ states_more plan round c.loop-round.states.items whole.network late c.loop-round.invariant.done;
+      config = config_is p c.args.rounds c.args.rounds c.in_ok-states.states.items c.of.result c.of.ensures.parts refl
+          (c.in_ok-states.ensures.exact
+          ∙ ap (λ (cs : List (Vec ℕ)). map (state_at cs) (numbers_below c.nodes.result)) c.deref.ensures.value
+          ∙ ap (λ (n : ℕ). map (state_at columns) (numbers_below n)) (c.nodes.ensures.count ∙ ap length c.network.ensures.network)
+          ∙ held_states p c.args.rounds columns c.in_ok-columns.ensures.round);
     }
