@@ -1,15 +1,22 @@
 //! Makes the networks of the benchmark, and runs the same programs by loops written by hand.
 //!
-//!   loops make KIND FILE          KIND: random, torus, path; all of 65,536 nodes
-//!   loops run PROGRAM FILE N      PROGRAM: distance, rule_110; prints the seconds of N rounds and a checksum
+//!   loops make KIND FILE          KIND: random, torus, path, hubs; all of 65,536 nodes
+//!   loops run PROGRAM FILE N      PROGRAM: distance, rule_110, majority, heavy; prints the seconds of N rounds and a checksum
+//!
+//! HEAVY names the file with the loop of the heavy program, which heavy.py makes.
 use std::env;
 use std::fs;
 use std::io::{BufWriter, Write};
 use std::time::Instant;
 
+const M: u32 = u32::MAX;
 const NODES: u32 = 65_536;
 const LINKS: usize = 262_144;
 const SIDE: u32 = 256;
+const HUBS: u32 = 48;
+const MOST_NEIGHBOURS: usize = 4_096;
+
+include!(env!("HEAVY"));
 
 /// A fixed sequence of numbers that look random.
 struct Sequence(u64);
@@ -50,10 +57,29 @@ fn path_links() -> Vec<(u32, u32)> {
     (0..NODES - 1).map(|node| (node, node + 1)).collect()
 }
 
+/// Hubs of 4,096 neighbours each, spread over the numbers, the neighbours drawn from nodes that are no hubs.
+fn hub_links() -> Vec<(u32, u32)> {
+    let mut sequence = Sequence(54_321);
+    let mut links = std::collections::BTreeSet::new();
+    let apart = NODES / HUBS;
+    for hub in 0..HUBS {
+        let node = hub * apart;
+        let full = links.len() + MOST_NEIGHBOURS;
+        while links.len() < full {
+            let other = sequence.below(NODES);
+            if other % apart != 0 || other / apart >= HUBS {
+                links.insert((node.min(other), node.max(other)));
+            }
+        }
+    }
+    links.into_iter().collect()
+}
+
 fn make(kind: &str, file: &str) {
     let links = match kind {
         "random" => random_links(),
         "torus" => torus_links(),
+        "hubs" => hub_links(),
         _ => path_links(),
     };
     let mut out = BufWriter::new(fs::File::create(file).expect("the file"));
@@ -61,7 +87,7 @@ fn make(kind: &str, file: &str) {
     for (u, w) in links {
         write!(out, "[{u}, {w}],").expect("written");
     }
-    writeln!(out, "]\n[set]\ndist = [[0, 0]]\ns = [[0, 1], [65534, 1]]").expect("written");
+    writeln!(out, "]").expect("written");
 }
 
 /// The neighbours of all nodes in one list, with the place where each node's begin.
@@ -91,42 +117,58 @@ fn read(file: &str) -> (Vec<usize>, Vec<u32>) {
     (offsets, near)
 }
 
-fn distance(offsets: &[usize], near: &[u32], rounds: u32) -> Vec<u32> {
-    let mut states = vec![u32::MAX; NODES as usize];
-    states[0] = 0;
-    let mut next = states.clone();
-    for _ in 0..rounds {
-        for node in 0..NODES as usize {
-            let mut least = u32::MAX;
-            for other in &near[offsets[node]..offsets[node + 1]] {
-                least = least.min(states[*other as usize].saturating_add(1));
-            }
-            next[node] = states[node].min(least);
+/// One round of a program: from columns to columns, one for each field.
+type Round = fn(&[usize], &[u32], &[Vec<u32>], &mut [Vec<u32>]);
+
+fn distance_round(offsets: &[usize], near: &[u32], now: &[Vec<u32>], next: &mut [Vec<u32>]) {
+    let (states, next) = (&now[0], &mut next[0]);
+    for node in 0..NODES as usize {
+        let mut least = M;
+        for other in &near[offsets[node]..offsets[node + 1]] {
+            least = least.min(states[*other as usize].saturating_add(1));
         }
-        std::mem::swap(&mut states, &mut next);
+        next[node] = states[node].min(least);
     }
-    states
 }
 
-fn rule_110(offsets: &[usize], near: &[u32], rounds: u32) -> Vec<u32> {
-    let mut states = vec![0; NODES as usize];
-    states[0] = 1;
-    states[65_534] = 1;
-    let mut next = states.clone();
-    for _ in 0..rounds {
-        for node in 0..NODES as usize {
-            let own = states[node];
-            let (mut left, mut right) = (0, 0);
-            for other in &near[offsets[node]..offsets[node + 1]] {
-                let alive = (states[*other as usize] != 0) as u32;
-                right |= alive & (*other as usize > node) as u32;
-                left |= alive & ((*other as usize) < node) as u32;
-            }
-            next[node] = (own | right) & (((left & own) & right) == 0) as u32;
+fn rule_110_round(offsets: &[usize], near: &[u32], now: &[Vec<u32>], next: &mut [Vec<u32>]) {
+    let (states, next) = (&now[0], &mut next[0]);
+    for node in 0..NODES as usize {
+        let own = states[node];
+        let (mut left, mut right) = (0, 0);
+        for other in &near[offsets[node]..offsets[node + 1]] {
+            let alive = (states[*other as usize] != 0) as u32;
+            right |= alive & (*other as usize > node) as u32;
+            left |= alive & ((*other as usize) < node) as u32;
         }
-        std::mem::swap(&mut states, &mut next);
+        next[node] = (own | right) & (((left & own) & right) == 0) as u32;
     }
-    states
+}
+
+fn majority_round(offsets: &[usize], near: &[u32], now: &[Vec<u32>], next: &mut [Vec<u32>]) {
+    let (states, next) = (&now[0], &mut next[0]);
+    for node in 0..NODES as usize {
+        let row = &near[offsets[node]..offsets[node + 1]];
+        let mut ones = 0;
+        for other in row {
+            ones += (states[*other as usize] != 0) as u32;
+        }
+        next[node] = match (ones * 2).cmp(&(row.len() as u32)) {
+            std::cmp::Ordering::Greater => 1,
+            std::cmp::Ordering::Less => 0,
+            std::cmp::Ordering::Equal => states[node],
+        };
+    }
+}
+
+/// The columns at first: as the programs of compare.py make them in round 0, from the numbers of the nodes.
+fn opening(program: &str) -> Vec<Vec<u32>> {
+    match program {
+        "distance" => vec![(0..NODES).map(|node| if node == 0 { 0 } else { M }).collect()],
+        "rule_110" => vec![(0..NODES).map(|node| (node == 0 || node == 65_534) as u32).collect()],
+        "majority" => vec![(0..NODES).map(|node| ((node * 7) % 5 < 2) as u32).collect()],
+        _ => (0..8).map(|field| vec![field; NODES as usize]).collect(),
+    }
 }
 
 fn main() {
@@ -134,17 +176,28 @@ fn main() {
     if words[1] == "make" {
         return make(&words[2], &words[3]);
     }
-    let (offsets, near) = read(&words[3]);
-    let rounds = words[4].parse().expect("rounds");
-    let start = Instant::now();
-    let states = match words[2].as_str() {
-        "distance" => distance(&offsets, &near, rounds),
-        _ => rule_110(&offsets, &near, rounds),
+    let round: Round = match words[2].as_str() {
+        "distance" => distance_round,
+        "rule_110" => rule_110_round,
+        "majority" => majority_round,
+        _ => heavy_round,
     };
+    let (offsets, near) = read(&words[3]);
+    let rounds: u32 = words[4].parse().expect("rounds");
+    let mut now = opening(&words[2]);
+    let mut next = now.clone();
+    let start = Instant::now();
+    for _ in 0..rounds {
+        round(&offsets, &near, &now, &mut next);
+        std::mem::swap(&mut now, &mut next);
+    }
     let seconds = start.elapsed().as_secs_f64();
     let mut sum = 0u64;
-    for state in &states {
-        sum = (sum * 31 + *state as u64) % 1_000_000_007;
+    for node in 0..NODES as usize {
+        for field in 0..8 {
+            let word = now.get(field).map_or(0, |column| column[node]);
+            sum = sum.wrapping_mul(31).wrapping_add(word as u64);
+        }
     }
     println!("{seconds:.4} {sum}");
 }
