@@ -1,3 +1,5 @@
 pub mod Faults
+pub mod Endings
+pub mod Parts
 pub mod Refusals
 pub mod Runs

@@ -1,7 +1,11 @@
 //! Runs.
-ghost use Rattle.std.specs.Prelude.{◌≡◌, ◌≤◌, ◌<◌, IfOk, IfErr, OnOk, IfSome, IsTrue, None, option_map};
+ghost use Rattle.std.specs.Prelude.{◌≡◌, ◌≤◌, ◌<◌, ◌↔◌, IfOk, IfErr, OnOk, IfSome, IsTrue, None, option_map};
 ghost use Rattle.std.specs.Arc.{arc_value};
 ghost use Rattle.lockstep.specs.Lockstep.{lockstep_config};
+ghost use Rattle.unison_world.specs.Opening.{opening_of};
+ghost use Rattle.unison_trace.specs.Histories.{with_log};
+ghost use Rattle.unison_trace.specs.Traces.{steps_in};
+ghost use Rattle.unison_pool.specs.Endings.{IsHaltAnswer, IsFinishAnswer};
 ghost use Rattle.unison_pool.specs.Refusals.{Ends, Refuses, IsTooSmall, opening_refusal};
 ghost use Rattle.unison_pool.specs.Runs.{IsTrace};
 
@@ -85,11 +89,12 @@ fn opening_refusal(plan: &Plan, stop: u32, workers: u32) -> Option<RunFault>
     None
 }
 
-/// A world of the plan before any step.
+/// A world of the plan before any step, with no steps stored and the limit that was asked.
 fn open(alloc: Global, plan: &Arc<Plan>, stop: u32, trace: Option<u32>) -> Result<Logged, RunFault>
     requires limit { stop ≤ 1000000000 }
     requires start { (arc_value plan.now).start ≤ stop }
-    ensures { IfErr result (λ fault. fault ≡ RunFault.Memory) }
+    ensures opened { IfOk result (λ logged. with_log trace (opening_of (arc_value plan.now) stop) ≡ Ok logged) }
+    ensures memory { IfErr result (λ fault. fault ≡ RunFault.Memory) }
 {
     Ok(Logged::new(alloc, Arc::try_clone(plan)?, stop, trace)?)
 }
@@ -97,7 +102,8 @@ fn open(alloc: Global, plan: &Arc<Plan>, stop: u32, trace: Option<u32>) -> Resul
 /// What a run answers where its workers were told to end. A full trace is answered only where the trace that was
 /// asked needs more steps than this limit.
 fn fault_of(halted: Halted, plan: &Plan, stop: u32, trace: Option<u32>) -> RunFault
-    ensures { Ends plan.now stop trace result }
+    ensures answer { IsHaltAnswer plan.now stop trace halted result }
+    ensures ends { Ends plan.now stop trace result }
 {
     match halted {
         Halted::NoThread => RunFault::NoThread,
@@ -114,7 +120,7 @@ fn fault_of(halted: Halted, plan: &Plan, stop: u32, trace: Option<u32>) -> RunFa
 
 /// Whether this is the limit of the trace that was asked, and it is below the number of steps to the stop.
 fn is_too_small(plan: &Plan, stop: u32, trace: Option<u32>, limit: u32) -> bool
-    ensures { IsTrue result → IsTooSmall plan.now stop trace limit }
+    ensures { IsTrue result ↔ IsTooSmall plan.now stop trace limit }
 {
     match trace {
         None => false,
@@ -124,7 +130,8 @@ fn is_too_small(plan: &Plan, stop: u32, trace: Option<u32>, limit: u32) -> bool
     }
 }
 
-/// Finishes what stood under the lock, of which its type alone is known.
+/// Finishes what stood under the lock, of which its type alone is known: its plan, its stop and the presence of its
+/// trace are compared with what was asked before any node is looked at.
 fn finish(
     alloc: Global,
     logged: Logged,
@@ -134,12 +141,12 @@ fn finish(
 ) -> Result<Finished, RunFault>
     ensures config { IfOk result (λ f. f.config ≡ lockstep_config plan.now stop) }
     ensures trace { IfOk result (λ f. IsTrace plan.now stop trace (option_map (λ v. v.items) f.trace)) }
+    ensures steps { IfOk result (λ f. option_map (λ v. v.items) f.trace ≡ steps_in logged.log) }
     ensures refused { IfErr result (Ends plan.now stop trace) }
+    ensures answer { IfErr result (IsFinishAnswer logged plan.now stop trace) }
 {
-    let finished = logged.finish(alloc, plan, stop)?;
-    if finished.trace.is_some() == trace.is_some() {
-        Ok(finished)
-    } else {
-        Err(RunFault::Foreign)
+    if logged.steps().is_some() != trace.is_some() {
+        return Err(RunFault::Foreign);
     }
+    Ok(logged.finish(alloc, plan, stop)?)
 }

@@ -1,5 +1,5 @@
 //! All workers of a run.
-ghost use Rattle.std.specs.Prelude.{◌≡◌};
+ghost use Rattle.std.specs.Prelude.{◌≡◌, ◌≢◌, ◌+◌, ◌≤◌, IfErr, OnErr, OnOk, Ok, Err, vec_len, vec_capacity};
 ghost use Rattle.unison_trace.specs.declared.fault.LogFault.TheVariants.{Memory};
 ghost use Rattle.unison_pool.specs.declared.team.Halted.TheVariants.{Fault};
 
@@ -63,18 +63,22 @@ impl<R: Threads + Wait + Sync, G: Gate + Sync> Team<'_, R, G> {
                     self.shared.halt();
                 }
                 let joined = join_all(self.rt, threads);
-                started.and(joined)
+                first_of(started, joined)
             },
         )
     }
 
-    /// Starts the workers by rising number, up to the first thread that is refused.
+    /// Starts the workers by rising number, up to the first thread that is refused. There is room for all of them.
     fn start_all<'s, E>(
         &'s self,
         scope: &'s Scope<'s, E>,
         workers: u32,
         threads: &mut Vec<JoinHandle<Result<(), LogFault>>>,
-    ) -> Result<(), Halted> {
+    ) -> Result<(), Halted>
+        requires room { vec_len threads.old + workers ≤ vec_capacity threads.old }
+        ensures all { OnOk result (vec_len threads.new ≡ vec_len threads.old + workers) }
+        ensures refused { IfErr result (λ halted. halted ≡ Halted.NoThread) }
+    {
         for worker in 0..workers {
             let part = Part { worker, workers };
             let Ok(thread) = scope.spawn(move || self.drive(part)) else {
@@ -90,13 +94,29 @@ impl<R: Threads + Wait + Sync, G: Gate + Sync> Team<'_, R, G> {
 fn join_all<R: Threads>(
     rt: &R,
     threads: Vec<JoinHandle<Result<(), LogFault>>>,
-) -> Result<(), Halted> {
+) -> Result<(), Halted>
+    ensures met { IfErr result (λ halted. halted ≢ Halted.NoThread) }
+{
     let mut joined = Ok(());
     for thread in threads {
         let met = thread.join(rt);
-        if let (Ok(()), Err(fault)) = (joined, met) {
-            joined = Err(Halted::Fault(fault));
-        }
+        joined = first_of(joined, halted_by(met));
     }
     joined
+}
+
+/// The first of two faults, where there is one.
+fn first_of(first: Result<(), Halted>, second: Result<(), Halted>) -> Result<(), Halted>
+    ensures first { OnErr first (result ≡ first) }
+    ensures second { OnOk first (result ≡ second) }
+{
+    first.and(second)
+}
+
+/// What a worker met, as what the workers were told to end by.
+fn halted_by(met: Result<(), LogFault>) -> Result<(), Halted>
+    ensures none { OnOk met (result ≡ Ok tt) }
+    ensures fault { IfErr met (λ fault. result ≡ Err (Halted.Fault fault)) }
+{
+    met.map_err(|fault| Halted::Fault(fault))
 }

@@ -1,5 +1,7 @@
 //! What one worker does.
-ghost use Rattle.std.specs.Prelude.{◌<◌};
+ghost use Rattle.std.specs.Prelude.{◌≡◌, ◌<◌, ◌≤◌, ◌↔◌, All, IfErr, IfOk, length, map};
+ghost use Rattle.unison_trace.specs.Histories.{is_move};
+ghost use Rattle.unison_pool.specs.Parts.{both, moves_after, part_of};
 
 use crate::gate::Gate;
 use crate::team::Team;
@@ -23,7 +25,7 @@ struct Driven {
     moves: u32,
 }
 
-/// What came of one pass over the nodes of a worker.
+/// What came of one pass over nodes of a worker.
 #[derive(Clone, Copy)]
 enum Pass {
     /// All of them stood at the stop.
@@ -32,6 +34,26 @@ enum Pass {
     Idle,
     /// Some moved.
     Moved,
+}
+
+impl Pass {
+    /// What came of a pass over these nodes and then over others.
+    fn and(self, others: Pass) -> Pass
+        ensures { result ≡ both self others }
+    {
+        match (self, others) {
+            (Pass::Moved, _) | (_, Pass::Moved) => Pass::Moved,
+            (Pass::Ended, Pass::Ended) => Pass::Ended,
+            _ => Pass::Idle,
+        }
+    }
+}
+
+/// Whether a result with this answer moved its node.
+fn moved(answer: WriteAnswer) -> bool
+    ensures { result ≡ is_move answer }
+{
+    matches!(answer, WriteAnswer::Moved)
 }
 
 impl<R: Wait, G: Gate> Team<'_, R, G> {
@@ -63,30 +85,46 @@ impl<R: Wait, G: Gate> Team<'_, R, G> {
     }
 
     /// The nodes of a part by rising number, each at the start.
-    fn nodes_of(&self, part: Part) -> Result<Vec<Driven>, LogFault> {
+    fn nodes_of(&self, part: Part) -> Result<Vec<Driven>, LogFault>
+        ensures nodes { IfOk result (λ nodes. map (λ d. d.node) nodes.items ≡ part_of (length self.now.plan.now.network) part.workers part.worker) }
+        ensures at_start { IfOk result (λ nodes. All (λ d. d.moves ≡ self.now.plan.now.start) nodes.items) }
+        ensures memory { IfErr result (λ fault. fault ≡ LogFault.Memory) }
+    {
         let moves = self.plan.start();
         let mut nodes = Vec::new(self.alloc);
-        let all = self.plan.network().nodes();
-        for node in (part.worker..all).step_by(part.workers as usize) {
-            nodes.push(Driven { node, moves })?;
+        for node in 0..self.plan.network().nodes() {
+            if node % part.workers == part.worker {
+                nodes.push(Driven { node, moves })?;
+            }
         }
         Ok(nodes)
     }
 
     /// Goes through a worker's nodes by rising number.
-    fn make_pass(&self, worker: u32, nodes: &mut Vec<Driven>) -> Result<Pass, LogFault> {
+    fn make_pass(&self, worker: u32, nodes: &mut Vec<Driven>) -> Result<Pass, LogFault>
+        ensures ended { IfOk result (λ pass. pass ≡ Pass.Ended → All (λ d. self.now.stop ≤ d.moves) nodes.old.items) }
+    {
         let mut pass = Pass::Ended;
-        for driven in nodes {
-            if driven.moves < self.stop {
-                if self.advance(worker, driven.node)? {
-                    driven.moves += 1;
-                    pass = Pass::Moved;
-                } else if let Pass::Ended = pass {
-                    pass = Pass::Idle;
-                }
-            }
+        for driven in nodes.iter_mut() {
+            pass = pass.and(self.attend(worker, driven)?);
         }
         Ok(pass)
+    }
+
+    /// Drives a node where it stands below the stop.
+    fn attend(&self, worker: u32, driven: &mut Driven) -> Result<Pass, LogFault>
+        ensures ended { IfOk result (λ pass. (pass ≡ Pass.Ended) ↔ (self.now.stop ≤ driven.old.moves)) }
+        ensures node { driven.new.node ≡ driven.old.node }
+        ensures moves { IfOk result (λ pass. driven.new.moves ≡ moves_after pass driven.old.moves) }
+    {
+        if driven.moves >= self.stop {
+            return Ok(Pass::Ended);
+        }
+        if !self.advance(worker, driven.node)? {
+            return Ok(Pass::Idle);
+        }
+        driven.moves += 1;
+        Ok(Pass::Moved)
     }
 
     /// Reads each slot of a node, moves the node where it is ready then, and says whether it moved.
@@ -100,6 +138,6 @@ impl<R: Wait, G: Gate> Team<'_, R, G> {
         self.gate.before_compute(worker, node);
         let done = work.compute();
         let answer = self.shared.put(self.rt, &done)?;
-        Ok(matches!(answer, WriteAnswer::Moved))
+        Ok(moved(answer))
     }
 }
