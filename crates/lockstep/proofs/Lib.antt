@@ -8,6 +8,7 @@ pub mod Texts
 pub mod Nears
 pub mod Resumed
 pub mod Held
+pub mod Stays
 pub mod Digits
 pub mod Fronts
 pub mod Once

@@ -8,6 +8,7 @@ pub mod Resume
 pub mod Answer
 pub mod Opening
 pub mod Columns
+pub mod Stays
 pub mod Lines
 pub mod Digits
 pub mod Front

@@ -4,6 +4,7 @@
 mod config;
 mod difference;
 mod fault;
+mod laws;
 mod number;
 mod opening;
 mod parallel;
@@ -16,6 +17,7 @@ mod tally;
 pub use config::Config;
 pub use difference::{Difference, compare};
 pub use fault::{PlanFault, ReportFault, ResumeFault, RoundFault};
+pub use laws::stays_as_it_is;
 pub use parallel::lockstep_par;
 pub use plan::Plan;
 pub use report_reader::read_report;

@@ -10,7 +10,7 @@ ghost use Rattle.lockstep.specs.Plans.{PlanView};
 use crate::config::Config;
 use crate::fault::RoundFault;
 use crate::plan::Plan;
-use block_rounds::{Layout, columns_of, states_of};
+use block_rounds::{Layout, columns_of, same_columns, states_of};
 use row_code::{Block, RowCode};
 use std::alloc::{AllocError, Global};
 use std::mem;
@@ -61,7 +61,8 @@ pub(crate) fn look_up(plan: &Plan, rounds: u32) -> Result<(), RoundFault>
     Ok(())
 }
 
-/// The states after a round by columns, each round from the plan's start on made in this way.
+/// The states after a round by columns, each round from the plan's start on made in this way. Where the program
+/// doesn't read the number of the round, a round that changes nothing is the last one made.
 fn columns_after<S: Step>(
     way: &mut S,
     alloc: Global,
@@ -74,10 +75,14 @@ fn columns_after<S: Step>(
 {
     let _phase = plan.phase();
     let fields = plan.program().field_count() as usize;
+    let settles = !plan.program().uses_round();
     let mut from = columns_of(alloc, fields, plan.openings())?;
     let mut to = columns_of(alloc, fields, plan.openings())?;
     for round in plan.start()..rounds {
         way.step(plan, round, &from, &mut to);
+        if settles && same_columns(&from, &to) {
+            return Ok(from);
+        }
         mem::swap(&mut from, &mut to);
     }
     Ok(from)
@@ -111,7 +116,8 @@ fn opening_config(alloc: Global, plan: &Plan) -> Result<Config, AllocError>
 }
 
 /// The configuration of a round, counted from round 0, by the textbook synchronous round: from the plan's opening
-/// states on all nodes move at once, each by its own state and its neighbours' states before.
+/// states on all nodes move at once, each by its own state and its neighbours' states before. Where the program
+/// doesn't read the number of the round, none is computed behind the first one that changes nothing.
 ///
 /// `TooManyRounds` comes above 1,000,000,000, and else `RoundsBelowStart` below the plan's start, both before
 /// anything is done.
