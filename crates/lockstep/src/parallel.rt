@@ -1,6 +1,5 @@
 //! Lockstep rounds in threads.
-ghost use Rattle.std.specs.Prelude.{◌≡◌, ◌+◌, ◌*◌, length};
-ghost use Rattle.std.specs.List.{sum_by};
+ghost use Rattle.std.specs.Prelude.{◌≡◌};
 ghost use denote.Param.Send.{IsSync};
 ghost use Rattle.lockstep.specs.Answer.{IsAnswer};
 ghost use Rattle.lockstep.specs.Lockstep.{rounds_of};
@@ -16,17 +15,17 @@ use std::alloc::Global;
 use std::thread::Threads;
 
 /// The least work of a round, as `work_of` counts it, that is shared among threads. On a machine with four cores
-/// the threads of a round take some 0.2 ms to start and to join, and one thread does as much work as this in 0.3 ms
-/// for a cheap program: a round with less is faster in one piece.
-const LEAST_WORK: u32 = 32_768;
+/// the threads of a round take 0.1 to 0.2 ms to start and to join, and one thread does as much work as this in
+/// 0.15 to 0.4 ms: a round with less is faster in one piece.
+const LEAST_WORK: u32 = 163_840;
 
-/// The work of a round: the nodes and the ends of links, counted once for each field of the program.
-fn work_of(plan: &Plan) -> u32
-    ensures work { result ≡ (length plan.now.network + sum_by length plan.now.network) * length plan.now.program.fields }
-{
+/// The work of a round: each field of each node, and each aggregate at each end of a link.
+fn work_of(plan: &Plan) -> u32 {
     let network = plan.network();
+    let program = plan.program();
     let ends = 2 * network.links();
-    (network.nodes() + ends) * plan.program().field_count()
+    let aggregates = program.aggregates().len() as u32;
+    network.nodes() * program.field_count() + ends * aggregates
 }
 
 /// Shares of the batches, each in a thread.
