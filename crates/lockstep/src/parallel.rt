@@ -7,7 +7,7 @@ ghost use Rattle.lockstep.specs.Lockstep.{rounds_of};
 use crate::config::Config;
 use crate::fault::RoundFault;
 use crate::plan::Plan;
-use crate::rounds::{Step, lockstep, look_up, rounds_by};
+use crate::rounds::{Step, check_round, lockstep, rounds_by};
 use block_rounds::{Layout, Team};
 use rayon::current_num_threads;
 use row_code::RowCode;
@@ -60,7 +60,7 @@ pub fn lockstep_par(
     if rounds == plan.start() || work_of(plan) < LEAST_WORK {
         return lockstep(alloc, plan, rounds);
     }
-    look_up(plan, rounds)?;
+    check_round(plan, rounds)?;
     let fields = plan.program().field_count() as usize;
     let code = RowCode::new(alloc, plan.program())?;
     let layout = Layout::new(alloc, plan.network())?;

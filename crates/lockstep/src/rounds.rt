@@ -48,8 +48,8 @@ impl Step for InTurn<'_> {
     }
 }
 
-/// Whether the plan has this round.
-pub(crate) fn look_up(plan: &Plan, rounds: u32) -> Result<(), RoundFault>
+/// Why there is no such round of the plan, if there is none.
+pub(crate) fn check_round(plan: &Plan, rounds: u32) -> Result<(), RoundFault>
     ensures there { MatchResult result (λ _. (plan.now.start ≤ rounds) × (rounds ≤ most_rounds)) (λ fault. rounds_of plan.now rounds ≡ Err fault) }
 {
     if rounds > MOST_ROUNDS {
@@ -124,7 +124,7 @@ fn opening_config(alloc: Global, plan: &Plan) -> Result<Config, AllocError>
 pub fn lockstep(alloc: Global, plan: &Plan, rounds: u32) -> Result<Config, RoundFault>
     ensures exact { IsAnswer RoundFault.Memory (rounds_of plan.now rounds) result }
 {
-    look_up(plan, rounds)?;
+    check_round(plan, rounds)?;
     if rounds == plan.start() {
         return Ok(opening_config(alloc, plan)?);
     }
