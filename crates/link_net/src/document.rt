@@ -98,9 +98,10 @@ fn member<'a>(table: &'a Table, key: &str) -> Option<&'a Value>
     table.get(key)
 }
 
-/// The integer at `nodes`.
+/// The integer at `nodes`. It takes no memory.
 fn read_nodes(table: &Table) -> Result<i64, NetFault>
-    ensures { IsAnswer (ok_or (nodes_of (table_view table.now)) NetFault.BadShape) result }
+    ensures answer { IsAnswer (ok_or (nodes_of (table_view table.now)) NetFault.BadShape) result }
+    ensures exact { result ≡ ok_or (nodes_of (table_view table.now)) NetFault.BadShape }
 {
     let value = member(table, "nodes").ok_or(NetFault::BadShape)?;
     value.as_integer().ok_or(NetFault::BadShape)
@@ -129,9 +130,10 @@ fn read_links(alloc: Global, table: &Table) -> Result<DraftLinks, NetFault>
     read_link_array(alloc, array)
 }
 
-/// The integer at `phase`, or 0.
+/// The integer at `phase`, or 0. It takes no memory.
 fn read_phase(table: &Table) -> Result<i64, NetFault>
-    ensures { IsAnswer (ok_or (phase_of (table_view table.now)) NetFault.BadShape) result }
+    ensures answer { IsAnswer (ok_or (phase_of (table_view table.now)) NetFault.BadShape) result }
+    ensures exact { result ≡ ok_or (phase_of (table_view table.now)) NetFault.BadShape }
 {
     match member(table, "phase") {
         None => Ok(0),

@@ -1,11 +1,11 @@
 //! Worlds.
-ghost use Rattle.std.specs.Prelude.{◌≡◌, ℕ, ◌<◌, ◌%◌, ◌+◌, ◌≤◌, min, length, Some, None, if◌then◌else◌, IfOk};
+ghost use Rattle.std.specs.Prelude.{◌≡◌, ℕ, ◌<◌, ◌%◌, ◌+◌, ◌≤◌, min, length, Some, None, if◌then◌else◌, IfOk, IfErr, OnErr};
 ghost use Rattle.std.specs.Arc.{arc_value};
 ghost use Rattle.lockstep.specs.Answer.{IsAnswer};
 ghost use Rattle.lockstep.specs.Configs.{most_rounds};
 ghost use Rattle.lockstep.specs.Plans.{IsPlan};
 ghost use Rattle.unison_world.specs.Counting.{at_start, moves_of, HasShape, InStep};
-ghost use Rattle.unison_world.specs.Finishing.{IsFinish};
+ghost use Rattle.unison_world.specs.Finishing.{IsOf, AtStopBelow, IsFinish};
 ghost use Rattle.unison_world.specs.Opening.{opening_of};
 ghost use Rattle.unison_world.specs.Progress.{steps_left};
 ghost use Rattle.unison_world.specs.Turns.{AtLeast, moves_in_sweep, turn_answer, world_after_sweep, world_after_turn};
@@ -60,9 +60,10 @@ impl Model for World {
 
 impl World {
     /// A world of a plan before any step, whose nodes move up to a stop. `StopTooLarge` comes above 1,000,000,000,
-    /// and else `StopBelowStart` below the plan's start, both before anything is done.
+    /// and else `StopBelowStart` below the plan's start, both before anything is done, so also before want of memory.
     pub fn new(alloc: Global, plan: Arc<Plan>, stop: u32) -> Result<World, OpenFault>
         ensures exact { IsAnswer OpenFault.Memory (opening_of (arc_value plan) stop) result }
+        ensures memory { IfErr result (λ fault. fault ≡ OpenFault.Memory → opening_of (arc_value plan) stop ≡ Ok (opened (arc_value plan) stop)) }
     {
         if stop > MOST_ROUNDS {
             return Err(OpenFault::StopTooLarge);
@@ -123,9 +124,10 @@ impl World {
     }
 
     /// What a node's next state is computed from; none where there is no such node, it stands at the stop or it
-    /// isn't ready. Only the clone of the plan's `Arc` can be refused.
+    /// isn't ready. Only the clone of the plan's `Arc` can be refused, and it is made only where there is work.
     pub fn work(&self, node: u32) -> Result<Option<Work>, AllocError>
         ensures work { IfOk result (λ work. work ≡ work_in self.now node) }
+        ensures memory { OnErr result (answer_in self.now (Step.Write node) ≡ Answer.Moved) }
     {
         let Answer::Moved = self.ask(Step::Write { node }) else {
             return Ok(None);
@@ -199,9 +201,10 @@ impl World {
 
     /// The configuration of the stop, where the plan and the stop are the world's and every node stands at the stop.
     /// `Foreign` comes where the plan or the stop isn't the world's, and else `Unfinished` with the least node below
-    /// the stop.
+    /// the stop; want of memory only where neither does.
     pub fn finish(self, alloc: Global, plan: &Plan, stop: u32) -> Result<Config, FinishFault>
         ensures answer { IsFinish self plan.now stop result }
+        ensures memory { IfErr result (λ fault. fault ≡ FinishFault.Memory → IsOf self plan.now stop × AtStopBelow self (length self.plan.network)) }
     {
         if !self.plan.same(plan) {
             return Err(FinishFault::Foreign);

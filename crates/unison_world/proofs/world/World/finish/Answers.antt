@@ -30,4 +30,5 @@ returns c =
         λ u h. (let a = at_stop u (omega (arith, h, c.self.invariant.drawn.one_each)) in a ∙ sym c.if-self-stop.false),
         c.of.ensures.parts ∙ ap show f.1,
       );
+      memory = tt;
     })
