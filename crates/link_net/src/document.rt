@@ -1,5 +1,5 @@
 //! The shape of a network document: its keys and values, their numbers unchecked.
-ghost use Rattle.std.specs.Prelude.{◌≡◌, ℕ, not, string_bytes, List, option_map, option_and_then};
+ghost use Rattle.std.specs.Prelude.{◌≡◌, ℕ, not, string_bytes, List, option_map, option_and_then, codes, IfErr, IsSome};
 ghost use Rattle.std.specs.Option.{ok_or};
 ghost use Rattle.toml.specs.Data.{get_member, as_array};
 ghost use Rattle.toml.specs.View.{view, table_view, array_view};
@@ -121,9 +121,10 @@ fn read_link_array(alloc: Global, array: &Array) -> Result<DraftLinks, NetFault>
     Ok(DraftLinks::new(items))
 }
 
-/// The links at `links`.
+/// The links at `links`. Memory is taken only where there is an array.
 fn read_links(alloc: Global, table: &Table) -> Result<DraftLinks, NetFault>
-    ensures { IsAnswer (ok_or (links_of (table_view table.now)) NetFault.BadShape) result }
+    ensures answer { IsAnswer (ok_or (links_of (table_view table.now)) NetFault.BadShape) result }
+    ensures memory { IfErr result (λ fault. fault ≡ NetFault.Memory → IsSome (option_and_then as_array (get_member (codes "links") (table_view table.now)))) }
 {
     let value = member(table, "links").ok_or(NetFault::BadShape)?;
     let array = value.as_array().ok_or(NetFault::BadShape)?;
@@ -141,9 +142,10 @@ fn read_phase(table: &Table) -> Result<i64, NetFault>
     }
 }
 
-/// The pairs of one key of `set`.
+/// The pairs of one key of `set`. Memory is taken only where there is an array.
 fn read_value_pairs(alloc: Global, value: &Value) -> Result<Pairs, NetFault>
-    ensures { IsAnswer (ok_or (option_and_then pairs_of (as_array (view value.now))) NetFault.BadShape) result }
+    ensures answer { IsAnswer (ok_or (option_and_then pairs_of (as_array (view value.now))) NetFault.BadShape) result }
+    ensures memory { IfErr result (λ fault. fault ≡ NetFault.Memory → IsSome (as_array (view value.now))) }
 {
     let array = value.as_array().ok_or(NetFault::BadShape)?;
     read_pairs(alloc, array)

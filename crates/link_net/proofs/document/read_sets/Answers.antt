@@ -13,7 +13,7 @@ pub loop-key-preserved : goal.loop-key-preserved
 loop-key-preserved c =
     let e : Entry = (c.in-Some.key.now, c.in-Some.value.now) in
     let iter : c.loop-key.key-iterator ≡ e ∷ c.next.new.self = grind (arith, common_steps) in
-    let is_set : option_and_then pairs_of (as_array (view e.1)) ≡ Some c.in_ok-pairs.pairs = some_from_ok_or _ _ _ c.in_ok-pairs.ensures in
+    let is_set : option_and_then pairs_of (as_array (view e.1)) ≡ Some c.in_ok-pairs.pairs = some_from_ok_or _ _ _ c.in_ok-pairs.ensures.answer in
     let named : string_bytes e.0 ≡ c.in_ok-name.name = sym c.as_str.ensures.value ∙ same_Ok _ _ c.in_ok-name.ensures in
     let before = rw iter at c.loop-key.invariant.2 in
     let after = sets_of-step (sets_of (members_view c.args.table.now.entries)) c.loop-key.sets.items (string_bytes e.0) (view e.1) (members_view c.next.new.self) c.in_ok-pairs.pairs is_set before in
