@@ -60,56 +60,15 @@ change-same c (Write u) a = elim a as (λ a. is_change a ≡ false → change c 
 pub world-same : (w : WorldView) (step : Step) → is_change (answer_in w step) ≡ false → world_after w step ≡ w
 world-same w step e = ap (with_counts w) (change-same w.counts step (answer_in w step) e)
 
--- two answers to one result are moves together
-pub put-agrees : (w : WorldView) (d : WorkView) (a b : WriteAnswer) → IsPutAnswer w d a → IsPutAnswer w d b → is_move a ≡ true → b ≡ put.Moved
-put-agrees w d put.Moved put.Moved h g e = refl
-put-agrees w d put.Moved put.Stale h g e = absurd (g.1 h.1)
-put-agrees w d put.Moved put.NotReady h g e = cc (h.0, g)
-put-agrees w d put.Moved put.Stopped h g e = cc (h.0, g)
-put-agrees w d put.Moved put.NoNode h g e = cc (h.0, g)
-put-agrees w d put.Stale b h g e = cc
-put-agrees w d put.NotReady b h g e = cc
-put-agrees w d put.Stopped b h g e = cc
-put-agrees w d put.NoNode b h g e = cc
-
-is-move : (a : WriteAnswer) → is_move a ≡ true → a ≡ put.Moved
-is-move a = elim a as (λ a. is_move a ≡ true → a ≡ put.Moved) [ put.Moved ↦ λ e. refl | _ ↦ λ e. cc ]
-
--- a result that moves its node is a write that moves
-pub put-moves : (w : WorldView) (d : WorkView) (a : WriteAnswer) → IsPutAnswer w d a → is_move a ≡ true → answer_in w (Write d.node) ≡ Moved
-put-moves w d put.Moved h e = h.0
-put-moves w d put.Stale h e = cc
-put-moves w d put.NotReady h e = cc
-put-moves w d put.Stopped h e = cc
-put-moves w d put.NoNode h e = cc
-
--- of two answers to one result, the second is no move where the first is none
-pub put-stays : (w : WorldView) (d : WorkView) (a b : WriteAnswer) → IsPutAnswer w d a → IsPutAnswer w d b → is_move a ≡ false → is_move b ≡ false
-put-stays w d a put.Moved h g e =
-    let same : a ≡ put.Moved = put-agrees w d put.Moved a g h refl in
-    sym (ap is_move same) ∙ e
-put-stays w d a put.Stale h g e = refl
-put-stays w d a put.NotReady h g e = refl
-put-stays w d a put.Stopped h g e = refl
-put-stays w d a put.NoNode h g e = refl
-
--- a result that does not move its node leaves the world
-pub put-same : (w : WorldView) (d : WorkView) (a : WriteAnswer) → is_move a ≡ false → after_put w d a ≡ w
-put-same w d a = elim a as (λ a. is_move a ≡ false → after_put w d a ≡ w) [ put.Moved ↦ λ e. cc | _ ↦ λ e. refl ]
-
--- after a result that moves its node, the write is stored
-pub history-put : (w v : WorldView) (log : Option Log) (d : WorkView) (a b : WriteAnswer) → IsHistoryOf w log → IsPutAnswer w d a → IsPutAnswer w d b → is_move a ≡ true → v ≡ after_put w d b → HasRoom log → IsHistoryOf v (and_step log (Write d.node))
-history-put w v log d a b h told answered e leaves room =
-    let moved : b ≡ put.Moved = put-agrees w d a b told answered e in
-    let is : v ≡ world_after w (Write d.node) = leaves ∙ ap (after_put w d) moved in
-    let changed : is_change (answer_in w (Write d.node)) ≡ true = ap is_change (put-moves w d a told e) in
-    subst (λ x. IsHistoryOf x (and_step log (Write d.node))) (sym is) (history-stored w log (Write d.node) h changed room)
-
--- after one that doesn't, nothing has changed
-pub history-not_put : (w v : WorldView) (log : Option Log) (d : WorkView) (a b : WriteAnswer) → IsHistoryOf w log → IsPutAnswer w d a → IsPutAnswer w d b → is_move a ≡ false → v ≡ after_put w d b → IsHistoryOf v log
-history-not_put w v log d a b h told answered e leaves =
-    let is : v ≡ w = leaves ∙ put-same w d b (put-stays w d a b told answered e) in
-    subst (λ x. IsHistoryOf x log) (sym is) h
+-- a result that moves its node is a write that moves, and so it is stored
+pub history-put : (w v : WorldView) (log : Option Log) (d : WorkView) (a : WriteAnswer) → IsHistoryOf w log → IsPutAnswer w d a → is_move a ≡ true → v ≡ after_put w d a → HasRoom log → IsHistoryOf v (and_step log (Write d.node))
+history-put w v log d put.Moved h answered e leaves room =
+    let changed : is_change (answer_in w (Write d.node)) ≡ true = ap is_change answered.0 in
+    subst (λ x. IsHistoryOf x (and_step log (Write d.node))) (sym leaves) (history-stored w log (Write d.node) h changed room)
+history-put w v log d put.Stale h answered e leaves room = cc
+history-put w v log d put.NotReady h answered e leaves room = cc
+history-put w v log d put.Stopped h answered e leaves room = cc
+history-put w v log d put.NoNode h answered e leaves room = cc
 
 length-answers : (network : Neighbours) (stop : ℕ) (c : Counts) (steps : List Step) → length (answers network stop c steps) ≡ length steps
 length-answers network stop c [] = refl

@@ -1,5 +1,5 @@
 -- A world beside the steps that changed it.
-use Rattle.std.specs.Prelude.{◌≡◌, ℕ, ◌≤◌, ◌<◌, ◌++◌, ◌∷◌, [], min, Bool, true, false, IsTrue, if◌then◌else◌, List, length, All, Option, Some, None, Result, Ok, Err}
+use Rattle.std.specs.Prelude.{◌≡◌, ℕ, ◌≤◌, ◌-◌, ◌<◌, ◌++◌, ◌∷◌, [], min, take, Bool, true, false, IsTrue, if◌then◌else◌, List, length, All, Option, Some, None, Result, Ok, Err}
 use Rattle.lockstep.specs.Plans.{PlanView}
 use Rattle.unison_world.specs.declared.step.Step.{Step}
 use Rattle.unison_world.specs.declared.step.Step.TheVariants.{Write}
@@ -79,6 +79,11 @@ HasRoom (Some log) = length log.steps < log.limit
 abbrev pub and_step : Option Log → Step → Option Log
 and_step None step = None
 and_step (Some log) step = Some (record { limit = log.limit; steps = log.steps ++ step ∷ [] })
+
+-- the stored steps without the last
+abbrev pub without_last : Option Log → Option Log
+without_last None = None
+without_last (Some log) = Some (record { limit = log.limit; steps = take (length log.steps - 1) log.steps })
 
 -- the history after a step, which is stored where it changes the world
 abbrev pub history_after : History → Step → History

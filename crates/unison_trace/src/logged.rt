@@ -11,7 +11,7 @@ ghost use Rattle.unison_trace.specs.Refusals.{Refuses};
 ghost use Rattle.unison_trace.specs.Traces.{IsNoLonger, IsWholeTrace, needed, steps_in};
 
 use crate::fault::LogFault;
-use crate::stored::{Stored, new_log, store};
+use crate::stored::{Stored, new_log, store, take_back};
 use lockstep::{Config, Plan};
 use std::alloc::{AllocError, Global};
 use std::marker::Model;
@@ -115,10 +115,21 @@ impl Logged {
         ensures refused { IfErr result (λ fault. IsPutAnswer self.old.world done.now.work WriteAnswer.Moved × Refuses self.old.log fault) }
         ensures unchanged { OnErr result (self.new ≡ self.old) }
     {
-        if moves(self.world.ask_put(done)) {
-            store(&mut self.log, Step::Write { node: done.node() })?;
+        // To compare a result is dear, and this is done under a lock: so the write is stored first, and taken back where
+        // the node does not move.
+        if let Err(fault) = store(&mut self.log, Step::Write { node: done.node() }) {
+            let answer = self.world.ask_put(done);
+            return if moves(answer) {
+                Err(fault)
+            } else {
+                Ok(answer)
+            };
         }
-        Ok(self.world.put(done))
+        let answer = self.world.put(done);
+        if !moves(answer) {
+            take_back(&mut self.log);
+        }
+        Ok(answer)
     }
 
     /// The world.

@@ -1,6 +1,6 @@
 //! Stored steps.
 ghost use Rattle.std.specs.Prelude.{◌≡◌, OnOk, OnErr, IfErr};
-ghost use Rattle.unison_trace.specs.Histories.{HasRoom, and_step, new_log};
+ghost use Rattle.unison_trace.specs.Histories.{HasRoom, and_step, new_log, without_last};
 ghost use Rattle.unison_trace.specs.Refusals.{Refuses};
 
 use crate::fault::LogFault;
@@ -71,4 +71,13 @@ pub fn store(log: &mut Option<Stored>, step: Step) -> Result<(), LogFault>
     }
     log.steps.push(step)?;
     Ok(())
+}
+
+/// Takes the last step back, where steps are stored.
+pub fn take_back(log: &mut Option<Stored>)
+    ensures { log.new ≡ without_last log.old }
+{
+    if let Some(log) = log {
+        let _last = log.steps.pop();
+    }
 }
