@@ -1,12 +1,10 @@
 -- Rounds that are not refused, and the configurations that they have.
-use Rattle.std.proofs.Common.{◌≡◌, ℕ, Bool, true, false, Ok, Err, Some, None, nat_lt, ◌==◌, ◌||◌, if◌then◌else◌, length, refl, subst, sym}
+use Rattle.std.proofs.Common.{◌≡◌, ℕ, Bool, true, false, Ok, Err, nat_lt, if◌then◌else◌, length, refl, subst, sym}
 use Rattle.std.proofs.lemmas.List.FromFn.{length-map-range_with_len}
 use Rattle.lockstep.specs.Configs.{Configuration, most_rounds}
 use Rattle.lockstep.specs.Plans.{PlanView}
 use Rattle.lockstep.specs.declared.fault.RoundFault.TheVariants.{TooManyRounds, RoundsBelowStart}
 use Rattle.lockstep.specs.Lockstep.{lockstep, lockstep_config, rounds_of}
-use Rattle.unison_pool.specs.declared.fault.RunFault.TheVariants.{WorkerCount, StopTooLarge, StopBelowStart}
-use Rattle.unison_pool.specs.Refusals.{opening_refusal, most_workers}
 use Rattle.unison_cli.specs.Served.{HasPlanShape}
 
 given : (a b : Bool) (c d : Configuration) → (if a then Err TooManyRounds else (if b then Err RoundsBelowStart else Ok d)) ≡ Ok c → c ≡ d
@@ -25,16 +23,3 @@ lockstep_shape p t = record {
 
 pub state_each : (p : PlanView) (t : ℕ) (c : Configuration) → rounds_of p t ≡ Ok c → HasPlanShape p c
 state_each p t c h = subst (HasPlanShape p) (sym (is_lockstep p t c h)) (lockstep_shape p t)
-
-begun : (a b c : Bool) (d : Configuration)
-    → (if a then Some WorkerCount else (if b then Some StopTooLarge else (if c then Some StopBelowStart else None))) ≡ None
-    → (if b then Err TooManyRounds else (if c then Err RoundsBelowStart else Ok d)) ≡ Ok d
-begun true b c d h = cc
-begun false true c d h = cc
-begun false false true d h = cc
-begun false false false d h = refl
-
--- a run that is begun asks for a round that is not refused
-pub rounds_accepted : (p : PlanView) (t workers : ℕ) → opening_refusal p t workers ≡ None → rounds_of p t ≡ Ok (lockstep_config p t)
-rounds_accepted p t workers h =
-    begun ((workers == 0) || nat_lt most_workers workers) (nat_lt most_rounds t) (nat_lt t p.start) (lockstep_config p t) h

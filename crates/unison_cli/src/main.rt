@@ -4,11 +4,19 @@
 mod comparison;
 mod fault;
 #[cfg(test)]
+mod job_tests;
+#[cfg(test)]
 mod memory_tests;
+#[cfg(test)]
+mod replay_tests;
 mod request;
+#[cfg(test)]
+mod run_tests;
 mod serve;
 #[cfg(test)]
-mod tests;
+mod test_support;
+#[cfg(test)]
+mod word_tests;
 mod words;
 
 use crate::fault::ServeFault;

@@ -9,6 +9,7 @@ use crate::comparison::difference_line;
 use crate::fault::ServeFault;
 use crate::request::{Job, UsageFault};
 use crate::serve::{Served, serve};
+use crate::test_support::{DISTANCE, MAJORITY, PAIR, PATH, RING, SWAP};
 use crate::words::{command, job_of};
 use link_net::read_network;
 use lockstep::{Difference, Plan, Tally};
@@ -22,20 +23,6 @@ use std::sync::Wait;
 use std::test::Fail;
 use std::thread::Threads;
 use unison_pool::RunFault;
-
-const PATH: &str = "nodes = 3\nlinks = [[0, 1], [1, 2]]\n[set]\ndist = [[0, 0]]\n";
-
-const DISTANCE: &str = "field dist = 4294967295; next dist = (dist min least (n.dist + 1));";
-
-const PAIR: &str = "nodes = 2\nlinks = [[0, 1]]\n[set]\ns = [[0, 5], [1, 7]]\n";
-
-const SWAP: &str = "field s = 0; next s = total n.s;";
-
-const RING: &str =
-    "nodes = 6\nlinks = [[0, 1], [1, 2], [2, 3], [3, 4], [4, 5], [5, 0]]\n[set]\ns = [[0, 1], [2, 1], [3, 1]]\n";
-
-const MAJORITY: &str =
-    "field s = 0; next s = if ((count n.s * 2) > degree) then 1 else if ((count n.s * 2) < degree) then 0 else s;";
 
 /// Takes what is wanted, and asks for no memory.
 #[derive(Drop)]

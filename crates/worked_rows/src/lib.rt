@@ -8,6 +8,8 @@ mod devices;
 #[cfg(test)]
 mod examples;
 #[cfg(test)]
+mod fault_texts;
+#[cfg(test)]
 mod largest;
 #[cfg(test)]
 mod logs;
@@ -28,6 +30,8 @@ mod memory_of_worlds;
 #[cfg(test)]
 mod networks;
 #[cfg(test)]
+mod plain_rounds;
+#[cfg(test)]
 mod plans;
 #[cfg(test)]
 mod program_texts;
@@ -45,6 +49,8 @@ mod resumed;
 mod rounds;
 #[cfg(test)]
 mod schedules;
+#[cfg(test)]
+mod settled;
 #[cfg(test)]
 mod shared_rounds;
 #[cfg(test)]

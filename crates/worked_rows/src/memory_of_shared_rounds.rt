@@ -12,7 +12,7 @@ use std::thread::Threads;
 
 /// The text of a path of so many nodes, the first at distance 0, in room that is asked for once.
 fn path_text(alloc: Global, nodes: u32) -> Result<String, AllocError> {
-    let mut text = String::with_capacity(alloc, 100_000)?;
+    let mut text = String::with_capacity(alloc, 120_000)?;
     write!(text, "nodes = {nodes}\nlinks = [")?;
     for other in 1..nodes {
         let node = other - 1;
@@ -42,10 +42,10 @@ fn distances<R: Threads + Abort + Sync>(
 
 #[test]
 fn rounds_of_a_path_where_memory_is_refused(rt: HostRuntime) -> Result<(), Fail> {
-    tell(&rt, distances(&rt, rt.alloc(), DISTANCE, 5_000))
+    tell(&rt, distances(&rt, rt.alloc(), DISTANCE, 1_000))
 }
 
 #[test]
 fn shared_rounds_where_memory_is_refused(rt: HostRuntime) -> Result<(), Fail> {
-    tell(&rt, distances(&rt, rt.alloc(), EIGHT_FIELDS, 1_367))
+    tell(&rt, distances(&rt, rt.alloc(), EIGHT_FIELDS, 8_193))
 }

@@ -11,13 +11,17 @@ fn fault_of(alloc: Global, text: &[u8]) -> Option<NetFault> {
 
 #[test]
 fn refused_networks(rt: HostRuntime) {
-    let cases: [(&[u8], NetFault); 31] = [
+    let cases: [(&[u8], NetFault); 35] = [
         (b"nodes =", NetFault::NotToml),
         (b"\xffnodes = 2\nlinks = []", NetFault::NotToml),
         (b"nodes = 2\nnodes = 2\nlinks = []", NetFault::NotToml),
         (b"nodes = 2\nlinks = []\nedges = 1", NetFault::UnknownKey),
         (b"edges = 1", NetFault::UnknownKey),
         (b"", NetFault::BadShape),
+        (b"nodes = 2\nlinks = 1", NetFault::BadShape),
+        (b"nodes = 2\nlinks = [0]", NetFault::BadShape),
+        (b"nodes = 2\nlinks = []\n[set]\ns = 1", NetFault::BadShape),
+        (b"nodes = 2\nlinks = []\n[set]\ns = [0]", NetFault::BadShape),
         (b"nodes = 2", NetFault::BadShape),
         (b"links = []", NetFault::BadShape),
         (b"nodes = 2.0\nlinks = []", NetFault::BadShape),

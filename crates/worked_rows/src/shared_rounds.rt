@@ -37,10 +37,10 @@ fn shared_rounds_of_long_paths(rt: HostRuntime) -> Result<(), Fail> {
     let alloc = rt.alloc();
     for (program, nodes, rounds) in [
         (DISTANCE, 5_000, 10),
-        (DISTANCE, 20_000, 10),
-        (EIGHT_FIELDS, 1_364, 5),
-        (EIGHT_FIELDS, 1_367, 5),
-        (EIGHT_FIELDS, 4_001, 7),
+        (DISTANCE, 60_000, 10),
+        (EIGHT_FIELDS, 8_192, 5),
+        (EIGHT_FIELDS, 8_193, 5),
+        (EIGHT_FIELDS, 10_001, 7),
     ] {
         let plan = plan_of(alloc, program, path(alloc, nodes)?.as_str())?;
         assert_same_rounds(&rt, alloc, &plan, rounds)?;
@@ -51,7 +51,7 @@ fn shared_rounds_of_long_paths(rt: HostRuntime) -> Result<(), Fail> {
 #[test]
 fn shared_rounds_of_a_path(rt: HostRuntime) -> Result<(), Fail> {
     let alloc = rt.alloc();
-    for nodes in [5_000u32, 20_000] {
+    for nodes in [5_000u32, 60_000] {
         let plan = plan_of(alloc, DISTANCE, path(alloc, nodes)?.as_str())?;
         let config = lockstep_par(&rt, alloc, &plan, 10)?;
         assert_eq!(rt; config.nodes(), nodes);
@@ -90,7 +90,7 @@ fn shared_rounds_of_three_nodes(rt: HostRuntime) -> Result<(), Fail> {
 #[test]
 fn shared_rounds_from_a_report(rt: HostRuntime) -> Result<(), Fail> {
     let alloc = rt.alloc();
-    let plan = plan_of(alloc, EIGHT_FIELDS, path(alloc, 2_000)?.as_str())?;
+    let plan = plan_of(alloc, EIGHT_FIELDS, path(alloc, 9_000)?.as_str())?;
     let third = lockstep_par(&rt, alloc, &plan, 3)?;
     let last = lockstep_par(&rt, alloc, &plan, 5)?;
     let text = report_of(alloc, &plan, &third)?;

@@ -382,6 +382,45 @@ fn slow_worker(rt: HostRuntime) -> Result<(), Fail> {
     Ok(())
 }
 
+/// Counts the calls of a run, and those for a node that is not the worker's.
+#[derive(Drop)]
+struct Watch {
+    workers: u32,
+    calls: AtomicU32,
+    strays: AtomicU32,
+}
+
+impl Gate for Watch {
+    fn before_compute(&self, worker: u32, node: u32) {
+        self.calls.fetch_add(1, Ordering::SeqCst);
+        if node.checked_rem(self.workers) != Some(worker) {
+            self.strays.fetch_add(1, Ordering::SeqCst);
+        }
+    }
+}
+
+/// Each worker computes for the nodes whose number leaves its own modulo the number of workers, and once for each round.
+#[test]
+fn workers_compute_for_their_nodes(rt: HostRuntime) -> Result<(), Fail> {
+    for workers in [1, 2, 4, 64] {
+        let gate = Watch {
+            workers,
+            calls: AtomicU32::new(0),
+            strays: AtomicU32::new(0),
+        };
+        let asked = Asked {
+            stop: 4,
+            workers,
+            trace: None,
+        };
+        let want = (RING_AFTER, None);
+        assert_run(&rt, rt.alloc(), MAJORITY, RING, asked, &gate, want)?;
+        assert_eq!(rt; gate.strays.load(Ordering::SeqCst), 0, "{workers} workers");
+        assert_eq!(rt; gate.calls.load(Ordering::SeqCst), 24, "{workers} workers");
+    }
+    Ok(())
+}
+
 #[test]
 fn more_workers_than_nodes(rt: HostRuntime) -> Result<(), Fail> {
     let asked = Asked {

@@ -1,10 +1,10 @@
 //! Reads a network, or brings a plan to a round: by lockstep rounds, by parallel ones, by whole sweeps of a world or by workers.
-//! For `bench/run` to time.
+//! For `bench/run` to time, and to compare what the rounds gave.
 #![tactic(auto)]
 
 use link_net::{NetFile, read_network};
-use lockstep::{Plan, lockstep, lockstep_par};
-use rule_check::check;
+use lockstep::{Config, Plan, lockstep, lockstep_par, report};
+use rule_check::{State, check};
 use rule_lang::read_program;
 use std::alloc::{AllocError, AllocFailed, Global};
 use std::process::ExitCode;
@@ -57,13 +57,31 @@ fn sweeps(rt: &HostRuntime, plan: Plan, stop: u32) -> Result<u64, Fault> {
     Ok(world.run_sweeps())
 }
 
-/// The nodes whose states lockstep rounds gave.
-fn rounds(rt: &HostRuntime, plan: &Plan, round: u32) -> Result<u64, Fault> {
-    let config = lockstep(rt.alloc(), plan, round).map_err(|_| Fault::Refused)?;
-    Ok(config.nodes() as u64)
+/// A sum over some words, and one before them.
+fn sum_words(before: u64, state: &State) -> u64 {
+    let mut sum = before;
+    for word in &state.words {
+        sum = sum.wrapping_mul(31).wrapping_add(*word as u64);
+    }
+    sum
 }
 
-/// The nodes whose states parallel lockstep rounds gave.
+/// A sum over all words of a configuration, in which the order of the words plays a part.
+fn sum_states(config: &Config) -> u64 {
+    let mut sum = 0;
+    for state in config.states() {
+        sum = sum_words(sum, state);
+    }
+    sum
+}
+
+/// The sum over the states that lockstep rounds gave.
+fn rounds(alloc: Global, plan: &Plan, round: u32) -> Result<u64, Fault> {
+    let config = lockstep(alloc, plan, round).map_err(|_| Fault::Refused)?;
+    Ok(sum_states(&config))
+}
+
+/// The sum over the states that parallel lockstep rounds gave.
 fn parallel_rounds(
     rt: &(impl Threads + Wait + Sync),
     alloc: Global,
@@ -71,7 +89,20 @@ fn parallel_rounds(
     round: u32,
 ) -> Result<u64, Fault> {
     let config = lockstep_par(rt, alloc, plan, round).map_err(|_| Fault::Refused)?;
-    Ok(config.nodes() as u64)
+    Ok(sum_states(&config))
+}
+
+/// The number of bytes of the report of a round.
+fn report_bytes(alloc: Global, plan: &Plan, round: u32) -> Result<u64, Fault> {
+    let config = lockstep(alloc, plan, round).map_err(|_| Fault::Refused)?;
+    if config.nodes() != plan.network().nodes() {
+        return Err(Fault::Refused);
+    }
+    if config.fields() != plan.program().field_count() {
+        return Err(Fault::Refused);
+    }
+    let text = report(alloc, plan, &config)?;
+    Ok(text.len() as u64)
 }
 
 /// The nodes that workers brought to a stop.
@@ -92,8 +123,8 @@ fn number(word: &String) -> Result<u32, Fault> {
     word.as_str().parse::<u32>().map_err(|_| Fault::Words)
 }
 
-/// What the words ask for: `read`, `rounds`, `parallel`, `sweeps` or `workers`, a program, a network, a round and a number
-/// of workers. `read` reads the network alone and gives the number of its links.
+/// What the words ask for: `read`, `rounds`, `parallel`, `report`, `sweeps` or `workers`, a program, a network, a round and
+/// a number of workers. `read` reads the network alone and gives the number of its links.
 fn answer(rt: &HostRuntime, threads: &(impl Threads + Wait + Sync)) -> Result<u64, Fault> {
     let words: Vec<String> = match env::args(rt) {
         Ok(words) => words.collect(rt.alloc())?,
@@ -108,8 +139,9 @@ fn answer(rt: &HostRuntime, threads: &(impl Threads + Wait + Sync)) -> Result<u6
     let round = number(round)?;
     let plan = plan_of(rt, program.as_str(), network.as_str())?;
     match job.as_str() {
-        "rounds" => rounds(rt, &plan, round),
+        "rounds" => rounds(rt.alloc(), &plan, round),
         "parallel" => parallel_rounds(threads, rt.alloc(), &plan, round),
+        "report" => report_bytes(rt.alloc(), &plan, round),
         "sweeps" => sweeps(rt, plan, round),
         "workers" => workers(threads, rt.alloc(), plan, round, number(count)?),
         _ => Err(Fault::Words),
