@@ -20,12 +20,14 @@ impl Model for DraftLinks {
 }
 
 impl DraftLinks {
+    /// These links, each with its two ends and its weight.
     pub(crate) fn new(items: Vec<(i64, i64, i64)>) -> DraftLinks
         ensures { result ≡ items.items }
     {
         DraftLinks { items }
     }
 
+    /// The links in the order of the file.
     pub(crate) fn as_slice(&self) -> &[(i64, i64, i64)]
         ensures { result.now ≡ self.now }
     {
@@ -53,6 +55,7 @@ impl Model for FieldSets {
 }
 
 impl FieldSets {
+    /// These field sets, which rise.
     pub(crate) fn new(items: Vec<FieldSet>) -> FieldSets
         requires { AreRising items.items }
         ensures { result ≡ items.items }
@@ -60,6 +63,7 @@ impl FieldSets {
         FieldSets { items }
     }
 
+    /// The field sets by rising names.
     pub(crate) fn as_slice(&self) -> &[FieldSet]
         ensures items { result.now ≡ self.now }
         ensures rising { AreRising result.now }

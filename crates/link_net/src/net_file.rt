@@ -26,6 +26,7 @@ impl Model for NetFile {
 }
 
 impl NetFile {
+    /// What a file describes: its network, its opening phase and its field sets.
     pub(crate) fn new(network: Network, phase: u8, sets: FieldSets) -> NetFile
         requires { phase ≤ 2 }
         ensures { result ≡ record { network = network; phase = phase; sets = sets } }

@@ -45,6 +45,7 @@ fn part_of<'a>(offsets: &[usize], items: &'a [u32], node: u32) -> Option<&'a [u3
 }
 
 impl Network {
+    /// The network whose rows are laid out in these lists: row u goes from offset u up to the next one.
     pub(crate) fn new(offsets: Vec<usize>, neighbours: Vec<u32>, weights: Vec<u32>) -> Network
         requires { IsLaidOut offsets.items neighbours.items weights.items }
         ensures { result ≡ rows_of offsets.items neighbours.items weights.items }
