@@ -87,12 +87,13 @@ fn plain_round(
     states: &[State],
 ) -> Result<Vec<State>, Fail> {
     let mut next = Vec::new(alloc);
-    for (node, state) in states.iter().enumerate() {
-        let nears = nears_of(alloc, plan, states, node as u32)?;
+    for node in 0..plan.network().nodes() {
+        let state = *states.get(node as usize).ok_or("a state")?;
+        let nears = nears_of(alloc, plan, states, node)?;
         if nears.len() > 4096 {
             return Err(Fail::from("too many neighbours"));
         }
-        next.push(plan.program().next(node as u32, *state, round, &nears))?;
+        next.push(plan.program().next(node, state, round, &nears))?;
     }
     Ok(next)
 }
