@@ -14,10 +14,10 @@ use row_code::RowCode;
 use std::alloc::Global;
 use std::thread::Threads;
 
-/// The least work of a round, as `work_of` counts it, that is shared among threads. On a machine with four cores
-/// the threads of a round take 0.1 to 0.2 ms to start and to join, and one thread does as much work as this in
-/// 0.15 to 0.4 ms: a round with less is faster in one piece.
-const LEAST_WORK: u32 = 163_840;
+/// The least work of a round, as `work_of` counts it, that is shared among threads. On a machine with four cores a
+/// round of 65,536 nodes costs 0.3 to 0.7 ms to share: threads start and join, read columns that another core wrote,
+/// and their columns are copied together. One thread does as much work as this in 0.7 ms for the cheapest program.
+const LEAST_WORK: u32 = 655_360;
 
 /// The work of a round: each field of each node, and each aggregate at each end of a link.
 fn work_of(plan: &Plan) -> u32 {

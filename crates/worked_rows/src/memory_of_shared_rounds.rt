@@ -10,11 +10,12 @@ use std::process::Abort;
 use std::test::Fail;
 use std::thread::Threads;
 
-/// The text of a path of so many nodes, the first at distance 0, in room that is asked for once.
-fn path_text(alloc: Global, nodes: u32) -> Result<String, AllocError> {
-    let mut text = String::with_capacity(alloc, 120_000)?;
+/// The text of so many nodes, the first of which are a path with the first at distance 0, in room that is asked for
+/// once.
+fn path_text(alloc: Global, nodes: u32, linked: u32) -> Result<String, AllocError> {
+    let mut text = String::with_capacity(alloc, 180_000)?;
     write!(text, "nodes = {nodes}\nlinks = [")?;
-    for other in 1..nodes {
+    for other in 1..linked {
         let node = other - 1;
         write!(text, "[{node}, {other}],")?;
     }
@@ -28,8 +29,9 @@ fn distances<R: Threads + Abort + Sync>(
     alloc: Global,
     program: &str,
     nodes: u32,
+    linked: u32,
 ) -> Result<(), Stopped> {
-    let plan = plan_of(alloc, program, path_text(alloc, nodes)?.as_str())?;
+    let plan = plan_of(alloc, program, path_text(alloc, nodes, linked)?.as_str())?;
     let config = lockstep_par(rt, alloc, &plan, 10)?;
     assert_eq!(rt; config.nodes(), nodes);
     for node in 0..nodes {
@@ -42,10 +44,13 @@ fn distances<R: Threads + Abort + Sync>(
 
 #[test]
 fn rounds_of_a_path_where_memory_is_refused(rt: HostRuntime) -> Result<(), Fail> {
-    tell(&rt, distances(&rt, rt.alloc(), DISTANCE, 1_000))
+    tell(&rt, distances(&rt, rt.alloc(), DISTANCE, 1_000, 1_000))
 }
 
 #[test]
 fn shared_rounds_where_memory_is_refused(rt: HostRuntime) -> Result<(), Fail> {
-    tell(&rt, distances(&rt, rt.alloc(), EIGHT_FIELDS, 8_193))
+    tell(
+        &rt,
+        distances(&rt, rt.alloc(), EIGHT_FIELDS, 65_536, 11_000),
+    )
 }

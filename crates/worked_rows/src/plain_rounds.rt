@@ -149,7 +149,7 @@ fn plain_rounds_of_a_hub(rt: HostRuntime) -> Result<(), Fail> {
 #[test]
 fn plain_rounds_shared_among_threads(rt: HostRuntime) -> Result<(), Fail> {
     let alloc = rt.alloc();
-    let network = grid(alloc, 9_000)?;
+    let network = grid(alloc, 21_000)?;
     for program in [AGGREGATES, EIGHT_FIELDS] {
         assert_plain_rounds(&rt, alloc, program, network.as_str())?;
     }

@@ -38,9 +38,9 @@ fn shared_rounds_of_long_paths(rt: HostRuntime) -> Result<(), Fail> {
     for (program, nodes, rounds) in [
         (DISTANCE, 5_000, 10),
         (DISTANCE, 60_000, 10),
-        (EIGHT_FIELDS, 8_192, 5),
-        (EIGHT_FIELDS, 8_193, 5),
-        (EIGHT_FIELDS, 10_001, 7),
+        (EIGHT_FIELDS, 32_768, 5),
+        (EIGHT_FIELDS, 32_769, 5),
+        (EIGHT_FIELDS, 40_001, 7),
     ] {
         let plan = plan_of(alloc, program, path(alloc, nodes)?.as_str())?;
         assert_same_rounds(&rt, alloc, &plan, rounds)?;
@@ -90,7 +90,7 @@ fn shared_rounds_of_three_nodes(rt: HostRuntime) -> Result<(), Fail> {
 #[test]
 fn shared_rounds_from_a_report(rt: HostRuntime) -> Result<(), Fail> {
     let alloc = rt.alloc();
-    let plan = plan_of(alloc, EIGHT_FIELDS, path(alloc, 9_000)?.as_str())?;
+    let plan = plan_of(alloc, EIGHT_FIELDS, path(alloc, 33_000)?.as_str())?;
     let third = lockstep_par(&rt, alloc, &plan, 3)?;
     let last = lockstep_par(&rt, alloc, &plan, 5)?;
     let text = report_of(alloc, &plan, &third)?;
