@@ -7,15 +7,14 @@ import time
 top, work, worlds = sys.argv[1:4]
 KINDS = ("random", "torus", "path", "hubs")
 ROUNDS = {"distance": 200, "rule_110": 200, "majority": 200, "heavy": 10}
-# Each program reads the round in one word that changes no value: so no round is left out where states stay as they are.
-KEPT = "(round + 4294967295)"
-DISTANCE = "field dist = 4294967295;\nnext dist = (dist min least (n.dist + 1));\n"
+# Each program has, where a one is wanted, this word, which reads the round: so no round is left out where states stay as they are.
+ONE = "(round < 4294967295)"
+DISTANCE = "field dist = 4294967295;\nnext dist = (dist min least (n.dist + {}));\n"
 PROGRAMS = {
-    "distance": f"field dist = 4294967295;\nnext dist = ((dist min least (n.dist + 1)) min {KEPT});\n",
+    "distance": DISTANCE.format(ONE),
     "rule_110": "field s = 0;\nnext s = (((s | any ((n.id > id) & n.s)) & not ((any ((n.id < id) & n.s) & s)"
-    f" & any ((n.id > id) & n.s))) min {KEPT});\n",
-    "majority": "field s = 0;\nnext s = (if ((count n.s * 2) > degree) then 1 else if ((count n.s * 2) < degree) then 0 else s"
-    f" min {KEPT});\n",
+    f" & any ((n.id > id) & n.s))) & {ONE});\n",
+    "majority": f"field s = 0;\nnext s = if ((count n.s * 2) > degree) then {ONE} else if ((count n.s * 2) < degree) then 0 else s;\n",
 }
 SETS = {
     "distance": "dist = [[0, 0]]",
@@ -101,7 +100,7 @@ def torus(side):
 
 def settled():
     """Distances on a path of 65,536 nodes to the last round: the rounds end where nothing changes any more."""
-    program = written("settled.rules", DISTANCE)
+    program = written("settled.rules", DISTANCE.format(1))
     with open(f"{work}/path.toml", encoding="ascii") as file:
         network = written("settled.toml", file.read() + "[set]\ndist = [[0, 0]]\n")
     call = [f"{top}/unison", "lockstep", program, network, "--rounds", "1000000000"]

@@ -5,6 +5,7 @@ use lockstep::{Cut, DeviceFault, Tally, write_text};
 use std::alloc::Global;
 use std::io;
 use std::io::{ErrorKind, Read, Write};
+use std::process::Abort;
 use std::test::Fail;
 
 /// The text that is written and read.
@@ -90,8 +91,7 @@ fn whole_text(rt: HostRuntime) -> Result<(), Fail> {
     for (most, calls) in [(1, 28), (10, 3), (28, 1), (100, 1)] {
         let mut out = Tally::new(writer(rt.alloc(), most, 100, ErrorKind::BrokenPipe));
         write_text(&mut out, TEXT)?;
-        assert!(rt; !out.failed());
-        assert_eq!(rt; out.calls(), calls);
+        assert_eq!(rt; (out.calls(), out.failed()), (calls, false));
         assert_eq!(rt; out.inner().held.as_slice(), TEXT);
     }
     Ok(())
@@ -101,8 +101,7 @@ fn whole_text(rt: HostRuntime) -> Result<(), Fail> {
 fn empty_text(rt: HostRuntime) -> Result<(), Fail> {
     let mut out = Tally::new(writer(rt.alloc(), 1, 0, ErrorKind::BrokenPipe));
     write_text(&mut out, b"")?;
-    assert!(rt; !out.failed());
-    assert_eq!(rt; out.calls(), 0);
+    assert_eq!(rt; (out.calls(), out.failed()), (0, false));
     Ok(())
 }
 
@@ -115,8 +114,7 @@ fn cut_after_each_number_of_bytes(rt: HostRuntime) -> Result<(), Fail> {
             let cut = Cut {
                 written: room as u64,
             };
-            assert_eq!(rt; answer, Err(cut));
-            assert!(rt; out.failed());
+            assert_eq!(rt; (answer, out.failed()), (Err(cut), true));
             assert_eq!(rt; out.inner().held.as_slice(), &TEXT[..room]);
         }
     }
@@ -127,36 +125,58 @@ fn cut_after_each_number_of_bytes(rt: HostRuntime) -> Result<(), Fail> {
 fn text_to_a_full_device(rt: HostRuntime) {
     let mut out = Tally::new(Full);
     assert_eq!(rt; write_text(&mut out, TEXT), Err(Cut { written: 0 }));
-    assert!(rt; out.failed());
-    assert_eq!(rt; out.calls(), 1);
+    assert_eq!(rt; (out.calls(), out.failed()), (1, true));
+}
+
+/// Asserts what one call after the other answers, and the mark after each: the device failed, in this call or before.
+fn assert_writes<W: Write>(
+    rt: &impl Abort,
+    out: &mut Tally<W>,
+    rows: &[(&[u8], Result<usize, DeviceFault>, bool)],
+) {
+    let mut calls = out.calls();
+    for (bytes, want, failed) in rows {
+        calls = calls.saturating_add(1);
+        assert_eq!(rt; out.write_some(bytes), *want);
+        assert_eq!(rt; (out.calls(), out.failed()), (calls, *failed));
+    }
 }
 
 #[test]
 fn writes_with_marks(rt: HostRuntime) {
     let mut out = Tally::new(writer(rt.alloc(), 4, 6, ErrorKind::WouldBlock));
-    assert!(rt; !out.failed());
-    assert_eq!(rt; out.calls(), 0);
-    assert_eq!(rt; out.write_some(b""), Ok(0));
-    assert_eq!(rt; out.write_some(b"abcdefg"), Ok(4));
-    assert_eq!(rt; out.write_some(b"efg"), Ok(2));
-    assert!(rt; !out.failed());
-    assert_eq!(rt; out.calls(), 3);
-    assert_eq!(rt; out.write_some(b"g"), Err(DeviceFault));
-    assert!(rt; out.failed());
-    assert_eq!(rt; out.write_some(b""), Ok(0));
-    assert!(rt; out.failed());
-    assert_eq!(rt; out.calls(), 5);
+    assert_eq!(rt; (out.calls(), out.failed()), (0, false));
+    let rows = [
+        (b"".as_slice(), Ok(0), false),
+        (b"abcdefg", Ok(4), false),
+        (b"efg", Ok(2), false),
+        (b"g", Err(DeviceFault), true),
+        (b"", Ok(0), true),
+    ];
+    assert_writes(&rt, &mut out, &rows);
     assert_eq!(rt; out.inner().held.as_slice(), b"abcdef".as_slice());
 }
 
 #[test]
 fn writes_to_a_full_device(rt: HostRuntime) {
-    let mut out = Tally::new(Full);
-    assert_eq!(rt; out.write_some(b""), Ok(0));
-    assert!(rt; !out.failed());
-    assert_eq!(rt; out.write_some(b"a"), Err(DeviceFault));
-    assert!(rt; out.failed());
-    assert_eq!(rt; out.calls(), 2);
+    let rows = [
+        (b"".as_slice(), Ok(0), false),
+        (b"a", Err(DeviceFault), true),
+    ];
+    assert_writes(&rt, &mut Tally::new(Full), &rows);
+}
+
+/// Asserts what one call after the other answers, and what it left in the buffer.
+fn assert_reads(
+    rt: &impl Abort,
+    input: &mut Tally<Source>,
+    buffer: &mut [u8],
+    rows: &[(Result<usize, DeviceFault>, &[u8])],
+) {
+    for (want, bytes) in rows {
+        assert_eq!(rt; input.read_some(buffer), *want);
+        assert_eq!(rt; &*buffer, *bytes);
+    }
 }
 
 #[test]
@@ -166,15 +186,14 @@ fn reads_to_the_end(rt: HostRuntime) {
         most: 5,
         end: None,
     });
-    let mut buffer = [0; 8];
-    assert_eq!(rt; input.read_some(&mut buffer), Ok(5));
-    assert_eq!(rt; buffer, *b"read \0\0\0");
-    assert_eq!(rt; input.read_some(&mut buffer), Ok(4));
-    assert_eq!(rt; buffer, *b"0 0\n \0\0\0");
-    assert_eq!(rt; input.read_some(&mut buffer), Ok(0));
-    assert_eq!(rt; input.read_some(&mut []), Ok(0));
-    assert!(rt; !input.failed());
-    assert_eq!(rt; input.calls(), 4);
+    let rows = [
+        (Ok(5), b"read \0\0\0".as_slice()),
+        (Ok(4), b"0 0\n \0\0\0"),
+        (Ok(0), b"0 0\n \0\0\0"),
+    ];
+    assert_reads(&rt, &mut input, &mut [0; 8], &rows);
+    assert_reads(&rt, &mut input, &mut [], &[(Ok(0), b"")]);
+    assert_eq!(rt; (input.calls(), input.failed()), (4, false));
     assert!(rt; input.inner().rest.is_empty());
 }
 
@@ -190,15 +209,13 @@ fn reads_with_marks(rt: HostRuntime) {
             most: 1,
             end: Some(kind),
         });
-        let mut buffer = [0; 2];
-        assert_eq!(rt; input.read_some(&mut buffer), Ok(1));
-        assert_eq!(rt; input.read_some(&mut buffer), Ok(1));
+        let rows = [(Ok(1), b"a\0".as_slice()), (Ok(1), b"b\0")];
+        assert_reads(&rt, &mut input, &mut [0; 2], &rows);
         assert!(rt; !input.failed());
-        assert_eq!(rt; input.read_some(&mut buffer), Err(DeviceFault));
+        assert_eq!(rt; input.read_some(&mut [0; 2]), Err(DeviceFault));
         assert!(rt; input.failed());
-        assert_eq!(rt; input.read_some(&mut []), Ok(0));
-        assert!(rt; input.failed());
-        assert_eq!(rt; input.calls(), 4);
+        assert_reads(&rt, &mut input, &mut [], &[(Ok(0), b"")]);
+        assert_eq!(rt; (input.calls(), input.failed()), (4, true));
     }
 }
 
@@ -211,13 +228,10 @@ fn reads_fail_after_each_number_of_bytes(rt: HostRuntime) {
             end: Some(ErrorKind::Interrupted),
         });
         for byte in &TEXT[..room] {
-            let mut buffer = [0];
-            assert_eq!(rt; input.read_some(&mut buffer), Ok(1));
-            assert_eq!(rt; buffer[0], *byte);
+            assert_reads(&rt, &mut input, &mut [0], &[(Ok(1), &[*byte])]);
         }
         assert!(rt; !input.failed());
         assert_eq!(rt; input.read_some(&mut [0]), Err(DeviceFault));
-        assert!(rt; input.failed());
-        assert_eq!(rt; input.calls(), room as u64 + 1);
+        assert_eq!(rt; (input.calls(), input.failed()), (room as u64 + 1, true));
     }
 }

@@ -1,6 +1,6 @@
 //! The largest networks, and those that are too large.
 
-use crate::texts::plan_of;
+use crate::texts::{plan_of, put_link};
 use link_net::{NetFault, read_network};
 use lockstep::lockstep;
 use std::alloc::Global;
@@ -13,7 +13,7 @@ fn ring(alloc: Global, nodes: u32, links: u32) -> Result<String, Fail> {
     for link in 0..links {
         let node = link % nodes.max(1);
         let other = (node + link / nodes.max(1) + 1) % nodes.max(1);
-        text.push_str(format!(in alloc; "[{node},{other}],")?.as_str())?;
+        put_link(alloc, &mut text, node, other)?;
     }
     text.push_str("]\n")?;
     Ok(text)
@@ -23,7 +23,7 @@ fn ring(alloc: Global, nodes: u32, links: u32) -> Result<String, Fail> {
 fn star(alloc: Global, nodes: u32) -> Result<String, Fail> {
     let mut text = format!(in alloc; "nodes = 4098\nlinks = [")?;
     for other in 1..nodes {
-        text.push_str(format!(in alloc; "[0,{other}],")?.as_str())?;
+        put_link(alloc, &mut text, 0, other)?;
     }
     text.push_str("]\n")?;
     Ok(text)

@@ -5,6 +5,7 @@
 mod damaged;
 #[cfg(test)]
 mod devices;
+pub mod draws;
 #[cfg(test)]
 mod examples;
 #[cfg(test)]

@@ -8,7 +8,7 @@ use std::process::Abort;
 use std::sync::Arc;
 use std::test::Fail;
 use unison_trace::{Finished, LogFault, Logged, steps_needed};
-use unison_world::{Answer, FinishFault, OpenFault, Step, WriteAnswer};
+use unison_world::{Answer, Done, FinishFault, OpenFault, Step, WriteAnswer};
 
 /// Each node takes the sum of its neighbours.
 pub(crate) const SWAP: &str = "field s = 0; next s = total n.s;";
@@ -57,56 +57,92 @@ fn full_trace(rt: HostRuntime) -> Result<(), Fail> {
     Ok(())
 }
 
+/// The computed next state of a node that is ready.
+fn done_of(logged: &Logged, node: u32) -> Result<Done, Fail> {
+    Ok(logged.work(node)?.ok_or("the node is not ready")?.compute())
+}
+
+/// Asserts what a logged world answers to a result.
+fn assert_put(
+    rt: &impl Abort,
+    logged: &mut Logged,
+    done: &Done,
+    want: Result<WriteAnswer, LogFault>,
+) {
+    assert_eq!(rt; logged.put(done), want);
+}
+
 /// A result that is put is stored as a write, where it moves its node; a stale one is not stored.
 #[test]
 fn stored_results(rt: HostRuntime) -> Result<(), Fail> {
     let mut logged = opened(rt.alloc(), 10, Some(9))?;
-    assert!(rt; logged.work(0)?.is_none());
-    assert_answers(&rt, &mut logged, &[(read(0, 0), Answer::Taken)]);
-    let done = logged.work(0)?.ok_or("node 0 is not ready")?.compute();
-    assert_eq!(rt; logged.put(&done), Ok(WriteAnswer::Moved));
-    assert_eq!(rt; logged.put(&done), Ok(WriteAnswer::NotReady));
+    let first = [(read(0, 0), Answer::Taken)];
     let round = [
         (read(1, 0), Answer::Taken),
         (write(1), Answer::Moved),
         (read(0, 0), Answer::Taken),
     ];
+    assert_answers(&rt, &mut logged, &first);
+    let done = done_of(&logged, 0)?;
+    assert_put(&rt, &mut logged, &done, Ok(WriteAnswer::Moved));
+    assert_put(&rt, &mut logged, &done, Ok(WriteAnswer::NotReady));
     assert_answers(&rt, &mut logged, &round);
-    assert_eq!(rt; logged.put(&done), Ok(WriteAnswer::Stale));
+    assert_put(&rt, &mut logged, &done, Ok(WriteAnswer::Stale));
     assert_answers(&rt, &mut logged, &[(write(0), Answer::Moved)]);
     assert_answers(&rt, &mut logged, &round);
-    assert_eq!(rt; logged.put(&done), Ok(WriteAnswer::Stale));
+    assert_put(&rt, &mut logged, &done, Ok(WriteAnswer::Stale));
     assert_nodes(&rt, logged.world(), &[(2, 5), (2, 7)]);
+    let [read_1, write_1, read_0] = round.map(|(step, _want)| step);
     let stored = [
-        read(0, 0),
+        read_0,
         write(0),
-        read(1, 0),
-        write(1),
-        read(0, 0),
+        read_1,
+        write_1,
+        read_0,
         write(0),
-        read(1, 0),
-        write(1),
-        read(0, 0),
+        read_1,
+        write_1,
+        read_0,
     ];
     assert_eq!(rt; logged.steps(), Some(stored.as_slice()));
+    Ok(())
+}
+
+#[test]
+fn no_work_before_all_reads(rt: HostRuntime) -> Result<(), Fail> {
+    let logged = opened(rt.alloc(), 10, Some(9))?;
+    assert!(rt; logged.work(0)?.is_none());
     Ok(())
 }
 
 /// A result that would move its node is refused where the trace is full, and the same result is put without a limit.
 #[test]
 fn result_into_a_full_trace(rt: HostRuntime) -> Result<(), Fail> {
-    for (limit, want) in [
-        (None, Ok(WriteAnswer::Moved)),
-        (Some(2), Ok(WriteAnswer::Moved)),
-        (Some(1), Err(LogFault::TraceFull { limit: 1 })),
+    for (limit, want, moved) in [
+        (None, Ok(WriteAnswer::Moved), (1, 7)),
+        (Some(2), Ok(WriteAnswer::Moved), (1, 7)),
+        (Some(1), Err(LogFault::TraceFull { limit: 1 }), (0, 5)),
     ] {
         let mut logged = opened(rt.alloc(), 10, limit)?;
         assert_answers(&rt, &mut logged, &[(read(0, 0), Answer::Taken)]);
-        let done = logged.work(0)?.ok_or("node 0 is not ready")?.compute();
-        assert_eq!(rt; logged.put(&done), want, "limit {limit:?}");
-        let moved = if want.is_ok() { (1, 7) } else { (0, 5) };
+        let done = done_of(&logged, 0)?;
+        assert_put(&rt, &mut logged, &done, want);
         assert_nodes(&rt, logged.world(), &[moved, (0, 7)]);
     }
+    Ok(())
+}
+
+/// Asserts the configuration and the number of stored steps of a logged world that two rounds of the pair lead to.
+fn assert_finished(
+    rt: &impl Abort,
+    alloc: Global,
+    plan: &Plan,
+    logged: Logged,
+    want: Option<usize>,
+) -> Result<(), Fail> {
+    let Finished { config, trace } = logged.finish(alloc, plan, 2)?;
+    assert_eq!(rt; config.states(), lockstep(alloc, plan, 2)?.states());
+    assert_eq!(rt; trace.map(|steps| steps.len()), want);
     Ok(())
 }
 
@@ -121,10 +157,7 @@ fn trace_to_the_stop(rt: HostRuntime) -> Result<(), Fail> {
             let turn = [(read(node, 0), Answer::Taken), (write(node), Answer::Moved)];
             assert_answers(&rt, &mut logged, &turn);
         }
-        let Finished { config, trace } = logged.finish(alloc, &plan, 2)?;
-        assert_eq!(rt; config.states(), lockstep(alloc, &plan, 2)?.states());
-        let len = trace.map(|steps| steps.len());
-        assert_eq!(rt; len, limit.map(|_| 8), "limit {limit:?}");
+        assert_finished(&rt, alloc, &plan, logged, limit.map(|_| 8))?;
     }
     Ok(())
 }

@@ -10,7 +10,7 @@ use std::process::Abort;
 use std::sync::Arc;
 use std::test::Fail;
 use unison_trace::{LogFault, Logged, read_schedule, write_schedule};
-use unison_world::{Answer, Done, Step, WriteAnswer};
+use unison_world::{Answer, Done, Step, World, WriteAnswer};
 
 /// What was found so far: `Err` once a call wanted memory.
 type Found = Result<(), Stopped>;
@@ -31,20 +31,28 @@ fn schedule_where_memory_is_refused(rt: HostRuntime) -> Result<(), Fail> {
     tell(&rt, round_trip(&rt, rt.alloc()))
 }
 
+/// The plan of the pair.
+fn plan_of_pair(alloc: Global) -> Result<Arc<Plan>, Stopped> {
+    Ok(Arc::new(alloc, plan_of(alloc, SWAP, PAIR)?)?)
+}
+
 /// A logged world of the pair, and its plan.
 fn opened(alloc: Global, stop: u32) -> Result<(Logged, Arc<Plan>), Stopped> {
-    let plan = Arc::new(alloc, plan_of(alloc, SWAP, PAIR)?)?;
+    let plan = plan_of_pair(alloc)?;
     let logged = Logged::new(alloc, Arc::try_clone(&plan)?, stop, Some(8))?;
     Ok((logged, plan))
+}
+
+/// The moves and the first word of the state of a node.
+fn node_of(world: &World, node: u32) -> (Option<u32>, Option<u32>) {
+    let word = world.state(node).map(|state| state.words[0]);
+    (world.moves(node), word)
 }
 
 /// The moves and the first word of the state of both nodes.
 fn nodes_of(logged: &Logged) -> [(Option<u32>, Option<u32>); 2] {
     let world = logged.world();
-    [0, 1].map(|node| {
-        let word = world.state(node).map(|state| state.words[0]);
-        (world.moves(node), word)
-    })
+    [node_of(world, 0), node_of(world, 1)]
 }
 
 /// How many steps are stored.

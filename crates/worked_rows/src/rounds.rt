@@ -1,6 +1,6 @@
 //! Lockstep rounds, and the configurations that they give.
 
-use crate::texts::{Refusal, plan_of, report_of};
+use crate::texts::{Refusal, plan_of, put_link, report_of};
 use lockstep::{Config, Difference, Plan, RoundFault, compare, lockstep};
 use rule_check::State;
 use std::alloc::Global;
@@ -28,7 +28,7 @@ pub(crate) fn path(alloc: Global, nodes: u32) -> Result<String, Fail> {
     let mut text = format!(in alloc; "nodes = {nodes}\nlinks = [")?;
     for other in 1..nodes {
         let node = other - 1;
-        text.push_str(format!(in alloc; "[{node}, {other}],")?.as_str())?;
+        put_link(alloc, &mut text, node, other)?;
     }
     text.push_str("]\n[set]\ndist = [[0, 0]]\n")?;
     Ok(text)

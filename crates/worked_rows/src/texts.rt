@@ -5,6 +5,7 @@ use lockstep::{Config, Plan, PlanFault, RoundFault, lockstep, report};
 use rule_check::{CheckFault, Program, check};
 use rule_lang::{LangFault, read_program};
 use std::alloc::{AllocError, Global};
+use std::test::Fail;
 
 /// Why there is no answer: the fault of the first call that refused.
 #[derive(Clone, Copy, Debug, PartialEq, Eq)]
@@ -53,6 +54,12 @@ impl From<AllocError> for Refusal {
     fn from(_error: AllocError) -> Refusal {
         Refusal::Memory
     }
+}
+
+/// Adds a link to the list of links in the text of a network.
+pub fn put_link(alloc: Global, text: &mut String, u: u32, w: u32) -> Result<(), Fail> {
+    text.push_str(format!(in alloc; "[{u}, {w}],")?.as_str())?;
+    Ok(())
 }
 
 /// The checked program of a text.

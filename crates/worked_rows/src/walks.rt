@@ -1,6 +1,7 @@
 //! Long walks of steps, results and turns: at each of many times, every node has the lockstep state of its moves.
 
-use crate::texts::plan_of;
+use crate::draws::below;
+use crate::texts::{plan_of, put_link};
 use crate::worlds::{read, write};
 use lockstep::{Config, Plan, lockstep};
 use std::alloc::Global;
@@ -29,7 +30,7 @@ impl Draws {
             .seed
             .wrapping_mul(1_664_525)
             .wrapping_add(1_013_904_223);
-        (self.seed >> 8) % limit.max(1)
+        below(self.seed, limit)
     }
 }
 
@@ -42,7 +43,7 @@ fn ring_with_chords(alloc: Global) -> Result<String, Fail> {
         text.push_str(format!(in alloc; "[{node}, {next}, {weight}],")?.as_str())?;
         if node % 3 == 0 {
             let across = (node + 7) % 30;
-            text.push_str(format!(in alloc; "[{node}, {across}],")?.as_str())?;
+            put_link(alloc, &mut text, node, across)?;
         }
     }
     text.push_str("]\n[set]\ns = [[0, 5], [7, 11], [29, 65520]]\n")?;
