@@ -6,7 +6,7 @@ import time
 
 top, work, worlds = sys.argv[1:4]
 KINDS = ("random", "torus", "path", "hubs")
-ROUNDS = {"distance": 200, "rule_110": 200, "majority": 200, "heavy": 10}
+ROUNDS = {"distance": 1000, "rule_110": 1000, "majority": 1000, "heavy": 40}
 # Each program has, where a one is wanted, this word, which reads the round: so no round is left out where states stay as they are.
 ONE = "(round < 4294967295)"
 DISTANCE = "field dist = 4294967295;\nnext dist = (dist min least (n.dist + {}));\n"
