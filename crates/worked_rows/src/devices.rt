@@ -128,17 +128,16 @@ fn text_to_a_full_device(rt: HostRuntime) {
     assert_eq!(rt; (out.calls(), out.failed()), (1, true));
 }
 
-/// Asserts what one call after the other answers, and the mark after each: the device failed, in this call or before.
+/// Asserts what the first, second, .. call answers, and after each the number of calls and the mark: the device failed,
+/// in this call or before.
 fn assert_writes<W: Write>(
     rt: &impl Abort,
     out: &mut Tally<W>,
-    rows: &[(&[u8], Result<usize, DeviceFault>, bool)],
+    rows: &[(&[u8], Result<usize, DeviceFault>, u64, bool)],
 ) {
-    let mut calls = out.calls();
-    for (bytes, want, failed) in rows {
-        calls = calls.saturating_add(1);
+    for (bytes, want, calls, failed) in rows {
         assert_eq!(rt; out.write_some(bytes), *want);
-        assert_eq!(rt; (out.calls(), out.failed()), (calls, *failed));
+        assert_eq!(rt; (out.calls(), out.failed()), (*calls, *failed));
     }
 }
 
@@ -147,11 +146,11 @@ fn writes_with_marks(rt: HostRuntime) {
     let mut out = Tally::new(writer(rt.alloc(), 4, 6, ErrorKind::WouldBlock));
     assert_eq!(rt; (out.calls(), out.failed()), (0, false));
     let rows = [
-        (b"".as_slice(), Ok(0), false),
-        (b"abcdefg", Ok(4), false),
-        (b"efg", Ok(2), false),
-        (b"g", Err(DeviceFault), true),
-        (b"", Ok(0), true),
+        (b"".as_slice(), Ok(0), 1, false),
+        (b"abcdefg", Ok(4), 2, false),
+        (b"efg", Ok(2), 3, false),
+        (b"g", Err(DeviceFault), 4, true),
+        (b"", Ok(0), 5, true),
     ];
     assert_writes(&rt, &mut out, &rows);
     assert_eq!(rt; out.inner().held.as_slice(), b"abcdef".as_slice());
@@ -160,8 +159,8 @@ fn writes_with_marks(rt: HostRuntime) {
 #[test]
 fn writes_to_a_full_device(rt: HostRuntime) {
     let rows = [
-        (b"".as_slice(), Ok(0), false),
-        (b"a", Err(DeviceFault), true),
+        (b"".as_slice(), Ok(0), 1, false),
+        (b"a", Err(DeviceFault), 2, true),
     ];
     assert_writes(&rt, &mut Tally::new(Full), &rows);
 }

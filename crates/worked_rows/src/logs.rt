@@ -76,13 +76,12 @@ fn assert_put(
 #[test]
 fn stored_results(rt: HostRuntime) -> Result<(), Fail> {
     let mut logged = opened(rt.alloc(), 10, Some(9))?;
-    let first = [(read(0, 0), Answer::Taken)];
     let round = [
         (read(1, 0), Answer::Taken),
         (write(1), Answer::Moved),
         (read(0, 0), Answer::Taken),
     ];
-    assert_answers(&rt, &mut logged, &first);
+    assert_answers(&rt, &mut logged, &[(read(0, 0), Answer::Taken)]);
     let done = done_of(&logged, 0)?;
     assert_put(&rt, &mut logged, &done, Ok(WriteAnswer::Moved));
     assert_put(&rt, &mut logged, &done, Ok(WriteAnswer::NotReady));
@@ -92,17 +91,16 @@ fn stored_results(rt: HostRuntime) -> Result<(), Fail> {
     assert_answers(&rt, &mut logged, &round);
     assert_put(&rt, &mut logged, &done, Ok(WriteAnswer::Stale));
     assert_nodes(&rt, logged.world(), &[(2, 5), (2, 7)]);
-    let [read_1, write_1, read_0] = round.map(|(step, _want)| step);
     let stored = [
-        read_0,
+        read(0, 0),
         write(0),
-        read_1,
-        write_1,
-        read_0,
+        read(1, 0),
+        write(1),
+        read(0, 0),
         write(0),
-        read_1,
-        write_1,
-        read_0,
+        read(1, 0),
+        write(1),
+        read(0, 0),
     ];
     assert_eq!(rt; logged.steps(), Some(stored.as_slice()));
     Ok(())
