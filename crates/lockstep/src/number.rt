@@ -62,7 +62,7 @@ fn spelled(digits: &[u8]) -> Option<u32>
 }
 
 /// The number at the front, without leading zeros, and what stands behind it.
-pub(crate) fn read_number(bytes: &[u8]) -> Option<(u32, &[u8])>
+pub fn read_number(bytes: &[u8]) -> Option<(u32, &[u8])>
     ensures { IsFront decimal (λ n. n < 2 ^ 32) Ends bytes.now (option_map (λ x. (x.0, x.1.now)) result) }
 {
     let (digits, rest) = split_digits(bytes);
@@ -71,7 +71,7 @@ pub(crate) fn read_number(bytes: &[u8]) -> Option<(u32, &[u8])>
 }
 
 /// What stands behind this word, where the bytes begin with it.
-pub(crate) fn behind<'a>(word: &[u8], bytes: &'a [u8]) -> Option<&'a [u8]>
+pub fn behind<'a>(word: &[u8], bytes: &'a [u8]) -> Option<&'a [u8]>
     ensures { MatchOption result ((rest : List ℕ) → bytes.now ≢ word.now ++ rest) (λ rest. bytes.now ≡ word.now ++ rest.now) }
 {
     bytes.strip_prefix(word)

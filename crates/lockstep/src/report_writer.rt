@@ -1,6 +1,5 @@
 //! Reports that are written.
 ghost use Rattle.std.specs.Prelude.{◌≡◌, ◌++◌, ◌<◌, [], OnOk, IfOk, string_bytes, length, slice_index_or};
-ghost use Rattle.std.specs.Fmt.{decimal};
 ghost use Rattle.rule_check.specs.Value.{names_of};
 ghost use Rattle.lockstep.specs.Report.{field_text, fields_text, node_line, report_text};
 
@@ -9,49 +8,27 @@ use crate::plan::Plan;
 use rule_check::{Program, State};
 use std::alloc::{AllocError, Global};
 
-/// The number in decimal digits.
-fn put_number(alloc: Global, out: &mut String, value: u32) -> Result<(), AllocError>
-    ensures { OnOk result (string_bytes out.new ≡ string_bytes out.old ++ decimal value) }
-{
-    out.push_str(&value.to_string(alloc)?)
-}
-
 /// One space, the field's name, `=` and the value.
-fn put_field(
-    alloc: Global,
-    out: &mut String,
-    program: &Program,
-    place: u32,
-    value: u32,
-) -> Result<(), AllocError>
+fn put_field(out: &mut String, program: &Program, place: u32, value: u32) -> Result<(), AllocError>
     requires place { place < length program.now.fields }
     ensures text { OnOk result (string_bytes out.new ≡ string_bytes out.old ++ field_text (slice_index_or (names_of program.now) place []) value) }
 {
     let name = program.field_name(place).unwrap_or("");
-    out.push_str(" ")?;
-    out.push_str(name)?;
-    out.push_str("=")?;
-    put_number(alloc, out, value)
+    write!(out, " {name}={value}")
 }
 
 /// The fields in order of declaration, with the state's words.
-fn put_fields(
-    alloc: Global,
-    out: &mut String,
-    program: &Program,
-    state: &State,
-) -> Result<(), AllocError>
-    ensures { OnOk result (string_bytes out.new ≡ string_bytes out.old ++ fields_text (names_of program.now) state.now.words) }
+pub fn put_fields(out: &mut String, program: &Program, state: &State) -> Result<(), AllocError>
+    ensures text { OnOk result (string_bytes out.new ≡ string_bytes out.old ++ fields_text (names_of program.now) state.now.words) }
 {
     for place in 0..program.field_count() {
-        put_field(alloc, out, program, place, state.words[place as usize])?;
+        put_field(out, program, place, state.words[place as usize])?;
     }
     Ok(())
 }
 
 /// The line of a node.
 fn put_node(
-    alloc: Global,
     out: &mut String,
     program: &Program,
     node: u32,
@@ -59,8 +36,8 @@ fn put_node(
 ) -> Result<(), AllocError>
     ensures { OnOk result (string_bytes out.new ≡ string_bytes out.old ++ node_line (names_of program.now) node state.now) }
 {
-    put_number(alloc, out, node)?;
-    put_fields(alloc, out, program, state)?;
+    write!(out, "{node}")?;
+    put_fields(out, program, state)?;
     out.push_str("\n")
 }
 
@@ -71,11 +48,10 @@ pub fn report(alloc: Global, plan: &Plan, config: &Config) -> Result<Vec<u8>, Al
     ensures text { IfOk result (λ v. v.items ≡ report_text (names_of plan.now.program) config.now) }
 {
     let mut out = String::new(alloc);
-    out.push_str("round ")?;
-    put_number(alloc, &mut out, config.rounds())?;
-    out.push_str("\n")?;
+    let rounds = config.rounds();
+    write!(out, "round {rounds}\n")?;
     for (node, state) in config.states().iter().enumerate() {
-        put_node(alloc, &mut out, plan.program(), node as u32, state)?;
+        put_node(&mut out, plan.program(), node as u32, state)?;
     }
     Ok(out.into_bytes())
 }

@@ -15,8 +15,8 @@ use row_code::{Block, RowCode};
 use std::alloc::{AllocError, Global};
 use std::mem;
 
-/// The greatest round.
-pub(crate) const MOST_ROUNDS: u32 = 1_000_000_000;
+/// The greatest round, counted from round 0.
+pub const MOST_ROUNDS: u32 = 1_000_000_000;
 
 /// A way to make a round of some plans.
 pub(crate) trait Step {

@@ -13,20 +13,14 @@ use crate::fault::RunFault;
 use crate::gate::Gate;
 use crate::shared::Shared;
 use crate::team::{Halted, Team};
-use lockstep::Plan;
+use lockstep::{MOST_ROUNDS, Plan};
 use std::alloc::Global;
 use std::sync::{Arc, Wait};
 use std::thread::Threads;
-use unison_trace::{Finished, LogFault, Logged, steps_needed};
+use unison_trace::{Finished, LogFault, Logged, MOST_STEPS, steps_needed};
 
 /// The greatest number of workers.
-const MOST_WORKERS: u32 = 64;
-
-/// The greatest stop.
-const MOST_ROUNDS: u32 = 1_000_000_000;
-
-/// The greatest number of steps in a trace.
-const MOST_STEPS: u32 = 1_000_000;
+pub const MOST_WORKERS: u32 = 64;
 
 /// Runs a plan to a stop in threads, and gives the configuration of that round and, where a trace was asked, the steps
 /// that led there. Of `workers` workers, worker i drives the nodes whose number leaves i modulo their number. `trace`

@@ -3,7 +3,6 @@
 
 mod fault;
 mod logged;
-mod number;
 mod replay;
 mod report_writer;
 mod schedule_reader;
@@ -16,3 +15,4 @@ pub use replay::replay_over;
 pub use report_writer::replay_report;
 pub use schedule_reader::read_schedule;
 pub use schedule_writer::write_schedule;
+pub use stored::MOST_STEPS;

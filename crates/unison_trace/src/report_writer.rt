@@ -1,32 +1,11 @@
 //! Replay reports.
-ghost use Rattle.std.specs.Prelude.{◌≡◌, ◌++◌, ◌<◌, [], OnOk, IfOk, string_bytes, length, slice_index_or};
-ghost use Rattle.rule_check.specs.Value.{names_of};
-ghost use Rattle.lockstep.specs.Report.{field_text, fields_text};
+ghost use Rattle.std.specs.Prelude.{◌≡◌, ◌++◌, ◌<◌, OnOk, IfOk, string_bytes, length};
 ghost use Rattle.unison_trace.specs.Replays.{replay_line, replay_text};
 
-use lockstep::Plan;
-use rule_check::{Program, State};
+use lockstep::{Plan, put_fields};
+use rule_check::Program;
 use std::alloc::{AllocError, Global};
 use unison_world::World;
-
-/// One space, the field's name, `=` and the value.
-fn put_field(out: &mut String, program: &Program, place: u32, value: u32) -> Result<(), AllocError>
-    requires place { place < length program.now.fields }
-    ensures text { OnOk result (string_bytes out.new ≡ string_bytes out.old ++ field_text (slice_index_or (names_of program.now) place []) value) }
-{
-    let name = program.field_name(place).unwrap_or("");
-    write!(out, " {name}={value}")
-}
-
-/// The fields in order of declaration, with the state's words.
-fn put_fields(out: &mut String, program: &Program, state: &State) -> Result<(), AllocError>
-    ensures text { OnOk result (string_bytes out.new ≡ string_bytes out.old ++ fields_text (names_of program.now) state.now.words) }
-{
-    for place in 0..program.field_count() {
-        put_field(out, program, place, state.words[place as usize])?;
-    }
-    Ok(())
-}
 
 /// The line of a node.
 fn put_node(out: &mut String, program: &Program, world: &World, node: u32) -> Result<(), AllocError>

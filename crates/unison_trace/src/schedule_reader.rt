@@ -8,8 +8,8 @@ ghost use Rattle.unison_trace.specs.Schedules.{HasSteps, IsRefusedSchedule, IsSt
 ghost use Rattle.unison_trace.specs.ReadLines.{AreSmall, number_line, pair_line};
 
 use crate::fault::ScheduleFault;
-use crate::number::{behind, read_number};
 use crate::stored;
+use lockstep::{behind, read_number};
 use std::alloc::{AllocError, Global};
 use unison_world::Step;
 

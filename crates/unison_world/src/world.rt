@@ -21,15 +21,12 @@ use crate::results::{ask_put, put};
 use crate::step::{Answer, Step, TurnAnswer, WriteAnswer};
 use crate::turns::{run_sweeps, sweep, turn};
 use crate::work::{Done, Work};
-use lockstep::{Config, Plan};
+use lockstep::{Config, MOST_ROUNDS, Plan};
 use phase_register::Phase;
 use rule_check::State;
 use std::alloc::{AllocError, Global};
 use std::marker::Model;
 use std::sync::Arc;
-
-/// The greatest stop.
-const MOST_ROUNDS: u32 = 1_000_000_000;
 
 /// The nodes of a plan, each with its register and its desk, which move up to a stop. Counts of moves and the stop
 /// count from round 0, and the nodes begin at the plan's start.
