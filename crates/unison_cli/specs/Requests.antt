@@ -1,8 +1,8 @@
 -- Which numbers a command line may ask for.
 use Rattle.std.specs.Prelude.{◌≤◌}
 use Rattle.lockstep.specs.Configs.{most_rounds}
-use Rattle.unison_cli.specs.declared.request.Job.{Job}
-use Rattle.unison_cli.specs.declared.request.Job.TheVariants.{Check, Lockstep, Run, Replay, Compare}
+use Rattle.unison_jobs.specs.declared.job.Job.{Job}
+use Rattle.unison_jobs.specs.declared.job.Job.TheVariants.{Check, Lockstep, Run, Replay, Compare}
 
 -- the numbers of the job are within their limits: a round is at most 1000000000, and 1 to 64 workers are asked for
 abbrev pub IsWithinLimits : Job → Type 0

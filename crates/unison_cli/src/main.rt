@@ -1,27 +1,14 @@
 //! Unison: synchronous programs on networks whose nodes move at their own pace.
 #![tactic(auto)]
 
-mod comparison;
-mod fault;
-#[cfg(test)]
-mod job_tests;
 #[cfg(test)]
 mod memory_tests;
-#[cfg(test)]
-mod replay_tests;
 mod request;
-#[cfg(test)]
-mod run_tests;
-mod serve;
-#[cfg(test)]
-mod test_support;
 #[cfg(test)]
 mod word_tests;
 mod words;
 
-use crate::fault::ServeFault;
-use crate::request::{Job, Request, UsageFault};
-use crate::serve::{Served, serve};
+pub use crate::request::{Request, UsageFault};
 use crate::words::job_of;
 use lockstep::Tally;
 use std::alloc::AllocError;
@@ -31,6 +18,7 @@ use std::process::ExitCode;
 use std::sync::Wait;
 use std::thread::Threads;
 use std::{env, fs, io};
+pub use unison_jobs::{Job, ServeFault, Served, serve};
 
 /// Why the program ends with a status other than 0, or after help.
 #[derive(Debug, Drop)]
@@ -77,22 +65,35 @@ impl From<AllocError> for Ending {
     }
 }
 
+/// Want of memory where that is the error, else this ending.
+fn refused(error: &io::Error, ending: Ending) -> Ending {
+    if error.kind() == ErrorKind::OutOfMemory {
+        Ending::Serve(ServeFault::Memory)
+    } else {
+        ending
+    }
+}
+
+/// The words of the command line. One that is no UTF-8 is a wrong word.
+fn words_of(rt: &HostRuntime) -> Result<Vec<String>, Ending> {
+    match env::args(rt) {
+        Ok(words) => Ok(words.collect(rt.alloc())?),
+        Err(error) => {
+            let text = String::from_str(rt.alloc(), "a word is not UTF-8")?;
+            Err(refused(&error, Ending::Usage(text)))
+        }
+    }
+}
+
 /// The request of the command line.
 fn request_of(rt: &HostRuntime) -> Result<Request, Ending> {
-    let words: Vec<String> = match env::args(rt) {
-        Ok(words) => words.collect(rt.alloc())?,
-        Err(_) => return Err(Ending::Serve(ServeFault::Memory)),
-    };
+    let words = words_of(rt)?;
     Ok(job_of(rt.alloc(), words.as_slice())?)
 }
 
 /// The ending where a file refuses, or where memory does.
 fn file_fault(error: &io::Error) -> Ending {
-    if error.kind() == ErrorKind::OutOfMemory {
-        Ending::Serve(ServeFault::Memory)
-    } else {
-        Ending::File
-    }
+    refused(error, Ending::File)
 }
 
 /// The bytes of a file.
@@ -176,7 +177,7 @@ fn print_ending(rt: &HostRuntime, ending: &Ending) -> io::Result<()> {
         Ending::File => eprintln!(rt; "fault: file"),
         Ending::Output => eprintln!(rt; "fault: device Write"),
         Ending::Serve(fault) => {
-            let (part, name) = fault.line();
+            let (part, name) = fault.part_and_name();
             match fault.bad_line() {
                 Some(line) => eprintln!(rt; "fault: {part} {name} {line}"),
                 None => eprintln!(rt; "fault: {part} {name}"),
@@ -200,7 +201,7 @@ fn answer(
     let mut schedule = Tally::new(&mut task.schedule);
     let mut output = match BufWriter::new(rt.alloc(), io::writer(rt)) {
         Ok(output) => output,
-        Err(_) => return Err(Ending::Serve(ServeFault::Memory)),
+        Err(error) => return Err(refused(&error, Ending::Output)),
     };
     let mut out = Tally::new(&mut output);
     let served = serve(

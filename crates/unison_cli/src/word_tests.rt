@@ -1,11 +1,13 @@
 //! Command lines: what they mean, and what is refused.
 
-use crate::request::{Job, Request, UsageFault};
+use crate::request::{Request, UsageFault};
 use crate::words::job_of;
 use std::alloc::{AllocError, Global};
 use std::test::Fail;
+use unison_jobs::Job;
 
-fn owned(alloc: Global, words: &[&str]) -> Result<Vec<String>, AllocError> {
+/// The words as owned texts.
+pub(crate) fn owned(alloc: Global, words: &[&str]) -> Result<Vec<String>, AllocError> {
     let mut all = Vec::new(alloc);
     for word in words {
         all.push(String::from_str(alloc, word)?)?;

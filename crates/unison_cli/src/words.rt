@@ -3,16 +3,13 @@ ghost use Rattle.std.specs.Prelude.{◌≡◌, ◌≤◌, IfOk, IfSome};
 ghost use Rattle.lockstep.specs.Configs.{most_rounds};
 ghost use Rattle.unison_cli.specs.Requests.{IsWithinLimits};
 
-use crate::request::{Job, Request, UsageFault};
+use crate::request::{Request, UsageFault};
 use clap::error::ErrorKind;
 use clap::{Arg, ArgAction, ArgMatches, Command};
+use lockstep::MOST_ROUNDS;
 use std::alloc::{AllocError, Global};
-
-/// The greatest round.
-const MOST_ROUNDS: u32 = 1_000_000_000;
-
-/// The greatest number of workers.
-const MOST_WORKERS: u32 = 64;
+use unison_jobs::Job;
+use unison_pool::MOST_WORKERS;
 
 fn path<'a>(alloc: Global, id: &'a str, name: &'a str, help: &'a str) -> Arg<'a> {
     Arg::new(alloc, id)

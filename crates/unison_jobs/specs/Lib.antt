@@ -1,0 +1,3 @@
+pub mod Served
+pub mod Status
+pub mod Comparison
