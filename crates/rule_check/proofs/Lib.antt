@@ -1,3 +1,4 @@
+pub mod Places
 pub mod Booleans
 pub mod Lists
 pub mod Exec

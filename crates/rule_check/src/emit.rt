@@ -79,7 +79,8 @@ pub fn collect_rules(
     Ok(rules)
 }
 
-// The code of an expression whose aggregates are numbered from `first` on; the answer is the number after them.
+/// The code of an expression whose aggregates are numbered from `first` on; the answer is the
+/// number after them.
 fn emit(code: &mut Vec<Instr>, fields: &[Field], e: &Expr, first: u32) -> Result<u32, AllocError>
     requires few { length fields.now ≤ 8 }
     requires sums { first + length (parts (tree_of e.now)) ≤ 16 }
@@ -120,7 +121,7 @@ fn emit(code: &mut Vec<Instr>, fields: &[Field], e: &Expr, first: u32) -> Result
     }
 }
 
-// One instruction more; the answer is `next`.
+/// One instruction more; the answer is `next`.
 fn put(code: &mut Vec<Instr>, instr: Instr, next: u32) -> Result<u32, AllocError>
     ensures code { OnOk result (code.new.items ≡ code.old.items ++ instr ∷ []) }
     ensures next { IfOk result (λ n. n ≡ next) }
@@ -129,7 +130,7 @@ fn put(code: &mut Vec<Instr>, instr: Instr, next: u32) -> Result<u32, AllocError
     Ok(next)
 }
 
-// The code of an expression's aggregates.
+/// The code of an expression's aggregates.
 fn emit_parts(
     alloc: Global,
     gatherers: &mut Vec<Gatherer>,

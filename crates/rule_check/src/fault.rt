@@ -6,7 +6,8 @@ ghost use Rattle.rule_check.specs.declared.fault.CheckFault.TheVariants.{Memory}
 use std::alloc::{AllocError, AllocFailed};
 use thiserror::Error;
 
-/// Why a program is refused: the first cause that holds, in this order, or want of memory.
+/// Why a program is refused: the first cause that holds, in this order. Want of memory can come in
+/// place of each but `TooManyFields`.
 #[derive(Clone, Copy, Debug, PartialEq, Eq, Error)]
 pub enum CheckFault {
     /// More than 8 `field` items.

@@ -21,3 +21,4 @@ pub use law::{order_of_neighbours, round_plays_no_part};
 pub use parts::{Gatherer, Rule};
 pub use program::{Program, check};
 pub use state::{Near, State, Sums};
+pub use table::{apply, gathered, opening};

@@ -21,14 +21,15 @@ use crate::run::{DEPTH, Frame, Node};
 use crate::same::{same_fields, same_parts, same_rules};
 use crate::state::{Near, State, Sums};
 use crate::well_formed::{
-    assigns_twice, count_all, index_of, repeats, some_nest, some_outside, some_unknown,
+    assigns_twice, count_all, count_fields, index_of, repeats, some_nest, some_outside,
+    some_unknown,
 };
 use crate::words::{clear_words, finish_words, opening_words, start_words, take_words};
 use rule_lang::Source;
 use std::alloc::Global;
 use std::marker::Model;
 
-// What stands for the aggregates' values in the code of an aggregate, which reads none.
+/// What stands for the aggregates' values in the code of an aggregate, which reads none.
 static NO_SUMS: Sums = Sums { words: [0; 16] };
 
 /// A well-formed program: its `field` items and its `next` items, each in the text's order.
@@ -57,16 +58,17 @@ impl Model for Program {
 
 /// The checked program of a text's items, or the first fault that they have.
 ///
-/// `Memory` comes only where memory ran out, and in place of any other answer.
+/// `Memory` comes only where memory ran out, and in place of any other answer but `TooManyFields`.
 pub fn check(alloc: Global, source: &Source) -> Result<Program, CheckFault>
     ensures ok { IfOk result (λ p. (first_fault (rules_of source.now) ≡ None) × (p ≡ rules_of source.now)) }
     ensures err { IfErr result (λ fault. fault ≢ CheckFault.Memory → first_fault (rules_of source.now) ≡ Some fault) }
+    ensures many { 8 < length (rules_of source.now).fields → result ≡ Err CheckFault.TooManyFields }
 {
     let items = source.items();
-    let fields = collect_fields(alloc, items)?;
-    if fields.len() > 8 {
+    if count_fields(items) > 8 {
         return Err(CheckFault::TooManyFields);
     }
+    let fields = collect_fields(alloc, items)?;
     if repeats(&fields) {
         return Err(CheckFault::FieldTwice);
     }
@@ -220,7 +222,7 @@ impl Program {
         self.finish_on(&mut stack, &node, sums)
     }
 
-    // `take`, on a stack that is lent.
+    /// `take`, on a stack that is lent.
     fn take_on(&self, stack: &mut [u32; DEPTH], sums: &mut Sums, node: &Node, near: &Near)
         ensures step { (nears : List Near) → sums.new ≡ taken self.now (standing self.now node.now nears) near.now sums.old }
         ensures anywhere { (front back : List Near) → length (front ++ back) < 4096
@@ -235,7 +237,7 @@ impl Program {
         take_words(stack, &self.gatherers, &frame, &mut sums.words);
     }
 
-    // `finish`, on a stack that is lent.
+    /// `finish`, on a stack that is lent.
     fn finish_on(&self, stack: &mut [u32; DEPTH], node: &Node, sums: &Sums) -> State
         ensures exact { result ≡ finished self.now node.now.round node.now.id node.now.degree node.now.own.now sums.now }
         ensures completes { (nears : List Near) → length nears ≡ node.now.degree

@@ -32,6 +32,7 @@ pub fn parts_read_round(gatherers: &[Gatherer]) -> bool
     false
 }
 
+/// Whether code reads it.
 fn reads_round(code: &[Instr]) -> bool
     ensures exact { result ≡ code_reads_round code.now }
 {

@@ -29,7 +29,8 @@ pub struct Frame<'a> {
     pub sums: &'a Sums,
 }
 
-// The place of the top after one instruction. What lies on the stack are its words from `top` on, the last value first.
+/// The place of the top after one instruction. What lies on the stack are its words from `top` on,
+/// the last value first.
 fn act(instr: Instr, frame: &Frame, stack: &mut [u32; DEPTH], top: usize) -> usize
     requires top { top ≤ 127 }
     requires allows { Allows instr (127 - top) }
@@ -64,14 +65,14 @@ fn act(instr: Instr, frame: &Frame, stack: &mut [u32; DEPTH], top: usize) -> usi
     }
 }
 
-// The round, which a word holds.
+/// The round, which a word holds.
 fn round_of(node: &Node) -> u32
     ensures exact { result ≡ min node.now.round M }
 {
     node.round
 }
 
-// The place of the top with one value more.
+/// The place of the top with one value more.
 fn put(stack: &mut [u32; DEPTH], top: usize, value: u32) -> usize
     requires top { top ≤ 127 }
     requires room { 0 < top }

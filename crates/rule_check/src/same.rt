@@ -51,24 +51,28 @@ pub fn same_rules(xs: &[Rule], ys: &[Rule]) -> bool
     true
 }
 
+/// Whether both fields have one name and one opening value.
 fn same_field(x: &Field, y: &Field) -> bool
     ensures exact { IsTrue result ↔ (x.now ≡ y.now) }
 {
     x.opening == y.opening && x.name.is(y.name.as_str())
 }
 
+/// Whether both aggregates are of one kind and have equal code.
 fn same_part(x: &Gatherer, y: &Gatherer) -> bool
     ensures exact { IsTrue result ↔ (part_shape x.now ≡ part_shape y.now) }
 {
     x.agg == y.agg && same_code(&x.code, &y.code)
 }
 
+/// Whether both rules are for one place and have equal code.
 fn same_rule(x: &Rule, y: &Rule) -> bool
     ensures exact { IsTrue result ↔ (rule_shape x.now ≡ rule_shape y.now) }
 {
     x.field == y.field && same_code(&x.code, &y.code)
 }
 
+/// Whether both codes have the same instructions in the same order.
 fn same_code(xs: &[Instr], ys: &[Instr]) -> bool
     ensures exact { IsTrue result ↔ (xs.now ≡ ys.now) }
 {

@@ -5,7 +5,7 @@ ghost use Rattle.std.specs.List.{list_any};
 ghost use Rattle.rule_lang.specs.View.{tree_of, items_of};
 ghost use Rattle.rule_check.specs.Value.{parts, place};
 ghost use Rattle.rule_check.specs.WellFormed.{is_among, has_twice, names_unknown, looks_outside, nests, is_unknown, all_parts};
-ghost use Rattle.rule_check.specs.Items.{nexts_of};
+ghost use Rattle.rule_check.specs.Items.{fields_of, nexts_of};
 ghost use Rattle.rule_check.specs.Table.{M};
 ghost use Rattle.rule_check.specs.Fields.{field_names};
 
@@ -28,15 +28,10 @@ pub fn place_of(fields: &[Field], name: &str) -> usize
 }
 
 /// Whether a field has this name.
-pub fn declares(fields: &[Field], name: &str) -> bool
+fn declares(fields: &[Field], name: &str) -> bool
     ensures exact { result ≡ is_among (field_names fields.now) name.now }
 {
-    for field in fields {
-        if field.name.is(name) {
-            return true;
-        }
-    }
-    false
+    place_of(fields, name) < fields.len()
 }
 
 /// Whether two fields have one name.
@@ -67,7 +62,7 @@ pub fn assigns_twice(alloc: Global, items: &[Item]) -> Result<bool, AllocError>
 }
 
 /// Whether the expression has a name that is no field's.
-pub fn unknown_in(fields: &[Field], e: &Expr) -> bool
+fn unknown_in(fields: &[Field], e: &Expr) -> bool
     ensures exact { result ≡ names_unknown (field_names fields.now) (tree_of e.now) }
 {
     match e {
@@ -85,7 +80,7 @@ pub fn unknown_in(fields: &[Field], e: &Expr) -> bool
 }
 
 /// Whether the expression names a neighbour outside of an aggregate.
-pub fn outside_in(e: &Expr) -> bool
+fn outside_in(e: &Expr) -> bool
     ensures exact { result ≡ looks_outside (tree_of e.now) }
 {
     match e {
@@ -99,7 +94,7 @@ pub fn outside_in(e: &Expr) -> bool
 }
 
 /// How many aggregates the expression has, those inside of others aside, as far as a word counts.
-pub fn count_in(e: &Expr) -> u32
+fn count_in(e: &Expr) -> u32
     ensures exact { result ≡ min (length (parts (tree_of e.now))) M }
 {
     match e {
@@ -121,7 +116,7 @@ pub fn count_in(e: &Expr) -> u32
 }
 
 /// Whether an aggregate stands in an aggregate.
-pub fn nests_in(e: &Expr) -> bool
+fn nests_in(e: &Expr) -> bool
     ensures exact { result ≡ nests (tree_of e.now) }
 {
     match e {
@@ -200,10 +195,23 @@ pub fn index_of(fields: &[Field], name: &str) -> Option<u32>
     requires few { length fields.now ≤ 8 }
     ensures exact { result ≡ (if is_among (field_names fields.now) name.now then Some (place (field_names fields.now) name.now) else None) }
 {
-    for (k, field) in fields.iter().enumerate() {
-        if field.name.is(name) {
-            return Some(k as u32);
+    let place = place_of(fields, name);
+    if place < fields.len() {
+        Some(place as u32)
+    } else {
+        None
+    }
+}
+
+/// How many fields the items declare.
+pub fn count_fields(items: &[Item]) -> usize
+    ensures exact { result ≡ length (fields_of (items_of items.now)) }
+{
+    let mut count = 0;
+    for item in items {
+        if let Item::Field { .. } = item {
+            count += 1;
         }
     }
-    None
+    count
 }

@@ -1,7 +1,9 @@
 -- Bytes, and spans of them.
-use Rattle.std.proofs.Common.{◌≡◌, ℕ, suc, ◌+◌, ◌≤◌, ◌<◌, List, [], ◌∷◌, ◌++◌, Bool, true, false, cond, refl, sym, ap, subst, ◌∙◌, arith, length, take, drop, ◌-◌, length-drop, ◌⊎◌, inl, inr}
+use Rattle.std.proofs.Common.{◌≡◌, ℕ, suc, ◌+◌, ◌≤◌, ◌<◌, List, [], ◌∷◌, ◌++◌, Bool, true, false, cond, refl, sym, ap, subst, ◌∙◌, arith, length, take, drop, ◌-◌, length-drop, ◌⊎◌, inl, inr, Option, Some, None, ltb, not}
 use Rattle.std.specs.Prelude.{◌||◌, ◌&&◌, ◌==◌, IsTrue}
-use Rattle.std.specs.List.{AllByRecursion, prefix_len}
+use Rattle.std.specs.List.{AllByRecursion, prefix_len, position_or_len}
+use Rattle.std.specs.Prelude.{unwrap_or}
+use Rattle.std.proofs.lemmas.List.Sums.{prefix_len-le-length}
 use Rattle.std.specs.Char.{is_ascii_alphabetic, is_ascii_alphanumeric, is_ascii_digit}
 use Rattle.std.specs.Int.{is_in_range}
 use Rattle.std.specs.Prelude.{nat_le}
@@ -108,3 +110,18 @@ split_is p bytes f r n e x y = rw (x, y, e) (span_at p bytes)
 -- what `&all[at..]` is
 pub cut_at : {A : Type 0} (at : ℕ) (all : List A) → take (length all - at) (drop at all) ≡ drop at all
 cut_at at all = take_all (length all - at) (drop at all) (omega (arith, length-drop at all))
+
+-- to refuse what fails a test is to take what passes
+prefix_again : (p : ℕ → Bool) (xs : List ℕ) → position_or_len (λ x. not (p x)) xs ≡ prefix_len p xs
+prefix_again p [] = refl
+prefix_again p (x ∷ xs) = elim (p x) as (λ b. cond (not (not b)) (1 + position_or_len (λ y. not (p y)) xs) 0 ≡ cond b (1 + prefix_len p xs) 0) [ true ↦ ap (λ n. 1 + n) (prefix_again p xs) | false ↦ refl ]
+
+found_or : (n k : ℕ) → n ≤ k → unwrap_or (cond (ltb n k) (Some n) None) k ≡ n
+found_or n k h = grind (arith, nat_tests)
+
+-- the place of the first that fails a test, or else the length, is how many pass at the front
+pub prefix_found : (p : ℕ → Bool) (xs : List ℕ) (r : Option ℕ) (n : ℕ) → r ≡ cond (ltb (position_or_len (λ x. not (p x)) xs) (length xs)) (Some (position_or_len (λ x. not (p x)) xs)) None → n ≡ unwrap_or r (length xs) → n ≡ prefix_len p xs
+prefix_found p xs r n e h =
+    let q = prefix_again p xs in
+    let k = prefix_len-le-length p xs in
+    h ∙ ap (λ o. unwrap_or o (length xs)) e ∙ found_or (position_or_len (λ x. not (p x)) xs) (length xs) (omega arith) ∙ q

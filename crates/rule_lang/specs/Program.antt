@@ -13,11 +13,12 @@ pub record HasProgram (text : List ℕ) (items : List ItemTree) : Type 0 where
   pub tree : HasTree tokens items
 
 -- Why a text is refused, the first cause that holds: too many bytes, no token list, a token list without a tree.
+-- Want of memory can come in place of each but the first.
 abbrev pub IsRefusedAs : List ℕ → LangFault → Type 0
 IsRefusedAs text TooLong = 65536 < length text
 IsRefusedAs text (Lex at) = (length text ≤ 65536) × ((tokens : List Tok) → HasTokens text tokens → ⊥)
 IsRefusedAs text (Syntax at) = (length text ≤ 65536) × (tokens : List Tok) × HasTokens text tokens × ((items : List ItemTree) → HasProgram text items → ⊥)
-IsRefusedAs text Memory = Unit {0}
+IsRefusedAs text Memory = length text ≤ 65536
 
 -- what a text is read to: its items, seen by view, or why it has none
 abbrev pub IsReadAs : {X : Type 0} → List ℕ → (X → List ItemTree) → Result X LangFault → Type 0

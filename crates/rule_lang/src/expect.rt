@@ -86,14 +86,11 @@ pub fn operator_at<'t, 'a>(tokens: &'t [Lexeme<'a>]) -> Result<(Op, &'t [Lexeme<
 pub fn close<'t, 'a>(tokens: &'t [Lexeme<'a>]) -> Result<&'t [Lexeme<'a>], Stuck>
     ensures { Gives (λ x. toks_of x.now) result (close_at (toks_of tokens.now)) }
 {
-    match tokens {
-        [
-            Lexeme {
-                token: Token::Sign(Sign::Close),
-                ..
-            },
-            rest @ ..,
-        ] => Ok(rest),
+    let [first, rest @ ..] = tokens else {
+        return Err(Stuck::before(tokens));
+    };
+    match first.token {
+        Token::Sign(Sign::Close) => Ok(rest),
         _ => Err(Stuck::before(tokens)),
     }
 }

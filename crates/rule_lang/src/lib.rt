@@ -15,6 +15,6 @@ mod tree;
 mod write;
 
 pub use fault::LangFault;
-pub use source::{Source, one_program, read_program};
+pub use source::{Source, canonical_is_read_back, one_program, read_program};
 pub use tree::{Agg, Expr, Item, Op};
 pub use write::write_program;

@@ -1,9 +1,11 @@
 //! A program that was read.
 
-ghost use Rattle.std.specs.Prelude.{◌≡◌, ◌↔◌, List, ℕ, length, IsTrue};
+ghost use Rattle.std.specs.Prelude.{◌≡◌, ◌↔◌, ◌≤◌, List, ℕ, length, IsTrue, Result, MatchResult};
 ghost use Rattle.rule_lang.specs.Tree.{ItemTree};
 ghost use Rattle.rule_lang.specs.View.{items_of};
 ghost use Rattle.rule_lang.specs.Program.{HasProgram, IsProgram, IsReadAs};
+ghost use Rattle.rule_lang.specs.Canonical.{program_text};
+ghost use Rattle.rule_lang.specs.declared.fault.LangFault.{LangFault};
 
 use crate::fault::LangFault;
 use crate::lex::tokens;
@@ -76,4 +78,16 @@ pub fn read_program(alloc: Global, text: &[u8]) -> Result<Source, LangFault>
 pub fn one_program()
     ensures one { (text : List ℕ) (left right : List ItemTree)
         → HasProgram text left → HasProgram text right → left ≡ right }
+{}
+
+/// A law, which does nothing when it runs: the canonical spelling of the items of a `Source` has
+/// these items; where it has at most 65,536 bytes, `read_program` gives an equal `Source` for it,
+/// want of memory aside.
+pub fn canonical_is_read_back()
+    ensures spelled { (items : List ItemTree) → IsProgram items → HasProgram (program_text items) items }
+    // Any answer that `read_program` can give for the spelling, by its clause `read`.
+    ensures read_back { (items : List ItemTree) (answer : Result (List ItemTree) LangFault)
+        → IsProgram items → length (program_text items) ≤ 65536
+        → IsReadAs (program_text items) (λ source. source) answer
+        → MatchResult answer (λ source. source ≡ items) (λ fault. fault ≡ LangFault.Memory) }
 {}

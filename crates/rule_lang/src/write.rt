@@ -138,7 +138,8 @@ fn put_item(alloc: Global, out: &mut String, item: &Item) -> Result<(), AllocErr
 }
 
 /// The canonical spelling of a program. It has the same items, so `read_program` gives an equal
-/// `Source` for it where it has at most 65,536 bytes; a text without blanks can have a longer one.
+/// `Source` for it where it has at most 65,536 bytes (`canonical_is_read_back`); a text without
+/// blanks can have a longer one.
 pub fn write_program(alloc: Global, source: &Source) -> Result<Vec<u8>, AllocError>
     ensures text { IfOk result (λ bytes. bytes.items ≡ program_text source.now) }
     ensures program { IfOk result (λ bytes. HasProgram bytes.items source.now) }
