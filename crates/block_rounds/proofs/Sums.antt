@@ -42,7 +42,7 @@ taken_more rules round id degree own front near sound few =
     (sym (append-nil front)) (flat_from_all rules.nexts (flat_rules rules sound)) (omega (arith, few, length-append front [])))
 
 -- as many neighbours as the degree
-pub nears_count : (network : Neighbours) (at : ℕ → State) (u : ℕ) → length (nears_in network at u) ≡ degree network u
+nears_count : (network : Neighbours) (at : ℕ → State) (u : ℕ) → length (nears_in network at u) ≡ degree network u
 nears_count network at u = length-map (row network u) (near_at at)
 
 abbrev lane_with : ℕ → ℕ → State → ℕ → Sums → Lane
@@ -86,7 +86,7 @@ gathered_whole rules network round columns j u past =
     same_sums rules network round columns u (take j nears) nears (take_all j nears (omega (arith, past, nears_count network (state_at columns) u)))
 
 -- what is gathered over all neighbours leads to the next state
-pub next_gathered : (rules : Rules) (network : Neighbours) (round : ℕ) (columns : List (Vec ℕ)) (u : ℕ) → next_of rules (gathered rules network round columns u) ≡ round_from rules network round (state_at columns) u
+next_gathered : (rules : Rules) (network : Neighbours) (round : ℕ) (columns : List (Vec ℕ)) (u : ℕ) → next_of rules (gathered rules network round columns u) ≡ round_from rules network round (state_at columns) u
 next_gathered rules network round columns u =
     let at = state_at columns in
     let nears = nears_in network at u in

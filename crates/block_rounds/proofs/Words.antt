@@ -16,9 +16,6 @@ use Rattle.row_code.proofs.Columns.{no_column}
 use Rattle.row_code.proofs.Nodes.{range_at}
 use Rattle.block_rounds.specs.Rounds.{nears_in, round_from, IsNext}
 
-all_tail : (P : ℕ → Type 0) (x : ℕ) (xs : List ℕ) → All P (x ∷ xs) → All P xs
-all_tail P x xs all k d h = all (suc k) d (omega arith)
-
 -- writing keeps the length
 pub length_scattered : (places words column : List ℕ) → length (scattered places words column) ≡ length column
 length_scattered [] words column = refl
