@@ -12,7 +12,7 @@ use Rattle.block_rounds.proofs.Ranges.{all_back}
 use Rattle.block_rounds.proofs.Words.{scatter_kept, scatter_written, column_lane}
 
 -- what holds of all holds of the first of them
-pub all_front : (P : ℕ → Type 0) (front back : List ℕ) → All P (front ++ back) → All P front
+all_front : (P : ℕ → Type 0) (front back : List ℕ) → All P (front ++ back) → All P front
 all_front P front back all k d h = subst P (get_or-append front back d k h) (all k d (omega (arith, h, length-append front back)))
 
 -- what holds of the nodes of all batches holds of those of each

@@ -1,13 +1,11 @@
 -- Nodes in shares.
-use Rattle.std.proofs.Common.{◌≡◌, ◌<◌, ◌+◌, ◌++◌, ℕ, suc, List, [], ◌∷◌, length, take, refl, sym, ap, ◌∙◌, arith, subst, slice_index_or, append-nil, append_assoc}
+use Rattle.std.proofs.Common.{◌≡◌, ◌<◌, ◌+◌, ◌++◌, ℕ, suc, List, [], ◌∷◌, length, take, refl, sym, ap, ◌∙◌, arith, slice_index_or, append-nil, append_assoc}
 use Rattle.std.proofs.lemmas.List.{take_more}
 use Rattle.std.proofs.lemmas.Grind.{flat_map-append}
-use Rattle.rule_check.specs.Value.{Rules}
-use Rattle.link_net.specs.Neighbours.{Neighbours}
 use Rattle.block_rounds.specs.declared.batch.Batch.{Batch}
 use Rattle.block_rounds.specs.declared.share.Share.{Share}
 use Rattle.block_rounds.specs.Batches.{nodes_of}
-use Rattle.block_rounds.specs.Shares.{IsShare, nodes_shared}
+use Rattle.block_rounds.specs.Shares.{nodes_shared}
 
 -- the nodes of one share more
 pub shares_more : (shares : List Share) (share : Share) (rest front back : List Batch) (nodes : List ℕ) → nodes_shared shares ++ nodes_of rest ≡ nodes → front ++ back ≡ rest → nodes_of share.batches.now ≡ nodes_of front → nodes_shared (shares ++ share ∷ []) ++ nodes_of back ≡ nodes
@@ -26,10 +24,6 @@ shared_so_far shares i share inside is =
     ∙ flat_map-append (λ (s : Share). nodes_of s.batches.now) (take i shares) (here ∷ [])
     ∙ ap (λ (ns : List ℕ). nodes_shared (take i shares) ++ ns) (append-nil (nodes_of here.batches.now))
     ∙ ap (λ (s : Share). nodes_shared (take i shares) ++ nodes_of s.batches.now) (sym is)
-
--- a share by its own rules
-pub own_share : (network : Neighbours) (rules : Rules) (share : Share) → IsShare network rules share → IsShare network share.block.rules share
-own_share network rules share is = subst (λ (r : Rules). IsShare network r share) (sym is.computes) is
 
 -- shares with the same nodes, one by one
 pub same_nodes : (old new : List Share) → length new ≡ length old → ((i : ℕ) (d : Share) → i < length old → nodes_of (slice_index_or new i d).batches.now ≡ nodes_of (slice_index_or old i d).batches.now) → nodes_shared new ≡ nodes_shared old

@@ -17,7 +17,7 @@ abbrev make_state : List ℕ → State
 make_state ws = record { words = ws }
 
 -- eight words that are those of a node are its state
-pub state_is : (words : List ℕ) (columns : List (Vec ℕ)) (u : ℕ) → length words ≡ 8 → ((j : ℕ) → j < 8 → slice_index words j ≡ lane (column_words columns) u j) → make_state words ≡ state_at columns u
+state_is : (words : List ℕ) (columns : List (Vec ℕ)) (u : ℕ) → length words ≡ 8 → ((j : ℕ) → j < 8 → slice_index words j ≡ lane (column_words columns) u j) → make_state words ≡ state_at columns u
 state_is words columns u long are =
     let word = lane (column_words columns) u in
     ap make_state (same_lists words (map word (range_with_len 0 8)) (long ∙ sym (length-map-range_with_len word 0 8))

@@ -16,8 +16,8 @@ use Rattle.rule_check.proofs.Flat.{flat_from_all}
 use Rattle.rule_check.proofs.Takes.{updated_anywhere}
 use Rattle.rule_check.proofs.Programs.{finished_all, sums_from}
 use Rattle.link_net.specs.Neighbours.{Neighbours, row, degree, neighbour, weight}
-use Rattle.row_code.specs.Block.{Lane, state_at, near_at, with_neighbour, next_of}
-use Rattle.block_rounds.specs.Rounds.{near_by, nears_by, round_by}
+use Rattle.row_code.specs.Block.{Lane, state_at, near_at as column_near, with_neighbour, next_of}
+use Rattle.block_rounds.specs.Rounds.{near_at, nears_in, round_from}
 use Rattle.block_rounds.specs.Gathered.{gathered_first, gathered}
 
 passes : (b : Bool) (fault : CheckFault) (rest : Option CheckFault) → (if b then Some fault else rest) ≡ None → (b ≡ false) × (rest ≡ None)
@@ -42,8 +42,8 @@ taken_more rules round id degree own front near sound few =
     (sym (append-nil front)) (flat_from_all rules.nexts (flat_rules rules sound)) (omega (arith, few, length-append front [])))
 
 -- as many neighbours as the degree
-pub nears_count : (network : Neighbours) (at : ℕ → State) (u : ℕ) → length (nears_by network at u) ≡ degree network u
-nears_count network at u = length-map (row network u) (near_by at)
+nears_count : (network : Neighbours) (at : ℕ → State) (u : ℕ) → length (nears_in network at u) ≡ degree network u
+nears_count network at u = length-map (row network u) (near_at at)
 
 abbrev lane_with : ℕ → ℕ → State → ℕ → Sums → Lane
 lane_with u degree own round sums = record { id = u; degree = degree; own = own; round = round; sums = sums }
@@ -53,15 +53,15 @@ sums_over rules network round columns u nears = sums_at rules (here_at rules rou
 
 -- a node with the next neighbour more
 pub gathered_more : (rules : Rules) (network : Neighbours) (round : ℕ) (columns : List (Vec ℕ)) (j u : ℕ) → first_fault rules ≡ None → degree network u ≤ 4096 → j < degree network u
-    → with_neighbour rules (take j (nears_by network (state_at columns) u)) (near_at columns (neighbour network u j) (weight network u j)) (gathered_first rules network round columns j u)
+    → with_neighbour rules (take j (nears_in network (state_at columns) u)) (column_near columns (neighbour network u j) (weight network u j)) (gathered_first rules network round columns j u)
     ≡ gathered_first rules network round columns (j + 1) u
 gathered_more rules network round columns j u sound few inside =
     let at = state_at columns in
-    let nears = nears_by network at u in
+    let nears = nears_in network at u in
     let count = nears_count network at u in
-    let near = near_at columns (neighbour network u j) (weight network u j) in
+    let near = column_near columns (neighbour network u j) (weight network u j) in
     let place : j < length nears = omega (arith, inside, count) in
-    let is : slice_index_or nears j near ≡ near = get_or-map (near_by at) (row network u) j (0, 0) near inside in
+    let is : slice_index_or nears j near ≡ near = get_or-map (near_at at) (row network u) j (0, 0) near inside in
     let more : take j nears ++ near ∷ [] ≡ take (j + 1) nears = ap (λ n. take j nears ++ n ∷ []) (sym is) ∙ sym (take_more nears j near place) in
     let short : length (take j nears) < 4096 = omega (arith, few, inside, length-take-le j nears (omega (arith, place))) in
     ap (lane_with u (degree network u) (at u) round)
@@ -75,31 +75,31 @@ same_sums rules network round columns u xs ys same = ap (λ ns. lane_with u (deg
 -- past its neighbours a node stays
 pub gathered_past : (rules : Rules) (network : Neighbours) (round : ℕ) (columns : List (Vec ℕ)) (j u : ℕ) → degree network u ≤ j → gathered_first rules network round columns j u ≡ gathered_first rules network round columns (j + 1) u
 gathered_past rules network round columns j u past =
-    let nears = nears_by network (state_at columns) u in
+    let nears = nears_in network (state_at columns) u in
     let count = nears_count network (state_at columns) u in
     same_sums rules network round columns u (take j nears) (take (j + 1) nears) (take_all j nears (omega (arith, past, count)) ∙ sym (take_all (j + 1) nears (omega (arith, past, count))))
 
 -- with all its neighbours
 pub gathered_whole : (rules : Rules) (network : Neighbours) (round : ℕ) (columns : List (Vec ℕ)) (j u : ℕ) → degree network u ≤ j → gathered_first rules network round columns j u ≡ gathered rules network round columns u
 gathered_whole rules network round columns j u past =
-    let nears = nears_by network (state_at columns) u in
+    let nears = nears_in network (state_at columns) u in
     same_sums rules network round columns u (take j nears) nears (take_all j nears (omega (arith, past, nears_count network (state_at columns) u)))
 
 -- what is gathered over all neighbours leads to the next state
-pub next_gathered : (rules : Rules) (network : Neighbours) (round : ℕ) (columns : List (Vec ℕ)) (u : ℕ) → next_of rules (gathered rules network round columns u) ≡ round_by rules network round (state_at columns) u
+next_gathered : (rules : Rules) (network : Neighbours) (round : ℕ) (columns : List (Vec ℕ)) (u : ℕ) → next_of rules (gathered rules network round columns u) ≡ round_from rules network round (state_at columns) u
 next_gathered rules network round columns u =
     let at = state_at columns in
-    let nears = nears_by network at u in
+    let nears = nears_in network at u in
     finished_all rules round u (degree network u) (at u) nears
     ∙ ap (λ d. next_at rules (here_at rules round u d (at u) nears)) (sym (nears_count network at u))
 
 -- the next words of nodes
 pub next_words : (rules : Rules) (network : Neighbours) (round : ℕ) (columns : List (Vec ℕ)) (lanes : List Lane) (nodes : List ℕ) (k : ℕ) → length lanes ≡ length nodes
     → ((i : ℕ) (d : Lane) → i < length nodes → slice_index_or lanes i d ≡ gathered rules network round columns (slice_index nodes i))
-    → map (λ node. slice_index (next_of rules node).words k) lanes ≡ map (λ u. slice_index (round_by rules network round (state_at columns) u).words k) nodes
+    → map (λ node. slice_index (next_of rules node).words k) lanes ≡ map (λ u. slice_index (round_from rules network round (state_at columns) u).words k) nodes
 next_words rules network round columns lanes nodes k many are =
     let word = λ (node : Lane). slice_index (next_of rules node).words k in
-    let next = λ (u : ℕ). slice_index (round_by rules network round (state_at columns) u).words k in
+    let next = λ (u : ℕ). slice_index (round_from rules network round (state_at columns) u).words k in
     let none = gathered rules network round columns 0 in
     same_lists (map word lanes) (map next nodes) (length-map lanes word ∙ many ∙ sym (length-map nodes next))
     (λ i d h.

@@ -14,10 +14,7 @@ use Rattle.row_code.specs.Steps.{lane}
 use Rattle.row_code.specs.Block.{column_words, state_at, scattered}
 use Rattle.row_code.proofs.Columns.{no_column}
 use Rattle.row_code.proofs.Nodes.{range_at}
-use Rattle.block_rounds.specs.Rounds.{nears_by, round_by, IsNext}
-
-all_tail : (P : ℕ → Type 0) (x : ℕ) (xs : List ℕ) → All P (x ∷ xs) → All P xs
-all_tail P x xs all k d h = all (suc k) d (omega arith)
+use Rattle.block_rounds.specs.Rounds.{nears_in, round_from, IsNext}
 
 -- writing keeps the length
 pub length_scattered : (places words column : List ℕ) → length (scattered places words column) ≡ length column
@@ -63,29 +60,29 @@ length_cleared : (n : ℕ) (ws : List ℕ) → length ws ≡ 8 → length (clear
 length_cleared n ws long = omega (arith, long, length-append (take n ws) (replicate (8 - n) 0), length-take n ws, length-replicate {A = ℕ} (8 - n) 0)
 
 -- the next state has eight words
-next_long : (rules : Rules) (network : Neighbours) (round : ℕ) (columns : List (Vec ℕ)) (u : ℕ) → length (round_by rules network round (state_at columns) u).words ≡ 8
+next_long : (rules : Rules) (network : Neighbours) (round : ℕ) (columns : List (Vec ℕ)) (u : ℕ) → length (round_from rules network round (state_at columns) u).words ≡ 8
 next_long rules network round columns u =
     let at = state_at columns in
-    let here = here_at rules round u (length (nears_by network at u)) (at u) (nears_by network at u) in
+    let here = here_at rules round u (length (nears_in network at u)) (at u) (nears_in network at u) in
     length_updated (next_word rules here) (names_of rules) (cleared (length rules.fields) (at u).words)
     ∙ length_cleared (length rules.fields) (at u).words (length-map-range_with_len (lane (column_words columns) u) 0 8)
 
 next_lane : (rules : Rules) (network : Neighbours) (round : ℕ) (from columns : List (Vec ℕ)) (u k : ℕ) → length columns ≡ length rules.fields → IsNext rules network round from columns u
-    → ((k < length columns) ⊎ (length columns ≤ k)) → lane (column_words columns) u k ≡ slice_index (round_by rules network round (state_at from) u).words k
+    → ((k < length columns) ⊎ (length columns ≤ k)) → lane (column_words columns) u k ≡ slice_index (round_from rules network round (state_at from) u).words k
 next_lane rules network round from columns u k fields next (inl h) = next k h
 next_lane rules network round from columns u k fields next (inr h) =
     let at = state_at from in
     no_column (column_words columns) u k (omega (arith, h, length-map columns (λ (column : Vec ℕ). column.items)))
-    ∙ sym (rest_of_next rules (here_at rules round u (length (nears_by network at u)) (at u) (nears_by network at u)) k (omega (arith, h, fields)))
+    ∙ sym (rest_of_next rules (here_at rules round u (length (nears_in network at u)) (at u) (nears_in network at u)) k (omega (arith, h, fields)))
 
 abbrev make_state : List ℕ → State
 make_state ws = record { words = ws }
 
 -- columns that have the words of a node's next state have the state
-pub next_whole : (rules : Rules) (network : Neighbours) (round : ℕ) (from columns : List (Vec ℕ)) (u : ℕ) → length columns ≡ length rules.fields → IsNext rules network round from columns u → state_at columns u ≡ round_by rules network round (state_at from) u
+pub next_whole : (rules : Rules) (network : Neighbours) (round : ℕ) (from columns : List (Vec ℕ)) (u : ℕ) → length columns ≡ length rules.fields → IsNext rules network round from columns u → state_at columns u ≡ round_from rules network round (state_at from) u
 next_whole rules network round from columns u fields next =
     let word = lane (column_words columns) u in
-    let state = round_by rules network round (state_at from) u in
+    let state = round_from rules network round (state_at from) u in
     ap make_state (same_lists (map word (range_with_len 0 8)) state.words (length-map-range_with_len word 0 8 ∙ sym (next_long rules network round from u))
     (λ k d h.
     let inside : k < 8 = omega (arith, h, length-map-range_with_len word 0 8) in

@@ -5,7 +5,7 @@ use Rattle.rule_check.specs.Value.{Rules, here_at}
 use Rattle.rule_check.specs.Gathering.{sums_at}
 use Rattle.link_net.specs.Neighbours.{Neighbours, degree}
 use Rattle.row_code.specs.Block.{Lane, state_at}
-use Rattle.block_rounds.specs.Rounds.{nears_by}
+use Rattle.block_rounds.specs.Rounds.{nears_in}
 
 -- a node whose aggregates have gathered over its first so many neighbours
 abbrev pub gathered_first : Rules → Neighbours → ℕ → List (Vec ℕ) → ℕ → ℕ → Lane
@@ -14,7 +14,7 @@ gathered_first rules network round columns count u = record {
   degree = degree network u;
   own = state_at columns u;
   round = round;
-  sums = sums_at rules (here_at rules round u (degree network u) (state_at columns u) (take count (nears_by network (state_at columns) u)));
+  sums = sums_at rules (here_at rules round u (degree network u) (state_at columns u) (take count (nears_in network (state_at columns) u)));
 }
 
 -- a node whose aggregates have gathered over all its neighbours
@@ -24,5 +24,5 @@ gathered rules network round columns u = record {
   degree = degree network u;
   own = state_at columns u;
   round = round;
-  sums = sums_at rules (here_at rules round u (degree network u) (state_at columns u) (nears_by network (state_at columns) u));
+  sums = sums_at rules (here_at rules round u (degree network u) (state_at columns u) (nears_in network (state_at columns) u));
 }

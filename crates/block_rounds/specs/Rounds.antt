@@ -9,16 +9,16 @@ use Rattle.row_code.specs.Steps.{lane}
 use Rattle.row_code.specs.Block.{column_words, state_at}
 
 -- a neighbour as a rule sees it: its number, the weight of the link to it, and the state that `at` gives it
-abbrev pub near_by : (ℕ → State) → ℕ × ℕ → Near
-near_by at a = record { id = a.0; weight = a.1; state = at a.0 }
+abbrev pub near_at : (ℕ → State) → ℕ × ℕ → Near
+near_at at a = record { id = a.0; weight = a.1; state = at a.0 }
 
 -- the neighbours of a node by rising number, as a rule sees them
-abbrev pub nears_by : Neighbours → (ℕ → State) → ℕ → List Near
-nears_by network at u = map (near_by at) (row network u)
+abbrev pub nears_in : Neighbours → (ℕ → State) → ℕ → List Near
+nears_in network at u = map (near_at at) (row network u)
 
 -- the state of a node one round after the states that `at` gives, in the step from this round
-abbrev pub round_by : Rules → Neighbours → ℕ → (ℕ → State) → ℕ → State
-round_by rules network round at u = next_state rules round u (at u) (nears_by network at u)
+abbrev pub round_from : Rules → Neighbours → ℕ → (ℕ → State) → ℕ → State
+round_from rules network round at u = next_state rules round u (at u) (nears_in network at u)
 
 -- each column has a word for each of so many nodes
 abbrev pub HaveWords : ℕ → List (Vec ℕ) → Type 0
@@ -27,7 +27,7 @@ HaveWords nodes columns = All (λ column. length column.items ≡ nodes) columns
 -- the columns have the words of a node's state one round after the states of other columns
 abbrev pub IsNext : Rules → Neighbours → ℕ → List (Vec ℕ) → List (Vec ℕ) → ℕ → Type 0
 IsNext rules network round from columns u =
-    (k : ℕ) → k < length columns → lane (column_words columns) u k ≡ slice_index (round_by rules network round (state_at from) u).words k
+    (k : ℕ) → k < length columns → lane (column_words columns) u k ≡ slice_index (round_from rules network round (state_at from) u).words k
 
 -- the words behind the fields are 0
 abbrev pub IsPlain : ℕ → State → Type 0

@@ -16,7 +16,7 @@ fn words_of(state: &State) -> &[u32]
     &state.words
 }
 
-/// Looks at all states: each has eight words.
+/// Looks at all states, for the proof alone: each has eight words.
 fn look_at(states: &[State])
     ensures count { All (λ state. length state.words ≡ 8) states.now }
 {

@@ -5,7 +5,7 @@ ghost use Rattle.rule_check.specs.WellFormed.{first_fault};
 ghost use Rattle.link_net.specs.Neighbours.{Neighbours};
 ghost use Rattle.row_code.specs.Block.{state_at};
 ghost use Rattle.block_rounds.specs.Batches.{AreFalling, IsBatch, IsLayout, nodes_of};
-ghost use Rattle.block_rounds.specs.Rounds.{HaveWords, round_by};
+ghost use Rattle.block_rounds.specs.Rounds.{HaveWords, round_from};
 
 use crate::batch::{Batch, batch_of};
 use crate::order::by_falling_degree;
@@ -87,7 +87,7 @@ impl<'a> Layout<'a> {
         requires next_nodes { HaveWords (length self.now) to.old }
         ensures rules { block.new.rules ≡ block.old.rules }
         ensures nodes { HaveWords (length self.now) to.new }
-        ensures next { (u : ℕ) → u < length self.now → state_at to.new u ≡ round_by block.old.rules self.now round (state_at from.now) u }
+        ensures next { (u : ℕ) → u < length self.now → state_at to.new u ≡ round_from block.old.rules self.now round (state_at from.now) u }
     {
         step_all(self.network, &self.batches, block, round, from, to);
     }

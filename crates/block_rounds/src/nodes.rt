@@ -9,6 +9,7 @@ pub fn degree_of(network: &Network, node: u32) -> u32
     ensures exact { result ≡ degree network.now node }
     ensures few { result ≤ 4096 }
 {
+    // For the proof: what holds of every network.
     let _nodes = network.nodes();
     network.degree(node).unwrap_or(0)
 }

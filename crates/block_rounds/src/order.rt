@@ -36,6 +36,7 @@ pub fn by_falling_degree(alloc: Global, network: &Network) -> Result<Vec<u32>, A
     ensures falling { IfOk result (λ nodes. AreFalling network.now nodes.items) }
 {
     let mut nodes = all_nodes(alloc, network)?;
+    // For the proof: what holds of every network.
     let _nodes = network.nodes();
     nodes.sort_by_key(|node| lack_of(network, *node))?;
     Ok(nodes)

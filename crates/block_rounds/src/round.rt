@@ -73,6 +73,7 @@ pub fn step_all(
     ensures nodes { HaveWords (length network.now) to.new }
     ensures done { All (IsNext block.old.rules network.now round from.now to.new) (nodes_of batches.now) }
 {
+    // For the proof: what holds of every network.
     let _nodes = network.nodes();
     for batch in batches {
         step(network, batch, block, round, from, to);

@@ -4,7 +4,7 @@ ghost use denote.Param.Send.{IsSync};
 ghost use Rattle.rule_check.specs.WellFormed.{first_fault};
 ghost use Rattle.row_code.specs.Block.{state_at};
 ghost use Rattle.block_rounds.specs.Batches.{IsBatch, nodes_of};
-ghost use Rattle.block_rounds.specs.Rounds.{HaveWords, round_by};
+ghost use Rattle.block_rounds.specs.Rounds.{HaveWords, round_from};
 ghost use Rattle.block_rounds.specs.Shares.{IsShare, AreShares, IsDone, HasWords, nodes_shared};
 
 use crate::batch::Batch;
@@ -41,7 +41,25 @@ impl<'a> Model for Team<'a> {
     ghost invariant = { λ team. AreShares team.layout.now team.code.now team.shares.items };
 }
 
-/// How many of these batches make a share with as much work as this, counted in slots.
+/// The work of a batch in lanes: one for each of its nodes, and one for each neighbour of each of these.
+fn lanes_of(batch: &Batch) -> usize {
+    let mut sum = batch.nodes.len();
+    for slot in &batch.slots {
+        sum = sum.saturating_add(slot.neighbours.len());
+    }
+    sum
+}
+
+/// The work of all these batches in lanes.
+fn all_lanes(batches: &[Batch]) -> usize {
+    let mut sum: usize = 0;
+    for batch in batches {
+        sum = sum.saturating_add(lanes_of(batch));
+    }
+    sum
+}
+
+/// How many of these batches make a share with as much work as this, counted in lanes.
 fn front_of(batches: &[Batch], work: usize) -> usize
     requires some { 0 < length batches.now }
     ensures some { 0 < result }
@@ -49,7 +67,7 @@ fn front_of(batches: &[Batch], work: usize) -> usize
 {
     let mut sum: usize = 0;
     for (i, batch) in batches.iter().enumerate() {
-        sum = sum.saturating_add(batch.slots.len());
+        sum = sum.saturating_add(lanes_of(batch));
         if sum >= work {
             return i + 1;
         }
@@ -92,7 +110,7 @@ fn share_of<'a>(
     })
 }
 
-/// These batches in shares, each with as much work as this, counted in slots.
+/// These batches in shares, each with as much work as this, counted in lanes.
 fn shares_of<'a>(
     alloc: Global,
     network: &Network,
@@ -114,15 +132,6 @@ fn shares_of<'a>(
         rest = back;
     }
     Ok(shares)
-}
-
-/// The slots of all these batches.
-fn slots_of(batches: &[Batch]) -> usize {
-    let mut sum: usize = 0;
-    for batch in batches {
-        sum = sum.saturating_add(batch.slots.len());
-    }
-    sum
 }
 
 /// Computes the next states of the nodes of all shares, in threads.
@@ -174,7 +183,8 @@ fn copy_shares(
 }
 
 impl<'a> Team<'a> {
-    /// Shares of a layout for so many threads, and for the code of a program with so many fields.
+    /// Shares of a layout for so many threads, and for the code of a program with so many fields. Each share has about
+    /// as many lanes, since a round costs what its lanes cost: a hub counts by its neighbours.
     pub fn new(
         alloc: Global,
         code: &'a RowCode<'a>,
@@ -187,7 +197,7 @@ impl<'a> Team<'a> {
         ensures network { IfOk result (λ team. team.network ≡ layout.now) }
     {
         let batches = layout.batches();
-        let work = (slots_of(batches) / threads.max(1)).saturating_add(1);
+        let work = (all_lanes(batches) / threads.max(1)).saturating_add(1);
         let shares = shares_of(alloc, layout.network(), code, fields, batches, work)?;
         Ok(Team {
             code,
@@ -211,7 +221,7 @@ impl<'a> Team<'a> {
         requires next_nodes { HaveWords (length self.old.network) to.old }
         ensures same { self.new ≡ self.old }
         ensures nodes { HaveWords (length self.old.network) to.new }
-        ensures next { (u : ℕ) → u < length self.old.network → state_at to.new u ≡ round_by self.old.rules self.old.network round (state_at from.now) u }
+        ensures next { (u : ℕ) → u < length self.old.network → state_at to.new u ≡ round_from self.old.rules self.old.network round (state_at from.now) u }
     {
         let network = self.layout.network();
         work_all(rt, network, self.code, &mut self.shares, round, from);

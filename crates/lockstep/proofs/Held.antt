@@ -6,10 +6,10 @@ use Rattle.std.proofs.lemmas.List.FromFn.{get_or-map-range_with_len, length-map-
 use Rattle.rule_check.specs.declared.state.State.{State}
 use Rattle.link_net.specs.Neighbours.{IsNetwork, numbers_below}
 use Rattle.row_code.specs.Block.{state_at}
-use Rattle.block_rounds.specs.Rounds.{HaveWords}
+use Rattle.block_rounds.specs.Rounds.{HaveWords, round_from}
 use Rattle.lockstep.specs.Columns.{AreColumns, HaveRound}
 use Rattle.lockstep.specs.Configs.{Configuration, blank, IsPlain}
-use Rattle.lockstep.specs.Lockstep.{state_in, round_from, lockstep, lockstep_states, lockstep_config, lockstep-start, lockstep-more}
+use Rattle.lockstep.specs.Lockstep.{state_in, lockstep, lockstep_states, lockstep_config, lockstep-start, lockstep-more}
 use Rattle.lockstep.specs.Plans.{PlanView, IsPlan}
 use Rattle.lockstep.proofs.Nears.{round_agrees}
 
@@ -42,7 +42,7 @@ opening_held p t fields states columns plan start are count many long held = rec
 
 -- a round takes the states of a round to those of the next
 pub held_more : (p : PlanView) (t : ℕ) (from to : List (Vec ℕ)) → IsNetwork p.network → p.start ≤ t → HaveRound p t from → AreColumns p to
-    → ((u : ℕ) → u < length p.network → state_at to u ≡ round_from p t (state_at from) u) → HaveRound p (t + 1) to
+    → ((u : ℕ) → u < length p.network → state_at to u ≡ round_from p.program p.network t (state_at from) u) → HaveRound p (t + 1) to
 held_more p t from to network late held whole next = record {
   whole = whole;
   states = λ u inside.

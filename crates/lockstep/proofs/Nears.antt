@@ -5,9 +5,10 @@ use Rattle.std.proofs.lemmas.List.FromFn.{get_or-map-range_with_len, length-map-
 use Rattle.rule_check.specs.declared.state.State.{State}
 use Rattle.rule_check.specs.Value.{next_state}
 use Rattle.link_net.specs.Neighbours.{row, neighbour, IsNetwork}
+use Rattle.block_rounds.specs.Rounds.{near_at, nears_in, round_from}
 use Rattle.lockstep.specs.Configs.{blank}
 use Rattle.lockstep.specs.Plans.{PlanView}
-use Rattle.lockstep.specs.Lockstep.{near_at, nears_in, state_in, round_from, lockstep, lockstep_states, lockstep-start}
+use Rattle.lockstep.specs.Lockstep.{state_in, lockstep, lockstep_states, lockstep-start}
 
 -- equal states at all neighbours give equal neighbours
 near_same : (f g : ℕ → State) (row : List (ℕ × ℕ)) → ((j : ℕ) → j < length row → f (get_or row j (0, 0)).0 ≡ g (get_or row j (0, 0)).0) → map (near_at f) row ≡ map (near_at g) row
@@ -17,7 +18,7 @@ near_same f g (a ∷ row) same =
     ∙ ap (λ ns. near_at g a ∷ ns) (near_same f g row (λ j h. same (suc j) (omega arith)))
 
 -- a round depends on the states of nodes alone
-pub round_agrees : (p : PlanView) (t : ℕ) (f g : ℕ → State) (u : ℕ) → IsNetwork p.network → ((w : ℕ) → w < length p.network → f w ≡ g w) → u < length p.network → round_from p t f u ≡ round_from p t g u
+pub round_agrees : (p : PlanView) (t : ℕ) (f g : ℕ → State) (u : ℕ) → IsNetwork p.network → ((w : ℕ) → w < length p.network → f w ≡ g w) → u < length p.network → round_from p.program p.network t f u ≡ round_from p.program p.network t g u
 round_agrees p t f g u network same inside =
     ap (λ s. next_state p.program t u s (nears_in p.network f u)) (same u inside)
     ∙ ap (next_state p.program t u (g u)) (near_same f g (row p.network u) (λ j h. same (neighbour p.network u j) (network.within u j h)))

@@ -10,9 +10,10 @@ use Rattle.rule_check.proofs.AnyRound.{next_state-any_round}
 use Rattle.link_net.specs.Neighbours.{IsNetwork}
 use Rattle.row_code.specs.Steps.{lane}
 use Rattle.row_code.specs.Block.{column_words, state_at}
+use Rattle.block_rounds.specs.Rounds.{nears_in, round_from}
 use Rattle.lockstep.specs.Columns.{HaveRound}
 use Rattle.lockstep.specs.Configs.{blank}
-use Rattle.lockstep.specs.Lockstep.{nears_in, round_from, lockstep, lockstep_states, lockstep-more}
+use Rattle.lockstep.specs.Lockstep.{lockstep, lockstep_states, lockstep-more}
 use Rattle.lockstep.specs.Plans.{PlanView}
 use Rattle.lockstep.specs.Stays.{StaysAsItIs}
 use Rattle.lockstep.proofs.Nears.{round_agrees, states_at}
@@ -55,7 +56,7 @@ state_by words u = record { words = map (lane words u) (range_with_len 0 8) }
 
 -- columns that a round leaves as they are have the states of all later rounds
 pub held_still : (p : PlanView) (t later : ℕ) (from to : List (Vec ℕ)) → IsNetwork p.network → reads_round p.program ≡ false → p.start ≤ t → t ≤ later → HaveRound p t from
-    → ((u : ℕ) → u < length p.network → state_at to u ≡ round_from p t (state_at from) u) → column_words from ≡ column_words to → HaveRound p later from
+    → ((u : ℕ) → u < length p.network → state_at to u ≡ round_from p.program p.network t (state_at from) u) → column_words from ≡ column_words to → HaveRound p later from
 held_still p t later from to network unread late after held next same = record {
   whole = held.whole;
   states = λ u inside.

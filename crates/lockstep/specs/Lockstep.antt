@@ -3,30 +3,16 @@ use Rattle.std.specs.Prelude.{◌≡◌, ℕ, zero, suc, ◌+◌, ◌-◌, ◌�
 use Rattle.std.specs.List.{range_with_len}
 use Rattle.std.proofs.Common.{arith, ap, ◌∙◌}
 use Rattle.rule_check.specs.declared.state.State.{State}
-use Rattle.rule_check.specs.declared.state.Near.{Near}
-use Rattle.rule_check.specs.Value.{next_state}
-use Rattle.link_net.specs.Neighbours.{Neighbours, row}
+pub use Rattle.block_rounds.specs.Rounds.{near_at, nears_in, round_from}
 use Rattle.lockstep.specs.Configs.{Configuration, blank, most_rounds}
 use Rattle.lockstep.specs.declared.fault.RoundFault.{RoundFault}
 use Rattle.lockstep.specs.declared.fault.RoundFault.TheVariants.{TooManyRounds, RoundsBelowStart}
 use Rattle.lockstep.specs.Plans.{PlanView}
 
--- a neighbour as a rule sees it: its number, the weight of the link to it, and the state that `at` gives it
-abbrev pub near_at : (ℕ → State) → ℕ × ℕ → Near
-near_at at a = record { id = a.0; weight = a.1; state = at a.0 }
-
--- the neighbours of a node by rising number, as a rule sees them
-abbrev pub nears_in : Neighbours → (ℕ → State) → ℕ → List Near
-nears_in network at u = map (near_at at) (row network u)
-
--- the states of all nodes one round after those that `at` gives, in the step from this round
-abbrev pub round_from : PlanView → ℕ → (ℕ → State) → ℕ → State
-round_from p round at u = next_state p.program round u (at u) (nears_in p.network at u)
-
 -- the state of node u so many rounds after the start
 unfoldable pub after : PlanView → ℕ → ℕ → State
 after p zero u = slice_index_or p.opening u blank
-after p (suc k) u = round_from p (p.start + k) (after p k) u
+after p (suc k) u = round_from p.program p.network (p.start + k) (after p k) u
 
 -- the state of node u after round t, counted from round 0
 unfoldable pub lockstep : PlanView → ℕ → ℕ → State
@@ -38,12 +24,12 @@ unfolding lockstep after
 lockstep-start p u = let e : p.start - p.start ≡ 0 = omega arith in ap (λ k. after p k u) e
 
 -- and one round later all nodes have moved at once
-pub lockstep-more : (p : PlanView) (t u : ℕ) → p.start ≤ t → lockstep p (t + 1) u ≡ round_from p t (lockstep p t) u
+pub lockstep-more : (p : PlanView) (t u : ℕ) → p.start ≤ t → lockstep p (t + 1) u ≡ round_from p.program p.network t (lockstep p t) u
 unfolding lockstep after
 lockstep-more p t u h =
     let e : t + 1 - p.start ≡ suc (t - p.start) = omega arith in
     let back : p.start + (t - p.start) ≡ t = omega arith in
-    ap (λ k. after p k u) e ∙ ap (λ r. round_from p r (after p (t - p.start)) u) back
+    ap (λ k. after p k u) e ∙ ap (λ r. round_from p.program p.network r (after p (t - p.start)) u) back
 
 -- the state of each node, where the states stand by rising number of the node
 abbrev pub state_in : List State → ℕ → State

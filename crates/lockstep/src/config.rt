@@ -34,6 +34,7 @@ impl Config {
         ensures parts { result ≡ record { rounds = rounds; fields = length plan.now.program.fields; states = states.items } }
     {
         let fields = plan.program().field_count();
+        // For the proof: how many nodes a network may have.
         let _nodes = plan.network().nodes();
         Config {
             rounds,

@@ -44,6 +44,7 @@ pub fn compare(left: &Config, right: &Config) -> Option<Difference>
         (IsFirstDifference left.now.fields left.now.states right.now.states) }
 {
     let fields = left.fields();
+    // For the proof: what holds of every configuration, as that it has at most 8 fields.
     let _round = left.rounds();
     let ours = left.states();
     let theirs = right.states();

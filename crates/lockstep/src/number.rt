@@ -61,7 +61,10 @@ fn spelled(digits: &[u8]) -> Option<u32>
     }
 }
 
-/// The number at the front, without leading zeros, and what stands behind it.
+/// The number from 0 to 4,294,967,295 in decimal digits at the front of the bytes, and what stands behind its digits.
+///
+/// None where no digit stands there, where a zero leads further digits, or where all the digits at the front make a
+/// greater number. Nothing else is taken as part of a number: no sign, no space, no underscore.
 pub fn read_number(bytes: &[u8]) -> Option<(u32, &[u8])>
     ensures { IsFront decimal (λ n. n < 2 ^ 32) Ends bytes.now (option_map (λ x. (x.0, x.1.now)) result) }
 {
@@ -70,7 +73,7 @@ pub fn read_number(bytes: &[u8]) -> Option<(u32, &[u8])>
     Some((value, rest))
 }
 
-/// What stands behind this word, where the bytes begin with it.
+/// What stands behind this word, where the bytes begin with it; none where they do not.
 pub fn behind<'a>(word: &[u8], bytes: &'a [u8]) -> Option<&'a [u8]>
     ensures { MatchOption result ((rest : List ℕ) → bytes.now ≢ word.now ++ rest) (λ rest. bytes.now ≡ word.now ++ rest.now) }
 {

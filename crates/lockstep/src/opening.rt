@@ -1,6 +1,6 @@
 //! The opening states of a plan: the program's opening values, replaced by those of `set`.
 ghost use Rattle.link_net.specs.declared.field_set.FieldSet.{FieldSet};
-ghost use Rattle.std.specs.Prelude.{List, [], ◌∷◌, ◌++◌, ◌≡◌, ◌≢◌, ℕ, ◌<◌, ◌≤◌, ◌^◌, Bool, true, false, not, length, vec_len, replicate, IfOk, IfErr, All, MatchResult, OnOk, slice_index_or, Some, None, Ok, Err, if◌then◌else◌};
+ghost use Rattle.std.specs.Prelude.{List, [], ◌∷◌, ◌++◌, ◌≡◌, ◌≢◌, ℕ, ◌<◌, ◌≤◌, ◌^◌, Bool, true, false, not, length, vec_len, replicate, IfOk, IfErr, IfSome, All, MatchResult, OnOk, slice_index_or, Some, None, Ok, Err, if◌then◌else◌};
 ghost use Rattle.std.specs.List.{list_any};
 ghost use Rattle.rule_check.specs.Value.{names_of, place, opening_of};
 ghost use Rattle.rule_check.specs.WellFormed.{is_among, has_twice};
@@ -120,7 +120,8 @@ fn has_bad_values(sets: &[FieldSet]) -> bool
     sets.iter().any(|set| has_bad_value(set))
 }
 
-/// Checks the keys and the pairs of `set`: the first fault that they have.
+/// Checks the keys and the pairs of `set`: the first fault that they have. Memory is taken to look for `SetTwice`
+/// alone.
 fn check_sets(
     alloc: Global,
     program: &Program,
@@ -130,6 +131,7 @@ fn check_sets(
     requires few { nodes ≤ 65536 }
     ensures ok { OnOk result (set_fault (names_of program.now) nodes sets.now ≡ None) }
     ensures err { IfErr result (λ fault. fault ≢ PlanFault.Memory → set_fault (names_of program.now) nodes sets.now ≡ Some fault) }
+    ensures at_once { IfSome (set_fault (names_of program.now) nodes sets.now) (λ fault. fault ≢ PlanFault.SetTwice → result ≡ Err fault) }
 {
     if has_unknown_field(program, sets) {
         return Err(PlanFault::UnknownField);
@@ -155,6 +157,7 @@ fn put_set(program: &Program, states: &mut [State], set: &FieldSet)
     ensures more { (before : List FieldSet) → states.old ≡ openings_of program.now (length states.old) before
         → states.new ≡ openings_of program.now (length states.old) (before ++ set.now ∷ []) }
 {
+    // For the proof: the program has at most 8 fields, no two of one name, and a state has eight words.
     let _few = program.field_count();
     let _opening = program.opening();
     if let Some(field) = program.field_index(set.name.as_str()) {
@@ -174,6 +177,7 @@ fn opening_states(
     ensures states { IfOk result (λ v. v.items ≡ openings_of program.now nodes sets.now) }
     ensures plain { IfOk result (λ v. All (IsPlain (length program.now.fields)) v.items) }
 {
+    // For the proof: the program has at most 8 fields.
     let _few = program.field_count();
     let mut states = vec![in alloc; program.opening(); nodes as usize]?;
     for set in sets {
@@ -196,6 +200,7 @@ pub(crate) fn opening_by(
       start = 0;
     })) }
     ensures fault { IfErr result (λ fault. fault ≢ PlanFault.Memory → plan_of program.now file.now ≡ Err fault) }
+    ensures at_once { IfErr (plan_of program.now file.now) (λ fault. fault ≢ PlanFault.SetTwice → result ≡ Err fault) }
     ensures plan { IfOk result (λ v. IsPlan (record {
       program = program.now;
       network = file.now.network;
@@ -205,6 +210,7 @@ pub(crate) fn opening_by(
     })) }
 {
     let nodes = file.network().nodes();
+    // For the proof: the phase is at most 2, and the program has at most 8 fields.
     let _phase = file.phase();
     let _fields = program.field_count();
     check_sets(alloc, program, nodes, file.sets())?;

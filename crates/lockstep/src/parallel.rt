@@ -1,5 +1,5 @@
 //! Lockstep rounds in threads.
-ghost use Rattle.std.specs.Prelude.{◌≡◌};
+ghost use Rattle.std.specs.Prelude.{◌≡◌, IfErr, Err};
 ghost use denote.Param.Send.{IsSync};
 ghost use Rattle.lockstep.specs.Answer.{IsAnswer};
 ghost use Rattle.lockstep.specs.Lockstep.{rounds_of};
@@ -11,21 +11,43 @@ use crate::rounds::{Step, check_round, lockstep, rounds_by};
 use block_rounds::{Layout, Team};
 use rayon::current_num_threads;
 use row_code::RowCode;
+use rule_check::{Gatherer, Rule};
 use std::alloc::Global;
 use std::thread::Threads;
 
 /// The least work of a round, as `work_of` counts it, that is shared among threads. On a machine with four cores a
 /// round of 65,536 nodes costs 0.3 to 0.7 ms to share: threads start and join, read columns that another core wrote,
-/// and their columns are copied together. One thread does as much work as this in 0.7 ms for the cheapest program.
-const LEAST_WORK: u32 = 655_360;
+/// and their columns are copied together. One thread does as much work as this in 0.7 ms for the cheapest program,
+/// distances, whose rule and aggregate have 3 instructions each: it is 3 times 655,360 nodes and ends of links, and 65,536
+/// nodes have no more than 589,824 of both.
+const LEAST_WORK: u64 = 1_966_080;
 
-/// The work of a round: each field of each node, and each aggregate at each end of a link.
-fn work_of(plan: &Plan) -> u32 {
+/// How many instructions the rules have.
+fn rules_length(rules: &[Rule]) -> u64 {
+    let mut sum: u64 = 0;
+    for rule in rules {
+        sum = sum.saturating_add(rule.code.len() as u64);
+    }
+    sum
+}
+
+/// How many instructions the aggregates have.
+fn aggregates_length(aggregates: &[Gatherer]) -> u64 {
+    let mut sum: u64 = 0;
+    for aggregate in aggregates {
+        sum = sum.saturating_add(aggregate.code.len() as u64);
+    }
+    sum
+}
+
+/// The work of a round, in instructions: the rules' at each node, and the aggregates' at each end of a link.
+fn work_of(plan: &Plan) -> u64 {
     let network = plan.network();
     let program = plan.program();
-    let ends = 2 * network.links();
-    let aggregates = program.aggregates().len() as u32;
-    network.nodes() * program.field_count() + ends * aggregates
+    let ends = 2 * network.links() as u64;
+    let at_nodes = rules_length(program.rules()).saturating_mul(network.nodes() as u64);
+    let at_ends = aggregates_length(program.aggregates()).saturating_mul(ends);
+    at_nodes.saturating_add(at_ends)
 }
 
 /// Shares of the batches, each in a thread.
@@ -39,6 +61,7 @@ impl<R: Threads + Sync> Step for InThreads<'_, R> {
     ghost serves = { λ way p. IsSync R.row × (way.team.rules ≡ p.program) × (way.team.network ≡ p.network) };
 
     fn step(&mut self, plan: &Plan, round: u32, from: &[Vec<u32>], to: &mut [Vec<u32>]) {
+        // For the proof: a plan's program has no fault.
         let _fields = plan.program().field_count();
         self.team.round(self.rt, round, from, to);
     }
@@ -56,6 +79,7 @@ pub fn lockstep_par(
     rounds: u32,
 ) -> Result<Config, RoundFault>
     ensures exact { IsAnswer RoundFault.Memory (rounds_of plan.now rounds) result }
+    ensures at_once { IfErr (rounds_of plan.now rounds) (λ fault. result ≡ Err fault) }
 {
     if rounds == plan.start() || work_of(plan) < LEAST_WORK {
         return lockstep(alloc, plan, rounds);

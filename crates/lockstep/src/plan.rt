@@ -1,5 +1,5 @@
 //! Plans.
-ghost use Rattle.std.specs.Prelude.{◌≡◌, ◌↔◌, IsTrue, IfOk, slice_get};
+ghost use Rattle.std.specs.Prelude.{◌≡◌, ◌≢◌, ◌↔◌, IsTrue, IfOk, IfErr, Err, slice_get};
 ghost use Rattle.lockstep.specs.Plans.{IsPlan, plan_of};
 ghost use Rattle.lockstep.specs.Resume.{resumed, GoesOnAs};
 ghost use Rattle.lockstep.specs.Answer.{IsAnswer};
@@ -39,8 +39,10 @@ impl Model for Plan {
 impl Plan {
     /// The plan of a program on a network: each node opens with the program's opening values, replaced by those
     /// of the file's `set`; the start is round 0. The first fault of `set` is answered, and then both are dropped.
+    /// All faults but `SetTwice`, which takes a mark for each node, are found before any memory is taken.
     pub fn new(alloc: Global, program: Program, file: NetFile) -> Result<Plan, PlanFault>
         ensures plan { IsAnswer PlanFault.Memory (plan_of program file) result }
+        ensures at_once { IfErr (plan_of program file) (λ fault. fault ≢ PlanFault.SetTwice → result ≡ Err fault) }
     {
         let opening = opening_by(alloc, &program, &file)?;
         let phase = file.phase();
@@ -58,12 +60,14 @@ impl Plan {
     /// stays. Where it is the configuration that the plan itself has at its round, both plans have the same
     /// rounds from there on.
     ///
-    /// `Foreign` comes where the configuration has another number of nodes or of fields than the plan; then, and
-    /// where memory ran out, the plan is dropped.
+    /// `Foreign` comes where the configuration has another number of nodes or of fields than the plan, before
+    /// anything is done; then, and where memory ran out, the plan is dropped.
     pub fn resume(self, alloc: Global, config: &Config) -> Result<Plan, ResumeFault>
         ensures plan { IsAnswer ResumeFault.Memory (resumed self config.now) result }
+        ensures at_once { IfErr (resumed self config.now) (λ fault. result ≡ Err fault) }
         ensures law { IfOk result (GoesOnAs self config.now) }
     {
+        // For the proof: what holds of every plan.
         let _phase = self.phase();
         let start = config.rounds();
         if config.nodes() != self.network.nodes() {

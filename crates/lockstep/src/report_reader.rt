@@ -49,6 +49,7 @@ fn read_fields<'a>(program: &Program, bytes: &'a [u8]) -> Option<(State, &'a [u8
 fn read_node<'a>(program: &Program, node: u32, bytes: &'a [u8]) -> Option<(State, &'a [u8])>
     ensures { IsFront (node_line (names_of program.now) node) (IsStateOf (length program.now.fields)) Anything bytes.now (option_map (λ x. (x.0, x.1.now)) result) }
 {
+    // For the proof: the program has at most 8 fields.
     let _few = program.field_count();
     let (number, fields) = read_number(bytes)?;
     if number != node {
@@ -109,6 +110,7 @@ pub fn read_report(alloc: Global, plan: &Plan, text: &[u8]) -> Result<Config, Re
     ensures every_report { (c : Configuration) → IsReportOf plan.now text.now c → IsAnswer ReportFault.Memory (within_limit c) result }
     ensures refused { IfErr result (IsRefusedReport plan.now text.now) }
 {
+    // For the proof: what holds of every plan, and that no two fields have one name.
     let _phase = plan.phase();
     let program = plan.program();
     let _names = program.field_count();

@@ -17,7 +17,10 @@ fn put_field(out: &mut String, program: &Program, place: u32, value: u32) -> Res
     write!(out, " {name}={value}")
 }
 
-/// The fields in order of declaration, with the state's words.
+/// Writes a state's fields behind what stands in the text: for each field, in order of declaration, one space, its
+/// name, `=` and its value in decimal digits, as in ` dist=3`. Words behind the fields are not written.
+///
+/// Where memory runs out some of it may stand there.
 pub fn put_fields(out: &mut String, program: &Program, state: &State) -> Result<(), AllocError>
     ensures text { OnOk result (string_bytes out.new ≡ string_bytes out.old ++ fields_text (names_of program.now) state.now.words) }
 {
@@ -28,12 +31,7 @@ pub fn put_fields(out: &mut String, program: &Program, state: &State) -> Result<
 }
 
 /// The line of a node.
-fn put_node(
-    out: &mut String,
-    program: &Program,
-    node: u32,
-    state: &State,
-) -> Result<(), AllocError>
+fn put_node(out: &mut String, program: &Program, node: u32, state: &State) -> Result<(), AllocError>
     ensures { OnOk result (string_bytes out.new ≡ string_bytes out.old ++ node_line (names_of program.now) node state.now) }
 {
     write!(out, "{node}")?;

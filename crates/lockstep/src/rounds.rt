@@ -1,10 +1,11 @@
 //! Lockstep rounds.
-ghost use Rattle.std.specs.Prelude.{◌≡◌, ◌<◌, ◌≤◌, ℕ, IfOk, MatchResult, Err, length};
+ghost use Rattle.std.specs.Prelude.{◌≡◌, ◌<◌, ◌≤◌, ℕ, IfOk, IfErr, MatchResult, Err, length};
 ghost use Rattle.row_code.specs.Block.{state_at};
+ghost use Rattle.block_rounds.specs.Rounds.{round_from};
 ghost use Rattle.lockstep.specs.Answer.{IsAnswer};
 ghost use Rattle.lockstep.specs.Columns.{AreColumns, HaveRound};
 ghost use Rattle.lockstep.specs.Configs.{most_rounds};
-ghost use Rattle.lockstep.specs.Lockstep.{round_from, rounds_of, lockstep_config};
+ghost use Rattle.lockstep.specs.Lockstep.{rounds_of, lockstep_config};
 ghost use Rattle.lockstep.specs.Plans.{PlanView};
 
 use crate::config::Config;
@@ -15,7 +16,8 @@ use row_code::{Block, RowCode};
 use std::alloc::{AllocError, Global};
 use std::mem;
 
-/// The greatest round, counted from round 0.
+/// The greatest round that a plan starts from, that is computed and that a report has: 1,000,000,000, counted from
+/// round 0.
 pub const MOST_ROUNDS: u32 = 1_000_000_000;
 
 /// A way to make a round of some plans.
@@ -29,7 +31,7 @@ pub(crate) trait Step {
         requires to { AreColumns plan.now to.old }
         ensures way { serves self.new plan.now }
         ensures to { AreColumns plan.now to.new }
-        ensures next { (u : ℕ) → u < length plan.now.network → state_at to.new u ≡ round_from plan.now round (state_at from.now) u };
+        ensures next { (u : ℕ) → u < length plan.now.network → state_at to.new u ≡ round_from plan.now.program plan.now.network round (state_at from.now) u };
 }
 
 /// All batches in turn.
@@ -43,6 +45,7 @@ impl Step for InTurn<'_> {
     ghost serves = { λ way p. (way.block.rules ≡ p.program) × (way.layout.now ≡ p.network) };
 
     fn step(&mut self, plan: &Plan, round: u32, from: &[Vec<u32>], to: &mut [Vec<u32>]) {
+        // For the proof: a plan's program has no fault.
         let _fields = plan.program().field_count();
         self.layout.round(&mut self.block, round, from, to);
     }
@@ -73,6 +76,7 @@ fn columns_after<S: Step>(
     requires late { plan.now.start ≤ rounds }
     ensures round { IfOk result (λ columns. HaveRound plan.now rounds columns.items) }
 {
+    // For the proof: what holds of every plan.
     let _phase = plan.phase();
     let fields = plan.program().field_count() as usize;
     let settles = !plan.program().uses_round();
@@ -100,6 +104,7 @@ pub(crate) fn rounds_by<S: Step>(
     requires few { rounds ≤ most_rounds }
     ensures config { IfOk result (λ config. config ≡ lockstep_config plan.now rounds) }
 {
+    // For the proof: what holds of every plan.
     let _phase = plan.phase();
     let columns = columns_after(way, alloc, plan, rounds)?;
     let states = states_of(alloc, plan.network().nodes() as usize, &columns)?;
@@ -110,6 +115,7 @@ pub(crate) fn rounds_by<S: Step>(
 fn opening_config(alloc: Global, plan: &Plan) -> Result<Config, AllocError>
     ensures config { IfOk result (λ config. config ≡ lockstep_config plan.now plan.now.start) }
 {
+    // For the proof: what holds of every plan.
     let _phase = plan.phase();
     let states = plan.openings().to_vec(alloc)?;
     Ok(Config::of(plan, plan.start(), states))
@@ -123,6 +129,7 @@ fn opening_config(alloc: Global, plan: &Plan) -> Result<Config, AllocError>
 /// anything is done.
 pub fn lockstep(alloc: Global, plan: &Plan, rounds: u32) -> Result<Config, RoundFault>
     ensures exact { IsAnswer RoundFault.Memory (rounds_of plan.now rounds) result }
+    ensures at_once { IfErr (rounds_of plan.now rounds) (λ fault. result ≡ Err fault) }
 {
     check_round(plan, rounds)?;
     if rounds == plan.start() {

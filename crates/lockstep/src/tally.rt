@@ -1,5 +1,5 @@
 //! Readers and writers that count their calls and keep a mark once a call failed.
-ghost use Rattle.std.specs.Prelude.{◌≡◌, ◌<◌, ◌≤◌, true, false, ◌||◌, length, take, IfOk, IfErr, OnOk, is_err};
+ghost use Rattle.std.specs.Prelude.{◌≡◌, ◌<◌, ◌≤◌, ◌+◌, ◌-◌, ◌^◌, min, true, false, ◌||◌, length, take, IfOk, IfErr, OnOk, is_err};
 ghost use Rattle.std.specs.Io.KnownBytes.{Appends, WriteAppends, ReadConsumes};
 ghost use Rattle.lockstep.specs.Device.{counted};
 
@@ -119,10 +119,13 @@ impl<R: Read> Tally<R> {
     }
 }
 
-/// Writes the whole text, or says how many of its bytes went out before the device refused.
+/// Writes the whole text, or says how many of its bytes went out before the device refused. Either way the calls are
+/// counted on, at most one for each byte of the text.
 pub fn write_text<W: Write>(out: &mut Tally<W>, text: &[u8]) -> Result<(), Cut>
     requires unmarked { out.old.failed ≡ false }
     ensures mark { out.new.failed ≡ is_err result }
+    ensures calls_never_fall { min out.old.calls (2 ^ 64 - 1) ≤ out.new.calls }
+    ensures calls_take_bytes { out.new.calls ≤ out.old.calls + length text.now }
     ensures ok { OnOk result (Appends (W.contents out.old.inner) (W.contents out.new.inner) text.now) }
     ensures cut { IfErr result (λ c. (c.written ≤ length text.now)
         × Appends (W.contents out.old.inner) (W.contents out.new.inner) (take c.written text.now)) }

@@ -1,6 +1,6 @@
 use Rattle.std.proofs.Common.{◌<◌, ℕ, List, ◌∙◌, ap, sym, arith, length, map, slice_index, slice_index_or}
 use Rattle.row_code.specs.Block.{state_at, next_of}
-use Rattle.block_rounds.specs.Rounds.{round_by}
+use Rattle.block_rounds.specs.Rounds.{round_from}
 use Rattle.block_rounds.proofs.Steps.{batch_words}
 use Rattle.block_rounds.proofs.Words.{length_scattered, scatter_kept, scatter_written, column_lane}
 use Rattle.block_rounds.proofs.round.step.Goals as goal
@@ -19,7 +19,7 @@ returns-clause-done c = λ i d place k inside.
     let none = a.batch.now.nodes in
     let u = slice_index_or nodes i d in
     let low : k < length a.to.now = omega (arith, inside, c.finish.auto.columns) in
-    let g = λ (u : ℕ). slice_index (round_by a.block.now.rules a.network.now a.round (state_at a.from.now) u).words k in
+    let g = λ (u : ℕ). slice_index (round_from a.block.now.rules a.network.now a.round (state_at a.from.now) u).words k in
     let column = (slice_index_or a.to.now k none).items in
     column_lane c.finish.new.columns u k none inside
     ∙ ap (λ (ws : List ℕ). slice_index ws u)
@@ -34,7 +34,7 @@ returns-clause-kept c = λ u here k inside.
     let nodes = a.batch.now.nodes.items in
     let none = a.batch.now.nodes in
     let low : k < length a.to.now = omega (arith, inside, c.finish.auto.columns) in
-    let g = λ (u : ℕ). slice_index (round_by a.block.now.rules a.network.now a.round (state_at a.from.now) u).words k in
+    let g = λ (u : ℕ). slice_index (round_from a.block.now.rules a.network.now a.round (state_at a.from.now) u).words k in
     let column = (slice_index_or a.to.now k none).items in
     column_lane c.finish.new.columns u k none inside
     ∙ ap (λ (ws : List ℕ). slice_index ws u)
