@@ -18,12 +18,12 @@ abbrev pub sums_over : Rules → Seat → ℕ → List Near → Sums
 sums_over rules seat degree nears = sums_at rules (here_at rules seat.round seat.id degree seat.own nears)
 
 -- the aggregates over no neighbour: number, degree, state and round play no part
-abbrev pub start_of : Rules → Sums
-start_of rules = record { words = map (λ part. gather part.agg []) (all_parts rules.nexts) ++ replicate (16 - length (all_parts rules.nexts)) 0 }
+abbrev pub sums_over_none : Rules → Sums
+sums_over_none rules = record { words = map (λ part. gather part.agg []) (all_parts rules.nexts) ++ replicate (16 - length (all_parts rules.nexts)) 0 }
 
 -- a desk of so many slots, none marked
 abbrev pub empty : Rules → ℕ → DeskView
-empty rules degree = record { marks = replicate degree false; sums = start_of rules }
+empty rules degree = record { marks = replicate degree false; sums = sums_over_none rules }
 
 -- the desk with all slots unmarked
 abbrev pub cleared : Rules → DeskView → DeskView

@@ -1,8 +1,8 @@
 //! What stands before each computation.
 
-/// Is called by a worker before each computation, with the worker's number and the node's, while the worker holds no
-/// lock. A run returns only where each call does.
+/// What a worker passes before each computation. A run returns only where each call does.
 pub trait Gate {
+    /// Is called with the worker's number and the node's, while the worker holds no lock.
     fn before_compute(&self, worker: u32, node: u32);
 }
 

@@ -1,11 +1,11 @@
 //! A world beside the steps that changed it.
-ghost use Rattle.std.specs.Prelude.{◌≡◌, IsTrue, IfOk, IfErr, OnOk, OnErr, IfSome, option_map};
+ghost use Rattle.std.specs.Prelude.{◌≡◌, Ok, IsTrue, IfOk, IfErr, OnOk, OnErr, IfSome, length, option_map};
 ghost use Rattle.std.specs.Arc.{arc_value};
 ghost use Rattle.lockstep.specs.Answer.{IsAnswer};
-ghost use Rattle.unison_world.specs.Finishing.{IsFinish};
+ghost use Rattle.unison_world.specs.Finishing.{AtStopBelow, IsFinish, IsOf};
 ghost use Rattle.unison_world.specs.Opening.{opening_of};
-ghost use Rattle.unison_world.specs.View.{answer_in};
-ghost use Rattle.unison_world.specs.Work.{IsPutAnswer, work_in};
+ghost use Rattle.unison_world.specs.View.{answer_in, opened};
+ghost use Rattle.unison_world.specs.Work.{GivesNextState, IsPutAnswer, work_in};
 ghost use Rattle.unison_trace.specs.Histories.{HasRoom, History, IsHistory, history_after, history_after_put, is_change, is_move, with_log};
 ghost use Rattle.unison_trace.specs.Refusals.{Refuses};
 ghost use Rattle.unison_trace.specs.Traces.{IsNoLonger, IsWholeTrace, needed, steps_in};
@@ -76,7 +76,8 @@ pub fn steps_needed(plan: &Plan, stop: u32) -> u64
 impl Logged {
     /// A world of a plan before any step, whose nodes move up to a stop, with no steps stored. The limit is how many
     /// steps may be stored, and counts as 1,000,000 where it is above; without one none are stored. `StopTooLarge`
-    /// comes above 1,000,000,000, and else `StopBelowStart` below the plan's start, both before anything is done.
+    /// comes above 1,000,000,000, and else `StopBelowStart` below the plan's start, both before anything is done, so also
+    /// before want of memory.
     pub fn new(
         alloc: Global,
         plan: Arc<Plan>,
@@ -84,6 +85,7 @@ impl Logged {
         limit: Option<u32>,
     ) -> Result<Logged, OpenFault>
         ensures exact { IsAnswer OpenFault.Memory (with_log limit (opening_of (arc_value plan) stop)) result }
+        ensures memory { IfErr result (λ fault. fault ≡ OpenFault.Memory → opening_of (arc_value plan) stop ≡ Ok (opened (arc_value plan) stop)) }
     {
         let world = World::new(alloc, plan, stop)?;
         let log = new_log(alloc, limit);
@@ -145,6 +147,7 @@ impl Logged {
         ensures lead { IsHistory self.now }
         ensures no_longer { IsNoLonger self.now.world self.now.log }
     {
+        // For the proof alone: the call tells how far the world has come.
         let _nodes = self.world.nodes();
         match &self.log {
             None => None,
@@ -153,23 +156,28 @@ impl Logged {
     }
 
     /// What a node's next state is computed from; none where there is no such node, it stands at the stop or it
-    /// isn't ready. Only the clone of the plan's `Arc` can be refused.
+    /// isn't ready. To compute it gives the node's state of the lockstep round after its count. Only the clone of the
+    /// plan's `Arc` can be refused, and it is made only where there is work.
     pub fn work(&self, node: u32) -> Result<Option<Work>, AllocError>
         ensures work { IfOk result (λ work. work ≡ work_in self.now.world node) }
+        ensures next { IfOk result (λ work. IfSome work (GivesNextState self.now.world node)) }
+        ensures memory { OnErr result (answer_in self.now.world (Step.Write node) ≡ Answer.Moved) }
     {
         self.world.work(node)
     }
 
     /// The configuration of the stop, where the plan and the stop are the world's and every node stands at the stop,
     /// and the stored steps. `Foreign` comes where the plan or the stop isn't the world's, and else `Unfinished`
-    /// with the least node below the stop.
+    /// with the least node below the stop; want of memory only where neither does.
     pub fn finish(self, alloc: Global, plan: &Plan, stop: u32) -> Result<Finished, FinishFault>
         ensures config { IfOk result (λ finished. IsFinish self.world plan.now stop (Ok finished.config)) }
         ensures trace { IfOk result (λ finished. option_map (λ v. v.items) finished.trace ≡ steps_in self.log) }
         ensures whole { IfOk result (λ finished. IfSome finished.trace (λ v. IsWholeTrace plan.now stop v.items)) }
         ensures refused { IfErr result (λ fault. IsFinish self.world plan.now stop (Err fault)) }
+        ensures memory { IfErr result (λ fault. fault ≡ FinishFault.Memory → IsOf self.world plan.now stop × AtStopBelow self.world (length self.world.plan.network)) }
         ensures history { IsHistory self }
     {
+        // For the proof alone: the call tells how far the world has come.
         let _nodes = self.world.nodes();
         let Logged { world, log } = self;
         let config = world.finish(alloc, plan, stop)?;

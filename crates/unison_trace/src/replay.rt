@@ -60,16 +60,23 @@ fn make_steps(world: &mut World, steps: &[Step])
     }
 }
 
-/// The replay report of the schedule that the text is.
-fn replay_of(alloc: Global, plan: Arc<Plan>, stop: u32, text: &[u8]) -> Result<Vec<u8>, ReplayFault>
+/// The replay report of a schedule's text: its steps are made, in order, on a world of the plan, whose nodes move up
+/// to the stop. Answers that change nothing do not stop a replay.
+///
+/// `Schedule` comes where the text is no schedule, and else `Opening` where there is no such world.
+pub fn replay_of(
+    alloc: Global,
+    plan: Arc<Plan>,
+    stop: u32,
+    text: &[u8],
+) -> Result<Vec<u8>, ReplayFault>
     ensures report { IfOk result (λ v. IsReplayOf (arc_value plan) stop text.now v.items) }
     ensures refused { IfErr result (IsRefusedText (arc_value plan) stop text.now) }
 {
     let steps = read_schedule(alloc, text)?;
-    let kept = Arc::try_clone(&plan)?;
     let mut world = World::new(alloc, plan, stop)?;
     make_steps(&mut world, &steps);
-    Ok(replay_report(alloc, &kept, &world)?)
+    Ok(replay_report(alloc, world.plan(), &world)?)
 }
 
 /// Reads a schedule to the end of input, makes its steps on a world of the plan, and writes the replay report.

@@ -4,8 +4,9 @@ use Rattle.std.proofs.lemmas.Option.{slice_get_read}
 use Rattle.rule_check.specs.declared.state.State.{State}
 use Rattle.rule_check.specs.declared.state.Sums.{Sums}
 use Rattle.rule_check.specs.declared.state.Near.{Near}
-use Rattle.rule_check.specs.Value.{Rules, here_at, next_state}
-use Rattle.rule_check.specs.Gathering.{sums_at}
+use Rattle.rule_check.specs.Value.{Rules, here_at, next_at, next_state}
+use Rattle.rule_check.specs.Gathering.{sums_at, finished}
+use Rattle.rule_check.proofs.Programs.{finished_all}
 use Rattle.unison_node.specs.Desks.{IsReady}
 use Rattle.link_net.specs.Neighbours.{degree}
 use Rattle.lockstep.specs.Plans.{PlanView}
@@ -18,7 +19,7 @@ use Rattle.unison_world.specs.Gathered.{gathered_sums}
 use Rattle.unison_world.specs.Pictures.{counts_of, IsNodePicture, IsDrawn}
 use Rattle.unison_world.specs.PictureViews.{view_of}
 use Rattle.unison_world.specs.View.{state_of, sums_of}
-use Rattle.unison_world.specs.WorkViews.{WorkView, DoneView, IsDone}
+use Rattle.unison_world.specs.WorkViews.{WorkView, DoneView, IsDone, next_of}
 use Rattle.unison_world.specs.Work.{Fits, standing}
 use Rattle.unison_world.proofs.Sights.{moves_at, marks_at}
 use Rattle.unison_world.proofs.Steps.{answer-moved}
@@ -89,3 +90,13 @@ node_moved plan stop nodes u node drawn e r =
     let at : slice_get nodes u ≡ Some node = slice_get_read nodes (length nodes) u node refl inside r in
     let p = drawn.each u node at in
     (inside, at, p, marked_ready nodes u (degree plan.network u) node at p.slots m.2)
+
+-- what a ready node has gives its next state
+pub next-had : (plan : PlanView) (u : ℕ) (node : Node) → IsNodePicture plan u node → IsReady node.desk → next_of (had plan u node) ≡ lockstep plan (node.moves + 1) u
+next-had plan u node p ready =
+    let many = length node.desk.marks in
+    let own = node.register.current in
+    next-is plan u node (next_of (had plan u node)) p ready (λ nears whole sums.
+    ap (finished plan.program node.moves u many own) sums
+    ∙ finished_all plan.program node.moves u many own nears
+    ∙ ap (λ n. next_at plan.program (here_at plan.program node.moves u n own nears)) (sym whole))

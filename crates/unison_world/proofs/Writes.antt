@@ -11,7 +11,7 @@ use Rattle.rule_check.specs.Gathering.{sums_at}
 use Rattle.link_net.specs.Neighbours.{Neighbours, row, degree}
 use Rattle.lockstep.specs.Plans.{PlanView}
 use Rattle.lockstep.specs.Lockstep.{lockstep, lockstep-more, near_at, nears_in}
-use Rattle.unison_node.specs.Desks.{IsReady, start_of}
+use Rattle.unison_node.specs.Desks.{IsReady, sums_over_none}
 use Rattle.unison_world.specs.declared.node.Node.{Node}
 use Rattle.unison_world.specs.declared.step.Step.TheVariants.{Write}
 use Rattle.unison_world.specs.declared.step.Answer.TheVariants as answer
@@ -69,7 +69,7 @@ no_nears at [] n = refl
 no_nears at (a ∷ row) zero = refl
 no_nears at (a ∷ row) (suc n) = no_nears at row n
 
-pub start-sums : (plan : PlanView) (u round n : ℕ) → start_of plan.program ≡ gathered_sums plan u round (replicate n false)
+pub start-sums : (plan : PlanView) (u round n : ℕ) → sums_over_none plan.program ≡ gathered_sums plan u round (replicate n false)
 start-sums plan u round n = ap (sums_of_round plan u round) (sym (no_nears (lockstep plan round) (row plan.network u) n))
 
 -- a move to the next state keeps a node the picture of its count

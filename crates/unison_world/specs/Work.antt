@@ -1,6 +1,7 @@
 -- Work that a world gives out, and what it answers to a result.
-use Rattle.std.specs.Prelude.{◌≡◌, ℕ, Option, Some, None}
+use Rattle.std.specs.Prelude.{◌≡◌, ℕ, ◌+◌, Option, Some, None}
 use Rattle.link_net.specs.Neighbours.{degree}
+use Rattle.lockstep.specs.Lockstep.{lockstep}
 use Rattle.unison_world.specs.declared.step.Step.TheVariants.{Write}
 use Rattle.unison_world.specs.declared.step.Answer.{Answer}
 use Rattle.unison_world.specs.declared.step.Answer.TheVariants as answer
@@ -8,7 +9,7 @@ use Rattle.unison_world.specs.declared.step.WriteAnswer.{WriteAnswer}
 use Rattle.unison_world.specs.declared.step.WriteAnswer.TheVariants.{Moved, NotReady, Stale, Stopped, NoNode}
 use Rattle.unison_world.specs.Counting.{moves_of}
 use Rattle.unison_world.specs.View.{WorldView, answer_in, world_after, state_of, sums_of}
-use Rattle.unison_world.specs.WorkViews.{WorkView}
+use Rattle.unison_world.specs.WorkViews.{WorkView, next_of}
 
 -- what stands in a world for a node
 abbrev pub standing : WorldView → ℕ → WorkView
@@ -23,6 +24,10 @@ work_for w u a = None
 -- the work of a node that could move now; none where there is no such node, it stands at the stop or isn't ready
 abbrev pub work_in : WorldView → ℕ → Option WorkView
 work_in w u = work_for w u (answer_in w (Write u))
+
+-- the next state by this work is the node's lockstep state of the round after its count
+abbrev pub GivesNextState : WorldView → ℕ → WorkView → Type 0
+GivesNextState w u work = next_of work ≡ lockstep w.plan (moves_of w.counts u + 1) u
 
 -- program, own state, round, degree and sums are those that stand here for the node
 pub record Fits (w : WorldView) (d : WorkView) : Type 0 where

@@ -125,15 +125,15 @@ pub fn write(plan: &Plan, stop: u32, nodes: &mut Vec<Node>, node: u32) -> Answer
     if writer >= nodes.len() {
         return Answer::NoNode;
     }
-    let this = &nodes[writer];
-    if this.moves == stop {
+    let mover = &nodes[writer];
+    if mover.moves == stop {
         return Answer::Stopped;
     }
-    if !this.desk.ready() {
+    if !mover.desk.ready() {
         return Answer::NotReady;
     }
     let program = plan.program();
-    let state = this.next(program, node);
+    let state = mover.next(program, node);
     nodes[writer].advance(program, state);
     Answer::Moved
 }

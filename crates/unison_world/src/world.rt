@@ -1,5 +1,5 @@
 //! Worlds.
-ghost use Rattle.std.specs.Prelude.{◌≡◌, ℕ, ◌<◌, ◌%◌, ◌+◌, ◌≤◌, min, length, Some, None, if◌then◌else◌, IfOk, IfErr, OnErr};
+ghost use Rattle.std.specs.Prelude.{◌≡◌, ℕ, ◌<◌, ◌%◌, ◌+◌, ◌≤◌, min, length, Some, None, if◌then◌else◌, IfOk, IfErr, IfSome, OnErr};
 ghost use Rattle.std.specs.Arc.{arc_value};
 ghost use Rattle.lockstep.specs.Answer.{IsAnswer};
 ghost use Rattle.lockstep.specs.Configs.{most_rounds};
@@ -10,7 +10,7 @@ ghost use Rattle.unison_world.specs.Opening.{opening_of};
 ghost use Rattle.unison_world.specs.Progress.{steps_left};
 ghost use Rattle.unison_world.specs.Turns.{AtLeast, moves_in_sweep, turn_answer, world_after_sweep, world_after_turn};
 ghost use Rattle.unison_world.specs.View.{answer_in, with_counts, world_after, is_node, state_of, opened};
-ghost use Rattle.unison_world.specs.Work.{IsPutAnswer, after_put, work_in};
+ghost use Rattle.unison_world.specs.Work.{GivesNextState, IsPutAnswer, after_put, work_in};
 
 use crate::events::{ask_read, ask_write, read, write};
 use crate::fault::{FinishFault, OpenFault};
@@ -121,9 +121,11 @@ impl World {
     }
 
     /// What a node's next state is computed from; none where there is no such node, it stands at the stop or it
-    /// isn't ready. Only the clone of the plan's `Arc` can be refused, and it is made only where there is work.
+    /// isn't ready. To compute it gives the node's state of the lockstep round after its count. Only the clone of the
+    /// plan's `Arc` can be refused, and it is made only where there is work.
     pub fn work(&self, node: u32) -> Result<Option<Work>, AllocError>
         ensures work { IfOk result (λ work. work ≡ work_in self.now node) }
+        ensures next { IfOk result (λ work. IfSome work (GivesNextState self.now node)) }
         ensures memory { OnErr result (answer_in self.now (Step.Write node) ≡ Answer.Moved) }
     {
         let Answer::Moved = self.ask(Step::Write { node }) else {
@@ -165,6 +167,13 @@ impl World {
         ensures started { (u : ℕ) → u < length self.now.plan.network → self.now.plan.start ≤ moves_of self.now.counts u }
     {
         self.plan.network().nodes()
+    }
+
+    /// The plan that the world runs.
+    pub fn plan(&self) -> &Plan
+        ensures plan { result.now ≡ self.now.plan }
+    {
+        &self.plan
     }
 
     /// The stop, counted from round 0.
@@ -209,6 +218,7 @@ impl World {
         if self.stop != stop {
             return Err(FinishFault::Foreign);
         }
+        // For the proof alone: the call tells that there are at most 65,536 nodes.
         let _nodes = self.plan.network().nodes();
         if let Some(node) = first_below(self.stop, &self.nodes) {
             let moves = self.nodes[node as usize].moves;

@@ -20,9 +20,9 @@ use Rattle.unison_world.proofs.events.write.Goals as goal
 pub returns-then-not-ready-clause-answer : goal.returns-then-not-ready-clause-answer
 returns-then-not-ready-clause-answer c =
     let items = c.args.nodes.now.items in
-    let f = unstopped_here c.args.plan.now c.args.stop items c.args.node c.index-this.result.now c.requires.drawn (omega arith) c.index-this.ensures c.if-this-stop.false in
+    let f = unstopped_here c.args.plan.now c.args.stop items c.args.node c.index-mover.result.now c.requires.drawn (omega arith) c.index-mover.ensures c.if-mover-stop.false in
     answer-unready c.args.plan.now.network c.args.stop (counts_of items) c.args.node f.inside f.unstopped
-    (unready_marked items c.args.node (degree c.args.plan.now.network c.args.node) c.index-this.result.now f.at f.picture.slots (λ r. false≢true (c.if-not-ready.ensures.all.1 r)))
+    (unready_marked items c.args.node (degree c.args.plan.now.network c.args.node) c.index-mover.result.now f.at f.picture.slots (λ r. false≢true (c.if-not-ready.ensures.all.1 r)))
 
 pub returns-then-not-ready-clause-counts : goal.returns-then-not-ready-clause-counts
 returns-then-not-ready-clause-counts c =
@@ -32,11 +32,11 @@ returns-then-not-ready-clause-counts c =
 pub advance-requires : goal.advance-requires
 advance-requires c =
     let items = c.args.nodes.now.items in
-    let f = unstopped_here c.args.plan.now c.args.stop items c.args.node c.index-this.result.now c.requires.drawn (omega arith) c.index-this.ensures c.if-this-stop.false in
-    let e = same_node items c.args.node c.index-this.result.now c.index_mut.result.now (omega arith) c.index-this.ensures c.index_mut.ensures.value in
+    let f = unstopped_here c.args.plan.now c.args.stop items c.args.node c.index-mover.result.now c.requires.drawn (omega arith) c.index-mover.ensures c.if-mover-stop.false in
+    let e = same_node items c.args.node c.index-mover.result.now c.index_mut.result.now (omega arith) c.index-mover.ensures c.index_mut.ensures.value in
     let m = ap (λ (n : Node). n.moves) e in
     let w = c.requires.in_step.within c.args.node in
-    let v = moves_at items c.args.node c.index-this.result.now f.at in
+    let v = moves_at items c.args.node c.index-mover.result.now f.at in
     record { below = omega arith }
 
 -- what the move of a ready node leaves
@@ -53,15 +53,15 @@ module _ (plan : PlanView) (stop : ℕ) (nodes : List Node) (u : ℕ) (this : No
 
 pub returns-clause-answer : goal.returns-clause-answer
 returns-clause-answer c =
-    let f = unstopped_here c.args.plan.now c.args.stop c.args.nodes.now.items c.args.node c.index-this.result.now c.requires.drawn (omega arith) c.index-this.ensures c.if-this-stop.false in
-    answers_moved c.args.plan.now c.args.stop c.args.nodes.now.items c.args.node c.index-this.result.now f (c.if-not-ready.ensures.all.0 refl)
+    let f = unstopped_here c.args.plan.now c.args.stop c.args.nodes.now.items c.args.node c.index-mover.result.now c.requires.drawn (omega arith) c.index-mover.ensures c.if-mover-stop.false in
+    answers_moved c.args.plan.now c.args.stop c.args.nodes.now.items c.args.node c.index-mover.result.now f (c.if-not-ready.ensures.all.0 refl)
 
 pub returns-clause-counts : goal.returns-clause-counts
 returns-clause-counts c =
     let items = c.args.nodes.now.items in
-    let this = c.index-this.result.now in
-    let f = unstopped_here c.args.plan.now c.args.stop items c.args.node this c.requires.drawn (omega arith) c.index-this.ensures c.if-this-stop.false in
-    let same = same_node items c.args.node this c.index_mut.result.now (omega arith) c.index-this.ensures c.index_mut.ensures.value in
+    let this = c.index-mover.result.now in
+    let f = unstopped_here c.args.plan.now c.args.stop items c.args.node this c.requires.drawn (omega arith) c.index-mover.ensures c.if-mover-stop.false in
+    let same = same_node items c.args.node this c.index_mut.result.now (omega arith) c.index-mover.ensures c.index_mut.ensures.value in
     let completes : Completes c.args.plan.now c.args.node this c.next-state.result = rw c.program-program.ensures.program at c.next-state.ensures.completes in
     rw c.advance.ensures.moved (rw (← same) (rw c.program-program.ensures.program
     (moves_counts c.args.plan.now c.args.stop items c.args.node this f (c.if-not-ready.ensures.all.0 refl) c.next-state.result completes)))
@@ -69,9 +69,9 @@ returns-clause-counts c =
 pub returns-clause-drawn : goal.returns-clause-drawn
 returns-clause-drawn c =
     let items = c.args.nodes.now.items in
-    let this = c.index-this.result.now in
-    let f = unstopped_here c.args.plan.now c.args.stop items c.args.node this c.requires.drawn (omega arith) c.index-this.ensures c.if-this-stop.false in
-    let same = same_node items c.args.node this c.index_mut.result.now (omega arith) c.index-this.ensures c.index_mut.ensures.value in
+    let this = c.index-mover.result.now in
+    let f = unstopped_here c.args.plan.now c.args.stop items c.args.node this c.requires.drawn (omega arith) c.index-mover.ensures c.if-mover-stop.false in
+    let same = same_node items c.args.node this c.index_mut.result.now (omega arith) c.index-mover.ensures c.index_mut.ensures.value in
     let completes : Completes c.args.plan.now c.args.node this c.next-state.result = rw c.program-program.ensures.program at c.next-state.ensures.completes in
     rw c.advance.ensures.moved (rw (← same) (rw c.program-program.ensures.program
     (moves_drawn c.args.plan.now c.args.stop items c.args.node this f (c.if-not-ready.ensures.all.0 refl) c.next-state.result completes c.requires.drawn)))
