@@ -10,23 +10,26 @@ use std::test::Fail;
 /// A report of two nodes.
 const REPORT: &[u8] = b"round 1\n0 s=10\n1 s=7\n";
 
-/// Whether a line is `start`, a number from 0 to 4294967295 without leading zeros, and the line's end.
-fn is_line(alloc: Global, line: &[u8], start: &str) -> Result<bool, Fail> {
-    let Some(digits) = line.strip_prefix(start.as_bytes()) else {
+/// Whether a text is a number from 0 to 4294967295 without leading zeros.
+fn is_number(alloc: Global, digits: &[u8]) -> Result<bool, Fail> {
+    let Ok(text) = str::from_utf8(digits) else {
         return Ok(false);
     };
-    for end in 1..=10.min(digits.len()) {
-        let Ok(text) = str::from_utf8(&digits[..end]) else {
-            continue;
-        };
-        let Ok(number) = text.parse::<u32>() else {
-            continue;
-        };
-        if digits == format!(in alloc; "{number}\n")?.as_bytes() {
-            return Ok(true);
-        }
+    let Ok(number) = text.parse::<u32>() else {
+        return Ok(false);
+    };
+    Ok(format!(in alloc; "{number}")?.as_bytes() == digits)
+}
+
+/// Whether a line is `start`, a number from 0 to 4294967295 without leading zeros, and the line's end.
+fn is_line(alloc: Global, line: &[u8], start: &str) -> Result<bool, Fail> {
+    let Some(rest) = line.strip_prefix(start.as_bytes()) else {
+        return Ok(false);
+    };
+    match rest.strip_suffix(b"\n") {
+        Some(digits) => is_number(alloc, digits),
+        None => Ok(false),
     }
-    Ok(false)
 }
 
 /// The first of the three lines that is not as it should be, the missing one, or one more than there are to be.

@@ -95,9 +95,8 @@ type Row = (
     Option<usize>,
 );
 
-/// Runs by one worker, by a worker for each node, by more workers than nodes, and with traces up to their limits. Of a
-/// limit above 1,000,000 no more than 1,000,000 steps are stored.
-const RUNS: [Row; 6] = [
+/// Runs by one worker, by a worker for each node, by more workers than nodes, and with a trace up to its limit.
+const RUNS: [Row; 5] = [
     (
         DISTANCE,
         PATH,
@@ -153,17 +152,6 @@ const RUNS: [Row; 6] = [
         RING_AFTER_FOUR,
         Some(72),
     ),
-    (
-        COUNTER,
-        ALONE,
-        Asked {
-            stop: 1_000_000,
-            workers: 1,
-            trace: Some(4_294_967_295),
-        },
-        "round 1000000\n0 s=1000000\n",
-        Some(1_000_000),
-    ),
 ];
 
 #[test]
@@ -172,6 +160,25 @@ fn runs(rt: HostRuntime) -> Result<(), Fail> {
         let want = (*report, *steps);
         assert_run(&rt, rt.alloc(), program, network, *asked, &OpenGate, want)?;
     }
+    Ok(())
+}
+
+/// Of a limit above 1,000,000 no more than 1,000,000 steps are stored.
+#[test]
+fn largest_trace(rt: HostRuntime) -> Result<(), Fail> {
+    let asked = Asked {
+        stop: 1_000_000,
+        workers: 1,
+        trace: Some(4_294_967_295),
+    };
+    let want = ("round 1000000\n0 s=1000000\n", Some(1_000_000));
+    assert_run(&rt, rt.alloc(), COUNTER, ALONE, asked, &OpenGate, want)?;
+    let further = Asked {
+        stop: 1_000_001,
+        ..asked
+    };
+    let fault = fault_of(&rt, rt.alloc(), COUNTER, ALONE, further)?;
+    assert_eq!(rt; fault, Some(RunFault::TraceFull { limit: 1_000_000 }));
     Ok(())
 }
 
@@ -207,7 +214,7 @@ fn trace_of_the_ring_leads_to_the_stop(rt: HostRuntime) -> Result<(), Fail> {
 }
 
 /// The texts of a program and a network, a stop, a number of workers and a limit of the trace, and why there is no run.
-const REFUSED: [(&str, &str, Asked, RunFault); 6] = [
+const REFUSED: [(&str, &str, Asked, RunFault); 5] = [
     (
         SWAP,
         PAIR,
@@ -257,16 +264,6 @@ const REFUSED: [(&str, &str, Asked, RunFault); 6] = [
             trace: None,
         },
         RunFault::StopTooLarge,
-    ),
-    (
-        COUNTER,
-        ALONE,
-        Asked {
-            stop: 1_000_001,
-            workers: 1,
-            trace: Some(4_294_967_295),
-        },
-        RunFault::TraceFull { limit: 1_000_000 },
     ),
 ];
 

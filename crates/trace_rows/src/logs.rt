@@ -12,7 +12,7 @@ use unison_trace::{Finished, LogFault, Logged, steps_needed};
 use unison_world::{Answer, Done, FinishFault, OpenFault, Step, WriteAnswer};
 
 /// What happens to a logged world of the pair, and the answer that is wanted.
-#[derive(Clone, Copy, Debug)]
+#[derive(Clone, Copy)]
 enum Event {
     /// A node reads the neighbour at one of its slots.
     Read(u32, u32, Answer),
@@ -35,7 +35,7 @@ enum Event {
 }
 
 /// A logged world of the pair before any step, and what happens to it: its stop, and the limit of its trace.
-#[derive(Clone, Copy, Debug)]
+#[derive(Clone, Copy)]
 struct Scene {
     stop: u32,
     limit: Option<u32>,

@@ -8,7 +8,7 @@ use std::test::Fail;
 use unison_world::{Answer, Done, Step, TurnAnswer, World, WriteAnswer};
 
 /// What happens to a world, and the answer that is wanted.
-#[derive(Clone, Copy, Debug)]
+#[derive(Clone, Copy)]
 pub(crate) enum Event {
     /// A node reads the neighbour at one of its slots.
     Read(u32, u32, Answer),
@@ -33,7 +33,7 @@ pub(crate) enum Event {
 }
 
 /// A world before any step, and what happens to it: the texts of its program and its network, and its stop.
-#[derive(Clone, Copy, Debug)]
+#[derive(Clone, Copy)]
 pub(crate) struct Scene {
     pub(crate) program: &'static str,
     pub(crate) network: &'static str,

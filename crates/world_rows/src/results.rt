@@ -74,7 +74,7 @@ fn results_of_one_world(rt: HostRuntime) -> Result<(), Fail> {
 }
 
 /// A result that is computed in one world and put in another, and what happens to the first world after that.
-#[derive(Clone, Copy, Debug)]
+#[derive(Clone, Copy)]
 struct Exchange {
     from: Scene,
     into: Scene,
@@ -192,10 +192,7 @@ const OF_TWO_WORLDS: [Exchange; 6] = [
             program: SWAP,
             network: ALONE,
             stop: 10,
-            events: &[
-                Event::Put(WriteAnswer::NoNode),
-                Event::Nodes(&[(0, 0)]),
-            ],
+            events: &[Event::Put(WriteAnswer::NoNode), Event::Nodes(&[(0, 0)])],
         },
         back: &[],
     },
