@@ -1,0 +1,13 @@
+//! Worked rows of lockstep rounds, with values from outside the code.
+#![tactic(auto)]
+
+#[cfg(test)]
+mod largest;
+#[cfg(test)]
+mod plain_rounds;
+#[cfg(test)]
+mod reports;
+#[cfg(test)]
+mod rounds;
+#[cfg(test)]
+mod shared_rounds;

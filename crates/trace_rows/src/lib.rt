@@ -1,0 +1,9 @@
+//! Worked rows of schedules, logged worlds and replays, with values from outside the code.
+#![tactic(auto)]
+
+#[cfg(test)]
+mod logs;
+#[cfg(test)]
+mod replays;
+#[cfg(test)]
+mod schedules;
