@@ -1,8 +1,8 @@
 //! Jobs of rounds and of spelling, from texts to bytes, and the fault lines and statuses of what is refused.
 
-use crate::support::{
-    ARITHMETIC, CELLS, DISTANCE, GREATEST, ONE, PAIR, PATH, ROUNDS, RULE_110, SWAP, line_of, served,
-};
+use crate::support::{ARITHMETIC, GREATEST, line_of, served};
+use row_texts::networks::{ALONE, CELLS, PAIR, PATH};
+use row_texts::programs::{DISTANCE, ROUNDS, RULE_110, SWAP};
 use std::test::Fail;
 use unison_jobs::{Job, ServeFault};
 
@@ -267,7 +267,7 @@ fn resumed_reports(rt: HostRuntime) -> Result<(), Fail> {
             1,
             "round 1\n0 dist=0\n1 dist=1\n2 dist=4294967295\n",
         ),
-        (ROUNDS, ONE, "round 3\n0 s=3\n", 4, "round 4\n0 s=6\n"),
+        (ROUNDS, ALONE, "round 3\n0 s=3\n", 4, "round 4\n0 s=6\n"),
     ];
     for (program, network, from, rounds, report) in rows {
         let job = Job::Lockstep { rounds };
@@ -303,7 +303,7 @@ fn refused_reports(rt: HostRuntime) -> Result<(), Fail> {
             alloc,
             job,
             ROUNDS.as_bytes(),
-            ONE.as_bytes(),
+            ALONE.as_bytes(),
             Some(from.as_bytes()),
         )?;
         assert_eq!(rt; found.as_str(), line);
@@ -315,7 +315,7 @@ fn refused_reports(rt: HostRuntime) -> Result<(), Fail> {
         alloc,
         job,
         ROUNDS.as_bytes(),
-        ONE.as_bytes(),
+        ALONE.as_bytes(),
         Some(b"round 3\n0 s=3\n"),
     )?;
     assert_eq!(rt; found.as_str(), "run RoundsBelowStart 0 0");

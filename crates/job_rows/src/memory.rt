@@ -6,9 +6,10 @@
 //! test; so do these two where nothing was refused. Where it prints `starts threads`, the start of a worker has to be
 //! refused at least once, so that a job that starts none fails.
 
-use crate::support::{DISTANCE, MAJORITY, PAIR, PATH, RING, SWAP};
 use link_net::read_network;
 use lockstep::{Difference, Plan, Tally};
+use row_texts::networks::{PAIR, PATH, RING};
+use row_texts::programs::{DISTANCE, MAJORITY, SWAP};
 use rule_check::check;
 use rule_lang::read_program;
 use std::alloc::Global;

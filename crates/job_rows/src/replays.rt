@@ -1,7 +1,9 @@
 //! Replays, from texts and a schedule to bytes, and what is refused.
 
-use crate::support::{DISTANCE, ONE, PAIR, PATH, Paper, ROUNDS, SWAP, answered};
+use crate::support::{Paper, answered};
 use lockstep::Tally;
+use row_texts::networks::{ALONE, PAIR, PATH};
+use row_texts::programs::{DISTANCE, ROUNDS, SWAP};
 use std::alloc::Global;
 use std::io;
 use std::io::{ErrorKind, Read};
@@ -46,7 +48,7 @@ fn replays(rt: HostRuntime) -> Result<(), Fail> {
         ),
         (
             ROUNDS,
-            ONE,
+            ALONE,
             None,
             4,
             "write 0\nwrite 0\nwrite 0\nwrite 0\n",

@@ -1,8 +1,10 @@
 //! Runs by workers, their traces, comparisons, and what is refused.
 
-use crate::support::{DISTANCE, MAJORITY, ONE, PAIR, PATH, RING, ROUNDS, answered, line_of};
+use crate::support::{answered, line_of};
 use link_net::read_network;
 use lockstep::{Difference, Plan};
+use row_texts::networks::{ALONE, PAIR, PATH, RING};
+use row_texts::programs::{DISTANCE, MAJORITY, ROUNDS};
 use rule_check::check;
 use rule_lang::read_program;
 use std::test::Fail;
@@ -37,7 +39,7 @@ fn runs(rt: HostRuntime) -> Result<(), Fail> {
             2,
             "round 4\n0 s=0\n1 s=1\n2 s=1\n3 s=1\n4 s=0\n5 s=0\n",
         ),
-        (ROUNDS, ONE, three, 4, 1, "round 4\n0 s=6\n"),
+        (ROUNDS, ALONE, three, 4, 1, "round 4\n0 s=6\n"),
     ];
     for (program, network, report, rounds, workers, want) in rows {
         let job = Job::Run {
@@ -75,7 +77,7 @@ fn traces(rt: HostRuntime) -> Result<(), Fail> {
             72,
             "0 moves 4 s=0\n1 moves 4 s=1\n2 moves 4 s=1\n3 moves 4 s=1\n4 moves 4 s=0\n5 moves 4 s=0\n",
         ),
-        (ROUNDS, ONE, three, 1, "0 moves 4 s=6\n"),
+        (ROUNDS, ALONE, three, 1, "0 moves 4 s=6\n"),
     ];
     for (program, network, report, steps, want) in rows {
         let job = Job::Run {
@@ -193,7 +195,7 @@ fn refused_runs(rt: HostRuntime) -> Result<(), Fail> {
         (Job::Replay { stop: 2 }, "run StopBelowStart 0 0"),
     ];
     for (job, line) in rows {
-        let (found, status) = line_of(&rt, alloc, job, ROUNDS.as_bytes(), ONE.as_bytes(), three)?;
+        let (found, status) = line_of(&rt, alloc, job, ROUNDS.as_bytes(), ALONE.as_bytes(), three)?;
         assert_eq!(rt; found.as_str(), line, "{job:?}");
         assert_eq!(rt; status, 1);
     }

@@ -35,36 +35,13 @@ impl Write for Paper {
     }
 }
 
-pub(crate) const PATH: &str = "nodes = 3\nlinks = [[0, 1], [1, 2]]\n[set]\ndist = [[0, 0]]\n";
-
-pub(crate) const PAIR: &str = "nodes = 2\nlinks = [[0, 1]]\n[set]\ns = [[0, 5], [1, 7]]\n";
-
-pub(crate) const DISTANCE: &str =
-    "field dist = 4294967295; next dist = (dist min least (n.dist + 1));";
-
-pub(crate) const SWAP: &str = "field s = 0; next s = total n.s;";
-
+/// Operators at their edges: divisors of 0, a difference below 0, a product above the greatest word.
 pub(crate) const ARITHMETIC: &str =
     "field a = 9; field b = 9; field c = 9; field d = 9; next a = (7 / 0); next b = (7 % 0); next c = (3 - 5); next d = (65536 * 65536);";
 
+/// A path of three nodes, with the greatest word at one end and 1 at the other.
 pub(crate) const GREATEST: &str =
     "nodes = 3\nlinks = [[0, 1], [1, 2]]\n[set]\ns = [[0, 4294967295], [2, 1]]\n";
-
-pub(crate) const RULE_110: &str =
-    "field s = 0; next s = ((s | any ((n.id > id) & n.s)) & not ((any ((n.id < id) & n.s) & s) & any ((n.id > id) & n.s)));";
-
-pub(crate) const CELLS: &str =
-    "nodes = 8\nlinks = [[0, 1], [1, 2], [2, 3], [3, 4], [4, 5], [5, 6], [6, 7]]\n[set]\ns = [[6, 1]]\n";
-
-pub(crate) const RING: &str =
-    "nodes = 6\nlinks = [[0, 1], [1, 2], [2, 3], [3, 4], [4, 5], [5, 0]]\n[set]\ns = [[0, 1], [2, 1], [3, 1]]\n";
-
-pub(crate) const MAJORITY: &str =
-    "field s = 0; next s = if ((count n.s * 2) > degree) then 1 else if ((count n.s * 2) < degree) then 0 else s;";
-
-pub(crate) const ONE: &str = "nodes = 1\nlinks = []\n";
-
-pub(crate) const ROUNDS: &str = "field s = 0; next s = (s + round);";
 
 /// What was written, and what `serve` answered.
 pub(crate) fn answered(

@@ -33,6 +33,7 @@ enum Ending {
 }
 
 impl Ending {
+    /// The status with which the program ends.
     fn status(&self) -> u8 {
         match self {
             Ending::Help(_) => 0,
@@ -242,6 +243,7 @@ fn run(rt: &HostRuntime, threads: &(impl Threads + Wait + Sync)) -> Result<u8, E
     Ok(served.status)
 }
 
+/// Does what the command line asks for, and ends with its status.
 fn main(rt: HostRuntime) -> ExitCode {
     match run(&rt, &rt) {
         Ok(status) => ExitCode::from(status),

@@ -11,6 +11,7 @@ use std::alloc::{AllocError, Global};
 use unison_jobs::Job;
 use unison_pool::MOST_WORKERS;
 
+/// An argument for the path of a file, which has to be there.
 fn path<'a>(alloc: Global, id: &'a str, name: &'a str, help: &'a str) -> Arg<'a> {
     Arg::new(alloc, id)
         .required(true)
@@ -19,10 +20,12 @@ fn path<'a>(alloc: Global, id: &'a str, name: &'a str, help: &'a str) -> Arg<'a>
         .action(ArgAction::Set)
 }
 
+/// The program's path.
 fn program_path<'a>(alloc: Global) -> Arg<'a> {
     path(alloc, "program", "PROGRAM", "The file of the program text")
 }
 
+/// The network's path.
 fn network_path<'a>(alloc: Global) -> Arg<'a> {
     path(
         alloc,
@@ -32,6 +35,7 @@ fn network_path<'a>(alloc: Global) -> Arg<'a> {
     )
 }
 
+/// The schedule's path.
 fn schedule_path<'a>(alloc: Global) -> Arg<'a> {
     path(
         alloc,
@@ -41,6 +45,7 @@ fn schedule_path<'a>(alloc: Global) -> Arg<'a> {
     )
 }
 
+/// An option with a value.
 fn option<'a>(alloc: Global, id: &'a str, name: &'a str, help: &'a str) -> Arg<'a> {
     Arg::new(alloc, id)
         .long(id)
@@ -49,6 +54,7 @@ fn option<'a>(alloc: Global, id: &'a str, name: &'a str, help: &'a str) -> Arg<'
         .action(ArgAction::Set)
 }
 
+/// `--rounds T`, which has to be there.
 fn rounds_option<'a>(alloc: Global) -> Arg<'a> {
     option(
         alloc,
@@ -59,6 +65,7 @@ fn rounds_option<'a>(alloc: Global) -> Arg<'a> {
     .required(true)
 }
 
+/// `--stop T`, which has to be there.
 fn stop_option<'a>(alloc: Global) -> Arg<'a> {
     option(
         alloc,
@@ -69,6 +76,7 @@ fn stop_option<'a>(alloc: Global) -> Arg<'a> {
     .required(true)
 }
 
+/// `--workers W`, which has to be there.
 fn workers_option<'a>(alloc: Global) -> Arg<'a> {
     option(
         alloc,
@@ -79,6 +87,7 @@ fn workers_option<'a>(alloc: Global) -> Arg<'a> {
     .required(true)
 }
 
+/// `--trace FILE`.
 fn trace_option<'a>(alloc: Global) -> Arg<'a> {
     option(
         alloc,
@@ -88,6 +97,7 @@ fn trace_option<'a>(alloc: Global) -> Arg<'a> {
     )
 }
 
+/// `--from FILE`.
 fn from_option<'a>(alloc: Global) -> Arg<'a> {
     option(
         alloc,
@@ -97,12 +107,14 @@ fn from_option<'a>(alloc: Global) -> Arg<'a> {
     )
 }
 
+/// `check PROGRAM`.
 fn check_command<'a>(alloc: Global) -> Result<Command<'a>, AllocError> {
     Command::new(alloc, "check")
         .about("Check a program and print its canonical spelling")
         .arg(program_path(alloc))
 }
 
+/// `lockstep PROGRAM NETWORK --rounds T [--from FILE]`.
 fn lockstep_command<'a>(alloc: Global) -> Result<Command<'a>, AllocError> {
     Command::new(alloc, "lockstep")
         .about("Run a program in lockstep on a network and print the report of a round")
@@ -112,6 +124,7 @@ fn lockstep_command<'a>(alloc: Global) -> Result<Command<'a>, AllocError> {
         .arg(from_option(alloc))
 }
 
+/// `run PROGRAM NETWORK --rounds T --workers W [--trace FILE] [--from FILE]`.
 fn run_command<'a>(alloc: Global) -> Result<Command<'a>, AllocError> {
     Command::new(alloc, "run")
         .about("Run a program by threads, node by node, and print the report of a round")
@@ -123,6 +136,7 @@ fn run_command<'a>(alloc: Global) -> Result<Command<'a>, AllocError> {
         .arg(from_option(alloc))
 }
 
+/// `replay PROGRAM NETWORK SCHEDULE --stop T [--from FILE]`.
 fn replay_command<'a>(alloc: Global) -> Result<Command<'a>, AllocError> {
     Command::new(alloc, "replay")
         .about("Make the steps of a schedule and print each node's moves and state")
@@ -133,6 +147,7 @@ fn replay_command<'a>(alloc: Global) -> Result<Command<'a>, AllocError> {
         .arg(from_option(alloc))
 }
 
+/// `compare PROGRAM NETWORK --rounds T --workers W [--from FILE]`.
 fn compare_command<'a>(alloc: Global) -> Result<Command<'a>, AllocError> {
     Command::new(alloc, "compare")
         .about(
@@ -172,6 +187,7 @@ fn number(text: &str, least: u32, most: u32) -> Option<u32>
     Some(number)
 }
 
+/// Wrong words, told by the name of the option or the argument.
 fn bad_value(alloc: Global, option: &str) -> UsageFault {
     match String::from_str(alloc, option) {
         Ok(text) => UsageFault::Usage { text },
@@ -208,6 +224,7 @@ fn text_of(
     }
 }
 
+/// The path that an argument has; wrong words where it has none.
 fn path_of(alloc: Global, matches: &ArgMatches<'_>, id: &str) -> Result<String, UsageFault> {
     match text_of(alloc, matches, id)? {
         Some(path) => Ok(path),
@@ -229,6 +246,7 @@ fn workers_in(alloc: Global, matches: &ArgMatches<'_>) -> Result<u32, UsageFault
     option_number(alloc, matches, "workers", 1, MOST_WORKERS)
 }
 
+/// The job of `run`.
 fn run_in(alloc: Global, matches: &ArgMatches<'_>) -> Result<Job, UsageFault>
     ensures within { IfOk result IsWithinLimits }
 {
@@ -242,6 +260,7 @@ fn run_in(alloc: Global, matches: &ArgMatches<'_>) -> Result<Job, UsageFault>
     })
 }
 
+/// The job of `replay`.
 fn replay_in(alloc: Global, matches: &ArgMatches<'_>) -> Result<Job, UsageFault>
     ensures within { IfOk result IsWithinLimits }
 {
@@ -249,6 +268,7 @@ fn replay_in(alloc: Global, matches: &ArgMatches<'_>) -> Result<Job, UsageFault>
     Ok(Job::Replay { stop })
 }
 
+/// The job of `compare`.
 fn compare_in(alloc: Global, matches: &ArgMatches<'_>) -> Result<Job, UsageFault>
     ensures within { IfOk result IsWithinLimits }
 {
@@ -257,6 +277,7 @@ fn compare_in(alloc: Global, matches: &ArgMatches<'_>) -> Result<Job, UsageFault
     Ok(Job::Compare { rounds, workers })
 }
 
+/// The job of `lockstep`.
 fn lockstep_in(alloc: Global, matches: &ArgMatches<'_>) -> Result<Job, UsageFault>
     ensures within { IfOk result IsWithinLimits }
 {
@@ -277,6 +298,7 @@ fn job_in(alloc: Global, name: &str, matches: &ArgMatches<'_>) -> Result<Job, Us
     }
 }
 
+/// The request of the subcommand of this name.
 fn request_in(alloc: Global, name: &str, matches: &ArgMatches<'_>) -> Result<Request, UsageFault>
     ensures within { IfOk result (λ r. IsWithinLimits r.job) }
 {
@@ -296,6 +318,7 @@ fn request_in(alloc: Global, name: &str, matches: &ArgMatches<'_>) -> Result<Req
     })
 }
 
+/// What the command line's own error says: help, wrong words, or want of memory.
 fn fault_of(alloc: Global, error: &clap::Error) -> UsageFault {
     if error.kind() == ErrorKind::OutOfMemory {
         return UsageFault::Memory;

@@ -192,6 +192,7 @@ fn named(part: &'static str, name: Option<&'static str>) -> (&'static str, &'sta
     }
 }
 
+/// The name that the fault line has for a refused program text; none for want of memory.
 fn lang_name(fault: LangFault) -> Option<&'static str> {
     match fault {
         LangFault::TooLong => Some("TooLong"),
@@ -201,6 +202,7 @@ fn lang_name(fault: LangFault) -> Option<&'static str> {
     }
 }
 
+/// The name that the fault line has for a program that is not well formed; none for want of memory.
 fn check_name(fault: CheckFault) -> Option<&'static str> {
     match fault {
         CheckFault::TooManyFields => Some("TooManyFields"),
@@ -214,6 +216,7 @@ fn check_name(fault: CheckFault) -> Option<&'static str> {
     }
 }
 
+/// The name that the fault line has for a refused network; none for want of memory.
 fn net_name(fault: NetFault) -> Option<&'static str> {
     match fault {
         NetFault::NotToml => Some("NotToml"),
@@ -231,6 +234,7 @@ fn net_name(fault: NetFault) -> Option<&'static str> {
     }
 }
 
+/// The name that the fault line has for a refused plan; none for want of memory.
 fn plan_name(fault: PlanFault) -> Option<&'static str> {
     match fault {
         PlanFault::UnknownField => Some("UnknownField"),
@@ -241,6 +245,7 @@ fn plan_name(fault: PlanFault) -> Option<&'static str> {
     }
 }
 
+/// The name that the fault line has for a refused report; none for want of memory.
 fn report_name(fault: ReportFault) -> Option<&'static str> {
     match fault {
         ReportFault::BadLine { .. } => Some("BadLine"),
@@ -249,6 +254,7 @@ fn report_name(fault: ReportFault) -> Option<&'static str> {
     }
 }
 
+/// The name that the fault line has for a refused round; none for want of memory.
 fn round_name(fault: RoundFault) -> Option<&'static str> {
     match fault {
         RoundFault::TooManyRounds => Some("TooManyRounds"),
@@ -257,6 +263,7 @@ fn round_name(fault: RoundFault) -> Option<&'static str> {
     }
 }
 
+/// The name that the fault line has for a refused run; none for want of memory.
 fn run_name(fault: RunFault) -> Option<&'static str> {
     match fault {
         RunFault::WorkerCount => Some("WorkerCount"),
@@ -282,6 +289,7 @@ fn replay_line(fault: ReplayFault) -> (&'static str, &'static str) {
     }
 }
 
+/// The name that the fault line has for a refused schedule; none for want of memory.
 fn schedule_name(fault: ScheduleFault) -> Option<&'static str> {
     match fault {
         ScheduleFault::BadLine { .. } => Some("BadLine"),
@@ -290,6 +298,7 @@ fn schedule_name(fault: ScheduleFault) -> Option<&'static str> {
     }
 }
 
+/// The name that the fault line has for a world that is not opened; none for want of memory.
 fn open_name(fault: OpenFault) -> Option<&'static str> {
     match fault {
         OpenFault::StopTooLarge => Some("StopTooLarge"),
