@@ -64,17 +64,19 @@ fn hub(alloc: Global) -> Result<String, Fail> {
     Ok(text)
 }
 
+/// A neighbour with its state.
+fn near_of(states: &[State], id: u32, weight: u32) -> Result<Near, Fail> {
+    let state = *states.get(id as usize).ok_or("a state")?;
+    Ok(Near { id, weight, state })
+}
+
 /// The neighbours of a node, with their states.
 fn nears_of(alloc: Global, plan: &Plan, states: &[State], node: u32) -> Result<Vec<Near>, Fail> {
-    let network = plan.network();
-    let ids = network.neighbours(node).ok_or("neighbours")?;
+    let ids = plan.network().neighbours(node).ok_or("neighbours")?;
+    let weights = plan.network().weights(node).ok_or("weights")?;
     let mut nears = Vec::new(alloc);
-    for (slot, id) in ids.iter().enumerate() {
-        nears.push(Near {
-            id: *id,
-            weight: network.weight(node, slot as u32).ok_or("a weight")?,
-            state: *states.get(*id as usize).ok_or("a state")?,
-        })?;
+    for (id, weight) in ids.iter().zip(weights) {
+        nears.push(near_of(states, *id, *weight)?)?;
     }
     Ok(nears)
 }
