@@ -4,16 +4,20 @@
 use crate::memory_answers::{Stopped, tell};
 use lockstep::lockstep_par;
 use row_plans::plan_of;
-use row_texts::programs::{DISTANCE, EIGHT_FIELDS};
+use row_texts::programs::DISTANCE;
 use std::alloc::{AllocError, Global};
 use std::process::Abort;
 use std::test::Fail;
 use std::thread::Threads;
 
+/// The distances, beside a field whose rule is so long that the rounds of 65,536 nodes are shared.
+const LONG_RULE: &str =
+    "field dist = 4294967295; field a = 1; next dist = (dist min least (n.dist + 1)); next a = ((((((((((((((a + id) ^ round) + a) ^ id) + round) ^ a) + id) ^ round) + a) ^ id) + round) ^ a) + id) ^ round);";
+
 /// The text of so many nodes, the first of which are a path with the first at distance 0, in room that is asked for
 /// once.
 fn path_text(alloc: Global, nodes: u32, linked: u32) -> Result<String, AllocError> {
-    let mut text = String::with_capacity(alloc, 450_000)?;
+    let mut text = String::with_capacity(alloc, 20_000)?;
     write!(text, "nodes = {nodes}\nlinks = [")?;
     for other in 1..linked {
         let node = other - 1;
@@ -49,8 +53,5 @@ fn rounds_of_a_path_where_memory_is_refused(rt: HostRuntime) -> Result<(), Fail>
 
 #[test]
 fn shared_rounds_where_memory_is_refused(rt: HostRuntime) -> Result<(), Fail> {
-    tell(
-        &rt,
-        distances(&rt, rt.alloc(), EIGHT_FIELDS, 65_536, 27_400),
-    )
+    tell(&rt, distances(&rt, rt.alloc(), LONG_RULE, 65_536, 1_000))
 }
