@@ -3,7 +3,7 @@ use Rattle.std.proofs.Common.{◌≡◌, ℕ, ◌+◌, ◌-◌, ◌≤◌, ◌<�
 use Rattle.std.proofs.lemmas.List.{length-map, drop-map, drop-drop, drop_all}
 use Rattle.std.proofs.Math.Seq.{drop-append_seam}
 use Rattle.rule_lang.specs.declared.stuck.Stuck.{Stuck}
-use Rattle.rule_lang.specs.declared.stuck.Stuck.TheVariants.{Token, End, Memory}
+use Rattle.rule_lang.specs.declared.stuck.Stuck.TheVariants.{Token, Memory}
 use Rattle.rule_lang.specs.declared.token.Lexeme.{Lexeme}
 use Rattle.rule_lang.specs.Tokens.{Tok}
 use Rattle.rule_lang.specs.Tree.{ItemTree, HasTree, spell_item}
@@ -15,10 +15,8 @@ use Rattle.rule_lang.proofs.Leads.{Leads, leads_step, leads_end, leads_stuck, it
 
 pub stuck_gives : (e : Stuck) (all : List Tok) (items : List ItemTree) (rest : List Tok) → Leads all items rest → 0 < length rest → Fails e (item_at rest) → NoProgramOf all e
 stuck_gives Memory all items rest l h f = tt
-stuck_gives (Token at) all items [] l h f = absurd (omega arith)
-stuck_gives (Token at) all items (t ∷ rest) l h f = λ js j. leads_stuck all items t rest l f js j
-stuck_gives End all items [] l h f = absurd (omega arith)
-stuck_gives End all items (t ∷ rest) l h f = λ js j. leads_stuck all items t rest l f js j
+stuck_gives (Token left expected) all items [] l h f = absurd (omega arith)
+stuck_gives (Token left expected) all items (t ∷ rest) l h f = λ js j. leads_stuck all items t rest l f js j
 
 -- at a place
 pub shorter_at : (all after : List Lexeme) (at : ℕ) (i : ItemTree) → item_at (toks_of (drop at all)) ≡ Some (i, toks_of after) → length after + at < length all

@@ -1,6 +1,7 @@
 pub mod Bytes
 pub mod Canonical
 pub mod Equality
+pub mod Expressions
 pub mod FirstTokens
 pub mod Forms
 pub mod Items

@@ -10,20 +10,22 @@ use Rattle.rule_lang.specs.Tree.{ItemTree, HasTree, spell_item}
 use Rattle.rule_lang.specs.Lexing.{NoTokensOf}
 use Rattle.rule_lang.specs.declared.stuck.Stuck.{Stuck}
 use Rattle.rule_lang.specs.declared.stuck.Stuck.TheVariants as stuck
-use Rattle.rule_lang.specs.Causes.{NoProgramOf, fault_of}
+use Rattle.rule_lang.specs.declared.cause.LangCause.TheVariants as cause
+use Rattle.rule_lang.specs.declared.cause.Refusal.{Refusal}
+use Rattle.rule_lang.specs.declared.cause.Refusal.TheVariants as refusal
+use Rattle.rule_lang.specs.Causes.{IsStuckAs, NoProgramOf, refusal_fault}
 use Rattle.rule_lang.specs.Program.{HasProgram, IsRefusedAs, IsReadAs, IsProgram}
 use Rattle.rule_lang.proofs.Once.{one_program}
 
-pub no_tokens : (text : List ℕ) (e : LangFault) → length text ≤ 65536 → NoTokensOf text e → IsRefusedAs text e
-no_tokens text TooLong h n = absurd n
-no_tokens text (Lex at) h n = (h, n)
-no_tokens text (Syntax at) h n = absurd n
-no_tokens text Memory h n = h
+pub no_tokens : (text : List ℕ) (e : Refusal) → length text ≤ 65536 → NoTokensOf text e → IsRefusedAs text (refusal_fault e)
+no_tokens text (refusal.Cause cause.TooLong) h n = absurd n
+no_tokens text (refusal.Cause (cause.Lex at)) h n = (h, n)
+no_tokens text (refusal.Cause (cause.Syntax at expected)) h n = absurd n
+no_tokens text refusal.Memory h n = h
 
-pub no_tree : (text : List ℕ) (tokens : List Tok) (e : Stuck) (end : ℕ) → length text ≤ 65536 → HasTokens text tokens → ((others : List Tok) → HasTokens text others → others ≡ tokens) → NoProgramOf tokens e → IsRefusedAs text (fault_of e end)
-no_tree text tokens (stuck.Token at) end h t only n = (h, tokens, t, λ items p. n items (subst (λ x. HasTree x items) (only p.tokens p.words) p.tree))
-no_tree text tokens stuck.End end h t only n = (h, tokens, t, λ items p. n items (subst (λ x. HasTree x items) (only p.tokens p.words) p.tree))
-no_tree text tokens stuck.Memory end h t only n = h
+pub no_tree : (text : List ℕ) (tokens : List Tok) (e : Stuck) (r : Refusal) → length text ≤ 65536 → HasTokens text tokens → ((others : List Tok) → HasTokens text others → others ≡ tokens) → NoProgramOf tokens e → IsStuckAs e r → IsRefusedAs text (refusal_fault r)
+no_tree text tokens (stuck.Token left expected) r h t only n s = rw s.1 (h, tokens, t, λ items p. n items (subst (λ x. HasTree x items) (only p.tokens p.words) p.tree))
+no_tree text tokens stuck.Memory r h t only n s = rw s h
 
 pub is_program : (text : List ℕ) (tokens : List Tok) (items : List ItemTree) → HasTokens text tokens → HasTree tokens items → IsProgram items
 is_program text tokens items w t = (t.each, subst (AllByRecursion IsTok) t.spelling (all_toks text tokens w))

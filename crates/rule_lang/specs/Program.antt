@@ -1,6 +1,8 @@
 -- A program text and its items, and why a text is refused.
-use Rattle.std.specs.Prelude.{ℕ, List, Result, Ok, Err, length, flat_map, ◌≤◌, ◌<◌}
+use Rattle.std.specs.Prelude.{ℕ, List, Option, Some, None, Result, Ok, Err, length, flat_map, ◌≤◌, ◌<◌}
 use Rattle.std.specs.List.{AllByRecursion}
+use Rattle.rule_lang.specs.declared.cause.LangCause.{LangCause}
+use Rattle.rule_lang.specs.declared.cause.LangCause.TheVariants as cause
 use Rattle.rule_lang.specs.declared.fault.LangFault.{LangFault}
 use Rattle.rule_lang.specs.declared.fault.LangFault.TheVariants.{TooLong, Lex, Syntax, Memory}
 use Rattle.rule_lang.specs.Tokens.{Tok, IsTok, HasTokens}
@@ -19,6 +21,23 @@ IsRefusedAs text TooLong = 65536 < length text
 IsRefusedAs text (Lex at) = (length text ≤ 65536) × ((tokens : List Tok) → HasTokens text tokens → ⊥)
 IsRefusedAs text (Syntax at) = (length text ≤ 65536) × (tokens : List Tok) × HasTokens text tokens × ((items : List ItemTree) → HasProgram text items → ⊥)
 IsRefusedAs text Memory = length text ≤ 65536
+
+-- the fault that a cause is
+abbrev pub fault_of : LangCause → LangFault
+fault_of cause.TooLong = TooLong
+fault_of (cause.Lex at) = Lex at
+fault_of (cause.Syntax at expected) = Syntax at
+
+-- the place of a cause in the text, in bytes from 0; of a text that is too long that of the first byte too many
+abbrev pub place_of : LangCause → ℕ
+place_of cause.TooLong = 65536
+place_of (cause.Lex at) = at
+place_of (cause.Syntax at expected) = at
+
+-- a text has a program where there is no cause, and else is refused for the fault that the cause is
+abbrev pub IsExplained : List ℕ → Option LangCause → Type 0
+IsExplained text None = (length text ≤ 65536) × (items : List ItemTree) × HasProgram text items
+IsExplained text (Some cause) = IsRefusedAs text (fault_of cause)
 
 -- what a text is read to: its items, seen by view, or why it has none
 abbrev pub IsReadAs : {X : Type 0} → List ℕ → (X → List ItemTree) → Result X LangFault → Type 0

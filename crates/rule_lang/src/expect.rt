@@ -5,6 +5,7 @@ ghost use Rattle.rule_lang.specs.View.{tok_of, toks_of};
 ghost use Rattle.rule_lang.specs.Causes.{Gives};
 ghost use Rattle.rule_lang.specs.Reading.{sign_op, op_of, op_at, agg_of, close_at, then_at, else_at, name_at, number_at, assign_at, semicolon_at};
 
+use crate::cause::Expected;
 use crate::keyword::{Keyword, reserved_word};
 use crate::stuck::Stuck;
 use crate::token::{Lexeme, Sign, Token};
@@ -73,11 +74,11 @@ pub fn operator_at<'t, 'a>(tokens: &'t [Lexeme<'a>]) -> Result<(Op, &'t [Lexeme<
     ensures { Gives (λ x. (x.0, toks_of x.1.now)) result (op_at (toks_of tokens.now)) }
 {
     let [first, rest @ ..] = tokens else {
-        return Err(Stuck::before(tokens));
+        return Err(Stuck::before(tokens, Expected::Operator));
     };
     match operator(first.token) {
         Some(op) => Ok((op, rest)),
-        None => Err(Stuck::before(tokens)),
+        None => Err(Stuck::before(tokens, Expected::Operator)),
     }
 }
 
@@ -87,11 +88,11 @@ pub fn close<'t, 'a>(tokens: &'t [Lexeme<'a>]) -> Result<&'t [Lexeme<'a>], Stuck
     ensures { Gives (λ x. toks_of x.now) result (close_at (toks_of tokens.now)) }
 {
     let [first, rest @ ..] = tokens else {
-        return Err(Stuck::before(tokens));
+        return Err(Stuck::before(tokens, Expected::Close));
     };
     match first.token {
         Token::Sign(Sign::Close) => Ok(rest),
-        _ => Err(Stuck::before(tokens)),
+        _ => Err(Stuck::before(tokens, Expected::Close)),
     }
 }
 
@@ -101,11 +102,11 @@ pub fn word_then<'t, 'a>(tokens: &'t [Lexeme<'a>]) -> Result<&'t [Lexeme<'a>], S
     ensures { Gives (λ x. toks_of x.now) result (then_at (toks_of tokens.now)) }
 {
     let [first, rest @ ..] = tokens else {
-        return Err(Stuck::before(tokens));
+        return Err(Stuck::before(tokens, Expected::Then));
     };
     match first.token {
         Token::Word(word) if reserved_word(word) == Some(Keyword::Then) => Ok(rest),
-        _ => Err(Stuck::before(tokens)),
+        _ => Err(Stuck::before(tokens, Expected::Then)),
     }
 }
 
@@ -115,11 +116,11 @@ pub fn word_else<'t, 'a>(tokens: &'t [Lexeme<'a>]) -> Result<&'t [Lexeme<'a>], S
     ensures { Gives (λ x. toks_of x.now) result (else_at (toks_of tokens.now)) }
 {
     let [first, rest @ ..] = tokens else {
-        return Err(Stuck::before(tokens));
+        return Err(Stuck::before(tokens, Expected::Else));
     };
     match first.token {
         Token::Word(word) if reserved_word(word) == Some(Keyword::Else) => Ok(rest),
-        _ => Err(Stuck::before(tokens)),
+        _ => Err(Stuck::before(tokens, Expected::Else)),
     }
 }
 
@@ -136,7 +137,7 @@ pub fn assign<'t, 'a>(tokens: &'t [Lexeme<'a>]) -> Result<&'t [Lexeme<'a>], Stuc
             },
             rest @ ..,
         ] => Ok(rest),
-        _ => Err(Stuck::before(tokens)),
+        _ => Err(Stuck::before(tokens, Expected::Assign)),
     }
 }
 
@@ -153,7 +154,7 @@ pub fn semicolon<'t, 'a>(tokens: &'t [Lexeme<'a>]) -> Result<&'t [Lexeme<'a>], S
             },
             rest @ ..,
         ] => Ok(rest),
-        _ => Err(Stuck::before(tokens)),
+        _ => Err(Stuck::before(tokens, Expected::Semicolon)),
     }
 }
 
@@ -163,11 +164,11 @@ pub fn number<'t, 'a>(tokens: &'t [Lexeme<'a>]) -> Result<(u32, &'t [Lexeme<'a>]
     ensures { Gives (λ x. (x.0, toks_of x.1.now)) result (number_at (toks_of tokens.now)) }
 {
     let [first, rest @ ..] = tokens else {
-        return Err(Stuck::before(tokens));
+        return Err(Stuck::before(tokens, Expected::Number));
     };
     match first.token {
         Token::Number(value) => Ok((value, rest)),
-        _ => Err(Stuck::before(tokens)),
+        _ => Err(Stuck::before(tokens, Expected::Number)),
     }
 }
 
@@ -180,12 +181,12 @@ pub fn name<'t, 'a>(
     ensures { Gives (λ x. (string_bytes x.0, toks_of x.1.now)) result (name_at (toks_of tokens.now)) }
 {
     let [first, rest @ ..] = tokens else {
-        return Err(Stuck::before(tokens));
+        return Err(Stuck::before(tokens, Expected::Name));
     };
     match first.token {
         Token::Word(word) if reserved_word(word).is_none() => {
             Ok((String::from_str(alloc, word)?, rest))
         }
-        _ => Err(Stuck::before(tokens)),
+        _ => Err(Stuck::before(tokens, Expected::Name)),
     }
 }

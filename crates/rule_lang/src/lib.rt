@@ -2,6 +2,7 @@
 //! spelling.
 #![tactic(auto)]
 
+mod cause;
 mod expect;
 mod fault;
 mod keyword;
@@ -14,7 +15,11 @@ mod token;
 mod tree;
 mod write;
 
+pub use cause::{Expected, LangCause};
 pub use fault::LangFault;
-pub use source::{Source, canonical_is_read_back, one_program, read_program};
+pub use keyword::{Keyword, reserved_word};
+pub use lex::read_tokens;
+pub use source::{Source, canonical_is_read_back, diagnose, one_program, read_program};
+pub use token::{Lexeme, Sign, Token};
 pub use tree::{Agg, Expr, Item, Op};
 pub use write::write_program;

@@ -6,6 +6,7 @@ ghost use Rattle.rule_lang.specs.View.{tree_of, item_of, items_of, toks_of};
 ghost use Rattle.rule_lang.specs.Causes.{Gives, IsProgramOf};
 ghost use Rattle.rule_lang.specs.Reading.{near_of, field_at, next_at, item_at, infix_at, choice_at, over_at, prefix_at, form_at, expr_at};
 
+use crate::cause::Expected;
 use crate::expect::{
     aggregate, assign, close, name, number, operator_at, semicolon, word_else, word_then,
 };
@@ -42,23 +43,23 @@ fn expression<'t, 'a>(
     ensures { Gives (λ x. (tree_of x.0, toks_of x.1.now)) result (expr_at depth (toks_of tokens.now)) }
 {
     if depth == 0 {
-        return Err(Stuck::before(tokens));
+        return Err(Stuck::before(tokens, Expected::Shallower));
     }
     let [first, rest @ ..] = tokens else {
-        return Err(Stuck::before(tokens));
+        return Err(Stuck::before(tokens, Expected::Expression));
     };
     match first.token {
         Token::Number(value) => Ok((Expr::Number(value), rest)),
         Token::Near(word) => match near(alloc, word)? {
             Some(form) => Ok((form, rest)),
-            None => Err(Stuck::before(tokens)),
+            None => Err(Stuck::before(tokens, Expected::NearForm)),
         },
         Token::Word(word) => match reserved_word(word) {
             None => Ok((Expr::Own(String::from_str(alloc, word)?), rest)),
-            Some(word) => prefix(alloc, depth - 1, first.at, word, rest),
+            Some(word) => prefix(alloc, depth - 1, tokens.len(), word, rest),
         },
         Token::Sign(Sign::Open) => infix(alloc, depth - 1, rest),
-        Token::Sign(_) => Err(Stuck::before(tokens)),
+        Token::Sign(_) => Err(Stuck::before(tokens, Expected::Expression)),
     }
 }
 
@@ -81,13 +82,13 @@ fn infix<'t, 'a>(
     Ok((Expr::Infix(op, left, right), rest))
 }
 
-/// What follows the reserved word at this place.
+/// What follows the reserved word, with which the last `left` tokens begin.
 #[cycle(expression)]
 #[tactic(auto, unfolding(crate::specs::Reading::prefix_at, crate::specs::Reading::over_at))]
 fn prefix<'t, 'a>(
     alloc: Global,
     depth: u32,
-    at: u32,
+    left: usize,
     word: Keyword,
     tokens: &'t [Lexeme<'a>],
 ) -> Result<(Expr, &'t [Lexeme<'a>]), Stuck>
@@ -104,7 +105,10 @@ fn prefix<'t, 'a>(
         }
         _ => {
             let Some(agg) = aggregate(word) else {
-                return Err(Stuck::Token { at });
+                return Err(Stuck::Token {
+                    left,
+                    expected: Expected::Expression,
+                });
             };
             let (part, rest) = expression(alloc, depth, tokens)?;
             Ok((Expr::Over(agg, Box::new(alloc, part)?), rest))
@@ -163,15 +167,15 @@ fn item<'t, 'a>(alloc: Global, tokens: &'t [Lexeme<'a>]) -> Result<(Item, &'t [L
     ensures { Gives (λ x. (item_of x.0, toks_of x.1.now)) result (item_at (toks_of tokens.now)) }
 {
     let [first, rest @ ..] = tokens else {
-        return Err(Stuck::before(tokens));
+        return Err(Stuck::before(tokens, Expected::Item));
     };
     match first.token {
         Token::Word(word) => match reserved_word(word) {
             Some(Keyword::Field) => field(alloc, rest),
             Some(Keyword::Next) => next(alloc, rest),
-            _ => Err(Stuck::before(tokens)),
+            _ => Err(Stuck::before(tokens, Expected::Item)),
         },
-        _ => Err(Stuck::before(tokens)),
+        _ => Err(Stuck::before(tokens, Expected::Item)),
     }
 }
 

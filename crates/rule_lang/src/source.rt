@@ -1,18 +1,20 @@
 //! A program that was read.
 
-ghost use Rattle.std.specs.Prelude.{◌≡◌, ◌↔◌, ◌≤◌, List, ℕ, length, IsTrue, Result, MatchResult};
+ghost use Rattle.std.specs.Prelude.{◌≡◌, ◌↔◌, ◌≤◌, List, ℕ, length, IfErr, IfOk, IfSome, IsTrue, Result, MatchResult};
 ghost use Rattle.rule_lang.specs.Tree.{ItemTree};
 ghost use Rattle.rule_lang.specs.View.{items_of};
-ghost use Rattle.rule_lang.specs.Program.{HasProgram, IsProgram, IsReadAs};
+ghost use Rattle.rule_lang.specs.Program.{HasProgram, IsExplained, IsProgram, IsReadAs, place_of};
+ghost use Rattle.rule_lang.specs.Causes.{IsPlaced, IsReadBy};
 ghost use Rattle.rule_lang.specs.Canonical.{program_text};
 ghost use Rattle.rule_lang.specs.declared.fault.LangFault.{LangFault};
 
+use crate::cause::{LangCause, Refusal};
 use crate::fault::LangFault;
-use crate::lex::tokens;
+use crate::lex::{TEXT_LIMIT, tokens};
 use crate::parse::items;
 use crate::same::same_items;
 use crate::tree::Item;
-use std::alloc::Global;
+use std::alloc::{AllocError, Global};
 use std::marker::Model;
 
 /// The items of a program text: names are no reserved words, numbers are below 2^32, and each
@@ -56,21 +58,43 @@ impl Source {
     }
 }
 
-/// The longest text, in bytes.
-const TEXT_LIMIT: usize = 65536;
+/// The program that a text is, or why there is none.
+fn read(alloc: Global, text: &[u8]) -> Result<Source, Refusal>
+    ensures read { IsReadBy text.now (λ source. source) result }
+    ensures place { IfErr result (IsPlaced (length text.now)) }
+{
+    if text.len() > TEXT_LIMIT {
+        return Err(Refusal::Cause(LangCause::TooLong));
+    }
+    let lexemes = tokens(alloc, text)?;
+    match items(alloc, &lexemes) {
+        Ok(items) => Ok(Source { items }),
+        Err(stuck) => Err(stuck.refusal(&lexemes, text.len() as u32)),
+    }
+}
 
 /// The program that a text is: `Ok` exactly where the text has at most 65,536 bytes, a token list
 /// and a tree, want of memory aside. `LangFault` says when each error comes.
 pub fn read_program(alloc: Global, text: &[u8]) -> Result<Source, LangFault>
     ensures read { IsReadAs text.now (λ source. source) result }
 {
-    if text.len() > TEXT_LIMIT {
-        return Err(LangFault::TooLong);
+    match read(alloc, text) {
+        Ok(source) => Ok(source),
+        Err(refusal) => Err(refusal.fault()),
     }
-    let lexemes = tokens(alloc, text)?;
-    match items(alloc, &lexemes) {
-        Ok(items) => Ok(Source { items }),
-        Err(stuck) => Err(stuck.fault(text.len() as u32)),
+}
+
+/// Why a text is no program, and where: none exactly where `read_program` gives a program, want of memory aside. A
+/// text that is too long takes no memory.
+pub fn diagnose(alloc: Global, text: &[u8]) -> Result<Option<LangCause>, AllocError>
+    ensures agrees { IfOk result (IsExplained text.now) }
+    ensures place { IfOk result (λ found. IfSome found (λ cause. place_of cause ≤ length text.now)) }
+    ensures at_once { IfErr result (λ _. length text.now ≤ 65536) }
+{
+    match read(alloc, text) {
+        Ok(_) => Ok(None),
+        Err(Refusal::Cause(cause)) => Ok(Some(cause)),
+        Err(Refusal::Memory) => Err(AllocError),
     }
 }
 

@@ -1,45 +1,59 @@
 //! Why a token list has no tree.
 
-ghost use Rattle.std.specs.Prelude.{◌≡◌};
+ghost use Rattle.std.specs.Prelude.{◌≡◌, ◌≤◌, ◌<◌};
+ghost use Rattle.std.specs.List.{AllByRecursion};
 ghost use Rattle.rule_lang.specs.declared.stuck.Stuck.TheVariants.{Memory};
-ghost use Rattle.rule_lang.specs.Causes.{NoMemoryWanted, fault_of, stuck_before};
+ghost use Rattle.rule_lang.specs.Causes.{IsPlaced, IsStuckAs, NoMemoryWanted, stuck_before};
 
-use crate::fault::LangFault;
+use crate::cause::{Expected, LangCause, Refusal};
 use crate::token::Lexeme;
 use std::alloc::{AllocError, AllocFailed};
 
 /// Why a token list has no tree.
 #[derive(Clone, Copy, Debug)]
 pub enum Stuck {
-    /// The token whose first byte stands here cannot stand at its place.
-    Token { at: u32 },
-    /// The tokens end inside an item.
-    End,
+    /// The first of the last `left` tokens cannot stand at its place, or their end where `left` is 0; this could.
+    Token { left: usize, expected: Expected },
     /// Want of memory.
     Memory,
 }
 
 impl Stuck {
     /// What is wrong with the first of these tokens, or with their end where there is none.
-    pub fn before(tokens: &[Lexeme]) -> Stuck
-        ensures place { result ≡ stuck_before tokens.now }
+    pub fn before(tokens: &[Lexeme], expected: Expected) -> Stuck
+        ensures place { result ≡ stuck_before tokens.now expected }
         ensures cause { NoMemoryWanted result }
     {
-        match tokens {
-            [first, ..] => Stuck::Token { at: first.at },
-            [] => Stuck::End,
+        Stuck::Token {
+            left: tokens.len(),
+            expected,
         }
     }
 
-    /// The fault of a text that ends here.
-    pub fn fault(self, end: u32) -> LangFault
-        ensures { result ≡ fault_of self end }
+    /// The refusal of a text of this length with these tokens.
+    pub fn refusal(self, lexemes: &[Lexeme], end: u32) -> Refusal
+        requires places { AllByRecursion (λ l. l.at < end) lexemes.now }
+        ensures same { IsStuckAs self result }
+        ensures place { IsPlaced end result }
     {
         match self {
-            Stuck::Token { at } => LangFault::Syntax { at },
-            Stuck::End => LangFault::Syntax { at: end },
-            Stuck::Memory => LangFault::Memory,
+            Stuck::Token { left, expected } => Refusal::Cause(LangCause::Syntax {
+                at: place_of_last(lexemes, left, end),
+                expected,
+            }),
+            Stuck::Memory => Refusal::Memory,
         }
+    }
+}
+
+/// Where the first of the last `left` tokens begins, or the end of the text where there is none.
+fn place_of_last(lexemes: &[Lexeme], left: usize, end: u32) -> u32
+    requires places { AllByRecursion (λ l. l.at < end) lexemes.now }
+    ensures place { result ≤ end }
+{
+    match lexemes.get(lexemes.len().saturating_sub(left)) {
+        Some(lexeme) => lexeme.at,
+        None => end,
     }
 }
 
