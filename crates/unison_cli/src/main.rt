@@ -3,13 +3,9 @@
 
 #[cfg(test)]
 mod memory_tests;
-mod request;
 #[cfg(test)]
 mod word_tests;
-mod words;
 
-pub use crate::request::{Request, UsageFault};
-use crate::words::job_of;
 use lockstep::Tally;
 use std::alloc::AllocError;
 use std::fs::File;
@@ -19,6 +15,8 @@ use std::sync::Wait;
 use std::thread::Threads;
 use std::{env, fs, io};
 pub use unison_jobs::{Job, ServeFault, Served, serve};
+use unison_words::job_of;
+pub use unison_words::{Request, UsageFault};
 
 /// Why the program ends with a status other than 0, or after help.
 #[derive(Debug, Drop)]

@@ -4,12 +4,11 @@
 //! and by the gate with ample memory. It prints `answer` where it has the answer, which it has compared, and `memory`
 //! where want of memory was answered. Anything else fails the test; so does `memory` where nothing was refused.
 
-use crate::request::UsageFault;
 use crate::word_tests::owned;
-use crate::words::{command, job_of};
 use std::alloc::Global;
 use std::test::Fail;
 use unison_jobs::Job;
+use unison_words::{UsageFault, command, job_of};
 
 /// Whether the words are those of a lockstep job of 2 rounds on the paths `p` and `n`.
 fn is_lockstep(alloc: Global, words: &[&str]) -> Result<bool, UsageFault> {

@@ -1,10 +1,9 @@
 //! Command lines: what they mean, and what is refused.
 
-use crate::request::{Request, UsageFault};
-use crate::words::job_of;
 use std::alloc::{AllocError, Global};
 use std::test::Fail;
 use unison_jobs::Job;
+use unison_words::{Request, UsageFault, job_of};
 
 /// The words as owned texts.
 pub(crate) fn owned(alloc: Global, words: &[&str]) -> Result<Vec<String>, AllocError> {

@@ -10,4 +10,4 @@ mod worker;
 
 pub use fault::RunFault;
 pub use gate::{Gate, OpenGate};
-pub use pool::{MOST_WORKERS, run};
+pub use pool::{MOST_WORKERS, opening_refusal, run};

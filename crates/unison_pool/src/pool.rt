@@ -67,9 +67,10 @@ pub fn run<R: Threads + Wait + Sync, G: Gate + Sync>(
     finish(alloc, shared.into_logged(), plan, stop, trace)
 }
 
-/// Why a run isn't begun.
-fn opening_refusal(plan: &Plan, stop: u32, workers: u32) -> Option<RunFault>
-    ensures { result ≡ opening_refusal plan.now stop workers }
+/// Why a run of a plan to a stop by so many workers isn't begun: `WorkerCount` for no worker or more than 64, else
+/// `StopTooLarge` above 1,000,000,000, else `StopBelowStart` below the plan's start.
+pub fn opening_refusal(plan: &Plan, stop: u32, workers: u32) -> Option<RunFault>
+    ensures exact { result ≡ opening_refusal plan.now stop workers }
 {
     if workers == 0 || workers > MOST_WORKERS {
         return Some(RunFault::WorkerCount);

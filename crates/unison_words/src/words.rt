@@ -1,7 +1,7 @@
 //! The command line: which job the words ask for.
 ghost use Rattle.std.specs.Prelude.{◌≡◌, ◌≤◌, IfOk, IfSome};
 ghost use Rattle.lockstep.specs.Configs.{most_rounds};
-ghost use Rattle.unison_cli.specs.Requests.{IsWithinLimits};
+ghost use Rattle.unison_words.specs.Requests.{IsWithinLimits};
 
 use crate::request::{Request, UsageFault};
 use clap::error::ErrorKind;
@@ -160,17 +160,30 @@ fn compare_command<'a>(alloc: Global) -> Result<Command<'a>, AllocError> {
         .arg(from_option(alloc))
 }
 
-/// The whole command with its subcommands.
-pub fn command<'a>(alloc: Global) -> Result<Command<'a>, AllocError> {
+/// The five commands as subcommands of a command that is called by this name, as in `unison`, with this line about it.
+pub fn command_as<'a>(
+    alloc: Global,
+    name: &'a str,
+    about: &'a str,
+) -> Result<Command<'a>, AllocError> {
     Command::new(alloc, "unison")
-        .bin_name("unison")?
-        .about("A runner for synchronous programs on networks whose nodes move at their own pace")
+        .bin_name(name)?
+        .about(about)
         .subcommand_required(true)
         .subcommand(check_command(alloc)?)?
         .subcommand(lockstep_command(alloc)?)?
         .subcommand(run_command(alloc)?)?
         .subcommand(replay_command(alloc)?)?
         .subcommand(compare_command(alloc)?)
+}
+
+/// The whole command with its subcommands.
+pub fn command<'a>(alloc: Global) -> Result<Command<'a>, AllocError> {
+    command_as(
+        alloc,
+        "unison",
+        "A runner for synchronous programs on networks whose nodes move at their own pace",
+    )
 }
 
 /// The number that decimal digits write, where it lies between the bounds.
@@ -335,12 +348,16 @@ fn fault_of(alloc: Global, error: &clap::Error) -> UsageFault {
     }
 }
 
-/// The request that the words make, the program's name first. The numbers of its job are within their limits;
-/// a number outside them is `Usage` with the option's name as its text.
-pub fn job_of(alloc: Global, words: &[String]) -> Result<Request, UsageFault>
+/// The request that the words make by a command of `command_as`, the name by which it is called first. The numbers of
+/// its job are within their limits; a number outside them is `Usage` with the option's name as its text.
+pub fn job_by(
+    alloc: Global,
+    command: Command<'_>,
+    words: &[String],
+) -> Result<Request, UsageFault>
     ensures within { IfOk result (λ r. IsWithinLimits r.job) }
 {
-    let matches = match command(alloc)?.try_get_matches_from(words) {
+    let matches = match command.try_get_matches_from(words) {
         Ok(matches) => matches,
         Err(error) => return Err(fault_of(alloc, &error)),
     };
@@ -348,4 +365,12 @@ pub fn job_of(alloc: Global, words: &[String]) -> Result<Request, UsageFault>
         Some((name, inner)) => request_in(alloc, name, inner),
         None => Err(bad_value(alloc, "command")),
     }
+}
+
+/// The request that the words make, the program's name first. The numbers of its job are within their limits;
+/// a number outside them is `Usage` with the option's name as its text.
+pub fn job_of(alloc: Global, words: &[String]) -> Result<Request, UsageFault>
+    ensures within { IfOk result (λ r. IsWithinLimits r.job) }
+{
+    job_by(alloc, command(alloc)?, words)
 }

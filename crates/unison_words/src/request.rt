@@ -1,6 +1,6 @@
 //! What a command line asks for.
 ghost use Rattle.std.specs.Prelude.{◌≡◌};
-ghost use Rattle.unison_cli.specs.declared.request.UsageFault.TheVariants.{Memory};
+ghost use Rattle.unison_words.specs.declared.request.UsageFault.TheVariants.{Memory};
 
 use std::alloc::AllocError;
 use unison_jobs::Job;

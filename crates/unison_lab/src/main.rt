@@ -1,0 +1,66 @@
+//! Unison for people at work: what the five commands have beside them.
+#![tactic(auto)]
+
+mod ending;
+mod files;
+mod help;
+mod why;
+
+use crate::ending::{Ending, refused};
+use crate::help::help_text;
+use crate::why::why_command;
+use std::process::ExitCode;
+use std::{env, io};
+
+/// The words of the command line. One that is no UTF-8 is a wrong word.
+fn words_of(rt: &HostRuntime) -> Result<Vec<String>, Ending> {
+    match env::args(rt) {
+        Ok(words) => Ok(words.collect(rt.alloc())?),
+        Err(error) => {
+            let text = String::from_str(rt.alloc(), "a word is not UTF-8")?;
+            Err(refused(&error, Ending::Usage(text)))
+        }
+    }
+}
+
+/// The ending where a word is no command.
+fn no_command(rt: &HostRuntime, word: &str) -> Result<u8, Ending> {
+    let text = format!(in rt.alloc(); "there is no command `{word}`: unison --help tells which there are")?;
+    Err(Ending::Usage(text))
+}
+
+/// Does what the command line asks for. The status with which the program ends.
+fn run(rt: &HostRuntime) -> Result<u8, Ending> {
+    let words = words_of(rt)?;
+    let command = match words.get(1) {
+        Some(word) => word.as_str(),
+        None => return Err(Ending::Usage(help_text(rt.alloc())?)),
+    };
+    match command {
+        "why" => why_command(rt, &words[1..]),
+        "help" | "--help" | "-h" => Err(Ending::Help(help_text(rt.alloc())?)),
+        word => no_command(rt, word),
+    }
+}
+
+/// Prints the help, or the fault's line on standard error.
+fn print_ending(rt: &HostRuntime, ending: &Ending) -> io::Result<()> {
+    match ending {
+        Ending::Help(text) => print!(rt; "{text}"),
+        Ending::Usage(text) => eprintln!(rt; "fault: usage\n{text}"),
+        Ending::File(text) => eprintln!(rt; "fault: file\n{text}"),
+        Ending::Output => eprintln!(rt; "fault: device Write"),
+        Ending::Memory => eprintln!(rt; "fault: memory Memory"),
+    }
+}
+
+/// Does what the command line asks for, and ends with its status.
+fn main(rt: HostRuntime) -> ExitCode {
+    match run(&rt) {
+        Ok(status) => ExitCode::from(status),
+        Err(ending) => {
+            let _ = print_ending(&rt, &ending);
+            ExitCode::from(ending.status())
+        }
+    }
+}

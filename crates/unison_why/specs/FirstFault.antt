@@ -1,0 +1,69 @@
+-- The first fault with which a job would end, and when there is none: want of memory, threads and devices aside.
+use Rattle.std.specs.Prelude.{ℕ, Bool, true, false, ◌≡◌, ◌≤◌, List, length, Option, Some, None, Ok}
+use Rattle.rule_lang.specs.Tree.{ItemTree}
+use Rattle.rule_lang.specs.declared.fault.LangFault.TheVariants as lang
+use Rattle.rule_check.specs.declared.fault.CheckFault.TheVariants as check
+use Rattle.link_net.specs.declared.fault.NetFault.TheVariants as net
+use Rattle.lockstep.specs.declared.fault.PlanFault.TheVariants as plan
+use Rattle.lockstep.specs.declared.fault.ReportFault.TheVariants as report
+use Rattle.lockstep.specs.Configs.{Configuration}
+use Rattle.lockstep.specs.Plans.{PlanView}
+use Rattle.lockstep.specs.Lockstep as steps
+use Rattle.unison_world.specs.declared.step.Step.{Step}
+use Rattle.unison_world.specs.Opening.{opening_of}
+use Rattle.unison_world.specs.View.{opened}
+use Rattle.unison_trace.specs.Histories.{most_steps}
+use Rattle.unison_trace.specs.Schedules.{HasSteps}
+use Rattle.unison_trace.specs.Traces.{needed}
+use Rattle.unison_trace.specs.ReplayFaults.{IsRefusedText}
+use Rattle.unison_pool.specs.Refusals.{opening_refusal}
+use Rattle.unison_jobs.specs.declared.job.Job.{Job}
+use Rattle.unison_jobs.specs.declared.job.Job.TheVariants.{Check, Lockstep, Run, Replay, Compare}
+use Rattle.unison_jobs.specs.declared.fault.ServeFault.{ServeFault}
+use Rattle.unison_jobs.specs.declared.fault.ServeFault.TheVariants as fault
+use Rattle.unison_jobs.specs.Served.{IsAccepted, HasResumed, IsRefusal, IsPlanRefusal}
+
+-- the fault is want of memory
+abbrev pub is_memory : ServeFault → Bool
+is_memory (fault.Lang lang.Memory) = true
+is_memory (fault.Check check.Memory) = true
+is_memory (fault.Net net.Memory) = true
+is_memory (fault.Plan plan.Memory) = true
+is_memory (fault.Report report.Memory) = true
+is_memory fault.Memory = true
+is_memory f = false
+
+-- the configuration of the round is there
+abbrev pub HasRounds : PlanView → ℕ → Type 0
+HasRounds p rounds = (c : Configuration) × (steps.rounds_of p rounds ≡ Ok c)
+
+-- a run to the round is begun, and where a trace is asked its steps are not too many
+abbrev pub IsRunnable : PlanView → ℕ → ℕ → Bool → Type 0
+IsRunnable p rounds workers traced = (opening_refusal p rounds workers ≡ None) × (traced ≡ true → needed p rounds ≤ most_steps)
+
+-- the text is a schedule, and there is a world for its steps
+abbrev pub IsReplayable : PlanView → ℕ → List ℕ → Type 0
+IsReplayable p stop text = ((made : List Step) × HasSteps text made × (length made ≤ most_steps)) × (opening_of p stop ≡ Ok (opened p stop))
+
+-- why a job is refused for a plan; of a replay, for the text of its schedule
+abbrev pub IsPlanFault : Job → PlanView → List ℕ → ServeFault → Type 0
+IsPlanFault (Replay stop) p schedule (fault.Replay f) = IsRefusedText p stop schedule f
+IsPlanFault job p schedule f = IsPlanRefusal job p f
+
+-- nothing refuses a job for a plan
+abbrev pub IsUnrefusedPlan : Job → PlanView → List ℕ → Type 0
+IsUnrefusedPlan Check p schedule = ⊥
+IsUnrefusedPlan (Lockstep rounds) p schedule = HasRounds p rounds
+IsUnrefusedPlan (Run rounds workers traced) p schedule = IsRunnable p rounds workers traced
+IsUnrefusedPlan (Replay stop) p schedule = IsReplayable p stop schedule
+IsUnrefusedPlan (Compare rounds workers) p schedule = HasRounds p rounds × IsRunnable p rounds workers false
+
+-- the first fault of a job on its texts: one of those for which it is refused before its work
+abbrev pub IsFirstFault : Job → List ℕ → List ℕ → Option (List ℕ) → List ℕ → ServeFault → Type 0
+IsFirstFault job program network from schedule (fault.Replay f) = (p : PlanView) × HasResumed program network from p × IsPlanFault job p schedule (fault.Replay f)
+IsFirstFault job program network from schedule f = IsRefusal job program network from f
+
+-- nothing refuses a job on its texts
+abbrev pub IsUnrefused : Job → List ℕ → List ℕ → Option (List ℕ) → List ℕ → Type 0
+IsUnrefused Check program network from schedule = (items : List ItemTree) × IsAccepted program items
+IsUnrefused job program network from schedule = (p : PlanView) × HasResumed program network from p × IsUnrefusedPlan job p schedule

@@ -1,0 +1,108 @@
+//! Why no token begins at a place.
+
+use crate::found::front_text;
+use crate::told::{Part, Told};
+use std::alloc::{AllocError, Global};
+
+/// What stands before a byte in a text, blanks left out.
+fn before(text: &[u8], at: usize) -> &[u8] {
+    let mut end = at.min(text.len());
+    while end > 0 && (text[end - 1] == b' ' || text[end - 1] == b'\t') {
+        end -= 1;
+    }
+    &text[..end]
+}
+
+/// What to do about a `.`, by what stands before it.
+fn dot_hint(front: &[u8]) -> &'static str {
+    match front.last() {
+        Some(byte) if byte.is_ascii_digit() => "numbers are whole: scale them, 15 tenths for 1.5",
+        Some(b'n') => "a neighbour's field is written in one piece: n.NAME",
+        _ => "a `.` stands in a neighbour's field alone: n.NAME",
+    }
+}
+
+/// What to do about a character that is not ASCII.
+fn foreign_hint(rest: &[u8]) -> &'static str {
+    if rest.starts_with(b"\xe2\x88\x92") || rest.starts_with(b"\xe2\x80\x93") || rest.starts_with(b"\xe2\x80\x94") {
+        return "this is a minus sign or a dash of Unicode: write `-`";
+    }
+    if rest.starts_with(b"\xe2\x80\x98") || rest.starts_with(b"\xe2\x80\x99") || rest.starts_with(b"\xe2\x80\x9c") || rest.starts_with(b"\xe2\x80\x9d") {
+        return "names and numbers stand without quotes";
+    }
+    if rest.starts_with(b"\xe2\x89\xa4") || rest.starts_with(b"\xe2\x89\xa5") || rest.starts_with(b"\xe2\x89\xa0") {
+        return "comparisons are written in ASCII: `<=`, `>=`, `!=`";
+    }
+    if rest.starts_with(b"\xc2\xa0") {
+        return "this is a blank that does not break: write a space";
+    }
+    "outside comments a program is ASCII: names are of letters, digits and `_`"
+}
+
+/// What to do about a byte with which no token begins.
+fn byte_hint(text: &[u8], at: usize) -> &'static str {
+    let rest = &text[at.min(text.len())..];
+    match rest.first() {
+        Some(b'!') => "`not A` is 1 where A is 0, and `!=` compares",
+        Some(b'.') => dot_hint(before(text, at)),
+        Some(b'"' | b'\'' | b'`') => "names and numbers stand without quotes",
+        Some(b'{' | b'}' | b'[' | b']') => "brackets are round: (A + B)",
+        Some(b',') => "items end with `;`, and no list has commas",
+        Some(b'_') => "a name begins with a letter",
+        Some(b'?' | b':') => "a choice is written: if A then B else C",
+        Some(b'~') => "`not A` is 1 where A is 0; (4294967295 - A) turns all bits of A",
+        Some(0x80..) => foreign_hint(rest),
+        Some(0) => "the file is no plain text: save it as UTF-8",
+        _ => "",
+    }
+}
+
+/// Whether the byte is a digit, with which a number begins.
+fn is_digit(text: &[u8], at: usize) -> bool {
+    match text.get(at) {
+        Some(byte) => byte.is_ascii_digit(),
+        None => false,
+    }
+}
+
+/// What is told of a mark at the beginning of a file that says how it is encoded.
+fn mark_text(alloc: Global, text: &[u8]) -> Result<Option<(String, String)>, AllocError> {
+    if text.starts_with(b"\xef\xbb\xbf") {
+        let what = String::from_str(alloc, "found a byte order mark, which cannot be seen")?;
+        let hint = String::from_str(alloc, "save the file as UTF-8 without a byte order mark")?;
+        return Ok(Some((what, hint)));
+    }
+    if text.starts_with(b"\xff\xfe") || text.starts_with(b"\xfe\xff") {
+        let what = String::from_str(alloc, "found the byte order mark of UTF-16")?;
+        let hint = String::from_str(alloc, "save the file as UTF-8 without a byte order mark")?;
+        return Ok(Some((what, hint)));
+    }
+    Ok(None)
+}
+
+/// What is wrong at the byte at which no token begins, and what to do.
+fn lexical_text(alloc: Global, text: &[u8], at: usize) -> Result<(String, String), AllocError> {
+    if at == 0 {
+        if let Some(told) = mark_text(alloc, text)? {
+            return Ok(told);
+        }
+    }
+    if is_digit(text, at) {
+        let what = String::from_str(alloc, "the number is above 4294967295")?;
+        return Ok((what, String::from_str(alloc, "numbers go from 0 to 4294967295")?));
+    }
+    let found = front_text(alloc, &text[at.min(text.len())..])?;
+    let what = format!(in alloc; "found {found}, with which nothing begins")?;
+    Ok((what, String::from_str(alloc, byte_hint(text, at))?))
+}
+
+/// What is told of a program's text in which no token begins at a byte.
+pub(crate) fn tell_lexical(alloc: Global, text: &[u8], at: usize) -> Result<Told, AllocError> {
+    let (what, hint) = lexical_text(alloc, text, at)?;
+    Ok(Told {
+        part: Some(Part::Program),
+        at: Some(at),
+        what,
+        hint,
+    })
+}

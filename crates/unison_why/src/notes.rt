@@ -1,0 +1,157 @@
+//! What is accepted, and rarely meant.
+
+use crate::told::{Named, Texts};
+use link_net::read_network;
+use rule_lang::{Agg, Expr, Item, Op, read_program};
+use std::alloc::{AllocError, Global};
+
+/// Whether an expression can differ between nodes whose states and neighbours' states are alike.
+fn tells_apart(expr: &Expr) -> bool {
+    match expr {
+        Expr::Id | Expr::Degree | Expr::NearId | Expr::NearWeight => true,
+        Expr::Over(Agg::Total | Agg::Count, _) => true,
+        Expr::Number(_) | Expr::Own(_) | Expr::Round | Expr::Near(_) => false,
+        Expr::Not(part) | Expr::Over(_, part) => tells_apart(part),
+        Expr::Infix(_, left, right) => tells_apart(left) || tells_apart(right),
+        Expr::Choice(test, yes, no) => tells_apart(test) || tells_apart(yes) || tells_apart(no),
+    }
+}
+
+/// Whether an expression has a field of this name, of the node or of a neighbour.
+fn reads(expr: &Expr, name: &str) -> bool {
+    match expr {
+        Expr::Own(field) | Expr::Near(field) => field.as_str() == name,
+        Expr::Number(_) | Expr::Id | Expr::Degree | Expr::Round | Expr::NearId | Expr::NearWeight => false,
+        Expr::Not(part) | Expr::Over(_, part) => reads(part, name),
+        Expr::Infix(_, left, right) => reads(left, name) || reads(right, name),
+        Expr::Choice(test, yes, no) => reads(test, name) || reads(yes, name) || reads(no, name),
+    }
+}
+
+/// Whether the value is 1 where something holds, and else 0.
+fn is_test(expr: &Expr) -> bool {
+    match expr {
+        Expr::Infix(op, _, _) => matches!(
+            op,
+            Op::Equal | Op::Differ | Op::Less | Op::LessEq | Op::Greater | Op::GreaterEq
+        ),
+        Expr::Not(_) | Expr::Over(Agg::Some1 | Agg::Every, _) => true,
+        _ => false,
+    }
+}
+
+/// Whether the expression is a number above 1.
+fn is_large(expr: &Expr) -> bool {
+    match expr {
+        Expr::Number(value) => *value > 1,
+        _ => false,
+    }
+}
+
+/// Whether `&` or `|` stands between a test and a number above 1.
+fn mixes(expr: &Expr) -> bool {
+    match expr {
+        Expr::Infix(op, left, right) => {
+            let here = matches!(op, Op::BitAnd | Op::BitOr)
+                && (is_test(left) && is_large(right) || is_large(left) && is_test(right));
+            here || mixes(left) || mixes(right)
+        }
+        Expr::Not(part) | Expr::Over(_, part) => mixes(part),
+        Expr::Choice(test, yes, no) => mixes(test) || mixes(yes) || mixes(no),
+        _ => false,
+    }
+}
+
+/// Whether some rule has `&` or `|` between a test and a number above 1.
+fn some_mixes(items: &[Item]) -> bool {
+    for item in items {
+        if let Item::Next { body, .. } = item {
+            if mixes(body) {
+                return true;
+            }
+        }
+    }
+    false
+}
+
+/// Whether some rule can tell nodes apart whose states are alike.
+fn some_tells_apart(items: &[Item]) -> bool {
+    for item in items {
+        if let Item::Next { body, .. } = item {
+            if tells_apart(body) {
+                return true;
+            }
+        }
+    }
+    false
+}
+
+/// Whether some rule changes the field of this name, or reads it.
+fn is_used(items: &[Item], field: &str) -> bool {
+    for item in items {
+        if let Item::Next { name, body } = item {
+            if name.as_str() == field || reads(body, field) {
+                return true;
+            }
+        }
+    }
+    false
+}
+
+/// Adds a note for each field that no rule changes and none reads.
+fn put_unused(out: &mut String, items: &[Item]) -> Result<(), AllocError> {
+    for item in items {
+        if let Item::Field { name, .. } = item {
+            if !is_used(items, name.as_str()) {
+                write!(out, "note: the field `{name}` is changed by no rule and read by none\n")?;
+            }
+        }
+    }
+    Ok(())
+}
+
+/// Adds the notes on a program.
+fn put_program_notes(out: &mut String, items: &[Item]) -> Result<(), AllocError> {
+    if items.is_empty() {
+        return out.push_str("note: the program has no items, and its nodes no fields\n");
+    }
+    put_unused(out, items)?;
+    if some_mixes(items) {
+        out.push_str("note: `&` or `|` stands between a test, which is 0 or 1, and a number above 1: it goes bit by bit\n")?;
+    }
+    Ok(())
+}
+
+/// Whether a network file sets no field of any node.
+fn sets_nothing(alloc: Global, named: Named) -> bool {
+    let Ok(file) = read_network(alloc, named.text) else {
+        return false;
+    };
+    for set in file.sets() {
+        if !set.pairs.as_slice().is_empty() {
+            return false;
+        }
+    }
+    true
+}
+
+/// Whether all nodes stay alike: the texts set nothing, and the program never tells nodes apart.
+fn stay_alike(alloc: Global, texts: &Texts, items: &[Item]) -> bool {
+    match (texts.network, texts.report) {
+        (Some(named), None) => !some_tells_apart(items) && !items.is_empty() && sets_nothing(alloc, named),
+        _ => false,
+    }
+}
+
+/// What is told where nothing refuses a job: that it is so, and notes on what is accepted and rarely meant.
+pub(crate) fn notes(alloc: Global, texts: &Texts) -> Result<String, AllocError> {
+    let mut out = String::from_str(alloc, "nothing is wrong\n")?;
+    let Ok(source) = read_program(alloc, texts.program.text) else {
+        return Ok(out);
+    };
+    put_program_notes(&mut out, source.items())?;
+    if stay_alike(alloc, texts, source.items()) {
+        out.push_str("note: all nodes open alike and the program never tells them apart: set a field in the network, as in [set] and dist = [[0, 0]]\n")?;
+    }
+    Ok(out)
+}

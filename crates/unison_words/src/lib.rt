@@ -1,0 +1,8 @@
+//! The command line of the five commands: the job that its words ask for.
+#![tactic(auto)]
+
+mod request;
+mod words;
+
+pub use request::{Request, UsageFault};
+pub use words::{command, command_as, job_by, job_of};
