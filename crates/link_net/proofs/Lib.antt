@@ -13,3 +13,9 @@ mod Checks
 mod Describing
 mod Steps
 mod NameOrder
+mod Places
+mod Refusals
+mod Repeats
+mod ShapeSteps
+mod DraftRefusals
+mod Crowds
