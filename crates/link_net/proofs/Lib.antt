@@ -19,3 +19,4 @@ mod Repeats
 mod ShapeSteps
 mod DraftRefusals
 mod Crowds
+mod ShapeRefusals
