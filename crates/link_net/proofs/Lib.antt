@@ -20,3 +20,4 @@ mod ShapeSteps
 mod DraftRefusals
 mod Crowds
 mod ShapeRefusals
+mod Documents

@@ -1,4 +1,4 @@
-use Rattle.std.proofs.Common.{◌≡◌, ◌∙◌, ◌-◌, List, map, true, false, Option, Some, None, is_none, sym, ap, arith}
+use Rattle.std.proofs.Common.{◌≡◌, ◌∙◌, ◌-◌, ℕ, Bool, List, map, true, false, not, Option, Some, None, is_none, is_some, refl, sym, ap, arith}
 use Rattle.link_net.specs.Causes.{refusal_of, IsLinkCause}
 use Rattle.link_net.specs.Limits.{most_nodes}
 use Rattle.link_net.specs.Reading.{number_in, all_placed}
@@ -19,10 +19,16 @@ links_read c = from_read _ c.in-Ok.links.items (rw c.as_slice-2.ensures at c.in-
 fine : (c : In_default-2) (ls : List Half) → c.in-Ok.links.items ≡ map settled ls → None ≡ refusal_of (network_in c.in-Some.nodes (map settled ls))
 fine c ls is = rw (c.in_default-2.is, c.as_slice-3.ensures.value, is) at c.in_ok-cause.ensures.agrees
 
+turned : (r : Bool) (o : Option ℕ) → is_some o ≡ not r → r ≡ is_none o
+turned true None h = refl
+turned true (Some x) h = cc
+turned false None h = cc
+turned false (Some x) h = refl
+
 phase_seen : (c : After-is_none) → c.is_none.result ≡ is_none (number_in 0 2 c.args.draft.now.phase)
 phase_seen c =
     let looked : c.number_in-2.result ≡ number_in 0 2 c.args.draft.now.phase = grind arith in
-    c.is_none.ensures ∙ ap is_none looked
+    turned c.is_none.result c.number_in-2.result c.is_none.ensures ∙ ap is_none looked
 
 pub returns-in-Some-astray_link-clause-agrees : goal.returns-in-Some-astray_link-clause-agrees
 returns-in-Some-astray_link-clause-agrees c =
