@@ -1,6 +1,6 @@
 -- The first node with too many neighbours, from the places at which each node's arcs begin.
 use Rattle.std.proofs.Common.{◌≡◌, ◌∙◌, ℕ, ◌+◌, ◌-◌, ◌<◌, true, false, List, length, get_or, nat_lt, Option, Some, None, is_some, refl, sym, ap, arith}
-use Rattle.std.specs.List.{list_any, find}
+use Rattle.std.specs.List.{find}
 use Rattle.link_net.specs.declared.cause.NetCause.TheVariants as cause
 use Rattle.link_net.specs.declared.fault.NetFault.TheVariants.{TooManyNeighbours}
 use Rattle.link_net.specs.Arcs.{Arc}

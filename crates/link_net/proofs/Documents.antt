@@ -1,5 +1,5 @@
 -- Bytes, the document that they are, and its keys.
-use Rattle.std.proofs.Common.{◌≡◌, ◌∙◌, ℕ, true, false, not, ◌||◌, List, Option, Some, None, is_some, refl, sym, ap, inl, inr}
+use Rattle.std.proofs.Common.{◌≡◌, ℕ, true, not, ◌||◌, List, Option, Some, None, is_some, refl, ap, inl, inr}
 use Rattle.std.specs.Prelude.{IsSomeAnd, IsUtf8}
 use Rattle.std.proofs.lemmas.Bool.{cases_Bool}
 use Rattle.std.proofs.lemmas.Str.{IsUtf8-from_is_utf8, is_utf8-from_IsUtf8}

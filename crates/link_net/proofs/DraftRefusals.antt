@@ -1,5 +1,5 @@
 -- What is refused in links and in drafts.
-use Rattle.std.proofs.Common.{◌≡◌, ◌∙◌, ℕ, ◌-◌, ◌<◌, true, false, List, length, map, nat_lt, Option, Some, None, is_none, refl, sym, ap, arith}
+use Rattle.std.proofs.Common.{◌≡◌, ◌∙◌, ℕ, ◌-◌, ◌<◌, true, false, List, length, map, nat_lt, Some, None, is_none, refl, sym, ap, arith}
 use Rattle.std.proofs.lemmas.Bool.Decides.{nat_tests}
 use Rattle.std.specs.Prelude.{position}
 use Rattle.std.specs.List.{list_any}

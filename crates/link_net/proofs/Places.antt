@@ -1,5 +1,5 @@
 -- The first place at which a test passes, and the first number of a range.
-use Rattle.std.proofs.Common.{◌≡◌, ◌∙◌, ℕ, ◌+◌, ◌<◌, ◌≤◌, zero, suc, Bool, true, false, List, [], ◌∷◌, map, cond, Option, Some, None, is_some, refl, sym, ap, arith, inl, inr}
+use Rattle.std.proofs.Common.{◌≡◌, ◌∙◌, ℕ, ◌+◌, ◌<◌, ◌≤◌, zero, suc, Bool, true, false, List, [], ◌∷◌, map, cond, Some, None, is_some, refl, sym, ap, arith, inl, inr}
 use Rattle.std.proofs.lemmas.Bool.{cases_Bool}
 use Rattle.std.proofs.lemmas.Iterator.Adapters.{position_from-zero}
 use Rattle.std.specs.List.{list_any, position, position_from, find, range_with_len}
@@ -44,12 +44,9 @@ pub find_agrees : (p q : ℕ → Bool) (a n : ℕ) → ((u : ℕ) → a ≤ u �
 find_agrees p q a zero same = refl
 find_agrees p q a (suc n) same = rw (same a (omega arith) (omega arith), find_agrees p q (a + 1) n (λ u low high. same u (omega arith) (omega arith)))
 
--- a test that the first number fails, and one that it passes
+-- a test that the first number fails
 pub find_further : (p : ℕ → Bool) (a n m : ℕ) → n ≡ suc m → p a ≡ false → find p (range_with_len a n) ≡ find p (range_with_len (a + 1) m)
 find_further p a n m is none = rw (is, none) refl
-
-pub find_here : (p : ℕ → Bool) (a n m : ℕ) → n ≡ suc m → p a ≡ true → find p (range_with_len a n) ≡ Some a
-find_here p a n m is hit = rw (is, hit) refl
 
 -- what is found in a range is in it
 pub find_below : (p : ℕ → Bool) (a n u : ℕ) → find p (range_with_len a n) ≡ Some u → u < a + n

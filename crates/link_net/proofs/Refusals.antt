@@ -1,6 +1,6 @@
 -- Refusals, step by step.
-use Rattle.std.proofs.Common.{◌≡◌, ◌∙◌, ℕ, ℤ, ◌-◌, Bool, true, false, ◌||◌, List, [], ◌∷◌, length, map, nat_lt, Option, Some, None, option_map, is_none, is_some, not, Result, Ok, Err, refl, sym, ap, inl, inr}
-use Rattle.std.specs.Prelude.{codes, option_and_then, slice_get, IsSomeAnd, find, position}
+use Rattle.std.proofs.Common.{◌≡◌, ◌∙◌, ℕ, ℤ, ◌-◌, Bool, true, false, ◌||◌, List, [], ◌∷◌, length, map, nat_lt, Option, Some, None, option_map, is_none, Result, Ok, Err, refl, sym, ap, inl, inr}
+use Rattle.std.specs.Prelude.{codes, option_and_then, slice_get, IsSomeAnd, find}
 use Rattle.std.specs.List.{list_any}
 use Rattle.std.proofs.lemmas.Bool.{cases_Bool}
 use Rattle.std.proofs.lemmas.List.{length-map}
@@ -13,12 +13,12 @@ use Rattle.link_net.specs.declared.field_set.FieldSet.{FieldSet}
 use Rattle.link_net.specs.declared.fault.NetFault.{NetFault}
 use Rattle.link_net.specs.declared.fault.NetFault.TheVariants.{TooManyNeighbours, UnknownKey, BadShape}
 use Rattle.link_net.specs.Arcs.{Arc}
-use Rattle.link_net.specs.Causes.{fault_of, refusal_of, fault_if, AreTwice, IsLinkCause, IsNumberCause, IsSetCause, IsShapeCause, IsDocumentCause}
+use Rattle.link_net.specs.Causes.{refusal_of, fault_if, AreTwice, IsLinkCause, IsNumberCause, IsSetCause, IsShapeCause, IsDocumentCause}
 use Rattle.link_net.specs.Document.{has_unknown_key, nodes_of, links_of, phase_of, field_sets_of, draft_of}
 use Rattle.link_net.specs.Limits.{most_nodes, most_links, most_neighbours}
 use Rattle.link_net.specs.Links.{is_self_link, has_link_twice, joins, linked_with}
 use Rattle.link_net.specs.Neighbours.{numbers_below}
-use Rattle.link_net.specs.Reading.{Description, number_in, placed, all_placed, is_crowded, description_in, description_of}
+use Rattle.link_net.specs.Reading.{number_in, placed, all_placed, is_crowded, description_in, description_of}
 use Rattle.link_net.specs.Tables.{settled, network_in}
 use Rattle.link_net.proofs.Checks.{linked_settled}
 use Rattle.link_net.proofs.LinkSteps.{Raw, Half}

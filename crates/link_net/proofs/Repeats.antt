@@ -1,5 +1,5 @@
 -- Arcs with the numbers of their links: what leads alike twice comes from two links.
-use Rattle.std.proofs.Common.{◌≡◌, ◌≢◌, ◌∙◌, ℕ, ◌+◌, ◌<◌, ◌≤◌, ◌==◌, Bool, true, false, ◌&&◌, ◌||◌, List, [], ◌∷◌, length, zero, suc, Option, Some, None, refl, sym, ap, arith, inl, inr, ◌⊎◌, Ordering, Equal, nat_cmp, add-zero, zero-add}
+use Rattle.std.proofs.Common.{◌≡◌, ◌≢◌, ◌∙◌, ℕ, ◌+◌, ◌<◌, ◌≤◌, ◌==◌, Bool, true, false, ◌&&◌, ◌||◌, List, [], ◌∷◌, suc, Option, Some, None, refl, sym, ap, arith, inl, inr, ◌⊎◌, Ordering, Equal, nat_cmp, add-zero, zero-add}
 use Rattle.std.specs.Prelude.{slice_get, IsSomeAnd}
 use Rattle.std.proofs.lemmas.Bool.{cases_Bool, or_cases, or_parts, and_parts}
 use Rattle.std.proofs.lemmas.Bool.Decides.{nat_tests}

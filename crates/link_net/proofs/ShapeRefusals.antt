@@ -1,5 +1,5 @@
 -- What is refused in the values at `links` and at a key of `set`.
-use Rattle.std.proofs.Common.{◌≡◌, ◌∙◌, ℕ, true, false, List, Option, Some, None, is_none, refl, sym}
+use Rattle.std.proofs.Common.{◌≡◌, ◌∙◌, ℕ, true, false, List, Some, None, is_none, refl, sym}
 use Rattle.std.specs.Prelude.{codes, option_and_then, position, IsSomeAnd}
 use Rattle.toml.specs.Data.{Data, Members, get_member, as_array}
 use Rattle.toml.specs.View.{view, items_view}

@@ -1,6 +1,6 @@
 -- Steps of the search for what is wrong with the shape of a document.
-use Rattle.std.proofs.Common.{◌≡◌, ◌∙◌, ℕ, ◌+◌, zero, suc, Bool, true, false, not, ◌||◌, List, [], ◌∷◌, ◌++◌, cond, map, Option, Some, None, option_map, is_some, is_none, String, Global, string_bytes, Less, Greater, nat_cmp, refl, sym, ap, append_assoc, arith, ℤ}
-use Rattle.std.specs.Prelude.{option_and_then, IsSome}
+use Rattle.std.proofs.Common.{◌≡◌, ◌∙◌, ℕ, ◌+◌, suc, Bool, true, false, ◌||◌, List, [], ◌∷◌, ◌++◌, cond, Option, Some, None, option_map, is_some, is_none, string_bytes, Less, Greater, nat_cmp, refl, sym, ap, append_assoc, arith, ℤ}
+use Rattle.std.specs.Prelude.{option_and_then}
 use Rattle.std.specs.List.{list_any, position, position_from, AllByRecursion}
 use Rattle.std.specs.List.Sorted.{IsStrictlySortedBy}
 use Rattle.std.specs.Map.{keys_of}

@@ -4,10 +4,10 @@ ghost use Rattle.link_net.specs.Causes.{fault_of, refusal_of, IsNumberCause};
 ghost use Rattle.link_net.specs.Reading.{placed, description_of};
 ghost use Rattle.link_net.specs.Tables.{is_off};
 
+use crate::NetCause;
 use crate::draft::Draft;
 use crate::link_causes::link_cause;
 use crate::numbers::{LAST_PHASE, MOST_NODES, is_off, number_in, read_link, read_links};
-use crate::NetCause;
 use std::alloc::{AllocError, Global};
 
 /// Whether an end of the link is no node, up to the last one.

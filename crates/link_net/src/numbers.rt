@@ -39,7 +39,11 @@ pub(crate) fn read_link(last: u32, link: &(i64, i64, i64)) -> Option<Link>
 }
 
 /// The links, where all ends are nodes.
-pub(crate) fn read_links(alloc: Global, last: u32, draft: &[(i64, i64, i64)]) -> Result<Vec<Link>, NetFault>
+pub(crate) fn read_links(
+    alloc: Global,
+    last: u32,
+    draft: &[(i64, i64, i64)],
+) -> Result<Vec<Link>, NetFault>
     ensures answer { IsAnswerBy (λ v. v.items) (ok_or (option_map (map settled) (all_placed last draft.now)) NetFault.BadLink) result }
     ensures within { IfOk result (λ v. AllWithin (last + 1) v.items) }
 {

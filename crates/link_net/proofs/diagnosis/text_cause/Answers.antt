@@ -1,8 +1,7 @@
-use Rattle.std.proofs.Common.{◌≡◌, ◌∙◌, Some, sym, ap}
+use Rattle.std.proofs.Common.{◌∙◌, sym, ap}
 use Rattle.std.proofs.lemmas.Option.{IfSome_then}
 use Rattle.toml.specs.View.{table_view}
 use Rattle.link_net.specs.Causes.{refusal_of}
-use Rattle.link_net.specs.Reading.{document_of}
 use Rattle.link_net.proofs.Documents.{document_is, reading_is, cause_of}
 use Rattle.link_net.proofs.diagnosis.text_cause.Goals as goal
 

@@ -1,4 +1,4 @@
-use Rattle.std.proofs.Common.{◌≡◌, ℕ, ◌<◌, length}
+use Rattle.std.proofs.Common.{ℕ, ◌<◌, length}
 use Rattle.link_net.specs.Arcs.{IsFirst}
 use Rattle.link_net.proofs.Laying.{AreTables, placed}
 use Rattle.link_net.proofs.Crowds.{crowd_named, crowd_refused, no_crowd}

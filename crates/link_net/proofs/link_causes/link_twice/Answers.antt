@@ -1,4 +1,4 @@
-use Rattle.std.proofs.Common.{◌≡◌, ◌∙◌, ℕ}
+use Rattle.std.proofs.Common.{◌∙◌}
 use Rattle.std.proofs.lemmas.Option.{IfSome_then}
 use Rattle.link_net.proofs.Repeats.{repeated, repeats_twice}
 use Rattle.link_net.proofs.link_causes.link_twice.Goals as goal
