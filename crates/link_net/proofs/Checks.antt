@@ -34,7 +34,7 @@ twice_settled : (links : List Half) → has_link_twice (map settled links) ≡ h
 twice_settled [] = refl
 twice_settled (l ∷ ls) = rw (joins_settled l.0 l.1 ls, twice_settled ls)
 
-linked_settled : (n : ℕ) (links : List Half) (u : ℕ) → linked_with n (map settled links) u ≡ linked_with n links u
+pub linked_settled : (n : ℕ) (links : List Half) (u : ℕ) → linked_with n (map settled links) u ≡ linked_with n links u
 linked_settled n links u = filter_agree (are_linked (map settled links) u) (are_linked links u) (λ w. joins_settled u w links) (numbers_below n)
 
 crowded_settled : (n : ℕ) (links : List Half) → is_crowded n (map settled links) ≡ is_crowded n links

@@ -63,7 +63,7 @@ module _ (n : ℕ) (links arcs : List Arc) (offsets : List ℕ) (made : AreTable
   pub rows_are : rows_of offsets targets weights ≡ network_of n links
   rows_are = ap (λ k. map (part offsets (zip targets weights)) (numbers_below k)) nodes_are ∙ map_agrees (part offsets (zip targets weights)) (neighbours_of n links) 0 n (λ u low high. row_is u (omega arith))
 
-  length_is : (u : ℕ) → u < n → get_or offsets (u + 1) 0 - get_or offsets u 0 ≡ length (linked_with n links u)
+  pub length_is : (u : ℕ) → u < n → get_or offsets (u + 1) 0 - get_or offsets u 0 ≡ length (linked_with n links u)
   length_is u low =
       let long = length_part offsets arcs placed u (omega (arith, made.count)) in
       let same : part offsets arcs u ≡ from_node u arcs = part_is arcs u _ _ (made.firsts u (omega (arith, made.count))) (made.firsts (u + 1) (omega (arith, made.count))) in

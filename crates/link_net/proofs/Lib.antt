@@ -13,3 +13,11 @@ mod Checks
 mod Describing
 mod Steps
 mod NameOrder
+mod Places
+mod Refusals
+mod Repeats
+mod ShapeSteps
+mod DraftRefusals
+mod Crowds
+mod ShapeRefusals
+mod Documents

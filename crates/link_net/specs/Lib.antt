@@ -7,3 +7,5 @@ pub mod Reading
 pub mod Arcs
 pub mod Layout
 pub mod Tables
+pub mod Causes
+pub mod Numbering

@@ -29,7 +29,7 @@ pub(crate) fn read_table(alloc: Global, bytes: &[u8]) -> Result<Table, NetFault>
 }
 
 /// Whether the key is one of the four.
-fn is_known_key(key: &str) -> bool
+pub(crate) fn is_known_key(key: &str) -> bool
     ensures { result ≡ is_known key.now }
 {
     key == "nodes" || key == "links" || key == "phase" || key == "set"
@@ -48,7 +48,7 @@ pub(crate) fn knows_keys(table: &Table) -> bool
 }
 
 /// An array of two integers.
-fn read_pair(value: &Value) -> Option<(i64, i64)>
+pub(crate) fn read_pair(value: &Value) -> Option<(i64, i64)>
     ensures { result ≡ pair_of (view value.now) }
 {
     let array = value.as_array()?;
@@ -61,7 +61,7 @@ fn read_pair(value: &Value) -> Option<(i64, i64)>
 }
 
 /// A link: an array of two or three integers. With two the weight is 1.
-fn read_link(value: &Value) -> Option<(i64, i64, i64)>
+pub(crate) fn read_link(value: &Value) -> Option<(i64, i64, i64)>
     ensures { result ≡ link_of (view value.now) }
 {
     let array = value.as_array()?;
@@ -92,7 +92,7 @@ fn read_pairs(alloc: Global, array: &Array) -> Result<Pairs, NetFault>
 }
 
 /// The value at a key.
-fn member<'a>(table: &'a Table, key: &str) -> Option<&'a Value>
+pub(crate) fn member<'a>(table: &'a Table, key: &str) -> Option<&'a Value>
     ensures { option_map (λ v. view v.now) result ≡ get_member key.now (table_view table.now) }
 {
     table.get(key)

@@ -5,15 +5,22 @@ ghost use Rattle.std.specs.Prelude.{◌≡◌};
 ghost use Rattle.toml.specs.View.{table_view};
 ghost use Rattle.link_net.specs.Reading.{IsAnswer, reading_of, description_in};
 
+mod cause;
+mod diagnosis;
 mod document;
 mod draft;
 mod fault;
 mod field_set;
+mod link_causes;
 mod net_file;
 mod network;
+mod number_causes;
 mod numbers;
+mod shape_causes;
 mod tables;
 
+pub use cause::NetCause;
+pub use diagnosis::diagnose;
 pub use fault::NetFault;
 pub use field_set::{FieldSet, Name, Pairs};
 pub use net_file::NetFile;

@@ -13,13 +13,13 @@ use crate::{NetFault, NetFile};
 use std::alloc::Global;
 
 /// The most nodes of a network.
-const MOST_NODES: u32 = 65_536;
+pub(crate) const MOST_NODES: u32 = 65_536;
 
 /// The last of the three phases.
-const LAST_PHASE: u32 = 2;
+pub(crate) const LAST_PHASE: u32 = 2;
 
 /// The number, where it is from low to high.
-fn number_in(low: u32, high: u32, number: i64) -> Option<u32>
+pub(crate) fn number_in(low: u32, high: u32, number: i64) -> Option<u32>
     ensures { result ≡ number_in low high number }
 {
     if number < low as i64 || number > high as i64 {
@@ -29,7 +29,7 @@ fn number_in(low: u32, high: u32, number: i64) -> Option<u32>
 }
 
 /// A link whose ends are nodes. A weight out of range is held as 0 until it is refused.
-fn read_link(last: u32, link: &(i64, i64, i64)) -> Option<Link>
+pub(crate) fn read_link(last: u32, link: &(i64, i64, i64)) -> Option<Link>
     ensures { result ≡ option_map settled (placed last link.now) }
 {
     let first = number_in(0, last, link.0)?;
@@ -39,7 +39,11 @@ fn read_link(last: u32, link: &(i64, i64, i64)) -> Option<Link>
 }
 
 /// The links, where all ends are nodes.
-fn read_links(alloc: Global, last: u32, draft: &[(i64, i64, i64)]) -> Result<Vec<Link>, NetFault>
+pub(crate) fn read_links(
+    alloc: Global,
+    last: u32,
+    draft: &[(i64, i64, i64)],
+) -> Result<Vec<Link>, NetFault>
     ensures answer { IsAnswerBy (λ v. v.items) (ok_or (option_map (map settled) (all_placed last draft.now)) NetFault.BadLink) result }
     ensures within { IfOk result (λ v. AllWithin (last + 1) v.items) }
 {
@@ -52,7 +56,7 @@ fn read_links(alloc: Global, last: u32, draft: &[(i64, i64, i64)]) -> Result<Vec
 }
 
 /// Whether the third number is no weight.
-fn is_off(link: &(i64, i64, i64)) -> bool
+pub(crate) fn is_off(link: &(i64, i64, i64)) -> bool
     ensures { result ≡ is_off link.now }
 {
     number_in(0, u32::MAX, link.2).is_none()

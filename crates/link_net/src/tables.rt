@@ -13,16 +13,16 @@ use crate::{NetFault, Network};
 use std::alloc::{AllocError, Global};
 
 /// The most links of a network.
-const MOST_LINKS: usize = 262_144;
+pub(crate) const MOST_LINKS: usize = 262_144;
 
 /// The most neighbours of a node.
-const MOST_NEIGHBOURS: usize = 4096;
+pub(crate) const MOST_NEIGHBOURS: usize = 4096;
 
 /// A link: its two ends and its weight.
 pub(crate) type Link = (u32, u32, u32);
 
 /// A link seen from one of its ends: the node that it comes from, the node that it leads to, its weight.
-type Arc = (u32, u32, u32);
+pub(crate) type Arc = (u32, u32, u32);
 
 /// Both directions of each link.
 fn arcs(alloc: Global, links: &[Link]) -> Result<Vec<Arc>, AllocError>
@@ -54,7 +54,7 @@ fn has_repeat(arcs: &[Arc]) -> bool
 }
 
 /// The arcs of the links, sorted, where no link stands twice.
-fn sorted_arcs(alloc: Global, links: &[Link]) -> Result<Vec<Arc>, NetFault>
+pub(crate) fn sorted_arcs(alloc: Global, links: &[Link]) -> Result<Vec<Arc>, NetFault>
     requires { list_any is_self_link links.now ≡ false }
     ensures once { IfOk result (λ _. has_link_twice links.now ≡ false) }
     ensures arcs { IfOk result (λ v. IsPermutation (arcs_of links.now) v.items) }
@@ -80,7 +80,7 @@ fn first_from(arcs: &[Arc], node: u32) -> usize
 }
 
 /// Where the arcs of each node begin, and last where they all end.
-fn offsets(alloc: Global, arcs: &[Arc], nodes: u32) -> Result<Vec<usize>, AllocError>
+pub(crate) fn offsets(alloc: Global, arcs: &[Arc], nodes: u32) -> Result<Vec<usize>, AllocError>
     requires sorted { IsStrictlySortedBy arc_cmp arcs.now }
     requires small { nodes ≤ 65536 }
     ensures count { IfOk result (λ v. length v.items ≡ nodes + 1) }

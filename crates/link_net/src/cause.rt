@@ -1,0 +1,44 @@
+//! Why a network file is refused, with the place.
+
+/// Why a network file is refused, with the place. Links, and entries of arrays, are counted from 0 in the file's order.
+#[derive(Debug, Drop)]
+pub enum NetCause {
+    /// The bytes are no TOML document: the byte at which the reader of TOML stopped, counted from 0, and what it says.
+    NotToml { at: usize, message: String },
+    /// This key at the top is none of `nodes`, `links`, `phase` and `set`.
+    UnknownKey { key: String },
+    /// `nodes` is missing.
+    NodesMissing,
+    /// `nodes` is no integer.
+    NodesShape,
+    /// `links` is missing.
+    LinksMissing,
+    /// `links` is no array.
+    LinksShape,
+    /// This entry of `links` is no array of two or three integers.
+    LinkShape { link: usize },
+    /// `phase` is no integer.
+    PhaseShape,
+    /// `set` is no table.
+    SetShape,
+    /// The value of this key of `set` is no array.
+    SetValueShape { key: String },
+    /// This entry of the value of this key of `set` is no array of two integers.
+    PairShape { key: String, entry: usize },
+    /// The number of nodes is not from 1 to 65,536.
+    NodeCount { nodes: i64 },
+    /// An end of this link is no node.
+    BadLink { link: usize },
+    /// This link joins a node with itself.
+    SelfLink { link: usize },
+    /// This link joins the same two nodes as an earlier one.
+    LinkTwice { link: usize, earlier: usize },
+    /// There are so many links, more than 262,144.
+    TooManyLinks { links: usize },
+    /// This node has so many neighbours, more than 4,096.
+    TooManyNeighbours { node: u32, neighbours: usize },
+    /// The phase is not 0, 1 or 2.
+    BadPhase { phase: i64 },
+    /// The weight of this link is not from 0 to 4,294,967,295.
+    BadWeight { link: usize },
+}
