@@ -19,3 +19,7 @@ pub mod Twice
 pub mod Cleared
 pub mod AnyRound
 pub mod RoundCode
+pub mod Searches
+pub mod Repeats
+pub mod Counts
+pub mod Agreed

@@ -12,3 +12,5 @@ pub mod Items
 pub mod Fields
 pub mod Order
 pub mod Rounds
+pub mod Causes
+pub mod Searches

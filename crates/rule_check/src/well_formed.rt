@@ -1,18 +1,21 @@
 //! The tests that a well-formed program passes.
 
-ghost use Rattle.std.specs.Prelude.{◌≡◌, ◌≤◌, min, length, map, IfOk, Some, None, if◌then◌else◌};
-ghost use Rattle.std.specs.List.{list_any};
-ghost use Rattle.rule_lang.specs.View.{tree_of, items_of};
+ghost use Rattle.std.specs.Prelude.{◌≡◌, ◌≤◌, ◌<◌, min, length, map, IfOk, IfSome, is_some, Some, None, if◌then◌else◌};
+ghost use Rattle.std.specs.List.{list_any, filter_map};
+ghost use Rattle.std.specs.Option.{option_copied};
+ghost use Rattle.rule_lang.specs.View.{tree_of, item_of, items_of};
 ghost use Rattle.rule_check.specs.Value.{parts, place};
 ghost use Rattle.rule_check.specs.WellFormed.{is_among, has_twice, names_unknown, looks_outside, nests, is_unknown, all_parts};
 ghost use Rattle.rule_check.specs.Items.{fields_of, nexts_of};
 ghost use Rattle.rule_check.specs.Table.{M};
 ghost use Rattle.rule_check.specs.Fields.{field_names};
+ghost use Rattle.rule_check.specs.Causes.{first_next, IsRepeat};
+ghost use Rattle.rule_check.specs.Searches.{naming_of};
 
 use crate::parts::Field;
 use rule_lang::{Expr, Item};
 use std::alloc::{AllocError, Global};
-use std::collections::BTreeSet;
+use std::collections::BTreeMap;
 
 /// The place of a name among the fields, or their number where it isn't there.
 pub fn place_of(fields: &[Field], name: &str) -> usize
@@ -28,7 +31,7 @@ pub fn place_of(fields: &[Field], name: &str) -> usize
 }
 
 /// Whether a field has this name.
-fn declares(fields: &[Field], name: &str) -> bool
+pub fn declares(fields: &[Field], name: &str) -> bool
     ensures exact { result ≡ is_among (field_names fields.now) name.now }
 {
     place_of(fields, name) < fields.len()
@@ -46,19 +49,64 @@ pub fn repeats(fields: &[Field]) -> bool
     false
 }
 
+/// Which items a search is for.
+#[derive(Clone, Copy)]
+pub enum ItemKind {
+    /// `field` items.
+    Field,
+    /// `next` items.
+    Next,
+}
+
+/// An item with the name of an earlier one, both by their numbers.
+#[derive(Clone, Copy)]
+pub struct Repeat {
+    pub item: usize,
+    pub earlier: usize,
+}
+
+/// The name of an item of this kind.
+fn name_of(kind: ItemKind, item: &Item) -> Option<&str>
+    ensures exact { option_copied result ≡ naming_of kind (item_of item.now) }
+{
+    match item {
+        Item::Field { name, .. } => match kind {
+            ItemKind::Field => Some(name.as_str()),
+            ItemKind::Next => None,
+        },
+        Item::Next { name, .. } => match kind {
+            ItemKind::Field => None,
+            ItemKind::Next => Some(name.as_str()),
+        },
+    }
+}
+
+/// The first item of this kind with the name of an earlier one.
+pub fn first_repeat(
+    alloc: Global,
+    kind: ItemKind,
+    items: &[Item],
+) -> Result<Option<Repeat>, AllocError>
+    ensures found { IfOk result (λ repeat. is_some repeat ≡ has_twice (filter_map (naming_of kind) (items_of items.now))) }
+    ensures named { IfOk result (λ repeat. IfSome repeat (λ r. IsRepeat (naming_of kind) (items_of items.now) r.item r.earlier)) }
+{
+    let mut seen = BTreeMap::new(alloc);
+    for (k, item) in items.iter().enumerate() {
+        if let Some(name) = name_of(kind, item) {
+            if let Some(earlier) = seen.insert(name, k)? {
+                return Ok(Some(Repeat { item: k, earlier }));
+            }
+        }
+    }
+    Ok(None)
+}
+
 /// Whether two next items have one name.
 pub fn assigns_twice(alloc: Global, items: &[Item]) -> Result<bool, AllocError>
     ensures exact { IfOk result (λ twice. twice ≡ has_twice (map (λ n. n.name) (nexts_of (items_of items.now)))) }
 {
-    let mut seen = BTreeSet::new(alloc);
-    for item in items {
-        if let Item::Next { name, .. } = item {
-            if !seen.insert(name.as_str())? {
-                return Ok(true);
-            }
-        }
-    }
-    Ok(false)
+    let repeat = first_repeat(alloc, ItemKind::Next, items)?;
+    Ok(repeat.is_some())
 }
 
 /// Whether the expression has a name that is no field's.
@@ -94,7 +142,7 @@ fn outside_in(e: &Expr) -> bool
 }
 
 /// How many aggregates the expression has, those inside of others aside, as far as a word counts.
-fn count_in(e: &Expr) -> u32
+pub fn count_in(e: &Expr) -> u32
     ensures exact { result ≡ min (length (parts (tree_of e.now))) M }
 {
     match e {
@@ -135,46 +183,68 @@ fn nests_in(e: &Expr) -> bool
     }
 }
 
+/// The number of the first next item with a name that is no field's.
+pub fn first_unknown(fields: &[Field], items: &[Item]) -> Option<usize>
+    ensures exact { result ≡ first_next (is_unknown (field_names fields.now)) (items_of items.now) }
+    ensures within { IfSome result (λ k. k < length items.now) }
+{
+    for (k, item) in items.iter().enumerate() {
+        if let Item::Next { name, body } = item {
+            if !declares(fields, name.as_str()) || unknown_in(fields, body) {
+                return Some(k);
+            }
+        }
+    }
+    None
+}
+
 /// Whether a next item has a name that is no field's.
 pub fn some_unknown(fields: &[Field], items: &[Item]) -> bool
     ensures exact { result ≡ list_any (is_unknown (field_names fields.now)) (nexts_of (items_of items.now)) }
 {
-    for item in items {
-        if let Item::Next { name, body } = item {
-            if !declares(fields, name.as_str()) || unknown_in(fields, body) {
-                return true;
+    first_unknown(fields, items).is_some()
+}
+
+/// The number of the first next item whose expression names a neighbour outside of an aggregate.
+pub fn first_outside(items: &[Item]) -> Option<usize>
+    ensures exact { result ≡ first_next (λ n. looks_outside n.body) (items_of items.now) }
+{
+    for (k, item) in items.iter().enumerate() {
+        if let Item::Next { body, .. } = item {
+            if outside_in(body) {
+                return Some(k);
             }
         }
     }
-    false
+    None
 }
 
 /// Whether an expression names a neighbour outside of an aggregate.
 pub fn some_outside(items: &[Item]) -> bool
     ensures exact { result ≡ list_any (λ n. looks_outside n.body) (nexts_of (items_of items.now)) }
 {
-    for item in items {
+    first_outside(items).is_some()
+}
+
+/// The number of the first next item in whose expression an aggregate stands in an aggregate.
+pub fn first_nest(items: &[Item]) -> Option<usize>
+    ensures exact { result ≡ first_next (λ n. nests n.body) (items_of items.now) }
+{
+    for (k, item) in items.iter().enumerate() {
         if let Item::Next { body, .. } = item {
-            if outside_in(body) {
-                return true;
+            if nests_in(body) {
+                return Some(k);
             }
         }
     }
-    false
+    None
 }
 
 /// Whether an aggregate stands in an aggregate.
 pub fn some_nest(items: &[Item]) -> bool
     ensures exact { result ≡ list_any (λ n. nests n.body) (nexts_of (items_of items.now)) }
 {
-    for item in items {
-        if let Item::Next { body, .. } = item {
-            if nests_in(body) {
-                return true;
-            }
-        }
-    }
-    false
+    first_nest(items).is_some()
 }
 
 /// How many aggregates all expressions have, as far as a word counts.

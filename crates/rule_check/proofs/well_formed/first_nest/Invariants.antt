@@ -1,0 +1,9 @@
+use Rattle.rule_lang.specs.View.{items_of}
+use Rattle.std.proofs.Common.{◌≡◌, drop}
+use Rattle.std.specs.List.{position_from}
+use Rattle.rule_check.specs.WellFormed.{nests}
+use Rattle.rule_check.specs.Causes.{is_next, first_next}
+use Rattle.rule_check.proofs.well_formed.first_nest.Given as goal
+
+abbrev pub invariant-loop-k : goal.invariant-loop-k
+invariant-loop-k l = position_from (is_next (λ n. nests n.body)) l.k (items_of (drop l.k l.items)) ≡ first_next (λ n. nests n.body) (items_of l.items)
