@@ -60,7 +60,7 @@ fn request_of(alloc: Global, words: &[String]) -> Result<Request, Ending> {
 
 /// The texts of a request, read in the order in which its command reads them.
 #[derive(Debug, Drop)]
-struct Read {
+struct Given {
     program: Text,
     network: Option<Text>,
     report: Option<Text>,
@@ -74,11 +74,11 @@ fn inputs(request: &Request) -> usize {
         .iter()
         .filter(|path| path.as_ref().map(|path| path.as_str()) == Some("-"))
         .count();
-    others + (request.program.as_str() == "-") as usize
+    others.saturating_add((request.program.as_str() == "-") as usize)
 }
 
 /// The texts of a request.
-fn read(rt: &HostRuntime, request: &Request) -> Result<Read, Ending> {
+fn read(rt: &HostRuntime, request: &Request) -> Result<Given, Ending> {
     if inputs(request) > 1 {
         let text = String::from_str(rt.alloc(), "standard input, -, can be read once")?;
         return Err(Ending::Usage(text));
@@ -87,7 +87,7 @@ fn read(rt: &HostRuntime, request: &Request) -> Result<Read, Ending> {
     let network = text_where(rt, &request.network)?;
     let report = text_where(rt, &request.from)?;
     let schedule = text_where(rt, &request.schedule)?;
-    Ok(Read {
+    Ok(Given {
         program,
         network,
         report,
@@ -104,7 +104,7 @@ fn named(text: &Text) -> Named<'_> {
 }
 
 /// What is found in the texts.
-fn finding_of(alloc: Global, request: &Request, read: &Read) -> Result<Finding, AllocError> {
+fn finding_of(alloc: Global, request: &Request, read: &Given) -> Result<Finding, AllocError> {
     let texts = Texts {
         program: named(&read.program),
         network: read.network.as_ref().map(named),

@@ -12,11 +12,12 @@ fn is_blank(byte: u8) -> bool {
 
 /// How many bytes there are up to the first of these, or to the end.
 fn up_to(bytes: &[u8], mark: &[u8]) -> usize {
-    let mut at = 0;
-    while at < bytes.len() && !bytes[at..].starts_with(mark) {
-        at += 1;
+    for (at, _) in bytes.iter().enumerate() {
+        if bytes[at..].starts_with(mark) {
+            return at;
+        }
     }
-    at
+    bytes.len()
 }
 
 /// How long the string at the front is, whose quotes are these three bytes or this one.
@@ -57,14 +58,17 @@ fn depth_behind(depth: usize, byte: u8) -> usize {
 
 /// How many bytes the statement at the front has: up to the first LF outside brackets, or to the end.
 fn statement_length(bytes: &[u8]) -> usize {
-    let mut at = 0;
     let mut depth = 0;
-    while at < bytes.len() {
-        if bytes[at] == b'\n' && depth == 0 {
+    let mut next = 0;
+    for (at, byte) in bytes.iter().enumerate() {
+        if at < next {
+            continue;
+        }
+        if *byte == b'\n' && depth == 0 {
             return at;
         }
-        depth = depth_behind(depth, bytes[at]);
-        at = at.saturating_add(unit_length(&bytes[at..]));
+        depth = depth_behind(depth, *byte);
+        next = at.saturating_add(unit_length(&bytes[at..]));
     }
     bytes.len()
 }
@@ -90,21 +94,20 @@ fn value_offset(statement: &[u8], key: &[u8]) -> Option<usize> {
 /// Where the statement begins that gives a key of a table its value, and where the value does; the table at the top has
 /// the empty name.
 fn statement_place(text: &[u8], table: &[u8], key: &[u8]) -> Option<(usize, usize)> {
-    let mut at = 0;
     let mut inside = table.is_empty();
-    while at < text.len() {
-        let length = statement_length(&text[at..]).min(text.len() - at);
-        let statement = &text[at..at + length];
-        match header(statement) {
-            Some(name) => inside = name == table,
-            None if inside => {
-                if let Some(offset) = value_offset(statement, key) {
-                    return Some((at, at.saturating_add(offset)));
-                }
-            }
-            None => {}
+    let mut next = 0;
+    for (at, _) in text.iter().enumerate() {
+        if at < next {
+            continue;
         }
-        at = at.saturating_add(length).saturating_add(1);
+        let rest = &text[at..];
+        let statement = &rest[..statement_length(rest).min(rest.len())];
+        next = at.saturating_add(statement.len()).saturating_add(1);
+        match (header(statement), value_offset(statement, key)) {
+            (Some(name), _) => inside = name == table,
+            (None, Some(offset)) if inside => return Some((at, at.saturating_add(offset))),
+            _ => {}
+        }
     }
     None
 }
@@ -124,41 +127,42 @@ pub(crate) fn key_place(text: &[u8], table: &str, key: &str) -> Option<usize> {
 
 /// How many bytes stand before the entry of this number in the list at the front, counted from 0.
 fn entry_offset(list: &[u8], entry: usize) -> Option<usize> {
-    let mut at = 1;
     let mut depth = 0;
     let mut count = 0usize;
     let mut awaits = true;
-    while at < list.len() {
-        let byte = list[at];
-        let opens = awaits && !is_blank(byte) && byte != b'#';
+    let mut next = 1;
+    for (at, byte) in list.iter().enumerate() {
+        if at < next {
+            continue;
+        }
+        let opens = awaits && !is_blank(*byte) && *byte != b'#';
         if opens && count == entry {
             return Some(at);
         }
         if opens {
             count = count.saturating_add(1);
-            awaits = false;
         }
-        if byte == b',' && depth == 0 {
-            awaits = true;
-        }
-        depth = depth_behind(depth, byte);
-        at = at.saturating_add(unit_length(&list[at..]));
+        awaits = awaits && !opens || *byte == b',' && depth == 0;
+        depth = depth_behind(depth, *byte);
+        next = at.saturating_add(unit_length(&list[at..]));
     }
     None
 }
 
 /// How many bytes the value at the front has: up to a comma, a closing bracket or an LF outside its own brackets.
 fn value_length(bytes: &[u8]) -> usize {
-    let mut at = 0;
     let mut depth = 0;
-    while at < bytes.len() {
-        let byte = bytes[at];
-        let ends = matches!(byte, b',' | b']' | b'}' | b'\n' | b'#');
+    let mut next = 0;
+    for (at, byte) in bytes.iter().enumerate() {
+        if at < next {
+            continue;
+        }
+        let ends = matches!(*byte, b',' | b']' | b'}' | b'\n' | b'#');
         if ends && depth == 0 {
             return at;
         }
-        depth = depth_behind(depth, byte);
-        at = at.saturating_add(unit_length(&bytes[at..]));
+        depth = depth_behind(depth, *byte);
+        next = at.saturating_add(unit_length(&bytes[at..]));
     }
     bytes.len()
 }

@@ -11,12 +11,13 @@ use crate::network::tell_network;
 use crate::notes::notes;
 use crate::plans::tell_plan;
 use crate::refused::tell_refused;
+use crate::set_causes::set_cause;
 use crate::runs::{tell_below_start, tell_else, tell_report_round, tell_too_large, tell_too_many_steps, tell_trace_full, tell_workers};
 use crate::shown::shown;
 use crate::syntax::tell_syntax;
 use crate::told::{Part, Texts, Told};
 use link_net::{NetFile, read_network};
-use lockstep::{Plan, ReportFault, RoundFault, diagnose_plan};
+use lockstep::{Plan, PlanFault, ReportFault, RoundFault};
 use rule_check::{Program, check};
 use rule_lang::{LangCause, Source, read_program};
 use std::alloc::{AllocError, Global};
@@ -125,11 +126,11 @@ fn tell_net(alloc: Global, texts: &Texts) -> Result<Told, AllocError> {
 }
 
 /// What is told of a network file whose `set` does not fit the program.
-fn tell_set(alloc: Global, texts: &Texts) -> Result<Told, AllocError> {
+fn tell_set(alloc: Global, texts: &Texts, fault: PlanFault) -> Result<Told, AllocError> {
     let (Some(program), Some(file)) = (program_of(alloc, texts.program.text), file_of(alloc, texts)) else {
         return tell_else(alloc);
     };
-    match diagnose_plan(alloc, &program, &file)? {
+    match set_cause(alloc, &program, &file, fault)? {
         Some(cause) => tell_plan(alloc, &program, network_text(texts), &file, &cause),
         None => tell_else(alloc),
     }
@@ -178,7 +179,7 @@ fn tell(alloc: Global, texts: &Texts, job: &Job, fault: ServeFault) -> Result<To
         ServeFault::Lang(_) => tell_program(alloc, texts.program.text),
         ServeFault::Check(_) => tell_check(alloc, texts.program.text),
         ServeFault::Net(_) => tell_net(alloc, texts),
-        ServeFault::Plan(_) => tell_set(alloc, texts),
+        ServeFault::Plan(fault) => tell_set(alloc, texts, fault),
         ServeFault::Report(fault) => tell_report(alloc, texts, fault),
         ServeFault::Round(RoundFault::RoundsBelowStart) => tell_run(alloc, texts, job, RunFault::StopBelowStart),
         ServeFault::Round(_) => tell_too_large(alloc, job),

@@ -12,7 +12,7 @@ pub(crate) fn item_tokens<'t, 'a>(lexemes: &'t [Lexeme<'a>], item: usize) -> &'t
             continue;
         }
         if passed == item {
-            return &lexemes[start..index + 1];
+            return &lexemes[start.min(index)..index + 1];
         }
         passed += 1;
         start = index + 1;

@@ -6,11 +6,7 @@ use std::alloc::{AllocError, Global};
 
 /// What stands before a byte in a text, blanks left out.
 fn before(text: &[u8], at: usize) -> &[u8] {
-    let mut end = at.min(text.len());
-    while end > 0 && (text[end - 1] == b' ' || text[end - 1] == b'\t') {
-        end -= 1;
-    }
-    &text[..end]
+    text[..at.min(text.len())].trim_ascii_end()
 }
 
 /// What to do about a `.`, by what stands before it.

@@ -14,6 +14,7 @@ mod notes;
 mod plans;
 mod refused;
 mod runs;
+mod set_causes;
 mod shown;
 mod syntax;
 mod told;

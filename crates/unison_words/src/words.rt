@@ -350,10 +350,10 @@ fn fault_of(alloc: Global, error: &clap::Error) -> UsageFault {
 
 /// The request that the words make by a command of `command_as`, the name by which it is called first. The numbers of
 /// its job are within their limits; a number outside them is `Usage` with the option's name as its text.
-pub fn job_by(
+pub fn job_by<'a>(
     alloc: Global,
-    command: Command<'_>,
-    words: &[String],
+    command: Command<'a>,
+    words: &'a [String],
 ) -> Result<Request, UsageFault>
     ensures within { IfOk result (λ r. IsWithinLimits r.job) }
 {
