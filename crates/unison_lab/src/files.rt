@@ -1,9 +1,8 @@
 //! Files that are read, and standard input where the path is `-`.
 
 use crate::ending::{Ending, refused};
-use std::fs;
-use std::io;
 use std::io::{Input, Read};
+use std::{fs, io};
 
 /// The text of a file, with the name under which people know it.
 #[derive(Debug, Drop)]

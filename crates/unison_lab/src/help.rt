@@ -18,7 +18,11 @@ pub(crate) fn help_text(alloc: Global) -> Result<String, AllocError> {
         put_command(&mut out, known.get_name(), known.get_about().unwrap_or(""))?;
     }
     out.push_str("\nFor people at work:\n")?;
-    put_command(&mut out, "why", "Tell why a command refuses its texts: the place, what is wrong, what to do")?;
+    put_command(
+        &mut out,
+        "why",
+        "Tell why a command refuses its texts: the place, what is wrong, what to do",
+    )?;
     out.push_str(
         "\nThe words of a command: unison COMMAND --help\nAn example: unison lockstep examples/distance.rules examples/path.toml --rounds 2\n",
     )?;

@@ -25,7 +25,9 @@ fn words_of(rt: &HostRuntime) -> Result<Vec<String>, Ending> {
 
 /// The ending where a word is no command.
 fn no_command(rt: &HostRuntime, word: &str) -> Result<u8, Ending> {
-    let text = format!(in rt.alloc(); "there is no command `{word}`: unison --help tells which there are")?;
+    let text = format!(in rt.alloc();
+        "there is no command `{word}`: unison --help tells which there are"
+    )?;
     Err(Ending::Usage(text))
 }
 

@@ -10,7 +10,8 @@ use unison_why::{Finding, Named, Texts, why};
 use unison_words::{Request, UsageFault, command_as, job_by};
 
 /// What stands behind the help of `why`.
-const EXAMPLE: &str = "The words are those of the command; - is standard input where a file is read.\nAn example: unison why lockstep examples/distance.rules examples/path.toml --rounds 2\n";
+const EXAMPLE: &str =
+    "The words are those of the command; - is standard input where a file is read.\nAn example: unison why lockstep examples/distance.rules examples/path.toml --rounds 2\n";
 
 /// What an option's number may be.
 fn allowed(option: &str) -> &'static str {
@@ -49,7 +50,11 @@ fn usage_text(alloc: Global, words: &[String], text: String) -> Result<String, A
 
 /// The request that the words make.
 fn request_of(alloc: Global, words: &[String]) -> Result<Request, Ending> {
-    let command = command_as(alloc, "unison why", "Tell why a command refuses its texts")?.after_help(EXAMPLE);
+    let command = command_as(
+        alloc,
+        "unison why",
+        "Tell why a command refuses its texts",
+    )?.after_help(EXAMPLE);
     match job_by(alloc, command, words) {
         Ok(request) => Ok(request),
         Err(UsageFault::Help { text }) => Err(Ending::Help(text)),

@@ -11,8 +11,11 @@ use crate::network::tell_network;
 use crate::notes::notes;
 use crate::plans::tell_plan;
 use crate::refused::tell_refused;
+use crate::runs::{
+    tell_below_start, tell_else, tell_report_round, tell_too_large, tell_too_many_steps,
+    tell_trace_full, tell_workers,
+};
 use crate::set_causes::set_cause;
-use crate::runs::{tell_below_start, tell_else, tell_report_round, tell_too_large, tell_too_many_steps, tell_trace_full, tell_workers};
 use crate::shown::shown;
 use crate::syntax::tell_syntax;
 use crate::told::{Part, Texts, Told};
@@ -87,7 +90,13 @@ fn base_plan(alloc: Global, texts: &Texts) -> Option<Plan> {
 
 /// The plan of the texts.
 fn plan_of(alloc: Global, texts: &Texts) -> Option<Plan> {
-    plan_from(alloc, texts.program.text, network_text(texts), report_text(texts)).ok()
+    plan_from(
+        alloc,
+        texts.program.text,
+        network_text(texts),
+        report_text(texts),
+    )
+    .ok()
 }
 
 /// What is told of a program's text that is refused.
@@ -97,7 +106,10 @@ fn tell_program(alloc: Global, text: &[u8]) -> Result<Told, AllocError> {
             part: Some(Part::Program),
             at: Some(65536),
             what: String::from_str(alloc, "the text has more than 65536 bytes")?,
-            hint: String::from_str(alloc, "leave comments and blanks out: unison check prints a text without them")?,
+            hint: String::from_str(
+                alloc,
+                "leave comments and blanks out: unison check prints a text without them",
+            )?,
         }),
         Some(LangCause::Lex { at }) => tell_lexical(alloc, text, at as usize),
         Some(LangCause::Syntax { at, expected }) => tell_syntax(alloc, text, at, expected),
@@ -127,7 +139,8 @@ fn tell_net(alloc: Global, texts: &Texts) -> Result<Told, AllocError> {
 
 /// What is told of a network file whose `set` does not fit the program.
 fn tell_set(alloc: Global, texts: &Texts, fault: PlanFault) -> Result<Told, AllocError> {
-    let (Some(program), Some(file)) = (program_of(alloc, texts.program.text), file_of(alloc, texts)) else {
+    let (Some(program), Some(file)) = (program_of(alloc, texts.program.text), file_of(alloc, texts))
+    else {
         return tell_else(alloc);
     };
     match set_cause(alloc, &program, &file, fault)? {
@@ -142,7 +155,13 @@ fn tell_report(alloc: Global, texts: &Texts, fault: ReportFault) -> Result<Told,
         return tell_else(alloc);
     };
     match fault {
-        ReportFault::BadLine { line } => tell_report_line(alloc, plan.program(), plan.network().nodes(), text, line),
+        ReportFault::BadLine { line } => tell_report_line(
+            alloc,
+            plan.program(),
+            plan.network().nodes(),
+            text,
+            line,
+        ),
         ReportFault::TooManyRounds => tell_report_round(alloc),
         ReportFault::Memory => tell_else(alloc),
     }
@@ -163,11 +182,28 @@ fn tell_run(alloc: Global, texts: &Texts, job: &Job, fault: RunFault) -> Result<
 }
 
 /// What is told where a replay is refused.
-fn tell_replay(alloc: Global, texts: &Texts, job: &Job, fault: ReplayFault) -> Result<Told, AllocError> {
+fn tell_replay(
+    alloc: Global,
+    texts: &Texts,
+    job: &Job,
+    fault: ReplayFault,
+) -> Result<Told, AllocError> {
     match fault {
-        ReplayFault::Schedule(ScheduleFault::BadLine { line }) => tell_step(alloc, schedule_text(texts), line),
-        ReplayFault::Schedule(ScheduleFault::TooManySteps) => tell_too_many_steps(alloc, schedule_text(texts)),
-        ReplayFault::Opening(OpenFault::StopBelowStart) => tell_run(alloc, texts, job, RunFault::StopBelowStart),
+        ReplayFault::Schedule(ScheduleFault::BadLine { line }) => tell_step(
+            alloc,
+            schedule_text(texts),
+            line,
+        ),
+        ReplayFault::Schedule(ScheduleFault::TooManySteps) => tell_too_many_steps(
+            alloc,
+            schedule_text(texts),
+        ),
+        ReplayFault::Opening(OpenFault::StopBelowStart) => tell_run(
+            alloc,
+            texts,
+            job,
+            RunFault::StopBelowStart,
+        ),
         ReplayFault::Opening(OpenFault::StopTooLarge) => tell_too_large(alloc, job),
         _ => tell_else(alloc),
     }
@@ -181,7 +217,12 @@ fn tell(alloc: Global, texts: &Texts, job: &Job, fault: ServeFault) -> Result<To
         ServeFault::Net(_) => tell_net(alloc, texts),
         ServeFault::Plan(fault) => tell_set(alloc, texts, fault),
         ServeFault::Report(fault) => tell_report(alloc, texts, fault),
-        ServeFault::Round(RoundFault::RoundsBelowStart) => tell_run(alloc, texts, job, RunFault::StopBelowStart),
+        ServeFault::Round(RoundFault::RoundsBelowStart) => tell_run(
+            alloc,
+            texts,
+            job,
+            RunFault::StopBelowStart,
+        ),
         ServeFault::Round(_) => tell_too_large(alloc, job),
         ServeFault::Run(fault) => tell_run(alloc, texts, job, fault),
         ServeFault::Replay(fault) => tell_replay(alloc, texts, job, fault),
@@ -190,7 +231,12 @@ fn tell(alloc: Global, texts: &Texts, job: &Job, fault: ServeFault) -> Result<To
 }
 
 /// What people are told of a fault.
-fn fault_text(alloc: Global, texts: &Texts, job: &Job, fault: ServeFault) -> Result<String, AllocError> {
+fn fault_text(
+    alloc: Global,
+    texts: &Texts,
+    job: &Job,
+    fault: ServeFault,
+) -> Result<String, AllocError> {
     let told = tell(alloc, texts, job, fault)?;
     let (part, name) = fault.part_and_name();
     shown(alloc, texts, &told, part, name)

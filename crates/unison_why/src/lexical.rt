@@ -20,13 +20,23 @@ fn dot_hint(front: &[u8]) -> &'static str {
 
 /// What to do about a character that is not ASCII.
 fn foreign_hint(rest: &[u8]) -> &'static str {
-    if rest.starts_with(b"\xe2\x88\x92") || rest.starts_with(b"\xe2\x80\x93") || rest.starts_with(b"\xe2\x80\x94") {
+    if rest.starts_with(b"\xe2\x88\x92")
+        || rest.starts_with(b"\xe2\x80\x93")
+        || rest.starts_with(b"\xe2\x80\x94")
+    {
         return "this is a minus sign or a dash of Unicode: write `-`";
     }
-    if rest.starts_with(b"\xe2\x80\x98") || rest.starts_with(b"\xe2\x80\x99") || rest.starts_with(b"\xe2\x80\x9c") || rest.starts_with(b"\xe2\x80\x9d") {
+    if rest.starts_with(b"\xe2\x80\x98")
+        || rest.starts_with(b"\xe2\x80\x99")
+        || rest.starts_with(b"\xe2\x80\x9c")
+        || rest.starts_with(b"\xe2\x80\x9d")
+    {
         return "names and numbers stand without quotes";
     }
-    if rest.starts_with(b"\xe2\x89\xa4") || rest.starts_with(b"\xe2\x89\xa5") || rest.starts_with(b"\xe2\x89\xa0") {
+    if rest.starts_with(b"\xe2\x89\xa4")
+        || rest.starts_with(b"\xe2\x89\xa5")
+        || rest.starts_with(b"\xe2\x89\xa0")
+    {
         return "comparisons are written in ASCII: `<=`, `>=`, `!=`";
     }
     if rest.starts_with(b"\xc2\xa0") {
@@ -85,7 +95,10 @@ fn lexical_text(alloc: Global, text: &[u8], at: usize) -> Result<(String, String
     }
     if is_digit(text, at) {
         let what = String::from_str(alloc, "the number is above 4294967295")?;
-        return Ok((what, String::from_str(alloc, "numbers go from 0 to 4294967295")?));
+        return Ok((
+            what,
+            String::from_str(alloc, "numbers go from 0 to 4294967295")?,
+        ));
     }
     let found = front_text(alloc, &text[at.min(text.len())..])?;
     let what = format!(in alloc; "found {found}, with which nothing begins")?;

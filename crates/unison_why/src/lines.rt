@@ -34,14 +34,32 @@ pub(crate) struct Departure {
 fn plain_departure(line: &[u8], ended: bool) -> Option<Departure> {
     let last = line.len().saturating_sub(1);
     if line.is_empty() && !ended {
-        return Some(Departure { offset: 0, why: Some("a line is missing: the text ends here") });
+        return Some(Departure {
+            offset: 0,
+            why: Some("a line is missing: the text ends here"),
+        });
     }
     match (line.first(), line.last()) {
-        (None, _) => Some(Departure { offset: 0, why: Some("the line is empty") }),
-        (Some(b'#'), _) => Some(Departure { offset: 0, why: Some("there are no comments here") }),
-        (Some(b' ' | b'\t'), _) => Some(Departure { offset: 0, why: Some("a blank begins the line") }),
-        (_, Some(b'\r')) => Some(Departure { offset: last, why: Some("the line ends in CR and LF: lines end in LF alone") }),
-        (_, Some(b' ' | b'\t')) => Some(Departure { offset: last, why: Some("a blank ends the line") }),
+        (None, _) => Some(Departure {
+            offset: 0,
+            why: Some("the line is empty"),
+        }),
+        (Some(b'#'), _) => Some(Departure {
+            offset: 0,
+            why: Some("there are no comments here"),
+        }),
+        (Some(b' ' | b'\t'), _) => Some(Departure {
+            offset: 0,
+            why: Some("a blank begins the line"),
+        }),
+        (_, Some(b'\r')) => Some(Departure {
+            offset: last,
+            why: Some("the line ends in CR and LF: lines end in LF alone"),
+        }),
+        (_, Some(b' ' | b'\t')) => Some(Departure {
+            offset: last,
+            why: Some("a blank ends the line"),
+        }),
         _ => None,
     }
 }
@@ -132,13 +150,22 @@ fn departure_of<'a>(line: &'a [u8], ended: bool, rest: &'a [u8]) -> Departure {
         return plain;
     }
     if rest.is_empty() && !ended {
-        return Departure { offset: line.len(), why: Some("the last line has no LF at its end") };
+        return Departure {
+            offset: line.len(),
+            why: Some("the last line has no LF at its end"),
+        };
     }
     inner_departure(line, rest)
 }
 
 /// What is told of a line that does not fit.
-fn told(alloc: Global, part: Part, start: usize, departure: Departure, form: &str) -> Result<Told, AllocError> {
+fn told(
+    alloc: Global,
+    part: Part,
+    start: usize,
+    departure: Departure,
+    form: &str,
+) -> Result<Told, AllocError> {
     let what = match departure.why {
         Some(why) => String::from_str(alloc, why)?,
         None => String::from_str(alloc, "from here on the line does not fit")?,
@@ -157,20 +184,38 @@ pub(crate) fn tell_step(alloc: Global, text: &[u8], line: u64) -> Result<Told, A
     let bytes = line_from(text, start);
     let ended = start.saturating_add(bytes.len()) < text.len();
     let departure = departure_of(bytes, ended, step_rest(bytes));
-    told(alloc, Part::Schedule, start, departure, "a line is `read NODE SLOT` or `write NODE`, with one space between")
+    told(
+        alloc,
+        Part::Schedule,
+        start,
+        departure,
+        "a line is `read NODE SLOT` or `write NODE`, with one space between",
+    )
 }
 
 /// The form of the line of this number in a report, and the rest of the line at which it departs from it.
-fn report_form<'a>(alloc: Global, program: &Program, nodes: u32, line: u64, bytes: &'a [u8]) -> Result<(String, &'a [u8]), AllocError> {
+fn report_form<'a>(
+    alloc: Global,
+    program: &Program,
+    nodes: u32,
+    line: u64,
+    bytes: &'a [u8],
+) -> Result<(String, &'a [u8]), AllocError> {
     if line <= 1 {
         let rest = match word_and_number(b"round ", bytes) {
             Ok(rest) | Err(rest) => rest,
         };
-        return Ok((String::from_str(alloc, "the first line is `round T`, with one space between")?, rest));
+        return Ok((
+            String::from_str(alloc, "the first line is `round T`, with one space between")?,
+            rest,
+        ));
     }
     let node = line.saturating_sub(2);
     if node >= nodes as u64 {
-        return Ok((format!(in alloc; "the report ends here: the network has {nodes} nodes")?, bytes));
+        return Ok((
+            format!(in alloc; "the report ends here: the network has {nodes} nodes")?,
+            bytes,
+        ));
     }
     let fitting = fitting_line(alloc, program, node as u32)?;
     let form = format!(in alloc; "a line that fits here: `{fitting}`")?;
@@ -178,7 +223,13 @@ fn report_form<'a>(alloc: Global, program: &Program, nodes: u32, line: u64, byte
 }
 
 /// What is told of the line of a report that does not fit at its place.
-pub(crate) fn tell_report_line(alloc: Global, program: &Program, nodes: u32, text: &[u8], line: u64) -> Result<Told, AllocError> {
+pub(crate) fn tell_report_line(
+    alloc: Global,
+    program: &Program,
+    nodes: u32,
+    text: &[u8],
+    line: u64,
+) -> Result<Told, AllocError> {
     let start = line_begin(text, line);
     let bytes = line_from(text, start);
     let ended = start.saturating_add(bytes.len()) < text.len();

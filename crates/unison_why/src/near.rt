@@ -9,7 +9,11 @@ fn tolerance(word: &str) -> usize {
 }
 
 /// The first of the words that has the fewest letters to change, where they are few.
-pub(crate) fn nearest<'w>(alloc: Global, word: &str, words: &[&'w str]) -> Result<Option<&'w str>, AllocError> {
+pub(crate) fn nearest<'w>(
+    alloc: Global,
+    word: &str,
+    words: &[&'w str],
+) -> Result<Option<&'w str>, AllocError> {
     let mut best = None;
     let mut least = tolerance(word).saturating_add(1);
     for other in words {

@@ -32,7 +32,12 @@ fn link_text(alloc: Global, table: &Table, link: usize) -> Result<String, AllocE
 }
 
 /// An entry of the list of a field in `set`, as TOML writes it.
-pub(crate) fn pair_text(alloc: Global, table: &Table, key: &str, entry: usize) -> Result<String, AllocError> {
+pub(crate) fn pair_text(
+    alloc: Global,
+    table: &Table,
+    key: &str,
+    entry: usize,
+) -> Result<String, AllocError> {
     let Some(sets) = table.get("set").and_then(Value::as_table) else {
         return Ok(String::new(alloc));
     };
@@ -40,7 +45,11 @@ pub(crate) fn pair_text(alloc: Global, table: &Table, key: &str, entry: usize) -
 }
 
 /// What is wrong with the keys and the shapes of their values.
-fn shape_text(alloc: Global, table: &Table, cause: &NetCause) -> Result<Option<String>, AllocError> {
+fn shape_text(
+    alloc: Global,
+    table: &Table,
+    cause: &NetCause,
+) -> Result<Option<String>, AllocError> {
     let text = match cause {
         NetCause::NotToml { message, .. } => String::from_str(alloc, message.as_str()),
         NetCause::UnknownKey { key } => format!(in alloc; "there is no key `{key}`"),
@@ -57,7 +66,9 @@ fn shape_text(alloc: Global, table: &Table, cause: &NetCause) -> Result<Option<S
         NetCause::SetValueShape { key } => format!(in alloc; "`{key}` in `set` is no array"),
         NetCause::PairShape { key, entry } => {
             let text = pair_text(alloc, table, key.as_str(), *entry)?;
-            format!(in alloc; "entry {entry} of `{key}` in `set`, {text}, is no array of two whole numbers")
+            format!(in alloc;
+                "entry {entry} of `{key}` in `set`, {text}, is no array of two whole numbers"
+            )
         }
         _ => return Ok(None),
     };
@@ -79,10 +90,14 @@ fn number_text(alloc: Global, table: &Table, cause: &NetCause) -> Result<String,
         NetCause::LinkTwice { link, earlier } => {
             let text = link_text(alloc, table, *link)?;
             let other = link_text(alloc, table, *earlier)?;
-            format!(in alloc; "link {link}, {text}, joins the same nodes as link {earlier}, {other}")
+            format!(in alloc;
+                "link {link}, {text}, joins the same nodes as link {earlier}, {other}"
+            )
         }
         NetCause::TooManyLinks { links } => format!(in alloc; "there are {links} links"),
-        NetCause::TooManyNeighbours { node, neighbours } => format!(in alloc; "node {node} has {neighbours} neighbours"),
+        NetCause::TooManyNeighbours { node, neighbours } => format!(in alloc;
+            "node {node} has {neighbours} neighbours"
+        ),
         NetCause::BadPhase { phase } => format!(in alloc; "the phase is {phase}"),
         NetCause::BadWeight { link } => {
             let text = link_text(alloc, table, *link)?;
@@ -104,7 +119,10 @@ fn what_text(alloc: Global, table: &Table, cause: &NetCause) -> Result<String, A
 fn key_hint(alloc: Global, key: &str) -> Result<String, AllocError> {
     match nearest(alloc, key, &["nodes", "links", "phase", "set"])? {
         Some(near) => format!(in alloc; "did you mean `{near}`?"),
-        None => String::from_str(alloc, "the keys at the top are `nodes`, `links`, `phase` and `set`; opening values stand in `set`"),
+        None => String::from_str(
+            alloc,
+            "the keys at the top are `nodes`, `links`, `phase` and `set`; opening values stand in `set`",
+        ),
     }
 }
 
@@ -129,10 +147,13 @@ fn hint(table: &Table, cause: &NetCause) -> &'static str {
     match cause {
         NetCause::NodesMissing | NetCause::NodesShape => "the number of nodes, as in: nodes = 3",
         NetCause::LinksMissing => links_hint(table),
-        NetCause::LinksShape | NetCause::LinkShape { .. } => "links are written [[0, 1], [1, 2]], or with weights [[0, 1, 5], [1, 2, 7]]; whole numbers without quotes",
-        NetCause::PhaseShape | NetCause::BadPhase { .. } => "the phase is 0, 1 or 2; it may be left out",
+        NetCause::LinksShape | NetCause::LinkShape { .. } =>
+            "links are written [[0, 1], [1, 2]], or with weights [[0, 1, 5], [1, 2, 7]]; whole numbers without quotes",
+        NetCause::PhaseShape | NetCause::BadPhase { .. } =>
+            "the phase is 0, 1 or 2; it may be left out",
         NetCause::SetShape => "opening values stand below [set], as in: dist = [[0, 0], [7, 0]]",
-        NetCause::SetValueShape { .. } | NetCause::PairShape { .. } => "opening values are pairs [node, value], as in: dist = [[0, 0], [7, 0]]",
+        NetCause::SetValueShape { .. } | NetCause::PairShape { .. } =>
+            "opening values are pairs [node, value], as in: dist = [[0, 0], [7, 0]]",
         NetCause::NodeCount { .. } => "a network has from 1 to 65536 nodes",
         NetCause::BadLink { .. } => "nodes are numbered from 0 to one less than `nodes`",
         NetCause::SelfLink { .. } => "leave it out: a node always reads its own state",
@@ -165,7 +186,12 @@ fn link_of(cause: &NetCause) -> Option<usize> {
 }
 
 /// Where the fault is seen in the text.
-fn spot(alloc: Global, bytes: &[u8], table: &Table, cause: &NetCause) -> Result<Option<usize>, AllocError> {
+fn spot(
+    alloc: Global,
+    bytes: &[u8],
+    table: &Table,
+    cause: &NetCause,
+) -> Result<Option<usize>, AllocError> {
     if let Some(link) = link_of(cause) {
         let text = link_text(alloc, table, link)?;
         return Ok(entry_place(alloc, bytes, "", "links", link, text.as_str()));
@@ -195,7 +221,11 @@ fn key_spot(bytes: &[u8], cause: &NetCause) -> Option<usize> {
 }
 
 /// What is told of a network file that is refused. Links and entries are counted from 0, in the file's order.
-pub(crate) fn tell_network(alloc: Global, bytes: &[u8], cause: &NetCause) -> Result<Told, AllocError> {
+pub(crate) fn tell_network(
+    alloc: Global,
+    bytes: &[u8],
+    cause: &NetCause,
+) -> Result<Told, AllocError> {
     let table = table_of(alloc, bytes);
     Ok(Told {
         part: Some(Part::Network),

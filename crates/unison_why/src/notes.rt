@@ -21,7 +21,8 @@ fn tells_apart(expr: &Expr) -> bool {
 fn reads(expr: &Expr, name: &str) -> bool {
     match expr {
         Expr::Own(field) | Expr::Near(field) => field.as_str() == name,
-        Expr::Number(_) | Expr::Id | Expr::Degree | Expr::Round | Expr::NearId | Expr::NearWeight => false,
+        Expr::Number(_) | Expr::Id | Expr::Degree | Expr::Round | Expr::NearId | Expr::NearWeight =>
+            false,
         Expr::Not(part) | Expr::Over(_, part) => reads(part, name),
         Expr::Infix(_, left, right) => reads(left, name) || reads(right, name),
         Expr::Choice(test, yes, no) => reads(test, name) || reads(yes, name) || reads(no, name),
@@ -103,7 +104,10 @@ fn put_unused(out: &mut String, items: &[Item]) -> Result<(), AllocError> {
     for item in items {
         if let Item::Field { name, .. } = item {
             if !is_used(items, name.as_str()) {
-                write!(out, "note: the field `{name}` is changed by no rule and read by none\n")?;
+                write!(
+                    out,
+                    "note: the field `{name}` is changed by no rule and read by none\n"
+                )?;
             }
         }
     }
@@ -117,7 +121,9 @@ fn put_program_notes(out: &mut String, items: &[Item]) -> Result<(), AllocError>
     }
     put_unused(out, items)?;
     if some_mixes(items) {
-        out.push_str("note: `&` or `|` stands between a test, which is 0 or 1, and a number above 1: it goes bit by bit\n")?;
+        out.push_str(
+            "note: `&` or `|` stands between a test, which is 0 or 1, and a number above 1: it goes bit by bit\n",
+        )?;
     }
     Ok(())
 }
@@ -138,7 +144,9 @@ fn sets_nothing(alloc: Global, named: Named) -> bool {
 /// Whether all nodes stay alike: the texts set nothing, and the program never tells nodes apart.
 fn stay_alike(alloc: Global, texts: &Texts, items: &[Item]) -> bool {
     match (texts.network, texts.report) {
-        (Some(named), None) => !some_tells_apart(items) && !items.is_empty() && sets_nothing(alloc, named),
+        (Some(named), None) => !some_tells_apart(items)
+            && !items.is_empty()
+            && sets_nothing(alloc, named),
         _ => false,
     }
 }
@@ -151,7 +159,9 @@ pub(crate) fn notes(alloc: Global, texts: &Texts) -> Result<String, AllocError> 
     };
     put_program_notes(&mut out, source.items())?;
     if stay_alike(alloc, texts, source.items()) {
-        out.push_str("note: all nodes open alike and the program never tells them apart: set a field in the network, as in [set] and dist = [[0, 0]]\n")?;
+        out.push_str(
+            "note: all nodes open alike and the program never tells them apart: set a field in the network, as in [set] and dist = [[0, 0]]\n",
+        )?;
     }
     Ok(out)
 }

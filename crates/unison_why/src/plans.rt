@@ -27,7 +27,12 @@ fn key_name<'f>(file: &'f NetFile, key: usize) -> &'f str {
 }
 
 /// An entry of a key of `set`.
-fn entry_text(alloc: Global, file: &NetFile, key: usize, entry: usize) -> Result<String, AllocError> {
+fn entry_text(
+    alloc: Global,
+    file: &NetFile,
+    key: usize,
+    entry: usize,
+) -> Result<String, AllocError> {
     let Some(set) = file.sets().get(key) else {
         return Ok(String::new(alloc));
     };
@@ -41,19 +46,31 @@ fn entry_text(alloc: Global, file: &NetFile, key: usize, entry: usize) -> Result
 fn what_text(alloc: Global, file: &NetFile, cause: &PlanCause) -> Result<String, AllocError> {
     let name = key_name(file, key_of(cause));
     match *cause {
-        PlanCause::UnknownField { .. } => format!(in alloc; "`{name}` in `set` is no field of the program"),
+        PlanCause::UnknownField { .. } => format!(in alloc;
+            "`{name}` in `set` is no field of the program"
+        ),
         PlanCause::BadNode { key, entry } => {
             let text = entry_text(alloc, file, key, entry)?;
-            format!(in alloc; "entry {entry} of `{name}` in `set`, {text}, names no node of the network")
+            format!(in alloc;
+                "entry {entry} of `{name}` in `set`, {text}, names no node of the network"
+            )
         }
         PlanCause::BadValue { key, entry } => {
             let text = entry_text(alloc, file, key, entry)?;
-            format!(in alloc; "entry {entry} of `{name}` in `set`, {text}, has no value from 0 to 4294967295")
+            format!(in alloc;
+                "entry {entry} of `{name}` in `set`, {text}, has no value from 0 to 4294967295"
+            )
         }
-        PlanCause::SetTwice { key, entry, earlier } => {
+        PlanCause::SetTwice {
+            key,
+            entry,
+            earlier,
+        } => {
             let text = entry_text(alloc, file, key, entry)?;
             let other = entry_text(alloc, file, key, earlier)?;
-            format!(in alloc; "entry {entry} of `{name}` in `set`, {text}, sets the same node as entry {earlier}, {other}")
+            format!(in alloc;
+                "entry {entry} of `{name}` in `set`, {text}, sets the same node as entry {earlier}, {other}"
+            )
         }
     }
 }
@@ -77,7 +94,12 @@ fn field_hint(alloc: Global, program: &Program, name: &str) -> Result<String, Al
 }
 
 /// What to do.
-fn hint_text(alloc: Global, program: &Program, file: &NetFile, cause: &PlanCause) -> Result<String, AllocError> {
+fn hint_text(
+    alloc: Global,
+    program: &Program,
+    file: &NetFile,
+    cause: &PlanCause,
+) -> Result<String, AllocError> {
     match *cause {
         PlanCause::UnknownField { key } => field_hint(alloc, program, key_name(file, key)),
         PlanCause::BadNode { .. } => {
@@ -90,7 +112,12 @@ fn hint_text(alloc: Global, program: &Program, file: &NetFile, cause: &PlanCause
 }
 
 /// Where the fault is seen in the text of the network.
-fn spot(alloc: Global, bytes: &[u8], file: &NetFile, cause: &PlanCause) -> Result<Option<usize>, AllocError> {
+fn spot(
+    alloc: Global,
+    bytes: &[u8],
+    file: &NetFile,
+    cause: &PlanCause,
+) -> Result<Option<usize>, AllocError> {
     let name = key_name(file, key_of(cause));
     match *cause {
         PlanCause::UnknownField { .. } => Ok(key_place(bytes, "set", name)),

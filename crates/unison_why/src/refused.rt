@@ -1,6 +1,8 @@
 //! Why a program is not well formed.
 
-use crate::items::{item_tokens, mention_place, name_of, name_place, nested_place, outside_place, seventeenth_place};
+use crate::items::{
+    item_tokens, mention_place, name_of, name_place, nested_place, outside_place, seventeenth_place,
+};
 use crate::near::nearest;
 use crate::told::{Part, Told};
 use rule_check::CheckCause;
@@ -39,14 +41,27 @@ fn item_name<'a>(lexemes: &[Lexeme<'a>], cause: &CheckCause) -> &'a str {
 /// What is wrong.
 fn what_text(alloc: Global, name: &str, cause: &CheckCause) -> Result<String, AllocError> {
     match cause {
-        CheckCause::TooManyFields { .. } => format!(in alloc; "`{name}` is the ninth field, and a program has 8 at most"),
+        CheckCause::TooManyFields { .. } => format!(in alloc;
+            "`{name}` is the ninth field, and a program has 8 at most"
+        ),
         CheckCause::FieldTwice { .. } => format!(in alloc; "the field `{name}` is declared twice"),
-        CheckCause::NextTwice { .. } => format!(in alloc; "the field `{name}` has two `next` items"),
+        CheckCause::NextTwice { .. } => format!(in alloc;
+            "the field `{name}` has two `next` items"
+        ),
         CheckCause::UnknownTarget { .. } => format!(in alloc; "no field `{name}` is declared"),
         CheckCause::UnknownName { name, .. } => format!(in alloc; "no field `{name}` is declared"),
-        CheckCause::NeighbourOutside { .. } => String::from_str(alloc, "a neighbour is named outside an aggregate"),
-        CheckCause::NestedAggregate { .. } => String::from_str(alloc, "an aggregate stands in an aggregate"),
-        CheckCause::TooManyAggregates { .. } => String::from_str(alloc, "this is the seventeenth aggregate, and a program has 16 at most"),
+        CheckCause::NeighbourOutside { .. } => String::from_str(
+            alloc,
+            "a neighbour is named outside an aggregate",
+        ),
+        CheckCause::NestedAggregate { .. } => String::from_str(
+            alloc,
+            "an aggregate stands in an aggregate",
+        ),
+        CheckCause::TooManyAggregates { .. } => String::from_str(
+            alloc,
+            "this is the seventeenth aggregate, and a program has 16 at most",
+        ),
     }
 }
 
@@ -71,7 +86,12 @@ fn unknown_hint(alloc: Global, source: &Source, name: &str) -> Result<String, Al
 }
 
 /// Where the other item of a double stands.
-fn other_hint(alloc: Global, text: &[u8], lexemes: &[Lexeme], earlier: usize) -> Result<String, AllocError> {
+fn other_hint(
+    alloc: Global,
+    text: &[u8],
+    lexemes: &[Lexeme],
+    earlier: usize,
+) -> Result<String, AllocError> {
     match name_place(item_tokens(lexemes, earlier)) {
         Some(at) => {
             let spot = place_at(text, at as usize);
@@ -84,20 +104,44 @@ fn other_hint(alloc: Global, text: &[u8], lexemes: &[Lexeme], earlier: usize) ->
 }
 
 /// What to do.
-fn hint_text(alloc: Global, text: &[u8], source: &Source, lexemes: &[Lexeme], cause: &CheckCause) -> Result<String, AllocError> {
+fn hint_text(
+    alloc: Global,
+    text: &[u8],
+    source: &Source,
+    lexemes: &[Lexeme],
+    cause: &CheckCause,
+) -> Result<String, AllocError> {
     match cause {
-        CheckCause::TooManyFields { .. } => String::from_str(alloc, "pack two small numbers into one field: ((A * 65536) + B)"),
-        CheckCause::FieldTwice { earlier, .. } | CheckCause::NextTwice { earlier, .. } => other_hint(alloc, text, lexemes, *earlier),
+        CheckCause::TooManyFields { .. } => String::from_str(
+            alloc,
+            "pack two small numbers into one field: ((A * 65536) + B)",
+        ),
+        CheckCause::FieldTwice { earlier, .. } | CheckCause::NextTwice { earlier, .. } =>
+            other_hint(alloc, text, lexemes, *earlier),
         CheckCause::UnknownTarget { .. } => unknown_hint(alloc, source, item_name(lexemes, cause)),
         CheckCause::UnknownName { name, .. } => unknown_hint(alloc, source, name),
-        CheckCause::NeighbourOutside { .. } => String::from_str(alloc, "a node has many neighbours: say of which, as in (least n.NAME) or (total n.NAME)"),
-        CheckCause::NestedAggregate { .. } => String::from_str(alloc, "compute the inner one in a field of its own, a round earlier"),
-        CheckCause::TooManyAggregates { .. } => String::from_str(alloc, "keep an aggregate that is wanted often in a field of its own"),
+        CheckCause::NeighbourOutside { .. } => String::from_str(
+            alloc,
+            "a node has many neighbours: say of which, as in (least n.NAME) or (total n.NAME)",
+        ),
+        CheckCause::NestedAggregate { .. } => String::from_str(
+            alloc,
+            "compute the inner one in a field of its own, a round earlier",
+        ),
+        CheckCause::TooManyAggregates { .. } => String::from_str(
+            alloc,
+            "keep an aggregate that is wanted often in a field of its own",
+        ),
     }
 }
 
 /// What is told of a program that is not well formed.
-pub(crate) fn tell_refused(alloc: Global, text: &[u8], source: &Source, cause: &CheckCause) -> Result<Told, AllocError> {
+pub(crate) fn tell_refused(
+    alloc: Global,
+    text: &[u8],
+    source: &Source,
+    cause: &CheckCause,
+) -> Result<Told, AllocError> {
     let lexemes = read_tokens(alloc, text)?.unwrap_or(Vec::new(alloc));
     let at = spot(&lexemes, cause).unwrap_or(0);
     Ok(Told {

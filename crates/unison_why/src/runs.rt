@@ -1,7 +1,7 @@
 //! Why rounds, a run or a replay are not begun.
 
-use crate::told::{Part, Told};
 use crate::lines::line_begin;
+use crate::told::{Part, Told};
 use lockstep::Plan;
 use std::alloc::{AllocError, Global};
 use unison_jobs::Job;
@@ -30,8 +30,14 @@ fn rounds_of(job: &Job) -> u32 {
 pub(crate) fn tell_below_start(alloc: Global, plan: &Plan, job: &Job) -> Result<Told, AllocError> {
     let asked = rounds_of(job);
     let start = plan.start();
-    let what = format!(in alloc; "round {asked} was asked for, and the report to go on from is of round {start}")?;
-    told(alloc, what, "ask for that round or a later one, or leave --from out")
+    let what = format!(in alloc;
+        "round {asked} was asked for, and the report to go on from is of round {start}"
+    )?;
+    told(
+        alloc,
+        what,
+        "ask for that round or a later one, or leave --from out",
+    )
 }
 
 /// What is told where the round that is asked for is too large.
@@ -58,7 +64,9 @@ pub(crate) fn tell_trace_full(alloc: Global, plan: &Plan, job: &Job) -> Result<T
     let needed = steps_needed(plan, asked);
     let rounds = asked.saturating_sub(start).max(1) as u64;
     let most = start as u64 + MOST_STEPS as u64 / (needed / rounds).max(1);
-    let what = format!(in alloc; "the run to round {asked} takes {needed} steps, and a trace has {MOST_STEPS} at most")?;
+    let what = format!(in alloc;
+        "the run to round {asked} takes {needed} steps, and a trace has {MOST_STEPS} at most"
+    )?;
     let hint = format!(in alloc; "leave --trace out, or ask for round {most} at most")?;
     told(alloc, what, hint.as_str())
 }
@@ -78,7 +86,10 @@ pub(crate) fn tell_too_many_steps(alloc: Global, text: &[u8]) -> Result<Told, Al
     Ok(Told {
         part: Some(Part::Schedule),
         at: Some(line_begin(text, MOST_STEPS as u64 + 1)),
-        what: String::from_str(alloc, "this step is one too many: a schedule has 1000000 at most")?,
+        what: String::from_str(
+            alloc,
+            "this step is one too many: a schedule has 1000000 at most",
+        )?,
         hint: String::new(alloc),
     })
 }

@@ -11,11 +11,19 @@ use std::collections::BTreeMap;
 #[derive(Clone, Copy, Debug, PartialEq, Eq)]
 pub(crate) enum PlanCause {
     /// The first key that is no field of the program.
-    UnknownField { key: usize },
+    UnknownField {
+        key: usize,
+    },
     /// The first entry with a number that is no node.
-    BadNode { key: usize, entry: usize },
+    BadNode {
+        key: usize,
+        entry: usize,
+    },
     /// The first entry with a value outside 0 to 4294967295.
-    BadValue { key: usize, entry: usize },
+    BadValue {
+        key: usize,
+        entry: usize,
+    },
     /// The first entry of a node that an earlier one of the same key has.
     SetTwice {
         key: usize,

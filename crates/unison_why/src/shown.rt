@@ -68,7 +68,13 @@ fn put_blanks(out: &mut String, count: usize) -> Result<(), AllocError> {
 }
 
 /// Adds the line of a place with a mark below it. Of a long line the part about the place is shown.
-fn put_picture(alloc: Global, out: &mut String, text: &[u8], at: usize, spot: Place) -> Result<(), AllocError> {
+fn put_picture(
+    alloc: Global,
+    out: &mut String,
+    text: &[u8],
+    at: usize,
+    spot: Place,
+) -> Result<(), AllocError> {
     let line = line_from(text, spot.start);
     let (front, back) = line.split_at(at.saturating_sub(spot.start).min(line.len()));
     let column = spot.column.saturating_sub(1);
@@ -76,7 +82,12 @@ fn put_picture(alloc: Global, out: &mut String, text: &[u8], at: usize, spot: Pl
     let number = spot.line.to_string(alloc)?;
     write!(out, "  {number} | ")?;
     put_part(out, front, from, column)?;
-    put_part(out, back, 0, SHOWN.saturating_sub(column.saturating_sub(from)))?;
+    put_part(
+        out,
+        back,
+        0,
+        SHOWN.saturating_sub(column.saturating_sub(from)),
+    )?;
     out.push_str("\n  ")?;
     put_blanks(out, number.len())?;
     out.push_str(" | ")?;
@@ -107,7 +118,13 @@ fn put_hint(out: &mut String, hint: &str) -> Result<(), AllocError> {
 }
 
 /// What is shown of a fault: the place, `part` and `name` of the fault line, what is wrong, the line, what to do.
-pub(crate) fn shown(alloc: Global, texts: &Texts, told: &Told, part: &str, name: &str) -> Result<String, AllocError> {
+pub(crate) fn shown(
+    alloc: Global,
+    texts: &Texts,
+    told: &Told,
+    part: &str,
+    name: &str,
+) -> Result<String, AllocError> {
     let mut out = String::new(alloc);
     let named = match told.part {
         Some(part) => text_of(texts, part),

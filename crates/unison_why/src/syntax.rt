@@ -51,10 +51,14 @@ fn foreign_hint(around: &Around) -> Option<&'static str> {
         return Some("a comment begins with `#` and goes on to the end of the line");
     }
     if around.doubles(Sign::Ampersand) {
-        return Some("for two tests write (A min B), which is not 0 where both are not; (A & B) goes bit by bit");
+        return Some(
+            "for two tests write (A min B), which is not 0 where both are not; (A & B) goes bit by bit",
+        );
     }
     if around.doubles(Sign::Bar) {
-        return Some("for two tests write (A max B), which is not 0 where one is not; (A | B) goes bit by bit");
+        return Some(
+            "for two tests write (A max B), which is not 0 where one is not; (A | B) goes bit by bit",
+        );
     }
     None
 }
@@ -97,8 +101,10 @@ fn number_hint(around: &Around) -> &'static str {
         return NEGATIVE;
     }
     match around.found {
-        Some(Token::Word("M")) => "M stands in the documents for the greatest number: write 4294967295",
-        _ => "a field opens with a number, 0 to 4294967295; what is computed stands in a `next` item",
+        Some(Token::Word("M")) =>
+            "M stands in the documents for the greatest number: write 4294967295",
+        _ =>
+            "a field opens with a number, 0 to 4294967295; what is computed stands in a `next` item",
     }
 }
 
@@ -125,7 +131,8 @@ fn hint(expected: Expected, around: &Around) -> &'static str {
         Expected::Close => close_hint(around),
         Expected::Then | Expected::Else => "a choice is written: if A then B else C",
         Expected::Expression => expression_hint(around),
-        Expected::Shallower => "expressions are 64 deep at most: compute a part in a field of its own, a round earlier",
+        Expected::Shallower =>
+            "expressions are 64 deep at most: compute a part in a field of its own, a round earlier",
         Expected::NearForm => "a neighbour has its fields, n.id and n.weight",
     }
 }
@@ -180,7 +187,12 @@ fn tokens_at<'a>(lexemes: &[Lexeme<'a>], at: u32) -> Around<'a> {
 }
 
 /// What is told of a program's text whose token at a byte cannot stand there.
-pub(crate) fn tell_syntax(alloc: Global, text: &[u8], at: u32, expected: Expected) -> Result<Told, AllocError> {
+pub(crate) fn tell_syntax(
+    alloc: Global,
+    text: &[u8],
+    at: u32,
+    expected: Expected,
+) -> Result<Told, AllocError> {
     let lexemes = read_tokens(alloc, text)?.unwrap_or(Vec::new(alloc));
     let around = tokens_at(&lexemes, at);
     Ok(Told {

@@ -13,7 +13,11 @@ const PAIR: &str = "field a = 0;\nfield b = 0;\nnext a = total n.b;\n";
 const NODES: &[u8] = b"nodes = 2\nlinks = [[0, 1]]\n";
 
 /// What is found beside a report to go on from.
-pub(crate) fn found_beside_a_report(alloc: Global, job: &Job, report: &str) -> Result<Finding, AllocError> {
+pub(crate) fn found_beside_a_report(
+    alloc: Global,
+    job: &Job,
+    report: &str,
+) -> Result<Finding, AllocError> {
     let texts = Texts {
         program: named("p", PAIR.as_bytes()),
         network: Some(named("n", NODES)),

@@ -142,7 +142,10 @@ fn a_star_that_is_too_large(rt: HostRuntime) -> Result<(), Fail> {
     }
     star.push_str("]\n")?;
     let found = found_in_network(rt.alloc(), DISTANCE, star.as_bytes())?;
-    assert_eq!(rt; found.text.as_str(), "n: network TooManyNeighbours: node 0 has 4097 neighbours\n  a node has 4096 neighbours at most\n");
+    assert_eq!(rt;
+        found.text.as_str(),
+        "n: network TooManyNeighbours: node 0 has 4097 neighbours\n  a node has 4096 neighbours at most\n"
+    );
     Ok(())
 }
 
@@ -159,8 +162,15 @@ fn networks_that_are_no_toml(rt: HostRuntime) -> Result<(), Fail> {
 #[test]
 fn networks_that_set_nothing(rt: HostRuntime) -> Result<(), Fail> {
     let found = found_in_network(rt.alloc(), DISTANCE, b"nodes = 2\nlinks = [[0, 1]]\n")?;
-    assert_eq!(rt; found.text.as_str(), "nothing is wrong\nnote: all nodes open alike and the program never tells them apart: set a field in the network, as in [set] and dist = [[0, 0]]\n");
-    let found = found_in_network(rt.alloc(), DISTANCE, b"nodes = 2\nlinks = [[0, 1]]\n[set]\ndist = [[0, 0]]\n")?;
+    assert_eq!(rt;
+        found.text.as_str(),
+        "nothing is wrong\nnote: all nodes open alike and the program never tells them apart: set a field in the network, as in [set] and dist = [[0, 0]]\n"
+    );
+    let found = found_in_network(
+        rt.alloc(),
+        DISTANCE,
+        b"nodes = 2\nlinks = [[0, 1]]\n[set]\ndist = [[0, 0]]\n",
+    )?;
     assert_eq!(rt; found.text.as_str(), "nothing is wrong\n");
     Ok(())
 }

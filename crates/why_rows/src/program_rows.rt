@@ -68,9 +68,16 @@ fn texts_of_other_kinds(rt: HostRuntime) -> Result<(), Fail> {
         long.push(' ')?;
     }
     let found = found_in_program(rt.alloc(), long.as_bytes())?;
-    assert!(rt; found.text.as_str().starts_with("p:1:65537: program TooLong: the text has more than 65536 bytes\n"));
+    assert!(rt;
+        found.text.as_str().starts_with(
+            "p:1:65537: program TooLong: the text has more than 65536 bytes\n"
+        )
+    );
     let found = found_in_program(rt.alloc(), b"\xff\xfef\x00i\x00")?;
-    assert_eq!(rt; found.text.as_str(), "p:1:1: program Lex: found the byte order mark of UTF-16\n  1 | ??f i \n    | ^\n  save the file as UTF-8 without a byte order mark\n");
+    assert_eq!(rt;
+        found.text.as_str(),
+        "p:1:1: program Lex: found the byte order mark of UTF-16\n  1 | ??f i \n    | ^\n  save the file as UTF-8 without a byte order mark\n"
+    );
     Ok(())
 }
 
@@ -79,7 +86,10 @@ fn texts_of_other_kinds(rt: HostRuntime) -> Result<(), Fail> {
 fn accepted_programs(rt: HostRuntime) -> Result<(), Fail> {
     let rows: [(&str, &str); 5] = [
         ("field s = 0;\nnext s = total n.s;\n", "nothing is wrong\n"),
-        ("# nothing\n", "nothing is wrong\nnote: the program has no items, and its nodes no fields\n"),
+        (
+            "# nothing\n",
+            "nothing is wrong\nnote: the program has no items, and its nodes no fields\n",
+        ),
         (
             "field s = 0;\nfield t = 0;\nnext s = least n.s;\n",
             "nothing is wrong\nnote: the field `t` is changed by no rule and read by none\n",
@@ -88,7 +98,10 @@ fn accepted_programs(rt: HostRuntime) -> Result<(), Fail> {
             "field s = 0;\nnext s = ((s > 1) & 2);\n",
             "nothing is wrong\nnote: `&` or `|` stands between a test, which is 0 or 1, and a number above 1: it goes bit by bit\n",
         ),
-        ("field s = 0;\nnext s = ((s > 1) & 1);\n", "nothing is wrong\n"),
+        (
+            "field s = 0;\nnext s = ((s > 1) & 1);\n",
+            "nothing is wrong\n",
+        ),
     ];
     for (text, wanted) in rows {
         let found = found_in_program(rt.alloc(), text.as_bytes())?;

@@ -19,12 +19,19 @@ fn rounds_that_are_refused(rt: HostRuntime) -> Result<(), Fail> {
             "run RoundsBelowStart: round 6 was asked for, and the report to go on from is of round 7\n  ask for that round or a later one, or leave --from out\n",
         ),
         (
-            Job::Compare { rounds: 0, workers: 2 },
+            Job::Compare {
+                rounds: 0,
+                workers: 2,
+            },
             REPORT,
             "run RoundsBelowStart: round 0 was asked for, and the report to go on from is of round 7\n  ask for that round or a later one, or leave --from out\n",
         ),
         (
-            Job::Run { rounds: 6, workers: 2, traced: true },
+            Job::Run {
+                rounds: 6,
+                workers: 2,
+                traced: true,
+            },
             REPORT,
             "run StopBelowStart: round 6 was asked for, and the report to go on from is of round 7\n  ask for that round or a later one, or leave --from out\n",
         ),
@@ -56,12 +63,27 @@ fn a_trace_that_is_too_long(rt: HostRuntime) -> Result<(), Fail> {
         report: None,
         schedule: None,
     };
-    let traced = Job::Run { rounds: 250_001, workers: 2, traced: true };
+    let traced = Job::Run {
+        rounds: 250_001,
+        workers: 2,
+        traced: true,
+    };
     let found = why(rt.alloc(), &traced, &texts)?;
-    assert_eq!(rt; found.text.as_str(), "run TraceFull: the run to round 250001 takes 1000004 steps, and a trace has 1000000 at most\n  leave --trace out, or ask for round 250000 at most\n");
-    let shorter = Job::Run { rounds: 250_000, workers: 2, traced: true };
+    assert_eq!(rt;
+        found.text.as_str(),
+        "run TraceFull: the run to round 250001 takes 1000004 steps, and a trace has 1000000 at most\n  leave --trace out, or ask for round 250000 at most\n"
+    );
+    let shorter = Job::Run {
+        rounds: 250_000,
+        workers: 2,
+        traced: true,
+    };
     assert_eq!(rt; part(&why(rt.alloc(), &shorter, &texts)?.fault), "none");
-    let untraced = Job::Run { rounds: 250_001, workers: 2, traced: false };
+    let untraced = Job::Run {
+        rounds: 250_001,
+        workers: 2,
+        traced: false,
+    };
     assert_eq!(rt; part(&why(rt.alloc(), &untraced, &texts)?.fault), "none");
     Ok(())
 }

@@ -5,7 +5,8 @@ use unison_jobs::{Job, ServeFault};
 use unison_why::{Finding, Named, Texts, why};
 
 /// A program of one field, which the mistakes in networks leave as it is.
-pub(crate) const DISTANCE: &str = "field dist = 4294967295;\nnext dist = (dist min least (n.dist + 1));\n";
+pub(crate) const DISTANCE: &str =
+    "field dist = 4294967295;\nnext dist = (dist min least (n.dist + 1));\n";
 
 /// A text under a name of one letter.
 pub(crate) fn named<'a>(name: &'a str, text: &'a [u8]) -> Named<'a> {
@@ -24,7 +25,11 @@ pub(crate) fn found_in_program(alloc: Global, program: &[u8]) -> Result<Finding,
 }
 
 /// What is found in a network beside a program, where a round is asked for.
-pub(crate) fn found_in_network(alloc: Global, program: &str, network: &[u8]) -> Result<Finding, AllocError> {
+pub(crate) fn found_in_network(
+    alloc: Global,
+    program: &str,
+    network: &[u8],
+) -> Result<Finding, AllocError> {
     let texts = Texts {
         program: named("p", program.as_bytes()),
         network: Some(named("n", network)),
