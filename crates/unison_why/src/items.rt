@@ -6,7 +6,7 @@ use rule_lang::{Keyword, Lexeme, Sign, Token};
 /// The tokens of the item of this number, counted from 0, its semicolon with them.
 pub(crate) fn item_tokens<'t, 'a>(lexemes: &'t [Lexeme<'a>], item: usize) -> &'t [Lexeme<'a>] {
     let mut start = 0;
-    let mut passed = 0;
+    let mut passed = 0usize;
     for (index, lexeme) in lexemes.iter().enumerate() {
         if !is_sign(Some(lexeme.token), Sign::Semicolon) {
             continue;
@@ -14,7 +14,7 @@ pub(crate) fn item_tokens<'t, 'a>(lexemes: &'t [Lexeme<'a>], item: usize) -> &'t
         if passed == item {
             return &lexemes[start.min(index)..index + 1];
         }
-        passed += 1;
+        passed = passed.saturating_add(1);
         start = index + 1;
     }
     &[]
