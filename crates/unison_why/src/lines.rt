@@ -64,20 +64,27 @@ fn plain_departure(line: &[u8], ended: bool) -> Option<Departure> {
     }
 }
 
-/// A departure in the middle of a line: with words of its own where a number has a leading zero or is too large.
+/// How many digits stand at the front.
+fn digits(bytes: &[u8]) -> usize {
+    bytes
+        .iter()
+        .position(|byte| !byte.is_ascii_digit())
+        .unwrap_or(bytes.len())
+}
+
+/// A departure in the middle of a line: with words of its own where a number has a leading zero, a sign, or is too
+/// large.
 fn inner_departure(line: &[u8], rest: &[u8]) -> Departure {
-    let offset = line.len().saturating_sub(rest.len());
-    let before = match offset.checked_sub(1) {
-        Some(index) => line.get(index),
-        None => None,
-    };
-    let why = match (before, rest.first()) {
-        (Some(b'0'), Some(byte)) if byte.is_ascii_digit() => Some("a number has a leading zero"),
-        (_, Some(byte)) if byte.is_ascii_digit() => Some("the number is above 4294967295"),
-        (_, Some(b'+' | b'-')) => Some("a number has no sign"),
+    let why = match (rest.first(), digits(rest)) {
+        (Some(b'0'), 2..) => Some("a number has a leading zero"),
+        (_, 10..) => Some("the number is above 4294967295"),
+        (Some(b'+' | b'-'), _) => Some("a number has no sign"),
         _ => None,
     };
-    Departure { offset, why }
+    Departure {
+        offset: line.len().saturating_sub(rest.len()),
+        why,
+    }
 }
 
 /// The rest of a line at which it departs from `word NUMBER`; nothing where it does not.

@@ -52,7 +52,7 @@ fn lines_that_fit_no_report(rt: HostRuntime) -> Result<(), Fail> {
         ),
         (
             "round 07\n0 a=1 b=2\n1 a=1 b=2\n",
-            "r:1:8: report BadLine: a number has a leading zero\n  1 | round 07\n    |        ^\n  the first line is `round T`, with one space between\n",
+            "r:1:7: report BadLine: a number has a leading zero\n  1 | round 07\n    |       ^\n  the first line is `round T`, with one space between\n",
         ),
         (
             "round 7\r\n0 a=1 b=2\r\n1 a=1 b=2\r\n",
@@ -153,7 +153,7 @@ fn lines_that_are_no_steps(rt: HostRuntime) -> Result<(), Fail> {
         ),
         (
             "write 01\n",
-            "s:1:8: schedule BadLine: a number has a leading zero\n  1 | write 01\n    |        ^\n  a line is `read NODE SLOT` or `write NODE`, with one space between\n",
+            "s:1:7: schedule BadLine: a number has a leading zero\n  1 | write 01\n    |       ^\n  a line is `read NODE SLOT` or `write NODE`, with one space between\n",
         ),
         (
             "write -1\n",
