@@ -15,12 +15,11 @@ use crate::runs::{
     tell_below_start, tell_else, tell_report_round, tell_too_large, tell_too_many_steps,
     tell_trace_full, tell_workers,
 };
-use crate::set_causes::set_cause;
 use crate::shown::shown;
 use crate::syntax::tell_syntax;
 use crate::told::{Part, Texts, Told};
 use link_net::{NetFile, read_network};
-use lockstep::{Plan, PlanFault, ReportFault, RoundFault};
+use lockstep::{Plan, ReportFault, RoundFault, diagnose_plan};
 use rule_check::{Program, check};
 use rule_lang::{LangCause, Source, read_program};
 use std::alloc::{AllocError, Global};
@@ -138,12 +137,12 @@ fn tell_net(alloc: Global, texts: &Texts) -> Result<Told, AllocError> {
 }
 
 /// What is told of a network file whose `set` does not fit the program.
-fn tell_set(alloc: Global, texts: &Texts, fault: PlanFault) -> Result<Told, AllocError> {
+fn tell_set(alloc: Global, texts: &Texts) -> Result<Told, AllocError> {
     let (Some(program), Some(file)) = (program_of(alloc, texts.program.text), file_of(alloc, texts))
     else {
         return tell_else(alloc);
     };
-    match set_cause(alloc, &program, &file, fault)? {
+    match diagnose_plan(alloc, &program, &file)? {
         Some(cause) => tell_plan(alloc, &program, network_text(texts), &file, &cause),
         None => tell_else(alloc),
     }
@@ -215,7 +214,7 @@ fn tell(alloc: Global, texts: &Texts, job: &Job, fault: ServeFault) -> Result<To
         ServeFault::Lang(_) => tell_program(alloc, texts.program.text),
         ServeFault::Check(_) => tell_check(alloc, texts.program.text),
         ServeFault::Net(_) => tell_net(alloc, texts),
-        ServeFault::Plan(fault) => tell_set(alloc, texts, fault),
+        ServeFault::Plan(_) => tell_set(alloc, texts),
         ServeFault::Report(fault) => tell_report(alloc, texts, fault),
         ServeFault::Round(RoundFault::RoundsBelowStart) => tell_run(
             alloc,

@@ -14,7 +14,6 @@ mod notes;
 mod plans;
 mod refused;
 mod runs;
-mod set_causes;
 mod shown;
 mod syntax;
 mod told;

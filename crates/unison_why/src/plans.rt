@@ -2,9 +2,9 @@
 
 use crate::entries::{entry_place, key_place};
 use crate::near::nearest;
-use crate::set_causes::PlanCause;
 use crate::told::{Part, Told};
 use link_net::NetFile;
+use lockstep::PlanCause;
 use rule_check::Program;
 use std::alloc::{AllocError, Global};
 
