@@ -1,13 +1,12 @@
 -- Nodes that stand twice, found by the entry that each node was met at.
-use Rattle.std.proofs.Common.{◌≡◌, ℕ, ◌+◌, ◌<◌, ◌≤◌, ◌==◌, Bool, true, false, not, ◌||◌, List, [], ◌∷◌, length, zero, suc, set, get_or, drop, map, replicate, Option, Some, None, is_some, IfSome, IsSomeAnd, slice_get, option_map, refl, sym, ap, ◌∙◌, subst, arith, add-one, ℤ, cond, get_or-set_same, get_or-set_other, inl, inr}
+use Rattle.std.proofs.Common.{◌≡◌, ℕ, ◌+◌, ◌<◌, ◌≤◌, Bool, true, false, ◌||◌, List, [], ◌∷◌, length, zero, suc, set, get_or, drop, map, replicate, Option, Some, None, is_some, IfSome, IsSomeAnd, slice_get, refl, sym, ap, ◌∙◌, subst, arith, add-one, ℤ, cond, get_or-set_same, get_or-set_other, inl, inr}
 use Rattle.std.specs.Prelude.{if◌then◌else◌}
 use Rattle.std.specs.List.{list_any, position_from}
 use Rattle.std.proofs.lemmas.List.{map-set, drop_all, length-replicate}
 use Rattle.std.proofs.lemmas.Bool.{cases_eq}
 use Rattle.lockstep.specs.declared.fault.PlanFault.{PlanFault}
-use Rattle.lockstep.specs.declared.plan_cause.PlanCause.{PlanCause}
 use Rattle.lockstep.specs.Plans.{has_number_twice, nodes_in, number_of}
-use Rattle.lockstep.specs.PlanCauses.{plan_fault_of, IsNodeRepeat}
+use Rattle.lockstep.specs.PlanCauses.{first_place, IsNodeRepeat}
 use Rattle.lockstep.proofs.Marks.{twice_from, twice_any, AllBelow, marked}
 
 -- a search finds a place where some element passes
@@ -29,23 +28,6 @@ pub fails : (test : Bool) (fault : PlanFault) (place : Option ℕ) → is_some p
 fails true fault place e none = let no : false ≡ true = sym (ap is_some none) ∙ e in cc
 fails false fault place e none = refl
 
--- a test that finds no cause does not hold
-pub passed : (test : Bool) (fault : PlanFault) (cause : Option PlanCause) → option_map plan_fault_of cause ≡ (if test then Some fault else None) → is_some cause ≡ false → test ≡ false
-passed true fault None e none = cc
-passed true fault (Some c) e none = cc
-passed false fault cause e none = refl
-
--- a test that finds a cause holds
-pub told : (test : Bool) (fault : PlanFault) (cause : Option PlanCause) (rest : Option PlanFault) → option_map plan_fault_of cause ≡ (if test then Some fault else None) → is_some cause ≡ true → option_map plan_fault_of cause ≡ (if test then Some fault else rest)
-told true fault cause rest e some = e
-told false fault None rest e some = cc
-told false fault (Some c) rest e some = cc
-
--- the choice of a test that fails
-pub away : {A : Type 0} (b : Bool) (x y : A) → b ≡ false → (if b then x else y) ≡ y
-away true x y h = cc
-away false x y h = refl
-
 -- the element at its place
 pub place_at : {X : Type 0} (xs : List X) (k : ℕ) (d : X) → k < length xs → slice_get xs k ≡ Some (get_or xs k d)
 place_at [] k d h = absurd (omega arith)
@@ -57,10 +39,6 @@ node_at [] k d h = absurd (omega arith)
 node_at (p ∷ pairs) zero d h = refl
 node_at (p ∷ pairs) (suc k) d h = node_at pairs k d (omega arith)
 
-pub node_count : (pairs : List (ℤ × ℤ)) → length (nodes_in pairs) ≡ length pairs
-node_count [] = refl
-node_count (p ∷ pairs) = ap suc (node_count pairs)
-
 dropped : {X : Type 0} (xs : List X) (k : ℕ) (x : X) → slice_get xs k ≡ Some x → drop k xs ≡ x ∷ drop (suc k) xs
 dropped [] k x e = cc
 dropped (y ∷ xs) zero x e = let same : y ≡ x = cc in ap (λ z. z ∷ xs) same
@@ -68,6 +46,33 @@ dropped (y ∷ xs) (suc k) x e = dropped xs k x e
 
 drop_at_place : {X : Type 0} (xs : List X) (k : ℕ) (x : X) → slice_get xs k ≡ Some x → drop k xs ≡ x ∷ drop (k + 1) xs
 drop_at_place xs k x e = dropped xs k x e ∙ ap (λ j. x ∷ drop j xs) (sym (add-one k))
+
+-- a place that is found is that of an element that passes, and with none found no element passes
+pub some_place : {X : Type 0} (test : X → Bool) (xs : List X) (k : ℕ) → first_place test xs ≡ Some k → list_any test xs ≡ true
+some_place test xs k e = sym (any_place test 0 xs) ∙ ap is_some e
+
+pub no_place : {X : Type 0} (test : X → Bool) (xs : List X) → first_place test xs ≡ None → list_any test xs ≡ false
+no_place test xs e = sym (any_place test 0 xs) ∙ ap is_some e
+
+-- a search that comes to an element that passes, to one that fails, and to the end
+pub search_found : {X : Type 0} (test : X → Bool) (xs : List X) (k : ℕ) (x : X) → slice_get xs k ≡ Some x → test x ≡ true → position_from test k (drop k xs) ≡ first_place test xs → first_place test xs ≡ Some k
+search_found test xs k x at passes left =
+    sym left
+    ∙ ap (position_from test k) (drop_at_place xs k x at)
+    ∙ ap (λ b. cond b (Some k) (position_from test (k + 1) (drop (k + 1) xs))) passes
+
+pub search_more : {X : Type 0} (test : X → Bool) (xs : List X) (k : ℕ) (x : X) → slice_get xs k ≡ Some x → test x ≡ false → position_from test k (drop k xs) ≡ first_place test xs → position_from test (k + 1) (drop (k + 1) xs) ≡ first_place test xs
+search_more test xs k x at fails left =
+    ap (λ b. cond b (Some k) (position_from test (k + 1) (drop (k + 1) xs))) (sym fails)
+    ∙ ap (position_from test k) (sym (drop_at_place xs k x at))
+    ∙ left
+
+pub search_end : {X : Type 0} (test : X → Bool) (xs : List X) (k : ℕ) → length xs ≤ k → position_from test k (drop k xs) ≡ first_place test xs → first_place test xs ≡ None
+search_end test xs k past left = sym left ∙ ap (position_from test k) (drop_all k xs past)
+
+-- what holds of the element at a place
+pub at_element : {X : Type 0} (o : Option X) (x : X) (P : X → Type 0) → o ≡ Some x → P x → IsSomeAnd o P
+at_element o x P e h = subst (λ q. IsSomeAnd q P) (sym e) h
 
 -- which nodes were met
 abbrev pub marks : List (Option ℕ) → List Bool
@@ -99,7 +104,10 @@ if_more : (P Q : ℕ → Type 0) (o : Option ℕ) → ((x : ℕ) → P x → Q x
 if_more P Q None more h = tt
 if_more P Q (Some x) more h = more x h
 
-none_at : (n u : ℕ) → get_or (replicate n None) u None ≡ None {T = ℕ}
+abbrev no_entry : Option ℕ
+no_entry = None
+
+none_at : (n u : ℕ) → get_or (replicate n no_entry) u no_entry ≡ no_entry
 none_at zero u = refl
 none_at (suc n) zero = refl
 none_at (suc n) (suc u) = none_at n u
@@ -119,9 +127,9 @@ entered_first nodes n seen fresh below =
     let empty : marks seen ≡ replicate n false = ap marks fresh ∙ marks_none n in
     record {
       left =
-        ap (λ s. twice_from s nodes) empty
-        ∙ twice_any (replicate n false) nodes (subst (λ m. AllBelow m nodes) (sym (length-replicate n false)) below)
-        ∙ ap (λ b. b || has_number_twice nodes) (unmarked n nodes);
+          ap (λ s. twice_from s nodes) empty
+          ∙ twice_any (replicate n false) nodes (subst (λ m. AllBelow m nodes) (sym (length-replicate n false)) below)
+          ∙ ap (λ b. b || has_number_twice nodes) (unmarked n nodes);
       earlier = λ u. if_none (IsMet nodes 0 u) (get_or seen u None) (ap (λ s. get_or s u None) fresh ∙ none_at n u);
     }
 
@@ -129,20 +137,20 @@ entered_first nodes n seen fresh below =
 pub entered_next : (nodes : List ℕ) (k : ℕ) (seen : List (Option ℕ)) (node : ℕ) → slice_get nodes k ≡ Some node → node < length seen → get_or seen node None ≡ None → Entered nodes k seen → Entered nodes (k + 1) (set seen node (Some k))
 entered_next nodes k seen node at within new h = record {
   left =
-    ap (λ s. twice_from s (drop (k + 1) nodes)) (map-set is_some seen node (Some k))
-    ∙ ap (λ b. b || twice_from (set (marks seen) node true) (drop (k + 1) nodes)) (sym (marks_at seen node ∙ ap is_some new))
-    ∙ ap (twice_from (marks seen)) (sym (drop_at_place nodes k node at))
-    ∙ h.left;
+      ap (λ s. twice_from s (drop (k + 1) nodes)) (map-set is_some seen node (Some k))
+      ∙ ap (λ b. b || twice_from (set (marks seen) node true) (drop (k + 1) nodes)) (sym (marks_at seen node ∙ ap is_some new))
+      ∙ ap (twice_from (marks seen)) (sym (drop_at_place nodes k node at))
+      ∙ h.left;
   earlier = λ u.
-    elim (cases_eq u node) [
-      | inl same ↦
-          let here : get_or (set seen node (Some k)) u None ≡ Some k = ap (λ v. get_or (set seen node (Some k)) v None) same ∙ get_or-set_same seen node (Some k) None within in
-          subst (λ o. IfSome o (IsMet nodes (k + 1) u)) (sym here) (omega arith, at ∙ ap (λ v. Some v) (sym same))
-      | inr other ↦
-          let there : get_or (set seen node (Some k)) u None ≡ get_or seen u None = get_or-set_other seen node u (Some k) None other in
-          subst (λ o. IfSome o (IsMet nodes (k + 1) u)) (sym there)
-          (if_more (IsMet nodes k u) (IsMet nodes (k + 1) u) (get_or seen u None) (λ x met. let less : x < k = met.0 in (omega arith, met.1)) (h.earlier u))
-    ];
+      elim (cases_eq u node) [
+        | inl same ↦
+            let here : get_or (set seen node (Some k)) u None ≡ Some k = ap (λ v. get_or (set seen node (Some k)) v None) same ∙ get_or-set_same seen node (Some k) None within in
+            subst (λ o. IfSome o (IsMet nodes (k + 1) u)) (sym here) (omega arith, at ∙ ap (λ v. Some v) (sym same))
+        | inr other ↦
+            let there : get_or (set seen node (Some k)) u None ≡ get_or seen u None = get_or-set_other seen node u (Some k) None other in
+            subst (λ o. IfSome o (IsMet nodes (k + 1) u)) (sym there)
+            (if_more (IsMet nodes k u) (IsMet nodes (k + 1) u) (get_or seen u None) (λ x met. let less : x < k = met.0 in (omega arith, met.1)) (h.earlier u))
+      ];
 }
 
 -- an entry is of a node that was met
@@ -156,9 +164,9 @@ entered_again pairs k seen node earlier at old h =
     let met : IsMet nodes k node earlier = subst (λ o. IfSome o (IsMet nodes k node)) old (h.earlier node) in
     record {
       twice =
-        sym h.left
-        ∙ ap (twice_from (marks seen)) (drop_at_place nodes k node at)
-        ∙ ap (λ b. b || twice_from (set (marks seen) node true) (drop (k + 1) nodes)) (marks_at seen node ∙ ap is_some old);
+          sym h.left
+          ∙ ap (twice_from (marks seen)) (drop_at_place nodes k node at)
+          ∙ ap (λ b. b || twice_from (set (marks seen) node true) (drop (k + 1) nodes)) (marks_at seen node ∙ ap is_some old);
       repeat = (met.0, ap is_some at, met.1 ∙ sym at);
     }
 

@@ -1,5 +1,5 @@
 //! Why a program and a network file make no plan, with the entries of `set` at fault.
-ghost use Rattle.std.specs.Prelude.{◌≡◌, ◌≤◌, false, not, length, replicate, IfOk, IfSome, is_some, Some, None, if◌then◌else◌};
+ghost use Rattle.std.specs.Prelude.{ℕ, List, ◌≡◌, ◌≤◌, false, not, length, replicate, IfOk, IfSome, is_some, Some, None, if◌then◌else◌};
 ghost use Rattle.std.specs.Option.{option_map};
 ghost use Rattle.std.specs.Result.{result_err};
 ghost use Rattle.std.specs.List.{list_any};
@@ -19,11 +19,19 @@ use std::alloc::{AllocError, Global};
 #[derive(Clone, Copy, Debug, PartialEq, Eq)]
 pub enum PlanCause {
     /// The first key that is no field of the program.
-    UnknownField { key: usize },
+    UnknownField {
+        key: usize,
+    },
     /// The first key with a number that is no node, and the first such entry.
-    BadNode { key: usize, entry: usize },
+    BadNode {
+        key: usize,
+        entry: usize,
+    },
     /// The first key with a value outside 0 to 4294967295, and the first such entry.
-    BadValue { key: usize, entry: usize },
+    BadValue {
+        key: usize,
+        entry: usize,
+    },
     /// The first key whose list has a node twice, and the first entry of a node that an earlier one has.
     SetTwice {
         key: usize,
