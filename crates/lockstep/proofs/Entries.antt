@@ -104,6 +104,7 @@ if_more : (P Q : ℕ → Type 0) (o : Option ℕ) → ((x : ℕ) → P x → Q x
 if_more P Q None more h = tt
 if_more P Q (Some x) more h = more x h
 
+-- a node that was not met has no entry
 abbrev no_entry : Option ℕ
 no_entry = None
 
@@ -169,7 +170,3 @@ entered_again pairs k seen node earlier at old h =
           ∙ ap (λ b. b || twice_from (set (marks seen) node true) (drop (k + 1) nodes)) (marks_at seen node ∙ ap is_some old);
       repeat = (met.0, ap is_some at, met.1 ∙ sym at);
     }
-
--- at the end all nodes differ
-pub entered_last : (nodes : List ℕ) (k : ℕ) (seen : List (Option ℕ)) → length nodes ≤ k → Entered nodes k seen → has_number_twice nodes ≡ false
-entered_last nodes k seen past h = sym h.left ∙ ap (twice_from (marks seen)) (drop_all k nodes past)
