@@ -22,3 +22,4 @@ pub mod FieldNames
 pub mod ReportLines
 pub mod BadLines
 pub mod Refusals
+pub mod Entries

@@ -14,3 +14,4 @@ pub mod Digits
 pub mod Front
 pub mod ReadReport
 pub mod NodeLines
+pub mod PlanCauses

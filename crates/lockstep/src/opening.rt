@@ -14,7 +14,7 @@ use rule_check::{Program, State};
 use std::alloc::{AllocError, Global};
 
 /// Whether the number lies from 0 on, below the bound.
-fn is_below(bound: u64, number: i64) -> bool
+pub(crate) fn is_below(bound: u64, number: i64) -> bool
     requires bound { bound < 2 ^ 63 }
     ensures inside { result ≡ is_below bound number }
 {
@@ -22,7 +22,7 @@ fn is_below(bound: u64, number: i64) -> bool
 }
 
 /// The number as one below the bound, where it lies there.
-fn natural(bound: u64, number: i64) -> u64
+pub(crate) fn natural(bound: u64, number: i64) -> u64
     requires inside { is_below bound number ≡ true }
     ensures value { result ≡ number_of number }
     ensures below { result < bound }
