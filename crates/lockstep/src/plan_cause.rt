@@ -32,7 +32,7 @@ pub enum PlanCause {
         key: usize,
         entry: usize,
     },
-    /// The first key whose list has a node twice, and the first entry of a node that an earlier one has.
+    /// The first key whose list has a node twice, an entry of such a node and an earlier one of it.
     SetTwice {
         key: usize,
         entry: usize,
@@ -111,7 +111,7 @@ fn bad_value(sets: &[FieldSet]) -> Option<PlanCause>
     None
 }
 
-/// The first entry of a node that an earlier one has; `seen` has a place for each node's entry, and all are empty.
+/// An entry of a node that an earlier one has, and that earlier one; `seen` has a place for each node's entry, and all are empty.
 fn repeated_node(seen: &mut [Option<usize>], pairs: &[(i64, i64)]) -> Option<NodeRepeat>
     requires nodes { list_any (λ p. not (is_below (length seen.old) p.0)) pairs.now ≡ false }
     requires fresh { seen.old ≡ replicate (length seen.old) None }

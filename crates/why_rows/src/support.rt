@@ -25,10 +25,10 @@ pub(crate) fn found_in_program(alloc: Global, program: &[u8]) -> Result<Finding,
 }
 
 /// What is found in a network beside a program, where a round is asked for.
-pub(crate) fn found_in_network(
+pub(crate) fn found_in_network<'a>(
     alloc: Global,
-    program: &str,
-    network: &[u8],
+    program: &'a str,
+    network: &'a [u8],
 ) -> Result<Finding, AllocError> {
     let texts = Texts {
         program: named("p", program.as_bytes()),
