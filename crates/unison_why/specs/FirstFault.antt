@@ -1,21 +1,26 @@
 -- The first fault with which a job would end, and when there is none: want of memory, threads and devices aside.
-use Rattle.std.specs.Prelude.{ℕ, Bool, true, false, ◌≡◌, ◌≤◌, List, length, Option, Some, None, Ok}
+use Rattle.std.specs.Prelude.{ℕ, Bool, true, false, ◌≡◌, ◌≤◌, List, length, Option, None, Ok}
 use Rattle.rule_lang.specs.Tree.{ItemTree}
 use Rattle.rule_lang.specs.declared.fault.LangFault.TheVariants as lang
 use Rattle.rule_check.specs.declared.fault.CheckFault.TheVariants as check
 use Rattle.link_net.specs.declared.fault.NetFault.TheVariants as net
 use Rattle.lockstep.specs.declared.fault.PlanFault.TheVariants as plan
 use Rattle.lockstep.specs.declared.fault.ReportFault.TheVariants as report
+use Rattle.lockstep.specs.declared.fault.RoundFault.TheVariants as round
 use Rattle.lockstep.specs.Configs.{Configuration}
 use Rattle.lockstep.specs.Plans.{PlanView}
 use Rattle.lockstep.specs.Lockstep as steps
 use Rattle.unison_world.specs.declared.step.Step.{Step}
+use Rattle.unison_world.specs.declared.fault.OpenFault.TheVariants as opening
 use Rattle.unison_world.specs.Opening.{opening_of}
 use Rattle.unison_world.specs.View.{opened}
+use Rattle.unison_trace.specs.declared.fault.ScheduleFault.TheVariants as schedule
+use Rattle.unison_trace.specs.declared.fault.ReplayFault.TheVariants as replay
 use Rattle.unison_trace.specs.Histories.{most_steps}
 use Rattle.unison_trace.specs.Schedules.{HasSteps}
 use Rattle.unison_trace.specs.Traces.{needed}
 use Rattle.unison_trace.specs.ReplayFaults.{IsRefusedText}
+use Rattle.unison_pool.specs.declared.fault.RunFault.TheVariants as run
 use Rattle.unison_pool.specs.Refusals.{opening_refusal}
 use Rattle.unison_jobs.specs.declared.job.Job.{Job}
 use Rattle.unison_jobs.specs.declared.job.Job.TheVariants.{Check, Lockstep, Run, Replay, Compare}
@@ -23,15 +28,32 @@ use Rattle.unison_jobs.specs.declared.fault.ServeFault.{ServeFault}
 use Rattle.unison_jobs.specs.declared.fault.ServeFault.TheVariants as fault
 use Rattle.unison_jobs.specs.Served.{IsAccepted, HasResumed, IsRefusal, IsPlanRefusal}
 
--- the fault is want of memory
-abbrev pub is_memory : ServeFault → Bool
-is_memory (fault.Lang lang.Memory) = true
-is_memory (fault.Check check.Memory) = true
-is_memory (fault.Net net.Memory) = true
-is_memory (fault.Plan plan.Memory) = true
-is_memory (fault.Report report.Memory) = true
-is_memory fault.Memory = true
-is_memory f = false
+-- the texts of a job show the fault: it is no want of memory, no thread that was refused, nothing that workers leave, and no device's
+abbrev pub is_shown : ServeFault → Bool
+is_shown (fault.Lang lang.Memory) = false
+is_shown (fault.Lang f) = true
+is_shown (fault.Check check.Memory) = false
+is_shown (fault.Check f) = true
+is_shown (fault.Net net.Memory) = false
+is_shown (fault.Net f) = true
+is_shown (fault.Plan plan.Memory) = false
+is_shown (fault.Plan f) = true
+is_shown (fault.Report report.Memory) = false
+is_shown (fault.Report f) = true
+is_shown (fault.Round round.Memory) = false
+is_shown (fault.Round f) = true
+is_shown (fault.Run run.NoThread) = false
+is_shown (fault.Run run.Foreign) = false
+is_shown (fault.Run (run.Unfinished node moves)) = false
+is_shown (fault.Run run.Memory) = false
+is_shown (fault.Run f) = true
+is_shown (fault.Replay (replay.Schedule schedule.Memory)) = false
+is_shown (fault.Replay (replay.Schedule f)) = true
+is_shown (fault.Replay (replay.Opening opening.Memory)) = false
+is_shown (fault.Replay (replay.Opening f)) = true
+is_shown (fault.Replay f) = false
+is_shown (fault.Write written) = false
+is_shown fault.Memory = false
 
 -- the configuration of the round is there
 abbrev pub HasRounds : PlanView → ℕ → Type 0

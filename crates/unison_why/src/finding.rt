@@ -1,7 +1,7 @@
 //! Why a job is not done, told for people.
-ghost use Rattle.std.specs.Prelude.{◌≡◌, IfOk, IfSome, IsNone};
+ghost use Rattle.std.specs.Prelude.{◌≡◌, IfOk, IfSome, IsNone, true};
 ghost use Rattle.unison_jobs.specs.Served.{given};
-ghost use Rattle.unison_why.specs.FirstFault.{IsFirstFault, IsUnrefused};
+ghost use Rattle.unison_why.specs.FirstFault.{IsFirstFault, IsUnrefused, is_shown};
 ghost use Rattle.unison_why.specs.Given.{network_of, report_of, schedule_of};
 
 use crate::first::first_fault;
@@ -247,6 +247,7 @@ fn fault_text(
 /// Want of memory, threads and devices are no faults here.
 pub fn why(alloc: Global, job: &Job, texts: &Texts) -> Result<Finding, AllocError>
     ensures refused { IfOk result (λ finding. IfSome finding.fault (IsFirstFault job.now texts.now.program.text.now (network_of texts.now) (report_of texts.now) (schedule_of texts.now))) }
+    ensures shown { IfOk result (λ finding. IfSome finding.fault (λ f. is_shown f ≡ true)) }
     ensures accepted { IfOk result (λ finding. IsNone finding.fault → IsUnrefused job.now texts.now.program.text.now (network_of texts.now) (report_of texts.now) (schedule_of texts.now)) }
 {
     let fault = first_fault(

@@ -1,5 +1,5 @@
 //! The first fault of a job, found without doing it.
-ghost use Rattle.std.specs.Prelude.{◌≡◌, ◌≢◌, List, IfOk, IfSome, IsNone, Some, Ok, Err, false};
+ghost use Rattle.std.specs.Prelude.{◌≡◌, ◌≢◌, List, IfOk, IfSome, IsNone, Some, Ok, Err, true};
 ghost use Rattle.rule_lang.specs.Tree.{ItemTree};
 ghost use Rattle.lockstep.specs.declared.fault.RoundFault.{RoundFault as RefusedRound};
 ghost use Rattle.lockstep.specs.Lockstep.{rounds_of};
@@ -15,7 +15,7 @@ ghost use Rattle.unison_pool.specs.Refusals.{Refuses};
 ghost use Rattle.unison_jobs.specs.declared.job.Job.{Job};
 ghost use Rattle.unison_jobs.specs.declared.fault.ServeFault.TheVariants as fault;
 ghost use Rattle.unison_jobs.specs.Served.{IsAccepted, RefusesProgram, given, trace_limit};
-ghost use Rattle.unison_why.specs.FirstFault.{HasRounds, IsFirstFault, IsPlanFault, IsReplayable, IsRunnable, IsUnrefused, IsUnrefusedPlan, is_memory};
+ghost use Rattle.unison_why.specs.FirstFault.{HasRounds, IsFirstFault, IsPlanFault, IsReplayable, IsRunnable, IsUnrefused, IsUnrefusedPlan, is_shown};
 
 use link_net::NetFault;
 use lockstep::{MOST_ROUNDS, Plan, PlanFault, ReportFault, RoundFault};
@@ -27,26 +27,32 @@ use unison_pool::{RunFault, opening_refusal};
 use unison_trace::{MOST_STEPS, ReplayFault, ScheduleFault, read_schedule, steps_needed};
 use unison_world::OpenFault;
 
-/// Whether the fault is want of memory.
-fn is_memory(fault: &ServeFault) -> bool
-    ensures exact { result ≡ is_memory fault.now }
+/// Whether the texts of a job show the fault.
+fn is_shown(fault: &ServeFault) -> bool
+    ensures exact { result ≡ is_shown fault.now }
 {
     match fault {
-        ServeFault::Lang(LangFault::Memory)
-        | ServeFault::Check(CheckFault::Memory)
-        | ServeFault::Net(NetFault::Memory)
-        | ServeFault::Plan(PlanFault::Memory)
-        | ServeFault::Report(ReportFault::Memory)
-        | ServeFault::Memory => true,
-        _ => false,
+        ServeFault::Lang(fault) => *fault != LangFault::Memory,
+        ServeFault::Check(fault) => *fault != CheckFault::Memory,
+        ServeFault::Net(fault) => *fault != NetFault::Memory,
+        ServeFault::Plan(fault) => *fault != PlanFault::Memory,
+        ServeFault::Report(fault) => *fault != ReportFault::Memory,
+        ServeFault::Round(fault) => *fault != RoundFault::Memory,
+        ServeFault::Run(
+            RunFault::NoThread | RunFault::Foreign | RunFault::Unfinished { .. } | RunFault::Memory,
+        ) => false,
+        ServeFault::Run(_) => true,
+        ServeFault::Replay(ReplayFault::Schedule(fault)) => *fault != ScheduleFault::Memory,
+        ServeFault::Replay(ReplayFault::Opening(fault)) => *fault != OpenFault::Memory,
+        ServeFault::Replay(_) | ServeFault::Write { .. } | ServeFault::Memory => false,
     }
 }
 
-/// The fault as an answer, or want of memory.
+/// The fault as an answer, or want of memory: that is all that remains where the texts do not show it.
 fn answer(fault: ServeFault) -> Result<Option<ServeFault>, AllocError>
-    ensures fault { IfOk result (λ found. (found ≡ Some fault) × (is_memory fault ≡ false)) }
+    ensures fault { IfOk result (λ found. (found ≡ Some fault) × (is_shown fault ≡ true)) }
 {
-    if is_memory(&fault) {
+    if !is_shown(&fault) {
         return Err(AllocError);
     }
     Ok(Some(fault))
@@ -55,6 +61,7 @@ fn answer(fault: ServeFault) -> Result<Option<ServeFault>, AllocError>
 /// The first fault of a program's text.
 fn program_fault(alloc: Global, program: &[u8]) -> Result<Option<ServeFault>, AllocError>
     ensures refused { IfOk result (λ found. IfSome found (RefusesProgram program.now)) }
+    ensures shown { IfOk result (λ found. IfSome found (λ f. is_shown f ≡ true)) }
     ensures accepted { IfOk result (λ found. IsNone found → (items : List ItemTree) × IsAccepted program.now items) }
 {
     let source = match read_program(alloc, program) {
@@ -165,13 +172,18 @@ pub fn first_fault(
     schedule: &[u8],
 ) -> Result<Option<ServeFault>, AllocError>
     ensures refused { IfOk result (λ found. IfSome found (IsFirstFault job.now program.now network.now (given from.entry) schedule.now)) }
+    ensures shown { IfOk result (λ found. IfSome found (λ f. is_shown f ≡ true)) }
     ensures accepted { IfOk result (λ found. IsNone found → IsUnrefused job.now program.now network.now (given from.entry) schedule.now) }
 {
     if let Job::Check = *job {
         return program_fault(alloc, program);
     }
-    match plan_from(alloc, program, network, from) {
-        Ok(plan) => plan_fault(alloc, job, &plan, schedule),
-        Err(fault) => answer(fault),
+    let plan = match plan_from(alloc, program, network, from) {
+        Ok(plan) => plan,
+        Err(fault) => return answer(fault),
+    };
+    match plan_fault(alloc, job, &plan, schedule)? {
+        Some(fault) => answer(fault),
+        None => Ok(None),
     }
 }
