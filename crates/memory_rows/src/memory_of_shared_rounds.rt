@@ -10,9 +10,9 @@ use std::process::Abort;
 use std::test::Fail;
 use std::thread::Threads;
 
-/// The distances, beside a field whose rule is so long that the rounds of 65,536 nodes are shared.
+/// The distances, beside a field whose rule has 121 instructions, so many that the rounds of 65,536 nodes are shared.
 const LONG_RULE: &str =
-    "field dist = 4294967295; field a = 1; next dist = (dist min least (n.dist + 1)); next a = ((((((((((((((a + id) ^ round) + a) ^ id) + round) ^ a) + id) ^ round) + a) ^ id) + round) ^ a) + id) ^ round);";
+    "field dist = 4294967295; field a = 1; next dist = (dist min least (n.dist + 1)); next a = ((((((((((((((((((((((((((((((((((((((((((((((((((((((((((((a + id) ^ round) + a) ^ id) + round) ^ a) + id) ^ round) + a) ^ id) + round) ^ a) + id) ^ round) + a) ^ id) + round) ^ a) + id) ^ round) + a) ^ id) + round) ^ a) + id) ^ round) + a) ^ id) + round) ^ a) + id) ^ round) + a) ^ id) + round) ^ a) + id) ^ round) + a) ^ id) + round) ^ a) + id) ^ round) + a) ^ id) + round) ^ a) + id) ^ round) + a) ^ id) + round) ^ a) + id) ^ round) + a) ^ id) + round) ^ a);";
 
 /// The text of so many nodes, the first of which are a path with the first at distance 0, in room that is asked for
 /// once.

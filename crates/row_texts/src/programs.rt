@@ -33,7 +33,7 @@ pub const COUNTER: &str = "field s = 0; next s = (s + 1);";
 /// The sum of the rounds.
 pub const ROUNDS: &str = "field s = 0; next s = (s + round);";
 
-/// The distances, with seven fields beside them that mix numbers, rounds and neighbours: so much work a node that the
-/// rounds of a path of some thousand nodes are shared.
+/// The distances, with seven fields beside them that mix numbers, rounds and neighbours: 80 instructions a node and 48 an
+/// end of a link, so that the rounds of a path of 44,685 nodes are shared, and those of a path of 44,684 are not.
 pub const EIGHT_FIELDS: &str =
-    "field dist = 4294967295; field a = 1; field b = 2; field c = 3; field d = 4; field e = 5; field f = 6; field g = 7; next dist = (dist min least (n.dist + 1)); next a = ((a + id) + round); next b = total n.a; next c = most (n.id + n.b); next d = (d ^ count n.a); next e = ((e * 3) + c); next f = any (n.d & 1); next g = least n.e;";
+    "field dist = 4294967295; field a = 1; field b = 2; field c = 3; field d = 4; field e = 5; field f = 6; field g = 7; next dist = (dist min least (n.dist + 1)); next a = (((((((((((((((((a + id) ^ round) + b) max c) + d) ^ e) + f) max g) + degree) ^ dist) + id) max round) + b) ^ c) + d) max e) + f); next b = total ((((n.a + n.id) ^ id) + round) & 65535); next c = most ((((n.id + n.b) ^ n.c) + round) min 1000003); next d = (d ^ count ((((n.a + n.d) ^ id) + round) & 3)); next e = (((((((((((((((((e * 3) + c) ^ a) + id) * d) + f) ^ round) + b) * degree) + g) ^ 7) + 3) * c) + a) ^ id) + d) * f); next f = any ((((n.d + n.f) ^ n.id) + round) & 1); next g = least ((((n.e + n.g) ^ n.id) max n.a) + 7);";

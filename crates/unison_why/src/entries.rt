@@ -1,7 +1,7 @@
 //! Where the entries of a list in a TOML document begin. The reader of TOML keeps no places, so they are found by the
-//! brackets and confirmed by that reader: what stands at the place reads to the entry.
+//! brackets of a document that it has read, strings and comments left aside, and what stands there is read by it alone.
 
-use std::alloc::Global;
+use std::alloc::{AllocError, Global};
 use std::str;
 use toml::Value;
 
@@ -167,30 +167,26 @@ fn value_length(bytes: &[u8]) -> usize {
     bytes.len()
 }
 
-/// Whether these bytes read to a value that TOML writes so.
-fn reads_to(alloc: Global, bytes: &[u8], written: &str) -> bool {
+/// How TOML writes the value that these bytes are, where they are one.
+fn rewritten(alloc: Global, bytes: &[u8]) -> Result<Option<String>, AllocError> {
     let Ok(text) = str::from_utf8(bytes) else {
-        return false;
+        return Ok(None);
     };
-    let Ok(value) = Value::from_str(alloc, text) else {
-        return false;
-    };
-    match value.to_string(alloc) {
-        Ok(other) => other.as_str() == written,
-        Err(_) => false,
+    match Value::from_str(alloc, text) {
+        Ok(value) => Ok(Some(value.to_string(alloc)?)),
+        Err(error) if error.span().is_some() => Ok(None),
+        Err(_) => Err(AllocError),
     }
 }
 
-/// Where the entry of this number begins in the list at a key of a table, where what stands there reads to a value that
-/// TOML writes so. None where it is written in another way, as in a table on one line.
-pub(crate) fn entry_place(
-    alloc: Global,
-    text: &[u8],
+/// The bytes of the entry of this number in the list at a key of a table, and where they begin. None where the list is
+/// written in another way, as in a table on one line.
+fn entry_bytes<'t>(
+    text: &'t [u8],
     table: &str,
     key: &str,
     entry: usize,
-    written: &str,
-) -> Option<usize> {
+) -> Option<(usize, &'t [u8])> {
     let start = value_place(text, table, key)?;
     let list = text.get(start..)?;
     if !list.starts_with(b"[") {
@@ -199,8 +195,38 @@ pub(crate) fn entry_place(
     let offset = entry_offset(list, entry)?;
     let rest = list.get(offset..)?;
     let value = rest[..value_length(rest).min(rest.len())].trim_ascii_end();
-    if !reads_to(alloc, value, written) {
-        return None;
+    Some((start.saturating_add(offset), value))
+}
+
+/// Where the entry of this number begins in the list at a key of a table, and how TOML writes it, where that is seen.
+pub(crate) fn entry_seen(
+    alloc: Global,
+    text: &[u8],
+    table: &str,
+    key: &str,
+    entry: usize,
+) -> Result<Option<(usize, String)>, AllocError> {
+    let Some((at, bytes)) = entry_bytes(text, table, key, entry) else {
+        return Ok(None);
+    };
+    match rewritten(alloc, bytes)? {
+        Some(written) => Ok(Some((at, written))),
+        None => Ok(None),
     }
-    Some(start.saturating_add(offset))
+}
+
+/// Where the entry of this number begins in the list at a key of a table, where what stands there reads to a value that
+/// TOML writes so.
+pub(crate) fn entry_place(
+    alloc: Global,
+    text: &[u8],
+    table: &str,
+    key: &str,
+    entry: usize,
+    written: &str,
+) -> Result<Option<usize>, AllocError> {
+    match entry_seen(alloc, text, table, key, entry)? {
+        Some((at, other)) if other.as_str() == written => Ok(Some(at)),
+        _ => Ok(None),
+    }
 }

@@ -37,14 +37,20 @@ pub struct Finding {
     pub text: String,
 }
 
-/// The items of a program's text.
-fn source_of(alloc: Global, text: &[u8]) -> Option<Source> {
-    read_program(alloc, text).ok()
+/// The items of a program's text that was read before: only memory can be wanting.
+fn source_of(alloc: Global, text: &[u8]) -> Result<Source, AllocError> {
+    match read_program(alloc, text) {
+        Ok(source) => Ok(source),
+        Err(_) => Err(AllocError),
+    }
 }
 
-/// The program of a text.
-fn program_of(alloc: Global, text: &[u8]) -> Option<Program> {
-    check(alloc, &source_of(alloc, text)?).ok()
+/// The program of a text that was accepted before.
+fn program_of(alloc: Global, text: &[u8]) -> Result<Program, AllocError> {
+    match check(alloc, &source_of(alloc, text)?) {
+        Ok(program) => Ok(program),
+        Err(_) => Err(AllocError),
+    }
 }
 
 /// The bytes of the network.
@@ -77,25 +83,20 @@ fn schedule_text<'a>(texts: &Texts<'a>) -> &'a [u8]
     }
 }
 
-/// What the network file describes.
-fn file_of(alloc: Global, texts: &Texts) -> Option<NetFile> {
-    read_network(alloc, network_text(texts)).ok()
+/// What the network file describes, which was read before.
+fn file_of(alloc: Global, texts: &Texts) -> Result<NetFile, AllocError> {
+    match read_network(alloc, network_text(texts)) {
+        Ok(file) => Ok(file),
+        Err(_) => Err(AllocError),
+    }
 }
 
-/// The plan of the texts, the report aside.
-fn base_plan(alloc: Global, texts: &Texts) -> Option<Plan> {
-    plan_from(alloc, texts.program.text, network_text(texts), None).ok()
-}
-
-/// The plan of the texts.
-fn plan_of(alloc: Global, texts: &Texts) -> Option<Plan> {
-    plan_from(
-        alloc,
-        texts.program.text,
-        network_text(texts),
-        report_text(texts),
-    )
-    .ok()
+/// The plan of the texts with this report to go on from, which was accepted before.
+fn plan_of(alloc: Global, texts: &Texts, report: Option<&[u8]>) -> Result<Plan, AllocError> {
+    match plan_from(alloc, texts.program.text, network_text(texts), report) {
+        Ok(plan) => Ok(plan),
+        Err(_) => Err(AllocError),
+    }
 }
 
 /// What is told of a program's text that is refused.
@@ -118,9 +119,7 @@ fn tell_program(alloc: Global, text: &[u8]) -> Result<Told, AllocError> {
 
 /// What is told of a program that is not well formed.
 fn tell_check(alloc: Global, text: &[u8]) -> Result<Told, AllocError> {
-    let Some(source) = source_of(alloc, text) else {
-        return tell_else(alloc);
-    };
+    let source = source_of(alloc, text)?;
     match rule_check::diagnose(alloc, &source)? {
         Some(cause) => tell_refused(alloc, text, &source, &cause),
         None => tell_else(alloc),
@@ -138,10 +137,8 @@ fn tell_net(alloc: Global, texts: &Texts) -> Result<Told, AllocError> {
 
 /// What is told of a network file whose `set` does not fit the program.
 fn tell_set(alloc: Global, texts: &Texts) -> Result<Told, AllocError> {
-    let (Some(program), Some(file)) = (program_of(alloc, texts.program.text), file_of(alloc, texts))
-    else {
-        return tell_else(alloc);
-    };
+    let program = program_of(alloc, texts.program.text)?;
+    let file = file_of(alloc, texts)?;
     match diagnose_plan(alloc, &program, &file)? {
         Some(cause) => tell_plan(alloc, &program, network_text(texts), &file, &cause),
         None => tell_else(alloc),
@@ -150,7 +147,8 @@ fn tell_set(alloc: Global, texts: &Texts) -> Result<Told, AllocError> {
 
 /// What is told of a report that is refused.
 fn tell_report(alloc: Global, texts: &Texts, fault: ReportFault) -> Result<Told, AllocError> {
-    let (Some(plan), Some(text)) = (base_plan(alloc, texts), report_text(texts)) else {
+    let plan = plan_of(alloc, texts, None)?;
+    let Some(text) = report_text(texts) else {
         return tell_else(alloc);
     };
     match fault {
@@ -168,9 +166,7 @@ fn tell_report(alloc: Global, texts: &Texts, fault: ReportFault) -> Result<Told,
 
 /// What is told where a round or a run is refused.
 fn tell_run(alloc: Global, texts: &Texts, job: &Job, fault: RunFault) -> Result<Told, AllocError> {
-    let Some(plan) = plan_of(alloc, texts) else {
-        return tell_else(alloc);
-    };
+    let plan = plan_of(alloc, texts, report_text(texts))?;
     match fault {
         RunFault::StopBelowStart => tell_below_start(alloc, &plan, job),
         RunFault::StopTooLarge => tell_too_large(alloc, job),

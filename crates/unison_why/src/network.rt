@@ -1,21 +1,37 @@
 //! Why a network file is refused.
 
-use crate::entries::{entry_place, key_place, value_place};
+use crate::entries::{entry_seen, key_place, value_place};
 use crate::near::nearest;
 use crate::told::{Part, Told};
 use link_net::NetCause;
 use std::alloc::{AllocError, Global};
 use toml::{Table, Value};
 
-/// The table that the bytes are; an empty one where they are none.
-fn table_of(alloc: Global, bytes: &[u8]) -> Table {
+/// An entry of a list in the file.
+struct Entry {
+    /// Where it begins, where that is seen.
+    at: Option<usize>,
+    /// How TOML writes it.
+    text: String,
+}
+
+/// The table that the bytes are, which were read before: only memory can be wanting.
+fn table_of(alloc: Global, bytes: &[u8]) -> Result<Table, AllocError> {
     match toml::table_from_slice(alloc, bytes) {
-        Ok(table) => table,
-        Err(_) => Table::new(alloc),
+        Ok(table) => Ok(table),
+        Err(_) => Err(AllocError),
     }
 }
 
-/// The entry of this number of the list at a key, as TOML writes it.
+/// The value of a key of a table of the document; the table at the top has the empty name.
+fn value_of<'d>(document: &'d Table, table: &str, key: &str) -> Option<&'d Value> {
+    if table.is_empty() {
+        return document.get(key);
+    }
+    document.get(table).and_then(Value::as_table)?.get(key)
+}
+
+/// The entry of this number of a list, as TOML writes it.
 fn entry_text(alloc: Global, list: Option<&Value>, entry: usize) -> Result<String, AllocError> {
     let Some(array) = list.and_then(Value::as_array) else {
         return Ok(String::new(alloc));
@@ -26,29 +42,60 @@ fn entry_text(alloc: Global, list: Option<&Value>, entry: usize) -> Result<Strin
     }
 }
 
-/// A link of the file, as TOML writes it.
-fn link_text(alloc: Global, table: &Table, link: usize) -> Result<String, AllocError> {
-    entry_text(alloc, table.get("links"), link)
-}
-
-/// An entry of the list of a field in `set`, as TOML writes it.
-pub(crate) fn pair_text(
+/// The entry of this number of the list at a key of a table. The document is read only where the entry is not seen in it.
+fn entry_of(
     alloc: Global,
-    table: &Table,
+    bytes: &[u8],
+    table: &str,
     key: &str,
     entry: usize,
-) -> Result<String, AllocError> {
-    let Some(sets) = table.get("set").and_then(Value::as_table) else {
-        return Ok(String::new(alloc));
-    };
-    entry_text(alloc, sets.get(key), entry)
+) -> Result<Entry, AllocError> {
+    if let Some((at, text)) = entry_seen(alloc, bytes, table, key, entry)? {
+        return Ok(Entry { at: Some(at), text });
+    }
+    let document = table_of(alloc, bytes)?;
+    let text = entry_text(alloc, value_of(&document, table, key), entry)?;
+    Ok(Entry { at: None, text })
+}
+
+/// The link that the cause names.
+fn link_of(cause: &NetCause) -> Option<usize> {
+    match *cause {
+        NetCause::LinkShape { link }
+        | NetCause::BadLink { link }
+        | NetCause::SelfLink { link }
+        | NetCause::LinkTwice { link, .. }
+        | NetCause::BadWeight { link } => Some(link),
+        _ => None,
+    }
+}
+
+/// The entry at fault, where the cause names one.
+fn entry_at_fault(
+    alloc: Global,
+    bytes: &[u8],
+    cause: &NetCause,
+) -> Result<Option<Entry>, AllocError> {
+    if let Some(link) = link_of(cause) {
+        return Ok(Some(entry_of(alloc, bytes, "", "links", link)?));
+    }
+    match cause {
+        NetCause::PairShape { key, entry } => Ok(Some(entry_of(
+            alloc,
+            bytes,
+            "set",
+            key.as_str(),
+            *entry,
+        )?)),
+        _ => Ok(None),
+    }
 }
 
 /// What is wrong with the keys and the shapes of their values.
 fn shape_text(
     alloc: Global,
-    table: &Table,
     cause: &NetCause,
+    entry_text: &str,
 ) -> Result<Option<String>, AllocError> {
     let text = match cause {
         NetCause::NotToml { message, .. } => String::from_str(alloc, message.as_str()),
@@ -57,41 +104,39 @@ fn shape_text(
         NetCause::NodesShape => String::from_str(alloc, "`nodes` is no whole number"),
         NetCause::LinksMissing => String::from_str(alloc, "the key `links` is missing at the top"),
         NetCause::LinksShape => String::from_str(alloc, "`links` is no array"),
-        NetCause::LinkShape { link } => {
-            let text = link_text(alloc, table, *link)?;
-            format!(in alloc; "link {link}, {text}, is no array of two or three whole numbers")
-        }
+        NetCause::LinkShape { link } => format!(in alloc;
+            "link {link}, {entry_text}, is no array of two or three whole numbers"
+        ),
         NetCause::PhaseShape => String::from_str(alloc, "`phase` is no whole number"),
         NetCause::SetShape => String::from_str(alloc, "`set` is no table"),
         NetCause::SetValueShape { key } => format!(in alloc; "`{key}` in `set` is no array"),
-        NetCause::PairShape { key, entry } => {
-            let text = pair_text(alloc, table, key.as_str(), *entry)?;
-            format!(in alloc;
-                "entry {entry} of `{key}` in `set`, {text}, is no array of two whole numbers"
-            )
-        }
+        NetCause::PairShape { key, entry } => format!(in alloc;
+            "entry {entry} of `{key}` in `set`, {entry_text}, is no array of two whole numbers"
+        ),
         _ => return Ok(None),
     };
     Ok(Some(text?))
 }
 
 /// What is wrong with the numbers.
-fn number_text(alloc: Global, table: &Table, cause: &NetCause) -> Result<String, AllocError> {
+fn number_text(
+    alloc: Global,
+    bytes: &[u8],
+    cause: &NetCause,
+    entry_text: &str,
+) -> Result<String, AllocError> {
     match cause {
         NetCause::NodeCount { nodes } => format!(in alloc; "there are {nodes} nodes"),
-        NetCause::BadLink { link } => {
-            let text = link_text(alloc, table, *link)?;
-            format!(in alloc; "link {link}, {text}, has an end that is no node")
-        }
-        NetCause::SelfLink { link } => {
-            let text = link_text(alloc, table, *link)?;
-            format!(in alloc; "link {link}, {text}, joins a node with itself")
-        }
+        NetCause::BadLink { link } => format!(in alloc;
+            "link {link}, {entry_text}, has an end that is no node"
+        ),
+        NetCause::SelfLink { link } => format!(in alloc;
+            "link {link}, {entry_text}, joins a node with itself"
+        ),
         NetCause::LinkTwice { link, earlier } => {
-            let text = link_text(alloc, table, *link)?;
-            let other = link_text(alloc, table, *earlier)?;
+            let other = entry_of(alloc, bytes, "", "links", *earlier)?.text;
             format!(in alloc;
-                "link {link}, {text}, joins the same nodes as link {earlier}, {other}"
+                "link {link}, {entry_text}, joins the same nodes as link {earlier}, {other}"
             )
         }
         NetCause::TooManyLinks { links } => format!(in alloc; "there are {links} links"),
@@ -99,19 +144,23 @@ fn number_text(alloc: Global, table: &Table, cause: &NetCause) -> Result<String,
             "node {node} has {neighbours} neighbours"
         ),
         NetCause::BadPhase { phase } => format!(in alloc; "the phase is {phase}"),
-        NetCause::BadWeight { link } => {
-            let text = link_text(alloc, table, *link)?;
-            format!(in alloc; "link {link}, {text}, has no weight from 0 to 4294967295")
-        }
+        NetCause::BadWeight { link } => format!(in alloc;
+            "link {link}, {entry_text}, has no weight from 0 to 4294967295"
+        ),
         _ => Ok(String::new(alloc)),
     }
 }
 
 /// What is wrong.
-fn what_text(alloc: Global, table: &Table, cause: &NetCause) -> Result<String, AllocError> {
-    match shape_text(alloc, table, cause)? {
+fn what_text(
+    alloc: Global,
+    bytes: &[u8],
+    cause: &NetCause,
+    entry_text: &str,
+) -> Result<String, AllocError> {
+    match shape_text(alloc, cause, entry_text)? {
         Some(text) => Ok(text),
-        None => number_text(alloc, table, cause),
+        None => number_text(alloc, bytes, cause, entry_text),
     }
 }
 
@@ -126,27 +175,19 @@ fn key_hint(alloc: Global, key: &str) -> Result<String, AllocError> {
     }
 }
 
-/// Whether a key stands in the table of `set`.
-fn is_in_set(table: &Table, key: &str) -> bool {
-    match table.get("set").and_then(Value::as_table) {
-        Some(sets) => sets.get(key).is_some(),
-        None => false,
-    }
-}
-
 /// What to do about `links` that is not there.
-fn links_hint(table: &Table) -> &'static str {
-    if is_in_set(table, "links") {
-        return "`links` stands behind [set] and so belongs to it: put it above [set]";
-    }
-    "a network without links has: links = []"
+fn links_hint(alloc: Global, bytes: &[u8]) -> Result<String, AllocError> {
+    let hint = match value_of(&table_of(alloc, bytes)?, "set", "links") {
+        Some(_) => "`links` stands behind [set] and so belongs to it: put it above [set]",
+        None => "a network without links has: links = []",
+    };
+    String::from_str(alloc, hint)
 }
 
 /// What to do.
-fn hint(table: &Table, cause: &NetCause) -> &'static str {
+fn hint(cause: &NetCause) -> &'static str {
     match cause {
         NetCause::NodesMissing | NetCause::NodesShape => "the number of nodes, as in: nodes = 3",
-        NetCause::LinksMissing => links_hint(table),
         NetCause::LinksShape | NetCause::LinkShape { .. } =>
             "links are written [[0, 1], [1, 2]], or with weights [[0, 1, 5], [1, 2, 7]]; whole numbers without quotes",
         NetCause::PhaseShape | NetCause::BadPhase { .. } =>
@@ -166,49 +207,18 @@ fn hint(table: &Table, cause: &NetCause) -> &'static str {
 }
 
 /// What to do, in a text of its own.
-fn hint_text(alloc: Global, table: &Table, cause: &NetCause) -> Result<String, AllocError> {
+fn hint_text(alloc: Global, bytes: &[u8], cause: &NetCause) -> Result<String, AllocError> {
     match cause {
         NetCause::UnknownKey { key } => key_hint(alloc, key.as_str()),
-        _ => String::from_str(alloc, hint(table, cause)),
+        NetCause::LinksMissing => links_hint(alloc, bytes),
+        _ => String::from_str(alloc, hint(cause)),
     }
 }
 
-/// The link that the cause names.
-fn link_of(cause: &NetCause) -> Option<usize> {
-    match *cause {
-        NetCause::LinkShape { link }
-        | NetCause::BadLink { link }
-        | NetCause::SelfLink { link }
-        | NetCause::LinkTwice { link, .. }
-        | NetCause::BadWeight { link } => Some(link),
-        _ => None,
-    }
-}
-
-/// Where the fault is seen in the text.
-fn spot(
-    alloc: Global,
-    bytes: &[u8],
-    table: &Table,
-    cause: &NetCause,
-) -> Result<Option<usize>, AllocError> {
-    if let Some(link) = link_of(cause) {
-        let text = link_text(alloc, table, link)?;
-        return Ok(entry_place(alloc, bytes, "", "links", link, text.as_str()));
-    }
-    match cause {
-        NetCause::NotToml { at, .. } => Ok(Some(*at)),
-        NetCause::PairShape { key, entry } => {
-            let text = pair_text(alloc, table, key.as_str(), *entry)?;
-            Ok(entry_place(alloc, bytes, "set", key.as_str(), *entry, text.as_str()))
-        }
-        _ => Ok(key_spot(bytes, cause)),
-    }
-}
-
-/// Where the key or the value of a key is seen that the cause names.
+/// Where the fault is seen in the text, where it is no entry of a list.
 fn key_spot(bytes: &[u8], cause: &NetCause) -> Option<usize> {
     match cause {
+        NetCause::NotToml { at, .. } => Some(*at),
         NetCause::UnknownKey { key } => key_place(bytes, "", key.as_str()),
         NetCause::NodesShape | NetCause::NodeCount { .. } => value_place(bytes, "", "nodes"),
         NetCause::LinksShape => value_place(bytes, "", "links"),
@@ -226,11 +236,18 @@ pub(crate) fn tell_network(
     bytes: &[u8],
     cause: &NetCause,
 ) -> Result<Told, AllocError> {
-    let table = table_of(alloc, bytes);
+    let hint = hint_text(alloc, bytes, cause)?;
+    let (at, what) = match entry_at_fault(alloc, bytes, cause)? {
+        Some(entry) => (
+            entry.at,
+            what_text(alloc, bytes, cause, entry.text.as_str())?,
+        ),
+        None => (key_spot(bytes, cause), what_text(alloc, bytes, cause, "")?),
+    };
     Ok(Told {
         part: Some(Part::Network),
-        at: spot(alloc, bytes, &table, cause)?,
-        what: what_text(alloc, &table, cause)?,
-        hint: hint_text(alloc, &table, cause)?,
+        at,
+        what,
+        hint,
     })
 }

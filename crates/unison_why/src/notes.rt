@@ -128,26 +128,26 @@ fn put_program_notes(out: &mut String, items: &[Item]) -> Result<(), AllocError>
     Ok(())
 }
 
-/// Whether a network file sets no field of any node.
-fn sets_nothing(alloc: Global, named: Named) -> bool {
+/// Whether a network file, which was read before, sets no field of any node.
+fn sets_nothing(alloc: Global, named: Named) -> Result<bool, AllocError> {
     let Ok(file) = read_network(alloc, named.text) else {
-        return false;
+        return Err(AllocError);
     };
     for set in file.sets() {
         if !set.pairs.as_slice().is_empty() {
-            return false;
+            return Ok(false);
         }
     }
-    true
+    Ok(true)
 }
 
 /// Whether all nodes stay alike: the texts set nothing, and the program never tells nodes apart.
-fn stay_alike(alloc: Global, texts: &Texts, items: &[Item]) -> bool {
+fn stay_alike(alloc: Global, texts: &Texts, items: &[Item]) -> Result<bool, AllocError> {
     match (texts.network, texts.report) {
-        (Some(named), None) => !some_tells_apart(items)
-            && !items.is_empty()
-            && sets_nothing(alloc, named),
-        _ => false,
+        (Some(named), None) if !items.is_empty() && !some_tells_apart(items) => sets_nothing(
+            alloc, named,
+        ),
+        _ => Ok(false),
     }
 }
 
@@ -155,10 +155,10 @@ fn stay_alike(alloc: Global, texts: &Texts, items: &[Item]) -> bool {
 pub(crate) fn notes(alloc: Global, texts: &Texts) -> Result<String, AllocError> {
     let mut out = String::from_str(alloc, "nothing is wrong\n")?;
     let Ok(source) = read_program(alloc, texts.program.text) else {
-        return Ok(out);
+        return Err(AllocError);
     };
     put_program_notes(&mut out, source.items())?;
-    if stay_alike(alloc, texts, source.items()) {
+    if stay_alike(alloc, texts, source.items())? {
         out.push_str(
             "note: all nodes open alike and the program never tells them apart: set a field in the network, as in [set] and dist = [[0, 0]]\n",
         )?;

@@ -125,7 +125,7 @@ fn spot(
         | PlanCause::BadValue { key, entry }
         | PlanCause::SetTwice { key, entry, .. } => {
             let text = entry_text(alloc, file, key, entry)?;
-            Ok(entry_place(alloc, bytes, "set", name, entry, text.as_str()))
+            entry_place(alloc, bytes, "set", name, entry, text.as_str())
         }
     }
 }

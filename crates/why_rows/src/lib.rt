@@ -4,6 +4,8 @@
 #[cfg(test)]
 mod line_rows;
 #[cfg(test)]
+mod memory;
+#[cfg(test)]
 mod network_rows;
 #[cfg(test)]
 mod program_rows;

@@ -28,7 +28,7 @@ pub(crate) fn found_beside_a_report(
 }
 
 /// What is found in a schedule.
-fn found_in_schedule(alloc: Global, schedule: &str) -> Result<Finding, AllocError> {
+pub(crate) fn found_in_schedule(alloc: Global, schedule: &str) -> Result<Finding, AllocError> {
     let texts = Texts {
         program: named("p", PAIR.as_bytes()),
         network: Some(named("n", NODES)),
