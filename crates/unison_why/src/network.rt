@@ -8,6 +8,7 @@ use std::alloc::{AllocError, Global};
 use toml::{Table, Value};
 
 /// An entry of a list in the file.
+#[derive(Drop)]
 struct Entry {
     /// Where it begins, where that is seen.
     at: Option<usize>,
