@@ -25,6 +25,7 @@ pub use fault::NetFault;
 pub use field_set::{FieldSet, Name, Pairs};
 pub use net_file::NetFile;
 pub use network::Network;
+pub use tables::{Link, link_network};
 use std::alloc::Global;
 use toml::Table;
 

@@ -19,7 +19,7 @@ pub(crate) const MOST_LINKS: usize = 262_144;
 pub(crate) const MOST_NEIGHBOURS: usize = 4096;
 
 /// A link: its two ends and its weight.
-pub(crate) type Link = (u32, u32, u32);
+pub type Link = (u32, u32, u32);
 
 /// A link seen from one of its ends: the node that it comes from, the node that it leads to, its weight.
 pub(crate) type Arc = (u32, u32, u32);
@@ -128,8 +128,8 @@ fn has_crowded_node(offsets: &[usize]) -> bool
     false
 }
 
-/// The network that the links make.
-pub(crate) fn link_network(alloc: Global, nodes: u32, links: &[Link]) -> Result<Network, NetFault>
+/// The network that links between so many nodes make, or the first fault of their ends.
+pub fn link_network(alloc: Global, nodes: u32, links: &[Link]) -> Result<Network, NetFault>
     requires within { AllWithin nodes links.now }
     requires some { 1 ≤ nodes }
     requires small { nodes ≤ 65536 }
