@@ -1,0 +1,5 @@
+mod Ahead
+mod Few
+mod Lists
+mod Paths
+mod EachShape

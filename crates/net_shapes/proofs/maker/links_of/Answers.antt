@@ -1,0 +1,14 @@
+use Rattle.std.proofs.Common.{◌≡◌, None, rules}
+use Rattle.net_shapes.specs.Sizes.{refusal_of}
+use Rattle.net_shapes.proofs.EachShape.{shape_listing, shape_has}
+use Rattle.net_shapes.proofs.maker.links_of.Goals as goal
+
+pub sound-requires : goal.sound-requires
+sound-requires c =
+    let fits : refusal_of c.args.shape.now ≡ None = search rules in
+    rw (c.node_count.ensures, c.in_ok-links.ensures) (shape_listing c.args.shape.now fits)
+
+pub returns-clause-made : goal.returns-clause-made
+returns-clause-made c =
+    let fits : refusal_of c.args.shape.now ≡ None = search rules in
+    rw (c.sound.ensures.listing, c.node_count.ensures, c.in_ok-links.ensures) (shape_has c.args.shape.now fits)

@@ -1,0 +1,21 @@
+-- Internal: the links of a shape in the order in which they are made. No public clause cites it.
+use Rattle.std.specs.Prelude.{ℕ, ◌+◌, Bool, List, [], ◌∷◌, ◌++◌, map, nat_lt, if◌then◌else◌}
+use Rattle.net_text.specs.Listing.{Link}
+use Rattle.net_shapes.specs.declared.shape.Shape.{Shape}
+
+-- the link from u to w
+abbrev pub link_to : ℕ → ℕ → Link
+link_to u w = (u, w, 1)
+
+-- the links from each of these nodes to those ahead of it
+abbrev pub links_ahead : (ℕ → List ℕ) → List ℕ → List Link
+links_ahead next [] = []
+links_ahead next (u ∷ us) = map (link_to u) (next u) ++ links_ahead next us
+
+-- the node, where it is wanted
+abbrev pub when : Bool → ℕ → List ℕ
+when wanted w = if wanted then w ∷ [] else []
+
+-- the nodes to which a shape leads from u
+abbrev pub ahead : Shape → ℕ → List ℕ
+ahead (Shape.Path n) u = when (nat_lt (u + 1) n) (u + 1)

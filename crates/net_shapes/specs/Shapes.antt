@@ -1,0 +1,25 @@
+-- Shapes: which nodes they join.
+use Rattle.std.specs.Prelude.{◌≡◌, ℕ, ◌+◌, ◌<◌, ◌==◌, Bool, ◌||◌}
+use Rattle.std.specs.List.{AllByRecursion}
+use Rattle.link_net.specs.Links.{are_linked}
+use Rattle.net_text.specs.Listing.{Listing}
+use Rattle.net_shapes.specs.declared.shape.Shape.{Shape}
+
+-- how many nodes a shape has; they are numbered from 0
+abbrev pub node_count : Shape → ℕ
+node_count (Shape.Path n) = n
+
+-- there is a link between u and w, which the shape has by the place of u
+abbrev pub leads : Shape → ℕ → ℕ → Bool
+-- each node to the next
+leads (Shape.Path n) u w = u + 1 == w
+
+-- the shape joins u and w: it leads from one to the other
+abbrev pub shape_joins : Shape → ℕ → ℕ → Bool
+shape_joins s u w = leads s u w || leads s w u
+
+-- the list has the shape's nodes, a link between two of them exactly where the shape joins them, and weight 1 at each link
+pub record HasShape (s : Shape) (list : Listing) : Type 0 where
+  pub nodes : list.nodes ≡ node_count s
+  pub links : (u w : ℕ) → u < node_count s → w < node_count s → are_linked list.links u w ≡ shape_joins s u w
+  pub weights : AllByRecursion (λ l. l.2 ≡ 1) list.links

@@ -1,0 +1,31 @@
+-- Which shapes have a network.
+use Rattle.std.specs.Prelude.{◌≡◌, ℕ, ◌-◌, Bool, ◌&&◌, not, nat_lt, nat_le, Option, Some, None, if◌then◌else◌}
+use Rattle.link_net.specs.Limits.{most_nodes, most_links, most_neighbours}
+use Rattle.net_shapes.specs.declared.shape.Shape.{Shape}
+use Rattle.net_shapes.specs.declared.fault.ShapeFault.{ShapeFault}
+use Rattle.net_shapes.specs.declared.fault.ShapeFault.TheVariants.{NodeCount, TooManyLinks, TooManyNeighbours, Memory}
+
+-- the nodes are no fewer than the shape needs, and no more than a network may have
+abbrev pub has_size : Shape → Bool
+has_size (Shape.Path n) = nat_le 1 n && nat_le n most_nodes
+
+-- how many links a shape of such a size has
+abbrev pub link_count : Shape → ℕ
+link_count (Shape.Path n) = n - 1
+
+-- how many neighbours a node of such a shape has at most
+abbrev pub neighbour_count : Shape → ℕ
+neighbour_count (Shape.Path n) = 2
+
+-- why a shape has no network
+abbrev pub refusal_of : Shape → Option ShapeFault
+refusal_of s =
+    if not (has_size s) then Some NodeCount
+    else if nat_lt most_links (link_count s) then Some TooManyLinks
+    else if nat_lt most_neighbours (neighbour_count s) then Some TooManyNeighbours
+    else None
+
+-- the refusal that a fault tells: want of memory refuses nothing
+abbrev pub refused_by : ShapeFault → Option ShapeFault
+refused_by Memory = None
+refused_by fault = Some fault

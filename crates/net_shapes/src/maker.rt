@@ -1,0 +1,60 @@
+//! The links of shapes.
+ghost use Rattle.std.specs.Prelude.{◌≡◌, ◌<◌, ◌≤◌, ◌+◌, ◌++◌, map, true, None, OnOk, IfOk, IfErr};
+ghost use Rattle.link_net.specs.Neighbours.{numbers_below};
+ghost use Rattle.link_net.specs.Limits.{most_nodes};
+ghost use Rattle.net_shapes.specs.Ahead.{link_to, when, ahead, links_ahead};
+ghost use Rattle.net_shapes.specs.Shapes.{node_count, HasShape};
+ghost use Rattle.net_shapes.specs.Sizes.{has_size, refusal_of, refused_by};
+
+use crate::sizes::{link_count, node_count, refusal};
+use crate::{Shape, ShapeFault};
+use link_net::Link;
+use net_text::LinkList;
+use std::alloc::{AllocError, Global};
+
+/// Puts the link from a node to another one, where it is wanted.
+fn put_if(links: &mut Vec<Link>, wanted: bool, node: u32, other: u32) -> Result<(), AllocError>
+    ensures { OnOk result (links.new.items ≡ links.old.items ++ map (link_to node) (when wanted other)) }
+{
+    if wanted {
+        links.push((node, other, 1))?;
+    }
+    Ok(())
+}
+
+/// Puts the links that lead from a node.
+fn put_links(links: &mut Vec<Link>, shape: &Shape, node: u32) -> Result<(), AllocError>
+    requires size { has_size shape.now ≡ true }
+    requires low { node < node_count shape.now }
+    ensures { OnOk result (links.new.items ≡ links.old.items ++ map (link_to node) (ahead shape.now node)) }
+{
+    match *shape {
+        Shape::Path { nodes } => put_if(links, node + 1 < nodes, node, node + 1),
+    }
+}
+
+/// The links that lead from all nodes.
+fn all_links(alloc: Global, shape: &Shape) -> Result<Vec<Link>, AllocError>
+    requires { refusal_of shape.now ≡ None }
+    ensures { IfOk result (λ v. v.items ≡ links_ahead (ahead shape.now) (numbers_below (node_count shape.now))) }
+{
+    let mut links = Vec::with_capacity(alloc, link_count(shape) as usize)?;
+    for node in 0..node_count(shape) {
+        put_links(&mut links, shape, node)?;
+    }
+    Ok(links)
+}
+
+/// The links of a shape, each with weight 1, or why it has no network. `Memory` comes for want of memory alone, and where
+/// nothing refuses; before anything large is made the sizes are looked at.
+pub fn links_of(alloc: Global, shape: &Shape) -> Result<LinkList, ShapeFault>
+    ensures made { IfOk result (λ list. HasShape shape.now list) }
+    ensures fits { IfOk result (λ _. refusal_of shape.now ≡ None) }
+    ensures refused { IfErr result (λ fault. refusal_of shape.now ≡ refused_by fault) }
+{
+    if let Some(fault) = refusal(shape) {
+        return Err(fault);
+    }
+    let links = all_links(alloc, shape)?;
+    Ok(LinkList::sound(node_count(shape), links))
+}

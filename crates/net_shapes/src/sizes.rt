@@ -1,0 +1,71 @@
+//! How large shapes are.
+ghost use Rattle.std.specs.Prelude.{◌≡◌, ◌≤◌, true};
+ghost use Rattle.link_net.specs.Limits.{most_nodes};
+ghost use Rattle.net_shapes.specs.Shapes.{node_count};
+ghost use Rattle.net_shapes.specs.Sizes.{has_size, link_count, neighbour_count, refusal_of};
+
+use crate::{Shape, ShapeFault};
+
+/// The most nodes of a network.
+const MOST_NODES: u64 = 65_536;
+
+/// The most links of a network.
+const MOST_LINKS: u64 = 262_144;
+
+/// The most neighbours of a node.
+const MOST_NEIGHBOURS: u64 = 4096;
+
+/// Whether the number of nodes is one that the shape can have.
+fn has_size(shape: &Shape) -> bool
+    ensures { result ≡ has_size shape.now }
+{
+    match *shape {
+        Shape::Path { nodes } => nodes >= 1 && nodes as u64 <= MOST_NODES,
+    }
+}
+
+/// How many links the shape has.
+pub(crate) fn link_count(shape: &Shape) -> u64
+    requires { has_size shape.now ≡ true }
+    ensures { result ≡ link_count shape.now }
+{
+    match *shape {
+        Shape::Path { nodes } => nodes as u64 - 1,
+    }
+}
+
+/// How many neighbours a node of the shape has at most.
+fn neighbour_count(shape: &Shape) -> u64
+    requires { has_size shape.now ≡ true }
+    ensures { result ≡ neighbour_count shape.now }
+{
+    match *shape {
+        Shape::Path { .. } => 2,
+    }
+}
+
+/// Why the shape has no network.
+pub(crate) fn refusal(shape: &Shape) -> Option<ShapeFault>
+    ensures { result ≡ refusal_of shape.now }
+{
+    if !has_size(shape) {
+        return Some(ShapeFault::NodeCount);
+    }
+    if link_count(shape) > MOST_LINKS {
+        return Some(ShapeFault::TooManyLinks);
+    }
+    if neighbour_count(shape) > MOST_NEIGHBOURS {
+        return Some(ShapeFault::TooManyNeighbours);
+    }
+    None
+}
+
+/// How many nodes the shape has.
+pub(crate) fn node_count(shape: &Shape) -> u32
+    requires { has_size shape.now ≡ true }
+    ensures { result ≡ node_count shape.now }
+{
+    match *shape {
+        Shape::Path { nodes } => nodes,
+    }
+}
