@@ -1,6 +1,7 @@
 -- Internal: the links of a shape in the order in which they are made. No public clause cites it.
 use Rattle.std.specs.Prelude.{ℕ, ◌+◌, Bool, List, [], ◌∷◌, ◌++◌, map, nat_lt, if◌then◌else◌}
 use Rattle.net_text.specs.Listing.{Link}
+use Rattle.net_shapes.specs.Shapes.{next}
 use Rattle.net_shapes.specs.declared.shape.Shape.{Shape}
 
 -- the link from u to w
@@ -19,3 +20,5 @@ when wanted w = if wanted then w ∷ [] else []
 -- the nodes to which a shape leads from u
 abbrev pub ahead : Shape → ℕ → List ℕ
 ahead (Shape.Path n) u = when (nat_lt (u + 1) n) (u + 1)
+ahead (Shape.Ring n) u = next n u ∷ []
+ahead (Shape.Star n) u = when (nat_lt 0 u) 0

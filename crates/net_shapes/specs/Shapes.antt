@@ -1,5 +1,5 @@
 -- Shapes: which nodes they join.
-use Rattle.std.specs.Prelude.{◌≡◌, ℕ, ◌+◌, ◌<◌, ◌==◌, Bool, ◌||◌}
+use Rattle.std.specs.Prelude.{◌≡◌, ℕ, ◌+◌, ◌<◌, ◌==◌, Bool, ◌&&◌, ◌||◌, nat_lt, if◌then◌else◌}
 use Rattle.std.specs.List.{AllByRecursion}
 use Rattle.link_net.specs.Links.{are_linked}
 use Rattle.net_text.specs.Listing.{Listing}
@@ -8,11 +8,21 @@ use Rattle.net_shapes.specs.declared.shape.Shape.{Shape}
 -- how many nodes a shape has; they are numbered from 0
 abbrev pub node_count : Shape → ℕ
 node_count (Shape.Path n) = n
+node_count (Shape.Ring n) = n
+node_count (Shape.Star n) = n
+
+-- the node after i on a ring of n: after the last comes the first
+abbrev pub next : ℕ → ℕ → ℕ
+next n i = if i + 1 == n then 0 else i + 1
 
 -- there is a link between u and w, which the shape has by the place of u
 abbrev pub leads : Shape → ℕ → ℕ → Bool
 -- each node to the next
 leads (Shape.Path n) u w = u + 1 == w
+-- the same, and the last to the first
+leads (Shape.Ring n) u w = next n u == w
+-- each node but node 0 to node 0, the middle
+leads (Shape.Star n) u w = nat_lt 0 u && w == 0
 
 -- the shape joins u and w: it leads from one to the other
 abbrev pub shape_joins : Shape → ℕ → ℕ → Bool

@@ -5,17 +5,27 @@ use Rattle.net_shapes.specs.declared.shape.Shape.{Shape}
 use Rattle.net_shapes.specs.declared.fault.ShapeFault.{ShapeFault}
 use Rattle.net_shapes.specs.declared.fault.ShapeFault.TheVariants.{NodeCount, TooManyLinks, TooManyNeighbours, Memory}
 
+-- the number is from the least up to the most nodes of a network
+abbrev pub is_from : ℕ → ℕ → Bool
+is_from least n = nat_le least n && nat_le n most_nodes
+
 -- the nodes are no fewer than the shape needs, and no more than a network may have
 abbrev pub has_size : Shape → Bool
-has_size (Shape.Path n) = nat_le 1 n && nat_le n most_nodes
+has_size (Shape.Path n) = is_from 1 n
+has_size (Shape.Ring n) = is_from 3 n
+has_size (Shape.Star n) = is_from 1 n
 
 -- how many links a shape of such a size has
 abbrev pub link_count : Shape → ℕ
 link_count (Shape.Path n) = n - 1
+link_count (Shape.Ring n) = n
+link_count (Shape.Star n) = n - 1
 
 -- how many neighbours a node of such a shape has at most
 abbrev pub neighbour_count : Shape → ℕ
 neighbour_count (Shape.Path n) = 2
+neighbour_count (Shape.Ring n) = 2
+neighbour_count (Shape.Star n) = n - 1
 
 -- why a shape has no network
 abbrev pub refusal_of : Shape → Option ShapeFault

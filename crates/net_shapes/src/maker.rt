@@ -3,7 +3,7 @@ ghost use Rattle.std.specs.Prelude.{◌≡◌, ◌<◌, ◌≤◌, ◌+◌, ◌+
 ghost use Rattle.link_net.specs.Neighbours.{numbers_below};
 ghost use Rattle.link_net.specs.Limits.{most_nodes};
 ghost use Rattle.net_shapes.specs.Ahead.{link_to, when, ahead, links_ahead};
-ghost use Rattle.net_shapes.specs.Shapes.{node_count, HasShape};
+ghost use Rattle.net_shapes.specs.Shapes.{next, node_count, HasShape};
 ghost use Rattle.net_shapes.specs.Sizes.{has_size, refusal_of, refused_by};
 
 use crate::sizes::{link_count, node_count, refusal};
@@ -11,6 +11,14 @@ use crate::{Shape, ShapeFault};
 use link_net::Link;
 use net_text::LinkList;
 use std::alloc::{AllocError, Global};
+
+/// The node after one on a ring.
+fn next(nodes: u32, node: u32) -> u32
+    requires { node < nodes }
+    ensures { result ≡ next nodes node }
+{
+    if node + 1 == nodes { 0 } else { node + 1 }
+}
 
 /// Puts the link from a node to another one, where it is wanted.
 fn put_if(links: &mut Vec<Link>, wanted: bool, node: u32, other: u32) -> Result<(), AllocError>
@@ -30,6 +38,8 @@ fn put_links(links: &mut Vec<Link>, shape: &Shape, node: u32) -> Result<(), Allo
 {
     match *shape {
         Shape::Path { nodes } => put_if(links, node + 1 < nodes, node, node + 1),
+        Shape::Ring { nodes } => put_if(links, true, node, next(nodes, node)),
+        Shape::Star { .. } => put_if(links, node > 0, node, 0),
     }
 }
 

@@ -5,4 +5,8 @@
 pub enum Shape {
     /// Each node is linked with the next one.
     Path { nodes: u32 },
+    /// Each node is linked with the next one, and the last with the first.
+    Ring { nodes: u32 },
+    /// Node 0 is linked with each other node.
+    Star { nodes: u32 },
 }

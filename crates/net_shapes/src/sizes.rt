@@ -2,7 +2,7 @@
 ghost use Rattle.std.specs.Prelude.{◌≡◌, ◌≤◌, true};
 ghost use Rattle.link_net.specs.Limits.{most_nodes};
 ghost use Rattle.net_shapes.specs.Shapes.{node_count};
-ghost use Rattle.net_shapes.specs.Sizes.{has_size, link_count, neighbour_count, refusal_of};
+ghost use Rattle.net_shapes.specs.Sizes.{is_from, has_size, link_count, neighbour_count, refusal_of};
 
 use crate::{Shape, ShapeFault};
 
@@ -15,12 +15,21 @@ const MOST_LINKS: u64 = 262_144;
 /// The most neighbours of a node.
 const MOST_NEIGHBOURS: u64 = 4096;
 
+/// Whether the number is from the least up to the most nodes of a network.
+fn is_from(least: u64, nodes: u64) -> bool
+    ensures { result ≡ is_from least nodes }
+{
+    nodes >= least && nodes <= MOST_NODES
+}
+
 /// Whether the number of nodes is one that the shape can have.
 fn has_size(shape: &Shape) -> bool
     ensures { result ≡ has_size shape.now }
 {
     match *shape {
-        Shape::Path { nodes } => nodes >= 1 && nodes as u64 <= MOST_NODES,
+        Shape::Path { nodes } => is_from(1, nodes as u64),
+        Shape::Ring { nodes } => is_from(3, nodes as u64),
+        Shape::Star { nodes } => is_from(1, nodes as u64),
     }
 }
 
@@ -31,6 +40,8 @@ pub(crate) fn link_count(shape: &Shape) -> u64
 {
     match *shape {
         Shape::Path { nodes } => nodes as u64 - 1,
+        Shape::Ring { nodes } => nodes as u64,
+        Shape::Star { nodes } => nodes as u64 - 1,
     }
 }
 
@@ -41,6 +52,8 @@ fn neighbour_count(shape: &Shape) -> u64
 {
     match *shape {
         Shape::Path { .. } => 2,
+        Shape::Ring { .. } => 2,
+        Shape::Star { nodes } => nodes as u64 - 1,
     }
 }
 
@@ -67,5 +80,7 @@ pub(crate) fn node_count(shape: &Shape) -> u32
 {
     match *shape {
         Shape::Path { nodes } => nodes,
+        Shape::Ring { nodes } => nodes,
+        Shape::Star { nodes } => nodes,
     }
 }
