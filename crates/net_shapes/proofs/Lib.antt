@@ -5,4 +5,6 @@ mod Sound
 mod Paths
 mod Rings
 mod Stars
+mod Places
+mod Grids
 mod EachShape

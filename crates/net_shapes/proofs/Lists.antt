@@ -15,3 +15,19 @@ once_when false x = refl
 pub short_when : (wanted : Bool) (x : ℕ) → length (when wanted x) ≤ 1
 short_when true x = omega arith
 short_when false x = omega arith
+
+pub has-append : (w : ℕ) (xs ys : List ℕ) → has w (xs ++ ys) ≡ (has w xs || has w ys)
+has-append w [] ys = refl
+has-append w (x ∷ xs) ys = rw (has-append w xs ys) (grind (arith, nat_tests))
+
+pub once_two : (a b : Bool) (x y : ℕ) → (a ≡ true → b ≡ true → (x == y) ≡ false) → has_twice (when a x ++ when b y) ≡ false
+once_two true true x y h = let other = h refl refl in grind (arith, nat_tests)
+once_two true false x y h = refl
+once_two false true x y h = refl
+once_two false false x y h = refl
+
+pub short_two : (a b : Bool) (x y : ℕ) → length (when a x ++ when b y) ≤ 2
+short_two true true x y = omega arith
+short_two true false x y = omega arith
+short_two false true x y = omega arith
+short_two false false x y = omega arith

@@ -1,7 +1,7 @@
 -- Internal: the links of a shape in the order in which they are made. No public clause cites it.
-use Rattle.std.specs.Prelude.{ℕ, ◌+◌, Bool, List, [], ◌∷◌, ◌++◌, map, nat_lt, if◌then◌else◌}
+use Rattle.std.specs.Prelude.{ℕ, ◌+◌, ◌*◌, Bool, List, [], ◌∷◌, ◌++◌, map, nat_lt, if◌then◌else◌}
 use Rattle.net_text.specs.Listing.{Link}
-use Rattle.net_shapes.specs.Shapes.{next}
+use Rattle.net_shapes.specs.Shapes.{next, row, column}
 use Rattle.net_shapes.specs.declared.shape.Shape.{Shape}
 
 -- the link from u to w
@@ -17,8 +17,13 @@ links_ahead next (u ∷ us) = map (link_to u) (next u) ++ links_ahead next us
 abbrev pub when : Bool → ℕ → List ℕ
 when wanted w = if wanted then w ∷ [] else []
 
+-- the node at a column and a row, in rows of w
+abbrev pub place : ℕ → ℕ → ℕ → ℕ
+place w x y = y * w + x
+
 -- the nodes to which a shape leads from u
 abbrev pub ahead : Shape → ℕ → List ℕ
 ahead (Shape.Path n) u = when (nat_lt (u + 1) n) (u + 1)
 ahead (Shape.Ring n) u = next n u ∷ []
 ahead (Shape.Star n) u = when (nat_lt 0 u) 0
+ahead (Shape.Grid w h) u = when (nat_lt (column w u + 1) w) (u + 1) ++ when (nat_lt (row w u + 1) h) (u + w)

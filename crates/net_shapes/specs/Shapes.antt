@@ -1,5 +1,5 @@
 -- Shapes: which nodes they join.
-use Rattle.std.specs.Prelude.{◌≡◌, ℕ, ◌+◌, ◌<◌, ◌==◌, Bool, ◌&&◌, ◌||◌, nat_lt, if◌then◌else◌}
+use Rattle.std.specs.Prelude.{◌≡◌, ℕ, ◌+◌, ◌*◌, ◌/◌, ◌%◌, ◌<◌, ◌==◌, Bool, ◌&&◌, ◌||◌, nat_lt, if◌then◌else◌}
 use Rattle.std.specs.List.{AllByRecursion}
 use Rattle.link_net.specs.Links.{are_linked}
 use Rattle.net_text.specs.Listing.{Listing}
@@ -10,10 +10,18 @@ abbrev pub node_count : Shape → ℕ
 node_count (Shape.Path n) = n
 node_count (Shape.Ring n) = n
 node_count (Shape.Star n) = n
+node_count (Shape.Grid w h) = w * h
 
 -- the node after i on a ring of n: after the last comes the first
 abbrev pub next : ℕ → ℕ → ℕ
 next n i = if i + 1 == n then 0 else i + 1
+
+-- in rows of w nodes, which follow one another: the row and the column of a node
+abbrev pub row : ℕ → ℕ → ℕ
+row w u = u / w
+
+abbrev pub column : ℕ → ℕ → ℕ
+column w u = u % w
 
 -- there is a link between u and w, which the shape has by the place of u
 abbrev pub leads : Shape → ℕ → ℕ → Bool
@@ -23,6 +31,8 @@ leads (Shape.Path n) u w = u + 1 == w
 leads (Shape.Ring n) u w = next n u == w
 -- each node but node 0 to node 0, the middle
 leads (Shape.Star n) u w = nat_lt 0 u && w == 0
+-- each node to the one at its right, and to the one below it
+leads (Shape.Grid w h) u v = (row w u == row w v && column w u + 1 == column w v) || (column w u == column w v && row w u + 1 == row w v)
 
 -- the shape joins u and w: it leads from one to the other
 abbrev pub shape_joins : Shape → ℕ → ℕ → Bool

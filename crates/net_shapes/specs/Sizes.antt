@@ -1,5 +1,5 @@
 -- Which shapes have a network.
-use Rattle.std.specs.Prelude.{◌≡◌, ℕ, ◌-◌, Bool, ◌&&◌, not, nat_lt, nat_le, Option, Some, None, if◌then◌else◌}
+use Rattle.std.specs.Prelude.{◌≡◌, ℕ, ◌+◌, ◌-◌, ◌*◌, Bool, ◌&&◌, not, nat_lt, nat_le, Option, Some, None, if◌then◌else◌}
 use Rattle.link_net.specs.Limits.{most_nodes, most_links, most_neighbours}
 use Rattle.net_shapes.specs.declared.shape.Shape.{Shape}
 use Rattle.net_shapes.specs.declared.fault.ShapeFault.{ShapeFault}
@@ -14,18 +14,25 @@ abbrev pub has_size : Shape → Bool
 has_size (Shape.Path n) = is_from 1 n
 has_size (Shape.Ring n) = is_from 3 n
 has_size (Shape.Star n) = is_from 1 n
+has_size (Shape.Grid w h) = (nat_le 1 w && nat_le 1 h) && nat_le (w * h) most_nodes
+
+-- the links of h rows of w nodes, and those of their columns
+abbrev pub grid_links : ℕ → ℕ → ℕ
+grid_links w h = (w - 1) * h + w * (h - 1)
 
 -- how many links a shape of such a size has
 abbrev pub link_count : Shape → ℕ
 link_count (Shape.Path n) = n - 1
 link_count (Shape.Ring n) = n
 link_count (Shape.Star n) = n - 1
+link_count (Shape.Grid w h) = grid_links w h
 
 -- how many neighbours a node of such a shape has at most
 abbrev pub neighbour_count : Shape → ℕ
 neighbour_count (Shape.Path n) = 2
 neighbour_count (Shape.Ring n) = 2
 neighbour_count (Shape.Star n) = n - 1
+neighbour_count (Shape.Grid w h) = 4
 
 -- why a shape has no network
 abbrev pub refusal_of : Shape → Option ShapeFault

@@ -1,7 +1,8 @@
 //! The links of shapes.
-ghost use Rattle.std.specs.Prelude.{◌≡◌, ◌<◌, ◌≤◌, ◌+◌, ◌++◌, map, true, None, OnOk, IfOk, IfErr};
+ghost use Rattle.std.specs.Prelude.{◌≡◌, ◌<◌, ◌≤◌, ◌+◌, ◌*◌, ◌++◌, map, true, None, OnOk, IfOk, IfErr};
 ghost use Rattle.link_net.specs.Neighbours.{numbers_below};
 ghost use Rattle.link_net.specs.Limits.{most_nodes};
+ghost use Rattle.net_shapes.specs.declared.shape.Shape.{Shape};
 ghost use Rattle.net_shapes.specs.Ahead.{link_to, when, ahead, links_ahead};
 ghost use Rattle.net_shapes.specs.Shapes.{next, node_count, HasShape};
 ghost use Rattle.net_shapes.specs.Sizes.{has_size, refusal_of, refused_by};
@@ -30,6 +31,18 @@ fn put_if(links: &mut Vec<Link>, wanted: bool, node: u32, other: u32) -> Result<
     Ok(())
 }
 
+/// Puts the links from a node of a grid to the nodes right of it and below it.
+fn put_grid(links: &mut Vec<Link>, width: u32, height: u32, node: u32) -> Result<(), AllocError>
+    requires wide { 1 ≤ width }
+    requires small { width * height ≤ most_nodes }
+    requires low { node < width * height }
+    ensures { OnOk result (links.new.items ≡ links.old.items ++ map (link_to node) (ahead (Shape.Grid width height) node)) }
+{
+    put_if(links, node % width + 1 < width, node, node + 1)?;
+    put_if(links, node / width + 1 < height, node, node + width)?;
+    Ok(())
+}
+
 /// Puts the links that lead from a node.
 fn put_links(links: &mut Vec<Link>, shape: &Shape, node: u32) -> Result<(), AllocError>
     requires size { has_size shape.now ≡ true }
@@ -40,6 +53,7 @@ fn put_links(links: &mut Vec<Link>, shape: &Shape, node: u32) -> Result<(), Allo
         Shape::Path { nodes } => put_if(links, node + 1 < nodes, node, node + 1),
         Shape::Ring { nodes } => put_if(links, true, node, next(nodes, node)),
         Shape::Star { .. } => put_if(links, node > 0, node, 0),
+        Shape::Grid { width, height } => put_grid(links, width, height, node),
     }
 }
 

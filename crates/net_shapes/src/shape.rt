@@ -9,4 +9,6 @@ pub enum Shape {
     Ring { nodes: u32 },
     /// Node 0 is linked with each other node.
     Star { nodes: u32 },
+    /// Each node is linked with the one at its right and the one below it. Nodes are numbered row by row.
+    Grid { width: u32, height: u32 },
 }

@@ -1,8 +1,8 @@
 //! How large shapes are.
-ghost use Rattle.std.specs.Prelude.{◌≡◌, ◌≤◌, true};
+ghost use Rattle.std.specs.Prelude.{◌≡◌, ◌≤◌, ◌*◌, true};
 ghost use Rattle.link_net.specs.Limits.{most_nodes};
 ghost use Rattle.net_shapes.specs.Shapes.{node_count};
-ghost use Rattle.net_shapes.specs.Sizes.{is_from, has_size, link_count, neighbour_count, refusal_of};
+ghost use Rattle.net_shapes.specs.Sizes.{is_from, has_size, grid_links, link_count, neighbour_count, refusal_of};
 
 use crate::{Shape, ShapeFault};
 
@@ -30,7 +30,20 @@ fn has_size(shape: &Shape) -> bool
         Shape::Path { nodes } => is_from(1, nodes as u64),
         Shape::Ring { nodes } => is_from(3, nodes as u64),
         Shape::Star { nodes } => is_from(1, nodes as u64),
+        Shape::Grid { width, height } => {
+            width >= 1 && height >= 1 && width as u64 * height as u64 <= MOST_NODES
+        }
     }
+}
+
+/// How many links a grid has: those in its rows and those in its columns.
+fn grid_links(width: u64, height: u64) -> u64
+    requires wide { 1 ≤ width }
+    requires high { 1 ≤ height }
+    requires small { width * height ≤ most_nodes }
+    ensures { result ≡ grid_links width height }
+{
+    (width - 1) * height + width * (height - 1)
 }
 
 /// How many links the shape has.
@@ -42,6 +55,7 @@ pub(crate) fn link_count(shape: &Shape) -> u64
         Shape::Path { nodes } => nodes as u64 - 1,
         Shape::Ring { nodes } => nodes as u64,
         Shape::Star { nodes } => nodes as u64 - 1,
+        Shape::Grid { width, height } => grid_links(width as u64, height as u64),
     }
 }
 
@@ -54,6 +68,7 @@ fn neighbour_count(shape: &Shape) -> u64
         Shape::Path { .. } => 2,
         Shape::Ring { .. } => 2,
         Shape::Star { nodes } => nodes as u64 - 1,
+        Shape::Grid { .. } => 4,
     }
 }
 
@@ -82,5 +97,6 @@ pub(crate) fn node_count(shape: &Shape) -> u32
         Shape::Path { nodes } => nodes,
         Shape::Ring { nodes } => nodes,
         Shape::Star { nodes } => nodes,
+        Shape::Grid { width, height } => width * height,
     }
 }
