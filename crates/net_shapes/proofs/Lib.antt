@@ -7,4 +7,5 @@ mod Rings
 mod Stars
 mod Places
 mod Grids
+mod Toruses
 mod EachShape

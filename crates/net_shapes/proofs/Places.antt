@@ -40,6 +40,20 @@ module _ (w : ℕ) (wide : 1 ≤ w) where
               | inr none ↦ rw (other, none) refl
             ]
 
+  -- nodes at different columns or rows differ
+  pub place_other : (x y a b : ℕ) → x < w → a < w → (y == b && x == a) ≡ false → (place w x y == place w a b) ≡ false
+  place_other x y a b low below other =
+      elim (cases_Bool (place w x y == place w a b)) [
+        | inl same ↦
+            let is : place w x y ≡ place w a b = grind (arith, nat_tests) in
+            let rows : y ≡ b = sym (div-mul-add y w x low) ∙ ap (λ k. row w k) is ∙ div-mul-add b w a below in
+            let columns : x ≡ a = sym (mod-mul-add y w x low) ∙ ap (λ k. column w k) is ∙ mod-mul-add b w a below in
+            absurd (differ x y a b rows columns other)
+        | inr different ↦ different
+      ] where
+        differ : (x y a b : ℕ) → y ≡ b → x ≡ a → (y == b && x == a) ≡ false → ⊥
+        differ x y a b rows columns other = grind (arith, nat_tests)
+
   module _ (h : ℕ) where
     pub row_below : (u : ℕ) → u < w * h → row w u < h
     row_below u low = div_below u w h (omega arith) (rw (mul_comm h w) low)

@@ -3,14 +3,10 @@ use Rattle.std.proofs.Common.{◌≡◌, ℕ, ◌+◌, ◌-◌, ◌<◌, ◌≤�
 use Rattle.std.proofs.lemmas.Bool.Decides.{nat_tests}
 use Rattle.net_shapes.specs.declared.shape.Shape.{Shape}
 use Rattle.net_shapes.specs.Shapes.{next, leads}
-use Rattle.net_shapes.specs.Ahead.{ahead}
+use Rattle.net_shapes.specs.Ahead.{prev, ahead}
 use Rattle.net_shapes.proofs.Ahead.{IsAhead, has}
 use Rattle.net_shapes.proofs.Few.{HasFew, few_ahead}
 use Rattle.net_shapes.proofs.Sound.{IsSound, Fits, sizes}
-
--- the node before i on a ring of n
-abbrev pub prev : ℕ → ℕ → ℕ
-prev n i = if i == 0 then n - 1 else i - 1
 
 module _ (n : ℕ) (some : 3 ≤ n) where
   pub next_below : (i : ℕ) → i < n → next n i < n

@@ -1,5 +1,5 @@
 -- Internal: the links of a shape in the order in which they are made. No public clause cites it.
-use Rattle.std.specs.Prelude.{ℕ, ◌+◌, ◌*◌, Bool, List, [], ◌∷◌, ◌++◌, map, nat_lt, if◌then◌else◌}
+use Rattle.std.specs.Prelude.{ℕ, ◌+◌, ◌-◌, ◌*◌, ◌==◌, Bool, List, [], ◌∷◌, ◌++◌, map, nat_lt, if◌then◌else◌}
 use Rattle.net_text.specs.Listing.{Link}
 use Rattle.net_shapes.specs.Shapes.{next, row, column}
 use Rattle.net_shapes.specs.declared.shape.Shape.{Shape}
@@ -17,9 +17,17 @@ links_ahead next (u ∷ us) = map (link_to u) (next u) ++ links_ahead next us
 abbrev pub when : Bool → ℕ → List ℕ
 when wanted w = if wanted then w ∷ [] else []
 
+-- the node before i on a ring of n
+abbrev pub prev : ℕ → ℕ → ℕ
+prev n i = if i == 0 then n - 1 else i - 1
+
 -- the node at a column and a row, in rows of w
 abbrev pub place : ℕ → ℕ → ℕ → ℕ
 place w x y = y * w + x
+
+-- the nodes beside the one below u on a torus
+abbrev pub diagonals : ℕ → ℕ → ℕ → List ℕ
+diagonals w h u = place w (next w (column w u)) (next h (row w u)) ∷ place w (prev w (column w u)) (next h (row w u)) ∷ []
 
 -- the nodes to which a shape leads from u
 abbrev pub ahead : Shape → ℕ → List ℕ
@@ -27,3 +35,4 @@ ahead (Shape.Path n) u = when (nat_lt (u + 1) n) (u + 1)
 ahead (Shape.Ring n) u = next n u ∷ []
 ahead (Shape.Star n) u = when (nat_lt 0 u) 0
 ahead (Shape.Grid w h) u = when (nat_lt (column w u + 1) w) (u + 1) ++ when (nat_lt (row w u + 1) h) (u + w)
+ahead (Shape.Torus w h d) u = place w (next w (column w u)) (row w u) ∷ place w (column w u) (next h (row w u)) ∷ (if d then diagonals w h u else [])

@@ -11,6 +11,7 @@ node_count (Shape.Path n) = n
 node_count (Shape.Ring n) = n
 node_count (Shape.Star n) = n
 node_count (Shape.Grid w h) = w * h
+node_count (Shape.Torus w h d) = w * h
 
 -- the node after i on a ring of n: after the last comes the first
 abbrev pub next : ℕ → ℕ → ℕ
@@ -33,6 +34,11 @@ leads (Shape.Ring n) u w = next n u == w
 leads (Shape.Star n) u w = nat_lt 0 u && w == 0
 -- each node to the one at its right, and to the one below it
 leads (Shape.Grid w h) u v = (row w u == row w v && column w u + 1 == column w v) || (column w u == column w v && row w u + 1 == row w v)
+-- the same, where each row and each column is a ring; with diagonals also to the two nodes beside the one below
+leads (Shape.Torus w h d) u v =
+    (row w u == row w v && next w (column w u) == column w v)
+    || (column w u == column w v && next h (row w u) == row w v)
+    || (d && next h (row w u) == row w v && (next w (column w u) == column w v || next w (column w v) == column w u))
 
 -- the shape joins u and w: it leads from one to the other
 abbrev pub shape_joins : Shape → ℕ → ℕ → Bool

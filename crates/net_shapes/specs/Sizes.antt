@@ -15,10 +15,15 @@ has_size (Shape.Path n) = is_from 1 n
 has_size (Shape.Ring n) = is_from 3 n
 has_size (Shape.Star n) = is_from 1 n
 has_size (Shape.Grid w h) = (nat_le 1 w && nat_le 1 h) && nat_le (w * h) most_nodes
+has_size (Shape.Torus w h d) = (nat_le 3 w && nat_le 3 h) && nat_le (w * h) most_nodes
 
 -- the links of h rows of w nodes, and those of their columns
 abbrev pub grid_links : ℕ → ℕ → ℕ
 grid_links w h = (w - 1) * h + w * (h - 1)
+
+-- two links for each node, to the right and down, or four
+abbrev pub torus_links : ℕ → ℕ → Bool → ℕ
+torus_links w h d = if d then 4 * (w * h) else 2 * (w * h)
 
 -- how many links a shape of such a size has
 abbrev pub link_count : Shape → ℕ
@@ -26,6 +31,7 @@ link_count (Shape.Path n) = n - 1
 link_count (Shape.Ring n) = n
 link_count (Shape.Star n) = n - 1
 link_count (Shape.Grid w h) = grid_links w h
+link_count (Shape.Torus w h d) = torus_links w h d
 
 -- how many neighbours a node of such a shape has at most
 abbrev pub neighbour_count : Shape → ℕ
@@ -33,6 +39,7 @@ neighbour_count (Shape.Path n) = 2
 neighbour_count (Shape.Ring n) = 2
 neighbour_count (Shape.Star n) = n - 1
 neighbour_count (Shape.Grid w h) = 4
+neighbour_count (Shape.Torus w h d) = if d then 8 else 4
 
 -- why a shape has no network
 abbrev pub refusal_of : Shape → Option ShapeFault

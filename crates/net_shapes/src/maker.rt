@@ -1,10 +1,10 @@
 //! The links of shapes.
-ghost use Rattle.std.specs.Prelude.{◌≡◌, ◌<◌, ◌≤◌, ◌+◌, ◌*◌, ◌++◌, map, true, None, OnOk, IfOk, IfErr};
+ghost use Rattle.std.specs.Prelude.{◌≡◌, ◌<◌, ◌≤◌, ◌+◌, ◌*◌, [], ◌∷◌, ◌++◌, map, true, false, None, OnOk, IfOk, IfErr};
 ghost use Rattle.link_net.specs.Neighbours.{numbers_below};
 ghost use Rattle.link_net.specs.Limits.{most_nodes};
 ghost use Rattle.net_shapes.specs.declared.shape.Shape.{Shape};
-ghost use Rattle.net_shapes.specs.Ahead.{link_to, when, ahead, links_ahead};
-ghost use Rattle.net_shapes.specs.Shapes.{next, node_count, HasShape};
+ghost use Rattle.net_shapes.specs.Ahead.{link_to, when, prev, place, diagonals, ahead, links_ahead};
+ghost use Rattle.net_shapes.specs.Shapes.{next, row, column, node_count, HasShape};
 ghost use Rattle.net_shapes.specs.Sizes.{has_size, refusal_of, refused_by};
 
 use crate::sizes::{link_count, node_count, refusal};
@@ -16,9 +16,19 @@ use std::alloc::{AllocError, Global};
 /// The node after one on a ring.
 fn next(nodes: u32, node: u32) -> u32
     requires { node < nodes }
-    ensures { result ≡ next nodes node }
+    ensures value { result ≡ next nodes node }
+    ensures bound { result < nodes }
 {
     if node + 1 == nodes { 0 } else { node + 1 }
+}
+
+/// The node before one on a ring.
+fn prev(nodes: u32, node: u32) -> u32
+    requires { node < nodes }
+    ensures value { result ≡ prev nodes node }
+    ensures bound { result < nodes }
+{
+    if node == 0 { nodes - 1 } else { node - 1 }
 }
 
 /// Puts the link from a node to another one, where it is wanted.
@@ -43,6 +53,97 @@ fn put_grid(links: &mut Vec<Link>, width: u32, height: u32, node: u32) -> Result
     Ok(())
 }
 
+/// Puts the link from a node to another one.
+fn put(links: &mut Vec<Link>, node: u32, other: u32) -> Result<(), AllocError>
+    ensures { OnOk result (links.new.items ≡ links.old.items ++ map (link_to node) (other ∷ [])) }
+{
+    links.push((node, other, 1))?;
+    Ok(())
+}
+
+/// The row of a node.
+fn row(width: u32, height: u32, node: u32) -> u32
+    requires wide { 1 ≤ width }
+    requires low { node < width * height }
+    ensures value { result ≡ row width node }
+    ensures bound { result < height }
+{
+    node / width
+}
+
+/// The column of a node.
+fn column(width: u32, node: u32) -> u32
+    requires { 1 ≤ width }
+    ensures value { result ≡ column width node }
+    ensures bound { result < width }
+{
+    node % width
+}
+
+/// The node at a column and a row.
+fn place(width: u32, height: u32, column: u32, row: u32) -> u32
+    requires small { width * height ≤ most_nodes }
+    requires in_row { column < width }
+    requires in_column { row < height }
+    ensures { result ≡ place width column row }
+{
+    row * width + column
+}
+
+/// Puts the links from a node of a torus to the nodes right of it and below it.
+fn put_torus(links: &mut Vec<Link>, width: u32, height: u32, node: u32) -> Result<(), AllocError>
+    requires wide { 1 ≤ width }
+    requires small { width * height ≤ most_nodes }
+    requires low { node < width * height }
+    ensures { OnOk result (links.new.items ≡ links.old.items ++ map (link_to node) (ahead (Shape.Torus width height false) node)) }
+{
+    let row = row(width, height, node);
+    let column = column(width, node);
+    let right = place(width, height, next(width, column), row);
+    let below = place(width, height, column, next(height, row));
+    put(links, node, right)?;
+    put(links, node, below)?;
+    Ok(())
+}
+
+/// Puts the links from a node of a torus to the nodes at the right and at the left in the row below it.
+fn put_diagonals(
+    links: &mut Vec<Link>,
+    width: u32,
+    height: u32,
+    node: u32,
+) -> Result<(), AllocError>
+    requires wide { 1 ≤ width }
+    requires small { width * height ≤ most_nodes }
+    requires low { node < width * height }
+    ensures { OnOk result (links.new.items ≡ links.old.items ++ map (link_to node) (diagonals width height node)) }
+{
+    let column = column(width, node);
+    let below = next(height, row(width, height, node));
+    let right = place(width, height, next(width, column), below);
+    let left = place(width, height, prev(width, column), below);
+    put(links, node, right)?;
+    put(links, node, left)?;
+    Ok(())
+}
+
+/// Puts the links that lead from a node of a torus with diagonals.
+fn put_diagonal_torus(
+    links: &mut Vec<Link>,
+    width: u32,
+    height: u32,
+    node: u32,
+) -> Result<(), AllocError>
+    requires wide { 1 ≤ width }
+    requires small { width * height ≤ most_nodes }
+    requires low { node < width * height }
+    ensures { OnOk result (links.new.items ≡ links.old.items ++ map (link_to node) (ahead (Shape.Torus width height true) node)) }
+{
+    put_torus(links, width, height, node)?;
+    put_diagonals(links, width, height, node)?;
+    Ok(())
+}
+
 /// Puts the links that lead from a node.
 fn put_links(links: &mut Vec<Link>, shape: &Shape, node: u32) -> Result<(), AllocError>
     requires size { has_size shape.now ≡ true }
@@ -51,9 +152,19 @@ fn put_links(links: &mut Vec<Link>, shape: &Shape, node: u32) -> Result<(), Allo
 {
     match *shape {
         Shape::Path { nodes } => put_if(links, node + 1 < nodes, node, node + 1),
-        Shape::Ring { nodes } => put_if(links, true, node, next(nodes, node)),
+        Shape::Ring { nodes } => put(links, node, next(nodes, node)),
         Shape::Star { .. } => put_if(links, node > 0, node, 0),
         Shape::Grid { width, height } => put_grid(links, width, height, node),
+        Shape::Torus {
+            width,
+            height,
+            diagonals: false,
+        } => put_torus(links, width, height, node),
+        Shape::Torus {
+            width,
+            height,
+            diagonals: true,
+        } => put_diagonal_torus(links, width, height, node),
     }
 }
 

@@ -4,11 +4,26 @@
 #[derive(Clone, Copy, Debug, PartialEq, Eq)]
 pub enum Shape {
     /// Each node is linked with the next one.
-    Path { nodes: u32 },
+    Path {
+        nodes: u32,
+    },
     /// Each node is linked with the next one, and the last with the first.
-    Ring { nodes: u32 },
+    Ring {
+        nodes: u32,
+    },
     /// Node 0 is linked with each other node.
-    Star { nodes: u32 },
+    Star {
+        nodes: u32,
+    },
     /// Each node is linked with the one at its right and the one below it. Nodes are numbered row by row.
-    Grid { width: u32, height: u32 },
+    Grid {
+        width: u32,
+        height: u32,
+    },
+    /// A grid whose rows and columns are rings of three nodes or more. With diagonals each node has eight neighbours.
+    Torus {
+        width: u32,
+        height: u32,
+        diagonals: bool,
+    },
 }

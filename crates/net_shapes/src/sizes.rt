@@ -2,7 +2,7 @@
 ghost use Rattle.std.specs.Prelude.{◌≡◌, ◌≤◌, ◌*◌, true};
 ghost use Rattle.link_net.specs.Limits.{most_nodes};
 ghost use Rattle.net_shapes.specs.Shapes.{node_count};
-ghost use Rattle.net_shapes.specs.Sizes.{is_from, has_size, grid_links, link_count, neighbour_count, refusal_of};
+ghost use Rattle.net_shapes.specs.Sizes.{is_from, has_size, grid_links, torus_links, link_count, neighbour_count, refusal_of};
 
 use crate::{Shape, ShapeFault};
 
@@ -33,6 +33,9 @@ fn has_size(shape: &Shape) -> bool
         Shape::Grid { width, height } => {
             width >= 1 && height >= 1 && width as u64 * height as u64 <= MOST_NODES
         }
+        Shape::Torus { width, height, .. } => {
+            width >= 3 && height >= 3 && width as u64 * height as u64 <= MOST_NODES
+        }
     }
 }
 
@@ -46,6 +49,15 @@ fn grid_links(width: u64, height: u64) -> u64
     (width - 1) * height + width * (height - 1)
 }
 
+/// How many links a torus has: two or four for each node.
+fn torus_links(width: u64, height: u64, diagonals: bool) -> u64
+    requires { width * height ≤ most_nodes }
+    ensures { result ≡ torus_links width height diagonals }
+{
+    let nodes = width * height;
+    if diagonals { 4 * nodes } else { 2 * nodes }
+}
+
 /// How many links the shape has.
 pub(crate) fn link_count(shape: &Shape) -> u64
     requires { has_size shape.now ≡ true }
@@ -56,6 +68,11 @@ pub(crate) fn link_count(shape: &Shape) -> u64
         Shape::Ring { nodes } => nodes as u64,
         Shape::Star { nodes } => nodes as u64 - 1,
         Shape::Grid { width, height } => grid_links(width as u64, height as u64),
+        Shape::Torus {
+            width,
+            height,
+            diagonals,
+        } => torus_links(width as u64, height as u64, diagonals),
     }
 }
 
@@ -69,6 +86,7 @@ fn neighbour_count(shape: &Shape) -> u64
         Shape::Ring { .. } => 2,
         Shape::Star { nodes } => nodes as u64 - 1,
         Shape::Grid { .. } => 4,
+        Shape::Torus { diagonals, .. } => { if diagonals { 8 } else { 4 } }
     }
 }
 
@@ -98,5 +116,6 @@ pub(crate) fn node_count(shape: &Shape) -> u32
         Shape::Ring { nodes } => nodes,
         Shape::Star { nodes } => nodes,
         Shape::Grid { width, height } => width * height,
+        Shape::Torus { width, height, .. } => width * height,
     }
 }
