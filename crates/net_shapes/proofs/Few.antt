@@ -73,11 +73,6 @@ none_of : (p : ℕ → Bool) (a k : ℕ) → ((u : ℕ) → a ≤ u → u < a + 
 none_of p a zero h = refl
 none_of p a (suc k) h = rw (h a (omega arith) (omega arith)) (none_of p (a + 1) k (λ u low high. h u (omega arith) (omega arith)))
 
--- which numbers stand in a row of numbers
-pub has_row : (w a k : ℕ) → has w (range_with_len a k) ≡ between a k w
-has_row w a zero = rw (between_none a w) refl
-has_row w a (suc k) = rw (has_row w (a + 1) k, between_more a k w) refl
-
 -- how many links lead from k nodes, where few lead from each
 pub few_ahead : (next : ℕ → List ℕ) (most a k : ℕ) → ((u : ℕ) → length (next u) ≤ most) → length (links_ahead next (range_with_len a k)) ≤ k * most
 few_ahead next most a zero h = omega arith

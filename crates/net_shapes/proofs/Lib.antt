@@ -1,6 +1,7 @@
 mod Ahead
 mod Few
 mod Lists
+mod Rows
 mod Sound
 mod Paths
 mod Rings
@@ -8,4 +9,7 @@ mod Stars
 mod Places
 mod Grids
 mod Toruses
+mod Completes
+mod Bipartites
+mod Trees
 mod EachShape

@@ -8,8 +8,9 @@ use Rattle.net_shapes.specs.declared.shape.Shape.{Shape}
 use Rattle.net_shapes.specs.Shapes.{leads}
 use Rattle.net_shapes.specs.Ahead.{when, ahead}
 use Rattle.net_shapes.proofs.Ahead.{IsAhead, has}
-use Rattle.net_shapes.proofs.Few.{HasFew, few_ahead, has_row}
+use Rattle.net_shapes.proofs.Few.{HasFew, few_ahead}
 use Rattle.net_shapes.proofs.Lists.{has_when, once_when, short_when}
+use Rattle.net_shapes.proofs.Rows.{has_row}
 use Rattle.net_shapes.proofs.Sound.{IsSound, Fits, sizes}
 
 -- the nodes that are linked with u

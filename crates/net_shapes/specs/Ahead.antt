@@ -1,5 +1,6 @@
 -- Internal: the links of a shape in the order in which they are made. No public clause cites it.
-use Rattle.std.specs.Prelude.{ℕ, ◌+◌, ◌-◌, ◌*◌, ◌==◌, Bool, List, [], ◌∷◌, ◌++◌, map, nat_lt, if◌then◌else◌}
+use Rattle.std.specs.Prelude.{ℕ, ◌+◌, ◌-◌, ◌*◌, ◌/◌, ◌==◌, Bool, List, [], ◌∷◌, ◌++◌, map, nat_lt, if◌then◌else◌}
+use Rattle.std.specs.List.{range_with_len}
 use Rattle.net_text.specs.Listing.{Link}
 use Rattle.net_shapes.specs.Shapes.{next, row, column}
 use Rattle.net_shapes.specs.declared.shape.Shape.{Shape}
@@ -36,3 +37,6 @@ ahead (Shape.Ring n) u = next n u ∷ []
 ahead (Shape.Star n) u = when (nat_lt 0 u) 0
 ahead (Shape.Grid w h) u = when (nat_lt (column w u + 1) w) (u + 1) ++ when (nat_lt (row w u + 1) h) (u + w)
 ahead (Shape.Torus w h d) u = place w (next w (column w u)) (row w u) ∷ place w (column w u) (next h (row w u)) ∷ (if d then diagonals w h u else [])
+ahead (Shape.Complete n) u = range_with_len (u + 1) (n - (u + 1))
+ahead (Shape.Bipartite l r) u = range_with_len l (if nat_lt u l then r else 0)
+ahead (Shape.Tree n k) u = when (nat_lt 0 u) ((u - 1) / k)

@@ -1,5 +1,5 @@
 -- Shapes: which nodes they join.
-use Rattle.std.specs.Prelude.{◌≡◌, ℕ, ◌+◌, ◌*◌, ◌/◌, ◌%◌, ◌<◌, ◌==◌, Bool, ◌&&◌, ◌||◌, nat_lt, if◌then◌else◌}
+use Rattle.std.specs.Prelude.{◌≡◌, ℕ, ◌+◌, ◌-◌, ◌*◌, ◌/◌, ◌%◌, ◌<◌, ◌==◌, Bool, ◌&&◌, ◌||◌, nat_le, nat_lt, if◌then◌else◌}
 use Rattle.std.specs.List.{AllByRecursion}
 use Rattle.link_net.specs.Links.{are_linked}
 use Rattle.net_text.specs.Listing.{Listing}
@@ -12,6 +12,9 @@ node_count (Shape.Ring n) = n
 node_count (Shape.Star n) = n
 node_count (Shape.Grid w h) = w * h
 node_count (Shape.Torus w h d) = w * h
+node_count (Shape.Complete n) = n
+node_count (Shape.Bipartite l r) = l + r
+node_count (Shape.Tree n k) = n
 
 -- the node after i on a ring of n: after the last comes the first
 abbrev pub next : ℕ → ℕ → ℕ
@@ -39,6 +42,12 @@ leads (Shape.Torus w h d) u v =
     (row w u == row w v && next w (column w u) == column w v)
     || (column w u == column w v && next h (row w u) == row w v)
     || (d && next h (row w u) == row w v && (next w (column w u) == column w v || next w (column w v) == column w u))
+-- each node to all after it
+leads (Shape.Complete n) u w = nat_lt u w
+-- each of the first l nodes to each of the others
+leads (Shape.Bipartite l r) u w = nat_lt u l && nat_le l w
+-- each node but the root, node 0, to its parent
+leads (Shape.Tree n k) u w = nat_lt 0 u && (u - 1) / k == w
 
 -- the shape joins u and w: it leads from one to the other
 abbrev pub shape_joins : Shape → ℕ → ℕ → Bool

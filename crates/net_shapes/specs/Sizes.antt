@@ -1,5 +1,5 @@
 -- Which shapes have a network.
-use Rattle.std.specs.Prelude.{◌≡◌, ℕ, ◌+◌, ◌-◌, ◌*◌, Bool, ◌&&◌, not, nat_lt, nat_le, Option, Some, None, if◌then◌else◌}
+use Rattle.std.specs.Prelude.{◌≡◌, ℕ, ◌+◌, ◌-◌, ◌*◌, ◌/◌, min, max, Bool, ◌&&◌, not, nat_lt, nat_le, Option, Some, None, if◌then◌else◌}
 use Rattle.link_net.specs.Limits.{most_nodes, most_links, most_neighbours}
 use Rattle.net_shapes.specs.declared.shape.Shape.{Shape}
 use Rattle.net_shapes.specs.declared.fault.ShapeFault.{ShapeFault}
@@ -16,6 +16,9 @@ has_size (Shape.Ring n) = is_from 3 n
 has_size (Shape.Star n) = is_from 1 n
 has_size (Shape.Grid w h) = (nat_le 1 w && nat_le 1 h) && nat_le (w * h) most_nodes
 has_size (Shape.Torus w h d) = (nat_le 3 w && nat_le 3 h) && nat_le (w * h) most_nodes
+has_size (Shape.Complete n) = is_from 1 n
+has_size (Shape.Bipartite l r) = (nat_le 1 l && nat_le 1 r) && nat_le (l + r) most_nodes
+has_size (Shape.Tree n k) = is_from 1 n && nat_le 1 k
 
 -- the links of h rows of w nodes, and those of their columns
 abbrev pub grid_links : ℕ → ℕ → ℕ
@@ -32,6 +35,13 @@ link_count (Shape.Ring n) = n
 link_count (Shape.Star n) = n - 1
 link_count (Shape.Grid w h) = grid_links w h
 link_count (Shape.Torus w h d) = torus_links w h d
+link_count (Shape.Complete n) = n * (n - 1) / 2
+link_count (Shape.Bipartite l r) = l * r
+link_count (Shape.Tree n k) = n - 1
+
+-- the neighbours of the root of a tree, its children, or those of node 1, its children and the root, whichever are more
+abbrev pub tree_neighbours : ℕ → ℕ → ℕ
+tree_neighbours n k = max (min k (n - 1)) (1 + min k (n - 1 - k))
 
 -- how many neighbours a node of such a shape has at most
 abbrev pub neighbour_count : Shape → ℕ
@@ -40,6 +50,9 @@ neighbour_count (Shape.Ring n) = 2
 neighbour_count (Shape.Star n) = n - 1
 neighbour_count (Shape.Grid w h) = 4
 neighbour_count (Shape.Torus w h d) = if d then 8 else 4
+neighbour_count (Shape.Complete n) = n - 1
+neighbour_count (Shape.Bipartite l r) = max l r
+neighbour_count (Shape.Tree n k) = tree_neighbours n k
 
 -- why a shape has no network
 abbrev pub refusal_of : Shape → Option ShapeFault

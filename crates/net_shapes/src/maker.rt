@@ -1,5 +1,6 @@
 //! The links of shapes.
 ghost use Rattle.std.specs.Prelude.{◌≡◌, ◌<◌, ◌≤◌, ◌+◌, ◌*◌, [], ◌∷◌, ◌++◌, map, true, false, None, OnOk, IfOk, IfErr};
+ghost use Rattle.std.specs.List.{range_with_len};
 ghost use Rattle.link_net.specs.Neighbours.{numbers_below};
 ghost use Rattle.link_net.specs.Limits.{most_nodes};
 ghost use Rattle.net_shapes.specs.declared.shape.Shape.{Shape};
@@ -58,6 +59,17 @@ fn put(links: &mut Vec<Link>, node: u32, other: u32) -> Result<(), AllocError>
     ensures { OnOk result (links.new.items ≡ links.old.items ++ map (link_to node) (other ∷ [])) }
 {
     links.push((node, other, 1))?;
+    Ok(())
+}
+
+/// Puts the links from a node to so many nodes, from the first one on.
+fn put_range(links: &mut Vec<Link>, node: u32, first: u32, count: u32) -> Result<(), AllocError>
+    requires { first + count ≤ most_nodes }
+    ensures { OnOk result (links.new.items ≡ links.old.items ++ map (link_to node) (range_with_len first count)) }
+{
+    for step in 0..count {
+        links.push((node, first + step, 1))?;
+    }
     Ok(())
 }
 
@@ -165,6 +177,13 @@ fn put_links(links: &mut Vec<Link>, shape: &Shape, node: u32) -> Result<(), Allo
             height,
             diagonals: true,
         } => put_diagonal_torus(links, width, height, node),
+        Shape::Complete { nodes } => put_range(links, node, node + 1, nodes - (node + 1)),
+        Shape::Bipartite { left, right } => {
+            put_range(links, node, left, if node < left { right } else { 0 })
+        }
+        Shape::Tree { arity, .. } => {
+            put_if(links, node > 0, node, node.saturating_sub(1) / arity)
+        }
     }
 }
 

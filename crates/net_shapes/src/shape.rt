@@ -26,4 +26,18 @@ pub enum Shape {
         height: u32,
         diagonals: bool,
     },
+    /// Each node is linked with each other one.
+    Complete {
+        nodes: u32,
+    },
+    /// Each node of the left side, which comes first, is linked with each node of the right side.
+    Bipartite {
+        left: u32,
+        right: u32,
+    },
+    /// Each node has so many children, as far as there are nodes. Nodes are numbered level by level from the root.
+    Tree {
+        nodes: u32,
+        arity: u32,
+    },
 }

@@ -2,7 +2,7 @@
 ghost use Rattle.std.specs.Prelude.{◌≡◌, ◌≤◌, ◌*◌, true};
 ghost use Rattle.link_net.specs.Limits.{most_nodes};
 ghost use Rattle.net_shapes.specs.Shapes.{node_count};
-ghost use Rattle.net_shapes.specs.Sizes.{is_from, has_size, grid_links, torus_links, link_count, neighbour_count, refusal_of};
+ghost use Rattle.net_shapes.specs.Sizes.{is_from, has_size, grid_links, torus_links, tree_neighbours, link_count, neighbour_count, refusal_of};
 
 use crate::{Shape, ShapeFault};
 
@@ -36,6 +36,11 @@ fn has_size(shape: &Shape) -> bool
         Shape::Torus { width, height, .. } => {
             width >= 3 && height >= 3 && width as u64 * height as u64 <= MOST_NODES
         }
+        Shape::Complete { nodes } => is_from(1, nodes as u64),
+        Shape::Bipartite { left, right } => {
+            left >= 1 && right >= 1 && left as u64 + right as u64 <= MOST_NODES
+        }
+        Shape::Tree { nodes, arity } => is_from(1, nodes as u64) && arity >= 1,
     }
 }
 
@@ -73,7 +78,21 @@ pub(crate) fn link_count(shape: &Shape) -> u64
             height,
             diagonals,
         } => torus_links(width as u64, height as u64, diagonals),
+        Shape::Complete { nodes } => nodes as u64 * (nodes as u64 - 1) / 2,
+        Shape::Bipartite { left, right } => left as u64 * right as u64,
+        Shape::Tree { nodes, .. } => nodes as u64 - 1,
     }
+}
+
+/// How many neighbours a node of a tree has at most: the root its children, node 1 its children and the root.
+fn tree_neighbours(nodes: u32, arity: u32) -> u32
+    requires some { 1 ≤ nodes }
+    requires small { nodes ≤ most_nodes }
+    ensures { result ≡ tree_neighbours nodes arity }
+{
+    let of_root = arity.min(nodes - 1);
+    let of_child = 1 + arity.min((nodes - 1).saturating_sub(arity));
+    of_root.max(of_child)
 }
 
 /// How many neighbours a node of the shape has at most.
@@ -86,7 +105,17 @@ fn neighbour_count(shape: &Shape) -> u64
         Shape::Ring { .. } => 2,
         Shape::Star { nodes } => nodes as u64 - 1,
         Shape::Grid { .. } => 4,
-        Shape::Torus { diagonals, .. } => { if diagonals { 8 } else { 4 } }
+        Shape::Torus {
+            diagonals: false,
+            ..
+        } => 4,
+        Shape::Torus {
+            diagonals: true,
+            ..
+        } => 8,
+        Shape::Complete { nodes } => nodes as u64 - 1,
+        Shape::Bipartite { left, right } => left.max(right) as u64,
+        Shape::Tree { nodes, arity } => tree_neighbours(nodes, arity) as u64,
     }
 }
 
@@ -117,5 +146,8 @@ pub(crate) fn node_count(shape: &Shape) -> u32
         Shape::Star { nodes } => nodes,
         Shape::Grid { width, height } => width * height,
         Shape::Torus { width, height, .. } => width * height,
+        Shape::Complete { nodes } => nodes,
+        Shape::Bipartite { left, right } => left + right,
+        Shape::Tree { nodes, .. } => nodes,
     }
 }
