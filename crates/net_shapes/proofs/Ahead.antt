@@ -26,11 +26,11 @@ pub record IsAhead (n : ℕ) (next : ℕ → List ℕ) (leads : ℕ → ℕ → 
   pub one_way : (u w : ℕ) → u < n → w < n → leads u w ≡ true → leads w u ≡ false
 
 -- one more node in a row
-range_more : (a k : ℕ) → range_with_len a (suc k) ≡ range_with_len a k ++ (a + k) ∷ []
+pub range_more : (a k : ℕ) → range_with_len a (suc k) ≡ range_with_len a k ++ (a + k) ∷ []
 range_more a zero = let same : a + 0 ≡ a = omega arith in rw same refl
 range_more a (suc k) = let same : (a + 1) + k ≡ a + suc k = omega arith in ap (λ t. a ∷ t) (rw same at (range_more (a + 1) k))
 
-no_more : (xs : List Link) → xs ++ [] ≡ xs
+pub no_more : (xs : List Link) → xs ++ [] ≡ xs
 no_more [] = refl
 no_more (x ∷ xs) = ap (λ t. x ∷ t) (no_more xs)
 

@@ -17,6 +17,7 @@ use Rattle.net_shapes.proofs.Toruses.{torus_sound}
 use Rattle.net_shapes.proofs.Completes.{complete_sound}
 use Rattle.net_shapes.proofs.Bipartites.{bipartite_sound}
 use Rattle.net_shapes.proofs.Trees.{tree_sound}
+use Rattle.net_shapes.proofs.Cubes.{cube_sound}
 
 sound : (s : Shape) → Fits s → IsSound s
 sound (Shape.Path n) f = path_sound n f
@@ -27,6 +28,7 @@ sound (Shape.Torus w h d) f = torus_sound w h d f
 sound (Shape.Complete n) f = complete_sound n f
 sound (Shape.Bipartite l r) f = bipartite_sound l r f
 sound (Shape.Tree n k) f = tree_sound n k f
+sound (Shape.Hypercube d) f = cube_sound d f
 
 pub shape_listing : (s : Shape) → refusal_of s ≡ None → IsListing (record { nodes = node_count s; links = links_ahead (ahead s) (numbers_below (node_count s)) })
 shape_listing s h =

@@ -12,4 +12,5 @@ mod Toruses
 mod Completes
 mod Bipartites
 mod Trees
+mod Cubes
 mod EachShape

@@ -1,8 +1,9 @@
 -- Internal: the links of a shape in the order in which they are made. No public clause cites it.
-use Rattle.std.specs.Prelude.{ℕ, ◌+◌, ◌-◌, ◌*◌, ◌/◌, ◌==◌, Bool, List, [], ◌∷◌, ◌++◌, map, nat_lt, if◌then◌else◌}
+use Rattle.std.specs.Prelude.{ℕ, ◌+◌, ◌-◌, ◌*◌, ◌/◌, ◌^◌, ◌==◌, Bool, List, [], ◌∷◌, ◌++◌, map, nat_lt, if◌then◌else◌}
 use Rattle.std.specs.List.{range_with_len}
+use Rattle.link_net.specs.Neighbours.{numbers_below}
 use Rattle.net_text.specs.Listing.{Link}
-use Rattle.net_shapes.specs.Shapes.{next, row, column}
+use Rattle.net_shapes.specs.Shapes.{next, row, column, digit}
 use Rattle.net_shapes.specs.declared.shape.Shape.{Shape}
 
 -- the link from u to w
@@ -30,6 +31,11 @@ place w x y = y * w + x
 abbrev pub diagonals : ℕ → ℕ → ℕ → List ℕ
 diagonals w h u = place w (next w (column w u)) (next h (row w u)) ∷ place w (prev w (column w u)) (next h (row w u)) ∷ []
 
+-- the numbers with 1 in place of a binary digit 0 of u, at one of these places
+abbrev pub raised : ℕ → List ℕ → List ℕ
+raised u [] = []
+raised u (b ∷ bs) = when (digit u b == 0) (u + 2 ^ b) ++ raised u bs
+
 -- the nodes to which a shape leads from u
 abbrev pub ahead : Shape → ℕ → List ℕ
 ahead (Shape.Path n) u = when (nat_lt (u + 1) n) (u + 1)
@@ -40,3 +46,4 @@ ahead (Shape.Torus w h d) u = place w (next w (column w u)) (row w u) ∷ place 
 ahead (Shape.Complete n) u = range_with_len (u + 1) (n - (u + 1))
 ahead (Shape.Bipartite l r) u = range_with_len l (if nat_lt u l then r else 0)
 ahead (Shape.Tree n k) u = when (nat_lt 0 u) ((u - 1) / k)
+ahead (Shape.Hypercube d) u = raised u (numbers_below d)

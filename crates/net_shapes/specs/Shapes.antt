@@ -1,7 +1,8 @@
 -- Shapes: which nodes they join.
-use Rattle.std.specs.Prelude.{◌≡◌, ℕ, ◌+◌, ◌-◌, ◌*◌, ◌/◌, ◌%◌, ◌<◌, ◌==◌, Bool, ◌&&◌, ◌||◌, nat_le, nat_lt, if◌then◌else◌}
-use Rattle.std.specs.List.{AllByRecursion}
+use Rattle.std.specs.Prelude.{◌≡◌, ℕ, ◌+◌, ◌-◌, ◌*◌, ◌/◌, ◌%◌, ◌^◌, ◌<◌, ◌==◌, Bool, ◌&&◌, ◌||◌, nat_le, nat_lt, if◌then◌else◌}
+use Rattle.std.specs.List.{AllByRecursion, list_any}
 use Rattle.link_net.specs.Links.{are_linked}
+use Rattle.link_net.specs.Neighbours.{numbers_below}
 use Rattle.net_text.specs.Listing.{Listing}
 use Rattle.net_shapes.specs.declared.shape.Shape.{Shape}
 
@@ -15,6 +16,7 @@ node_count (Shape.Torus w h d) = w * h
 node_count (Shape.Complete n) = n
 node_count (Shape.Bipartite l r) = l + r
 node_count (Shape.Tree n k) = n
+node_count (Shape.Hypercube d) = 2 ^ d
 
 -- the node after i on a ring of n: after the last comes the first
 abbrev pub next : ℕ → ℕ → ℕ
@@ -26,6 +28,10 @@ row w u = u / w
 
 abbrev pub column : ℕ → ℕ → ℕ
 column w u = u % w
+
+-- the binary digit of u at place b, counted from 0 at the last digit
+abbrev pub digit : ℕ → ℕ → ℕ
+digit u b = (u / 2 ^ b) % 2
 
 -- there is a link between u and w, which the shape has by the place of u
 abbrev pub leads : Shape → ℕ → ℕ → Bool
@@ -48,6 +54,8 @@ leads (Shape.Complete n) u w = nat_lt u w
 leads (Shape.Bipartite l r) u w = nat_lt u l && nat_le l w
 -- each node but the root, node 0, to its parent
 leads (Shape.Tree n k) u w = nat_lt 0 u && (u - 1) / k == w
+-- each number to those that have 1 in place of one of its binary digits 0, and no other digit changed
+leads (Shape.Hypercube d) u w = list_any (λ b. digit u b == 0 && u + 2 ^ b == w) (numbers_below d)
 
 -- the shape joins u and w: it leads from one to the other
 abbrev pub shape_joins : Shape → ℕ → ℕ → Bool

@@ -1,5 +1,5 @@
 -- Which shapes have a network.
-use Rattle.std.specs.Prelude.{◌≡◌, ℕ, ◌+◌, ◌-◌, ◌*◌, ◌/◌, min, max, Bool, ◌&&◌, not, nat_lt, nat_le, Option, Some, None, if◌then◌else◌}
+use Rattle.std.specs.Prelude.{◌≡◌, ℕ, ◌+◌, ◌-◌, ◌*◌, ◌/◌, ◌^◌, min, max, Bool, ◌&&◌, not, nat_lt, nat_le, Option, Some, None, if◌then◌else◌}
 use Rattle.link_net.specs.Limits.{most_nodes, most_links, most_neighbours}
 use Rattle.net_shapes.specs.declared.shape.Shape.{Shape}
 use Rattle.net_shapes.specs.declared.fault.ShapeFault.{ShapeFault}
@@ -19,6 +19,7 @@ has_size (Shape.Torus w h d) = (nat_le 3 w && nat_le 3 h) && nat_le (w * h) most
 has_size (Shape.Complete n) = is_from 1 n
 has_size (Shape.Bipartite l r) = (nat_le 1 l && nat_le 1 r) && nat_le (l + r) most_nodes
 has_size (Shape.Tree n k) = is_from 1 n && nat_le 1 k
+has_size (Shape.Hypercube d) = nat_le d 16
 
 -- the links of h rows of w nodes, and those of their columns
 abbrev pub grid_links : ℕ → ℕ → ℕ
@@ -38,6 +39,7 @@ link_count (Shape.Torus w h d) = torus_links w h d
 link_count (Shape.Complete n) = n * (n - 1) / 2
 link_count (Shape.Bipartite l r) = l * r
 link_count (Shape.Tree n k) = n - 1
+link_count (Shape.Hypercube d) = d * 2 ^ d / 2
 
 -- the neighbours of the root of a tree, its children, or those of node 1, its children and the root, whichever are more
 abbrev pub tree_neighbours : ℕ → ℕ → ℕ
@@ -53,6 +55,7 @@ neighbour_count (Shape.Torus w h d) = if d then 8 else 4
 neighbour_count (Shape.Complete n) = n - 1
 neighbour_count (Shape.Bipartite l r) = max l r
 neighbour_count (Shape.Tree n k) = tree_neighbours n k
+neighbour_count (Shape.Hypercube d) = d
 
 -- why a shape has no network
 abbrev pub refusal_of : Shape → Option ShapeFault

@@ -8,7 +8,7 @@ ghost use Rattle.net_shapes.specs.Ahead.{link_to, when, prev, place, diagonals, 
 ghost use Rattle.net_shapes.specs.Shapes.{next, row, column, node_count, HasShape};
 ghost use Rattle.net_shapes.specs.Sizes.{has_size, refusal_of, refused_by};
 
-use crate::sizes::{link_count, node_count, refusal};
+use crate::sizes::{link_count, node_count, power, refusal};
 use crate::{Shape, ShapeFault};
 use link_net::Link;
 use net_text::LinkList;
@@ -156,6 +156,19 @@ fn put_diagonal_torus(
     Ok(())
 }
 
+/// Puts the links from a node of a hypercube to the nodes that have 1 in place of one of its binary digits 0.
+fn put_hypercube(links: &mut Vec<Link>, dimension: u32, node: u32) -> Result<(), AllocError>
+    requires few { dimension ≤ 16 }
+    requires low { node < most_nodes }
+    ensures { OnOk result (links.new.items ≡ links.old.items ++ map (link_to node) (ahead (Shape.Hypercube dimension) node)) }
+{
+    for digit in 0..dimension {
+        let step = power(digit);
+        put_if(links, node / step % 2 == 0, node, node + step)?;
+    }
+    Ok(())
+}
+
 /// Puts the links that lead from a node.
 fn put_links(links: &mut Vec<Link>, shape: &Shape, node: u32) -> Result<(), AllocError>
     requires size { has_size shape.now ≡ true }
@@ -184,6 +197,7 @@ fn put_links(links: &mut Vec<Link>, shape: &Shape, node: u32) -> Result<(), Allo
         Shape::Tree { arity, .. } => {
             put_if(links, node > 0, node, node.saturating_sub(1) / arity)
         }
+        Shape::Hypercube { dimension } => put_hypercube(links, dimension, node),
     }
 }
 

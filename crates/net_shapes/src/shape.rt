@@ -40,4 +40,8 @@ pub enum Shape {
         nodes: u32,
         arity: u32,
     },
+    /// Nodes are linked whose numbers, of so many binary digits, differ in one digit.
+    Hypercube {
+        dimension: u32,
+    },
 }

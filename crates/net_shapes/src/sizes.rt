@@ -1,5 +1,5 @@
 //! How large shapes are.
-ghost use Rattle.std.specs.Prelude.{◌≡◌, ◌≤◌, ◌*◌, true};
+ghost use Rattle.std.specs.Prelude.{◌≡◌, ◌≤◌, ◌*◌, ◌^◌, true};
 ghost use Rattle.link_net.specs.Limits.{most_nodes};
 ghost use Rattle.net_shapes.specs.Shapes.{node_count};
 ghost use Rattle.net_shapes.specs.Sizes.{is_from, has_size, grid_links, torus_links, tree_neighbours, link_count, neighbour_count, refusal_of};
@@ -14,6 +14,19 @@ const MOST_LINKS: u64 = 262_144;
 
 /// The most neighbours of a node.
 const MOST_NEIGHBOURS: u64 = 4096;
+
+/// The most dimensions of a hypercube that has no more nodes than a network may have.
+const MOST_DIMENSIONS: u32 = 16;
+
+/// The power of two.
+pub(crate) fn power(exponent: u32) -> u32
+    requires { exponent ≤ 16 }
+    ensures value { result ≡ 2 ^ exponent }
+    ensures some { 1 ≤ result }
+    ensures bound { result ≤ most_nodes }
+{
+    2u32.pow(exponent)
+}
 
 /// Whether the number is from the least up to the most nodes of a network.
 fn is_from(least: u64, nodes: u64) -> bool
@@ -41,6 +54,7 @@ fn has_size(shape: &Shape) -> bool
             left >= 1 && right >= 1 && left as u64 + right as u64 <= MOST_NODES
         }
         Shape::Tree { nodes, arity } => is_from(1, nodes as u64) && arity >= 1,
+        Shape::Hypercube { dimension } => dimension <= MOST_DIMENSIONS,
     }
 }
 
@@ -81,6 +95,7 @@ pub(crate) fn link_count(shape: &Shape) -> u64
         Shape::Complete { nodes } => nodes as u64 * (nodes as u64 - 1) / 2,
         Shape::Bipartite { left, right } => left as u64 * right as u64,
         Shape::Tree { nodes, .. } => nodes as u64 - 1,
+        Shape::Hypercube { dimension } => dimension as u64 * power(dimension) as u64 / 2,
     }
 }
 
@@ -116,6 +131,7 @@ fn neighbour_count(shape: &Shape) -> u64
         Shape::Complete { nodes } => nodes as u64 - 1,
         Shape::Bipartite { left, right } => left.max(right) as u64,
         Shape::Tree { nodes, arity } => tree_neighbours(nodes, arity) as u64,
+        Shape::Hypercube { dimension } => dimension as u64,
     }
 }
 
@@ -149,5 +165,6 @@ pub(crate) fn node_count(shape: &Shape) -> u32
         Shape::Complete { nodes } => nodes,
         Shape::Bipartite { left, right } => left + right,
         Shape::Tree { nodes, .. } => nodes,
+        Shape::Hypercube { dimension } => power(dimension),
     }
 }
