@@ -44,7 +44,7 @@ fn numbers_out_of_range(rt: HostRuntime) -> Result<(), Fail> {
             "--workers: expected a whole number from 1 to 64, found `0`",
         ),
         (
-            &["why", "replay", "p", "n", "s", "--stop", "-1"],
+            &["why", "replay", "p", "n", "s", "--stop=-1"],
             "--stop: expected a whole number from 0 to 1000000000, found `-1`",
         ),
     ];
