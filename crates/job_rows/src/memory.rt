@@ -6,12 +6,10 @@
 //! test; so do these two where nothing was refused. Where it prints `starts threads`, the start of a worker has to be
 //! refused at least once, so that a job that starts none fails.
 
-use link_net::read_network;
-use lockstep::{Difference, Plan, Tally};
+use crate::support::plan_of;
+use lockstep::{Difference, Tally};
 use row_texts::networks::{PAIR, PATH, RING};
 use row_texts::programs::{DISTANCE, MAJORITY, SWAP};
-use rule_check::check;
-use rule_lang::read_program;
 use std::alloc::Global;
 use std::io;
 use std::io::Write;
@@ -76,17 +74,41 @@ fn is_done(job: Job, served: &Served) -> bool {
     served.status == 0 && trace_lines(served) == wanted_lines(job)
 }
 
-/// Does a job, and prints what it found: the wanted bytes, or want of memory with nothing written.
-fn tell_job(
-    rt: &(impl Threads + Wait + Sync + Print),
+/// What a test prints of a fault, where it is one of those that are allowed.
+fn word_of(job: Job, fault: ServeFault) -> Option<&'static str> {
+    if fault == ServeFault::Run(RunFault::NoThread) && has_workers(job) {
+        return Some("no thread");
+    }
+    if fault.part_and_name() == ("memory", "Memory") {
+        return Some("memory");
+    }
+    None
+}
+
+/// What a test prints of an answer: the wanted bytes, or want of memory or of a thread with nothing written.
+fn word_of_answer(
+    job: Job,
+    answer: &Result<Served, ServeFault>,
+    out: &Wanted<'_>,
+    want: &[u8],
+) -> Option<&'static str> {
+    match answer {
+        Ok(served) if is_done(job, served) && !out.is_other && out.rest.is_empty() => {
+            Some("answer")
+        }
+        Err(fault) if out.rest.len() == want.len() => word_of(job, *fault),
+        _ => None,
+    }
+}
+
+/// Does a job, and says what it found, or the answer that it was not to find.
+fn word_of_job(
+    rt: &(impl Threads + Wait + Sync),
     alloc: Global,
     job: Job,
     texts: &Texts<'_>,
     want: &[u8],
-) -> Result<(), Fail> {
-    if has_workers(job) {
-        println!(rt; "starts threads")?;
-    }
+) -> Result<&'static str, Fail> {
     let mut schedule = Tally::new(texts.schedule);
     let mut out = Tally::new(Wanted {
         rest: want,
@@ -103,20 +125,25 @@ fn tell_job(
         &mut out,
     );
     let left = out.inner().rest.len();
-    match answer {
-        Ok(served) if is_done(job, &served) && !out.inner().is_other && left == 0 => {
-            println!(rt; "answer")?
-        }
-        Err(ServeFault::Run(RunFault::NoThread)) if has_workers(job) && left == want.len() => {
-            println!(rt; "no thread")?
-        }
-        Err(fault) if fault.part_and_name() == ("memory", "Memory") && left == want.len() => {
-            println!(rt; "memory")?
-        }
-        answer => {
-            return Err(Fail::new(format_args!("{answer:?} with {left} bytes left to write")));
-        }
+    match word_of_answer(job, &answer, out.inner(), want) {
+        Some(word) => Ok(word),
+        None => Err(Fail::new(format_args!("{answer:?} with {left} bytes left to write"))),
     }
+}
+
+/// Does a job, and prints what it found: the wanted bytes, or want of memory with nothing written.
+fn tell_job(
+    rt: &(impl Threads + Wait + Sync + Print),
+    alloc: Global,
+    job: Job,
+    texts: &Texts<'_>,
+    want: &[u8],
+) -> Result<(), Fail> {
+    if has_workers(job) {
+        println!(rt; "starts threads")?;
+    }
+    let word = word_of_job(rt, alloc, job, texts, want)?;
+    println!(rt; "{word}")?;
     Ok(())
 }
 
@@ -198,10 +225,7 @@ fn compare_where_memory_is_refused(rt: HostRuntime) -> Result<(), Fail> {
 
 /// The line of a difference at node 1 of the pair.
 fn line_of_pair(rt: &impl Abort, alloc: Global) -> Result<Vec<u8>, ServeFault> {
-    let source = read_program(alloc, SWAP.as_bytes())?;
-    let program = check(alloc, &source)?;
-    let file = read_network(alloc, PAIR.as_bytes())?;
-    let plan = Plan::new(alloc, program, file)?;
+    let plan = plan_of(alloc, SWAP, PAIR)?;
     assert_eq!(rt; plan.network().nodes(), 2);
     assert_eq!(rt; plan.program().field_count(), 1);
     let difference = Difference {

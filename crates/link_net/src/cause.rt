@@ -1,4 +1,8 @@
 //! Why a network file is refused, with the place.
+ghost use Rattle.std.specs.Prelude.{◌≡◌};
+ghost use Rattle.link_net.specs.Causes.{fault_of};
+
+use crate::NetFault;
 
 /// Why a network file is refused, with the place. Links, and entries of arrays, are counted from 0 in the file's order.
 #[derive(Debug, Drop)]
@@ -41,4 +45,33 @@ pub enum NetCause {
     BadPhase { phase: i64 },
     /// The weight of this link is not from 0 to 4,294,967,295.
     BadWeight { link: usize },
+}
+
+impl NetCause {
+    /// The fault that `read_network` answers for this cause.
+    pub fn fault(&self) -> NetFault
+        ensures exact { result ≡ fault_of self.now }
+    {
+        match self {
+            NetCause::NotToml { .. } => NetFault::NotToml,
+            NetCause::UnknownKey { .. } => NetFault::UnknownKey,
+            NetCause::NodesMissing => NetFault::BadShape,
+            NetCause::NodesShape => NetFault::BadShape,
+            NetCause::LinksMissing => NetFault::BadShape,
+            NetCause::LinksShape => NetFault::BadShape,
+            NetCause::LinkShape { .. } => NetFault::BadShape,
+            NetCause::PhaseShape => NetFault::BadShape,
+            NetCause::SetShape => NetFault::BadShape,
+            NetCause::SetValueShape { .. } => NetFault::BadShape,
+            NetCause::PairShape { .. } => NetFault::BadShape,
+            NetCause::NodeCount { .. } => NetFault::NodeCount,
+            NetCause::BadLink { .. } => NetFault::BadLink,
+            NetCause::SelfLink { .. } => NetFault::SelfLink,
+            NetCause::LinkTwice { .. } => NetFault::LinkTwice,
+            NetCause::TooManyLinks { .. } => NetFault::TooManyLinks,
+            NetCause::TooManyNeighbours { .. } => NetFault::TooManyNeighbours,
+            NetCause::BadPhase { .. } => NetFault::BadPhase,
+            NetCause::BadWeight { .. } => NetFault::BadWeight,
+        }
+    }
 }

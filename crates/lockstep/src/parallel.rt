@@ -15,12 +15,11 @@ use rule_check::{Gatherer, Rule};
 use std::alloc::Global;
 use std::thread::Threads;
 
-/// The least work of a round, as `work_of` counts it, that is shared among threads. On a machine with four cores a
-/// round of 65,536 nodes costs 0.3 to 0.7 ms to share: threads start and join, read columns that another core wrote,
-/// and their columns are copied together. One thread does as much work as this in 0.7 ms for the cheapest program,
-/// distances, whose rule and aggregate have 3 instructions each: it is 3 times 655,360 nodes and ends of links, and 65,536
-/// nodes have no more than 589,824 of both.
-const LEAST_WORK: u64 = 1_966_080;
+/// The least work of a round, as `work_of` counts it, that is shared among threads. To share a round of 65,536 nodes costs
+/// 0.3 to 0.7 ms on four idle cores, and more on busy ones: threads start and join, read columns that another core wrote,
+/// and their columns are copied together. One thread does as much work as this in about 2 ms. Rounds below that gain a
+/// quarter at most on idle cores, and take up to twice as long on busy ones; docs/speed.md has the figures.
+const LEAST_WORK: u64 = 7_864_320;
 
 /// How many instructions the rules have.
 fn rules_length(rules: &[Rule]) -> u64 {

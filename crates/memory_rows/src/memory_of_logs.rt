@@ -2,15 +2,15 @@
 
 use crate::memory_answers::{Stopped, tell};
 use crate::memory_of_worlds::assert_nodes;
-use lockstep::Plan;
+use lockstep::{Config, Plan};
 use row_texts::networks::{ALONE, PAIR};
 use row_texts::programs::SWAP;
 use row_worlds::{read, shared_plan, write};
-use std::alloc::Global;
+use std::alloc::{AllocError, Global};
 use std::process::Abort;
 use std::sync::Arc;
 use std::test::Fail;
-use unison_trace::{LogFault, Logged, read_schedule, write_schedule};
+use unison_trace::{Finished, LogFault, Logged, read_schedule, write_schedule};
 use unison_world::{Answer, Done, Step, World, WriteAnswer};
 
 /// What was found so far: `Err` once a call wanted memory.
@@ -56,43 +56,45 @@ fn stored(logged: &Logged) -> usize {
     logged.steps().map_or(0, |steps| steps.len())
 }
 
+/// What must not change where memory is wanted: where both nodes stand, and how many steps are stored.
+fn seen(logged: &Logged) -> ([(Option<u32>, Option<u32>); 2], usize) {
+    (nodes_of(logged), stored(logged))
+}
+
 /// Makes a step. Where it wants memory, nothing has changed, and the same step with memory has the wanted answer.
 /// Whether memory was wanted.
 fn step_or_again(rt: &impl Abort, logged: &mut Logged, step: Step, want: Answer) -> bool {
-    let nodes = nodes_of(logged);
-    let steps = stored(logged);
-    match logged.step(step) {
-        Ok(answer) => {
-            assert_eq!(rt; answer, want, "{step:?}");
-            false
-        }
-        Err(fault) => {
-            assert_eq!(rt; fault, LogFault::Memory, "{step:?}");
-            assert_eq!(rt; nodes_of(logged), nodes, "{step:?}");
-            assert_eq!(rt; stored(logged), steps, "{step:?}");
-            assert_eq!(rt; logged.step(step), Ok(want), "{step:?} again");
-            true
-        }
+    let before = seen(logged);
+    let answer = logged.step(step);
+    if answer != Err(LogFault::Memory) {
+        assert_eq!(rt; answer, Ok(want), "{step:?}");
+        return false;
     }
+    assert_eq!(rt; seen(logged), before, "{step:?}");
+    assert_eq!(rt; logged.step(step), Ok(want), "{step:?} again");
+    true
+}
+
+/// Makes steps, each as `step_or_again` does. Whether one wanted memory.
+fn steps_or_again(rt: &impl Abort, logged: &mut Logged, steps: &[(Step, Answer)]) -> bool {
+    let mut wanted = false;
+    for (step, want) in steps {
+        wanted = step_or_again(rt, logged, *step, *want) || wanted;
+    }
+    wanted
 }
 
 /// Puts a result, as `step_or_again` makes a step.
 fn put_or_again(rt: &impl Abort, logged: &mut Logged, done: &Done, want: WriteAnswer) -> bool {
-    let nodes = nodes_of(logged);
-    let steps = stored(logged);
-    match logged.put(done) {
-        Ok(answer) => {
-            assert_eq!(rt; answer, want);
-            false
-        }
-        Err(fault) => {
-            assert_eq!(rt; fault, LogFault::Memory);
-            assert_eq!(rt; nodes_of(logged), nodes);
-            assert_eq!(rt; stored(logged), steps);
-            assert_eq!(rt; logged.put(done), Ok(want), "again");
-            true
-        }
+    let before = seen(logged);
+    let answer = logged.put(done);
+    if answer != Err(LogFault::Memory) {
+        assert_eq!(rt; answer, Ok(want));
+        return false;
     }
+    assert_eq!(rt; seen(logged), before);
+    assert_eq!(rt; logged.put(done), Ok(want), "again");
+    true
 }
 
 /// Want of memory, where it was felt.
@@ -100,28 +102,41 @@ fn felt(wanted: bool) -> Found {
     if wanted { Err(Stopped::Memory) } else { Ok(()) }
 }
 
-/// One round of both nodes, and the configuration of the stop with its trace.
-fn round_and_finish(rt: &impl Abort, alloc: Global) -> Found {
-    let (mut logged, plan) = opened(alloc, 1)?;
+/// Asserts the configuration after one round of both nodes.
+fn assert_round(rt: &impl Abort, config: &Config) {
+    for (node, want) in &[(0, Some(7)), (1, Some(5)), (2, None)] {
+        let word = config.state(*node).map(|state| state.words[0]);
+        assert_eq!(rt; word, *want, "node {node}");
+    }
+}
+
+/// Asserts the configuration after one round of both nodes, and the trace with it.
+fn assert_finished(rt: &impl Abort, finished: &Finished) {
+    assert_round(rt, &finished.config);
+    let trace = finished.trace.as_ref().map(|steps| steps.as_slice());
+    let want = [read(0, 0), write(0), read(1, 0), write(1)];
+    assert_eq!(rt; trace, Some(want.as_slice()));
+}
+
+/// Makes the steps of one round of both nodes. Whether one wanted memory.
+fn round(rt: &impl Abort, logged: &mut Logged) -> bool {
     let steps = [
         (read(0, 0), Answer::Taken),
         (write(0), Answer::Moved),
         (read(1, 0), Answer::Taken),
         (write(1), Answer::Moved),
     ];
-    let mut wanted = false;
-    for (step, want) in steps {
-        wanted = step_or_again(rt, &mut logged, step, want) || wanted;
-    }
+    let wanted = steps_or_again(rt, logged, &steps);
     assert_nodes(rt, logged.world(), &[(1, 7), (1, 5)]);
+    wanted
+}
+
+/// One round of both nodes, and the configuration of the stop with its trace.
+fn round_and_finish(rt: &impl Abort, alloc: Global) -> Found {
+    let (mut logged, plan) = opened(alloc, 1)?;
+    let wanted = round(rt, &mut logged);
     let finished = logged.finish(alloc, &plan, 1)?;
-    for (node, want) in [(0, Some(7)), (1, Some(5)), (2, None)] {
-        let word = finished.config.state(node).map(|state| state.words[0]);
-        assert_eq!(rt; word, want, "node {node}");
-    }
-    let trace = finished.trace.as_ref().map(|steps| steps.as_slice());
-    let made = steps.map(|(step, _want)| step);
-    assert_eq!(rt; trace, Some(made.as_slice()));
+    assert_finished(rt, &finished);
     felt(wanted)
 }
 
@@ -130,26 +145,35 @@ fn logged_round_where_memory_is_refused(rt: HostRuntime) -> Result<(), Fail> {
     tell(&rt, round_and_finish(&rt, rt.alloc()))
 }
 
-/// A result that is put once, and again when its node has read once more.
-fn logged_result(rt: &impl Abort, alloc: Global) -> Found {
-    let (mut logged, _plan) = opened(alloc, 10)?;
-    let mut wanted = step_or_again(rt, &mut logged, read(0, 0), Answer::Taken);
-    let work = logged.work(0)?;
-    assert!(rt; work.is_some());
-    let Some(work) = work else {
-        return Ok(());
-    };
-    let done = work.compute();
-    wanted = put_or_again(rt, &mut logged, &done, WriteAnswer::Moved) || wanted;
-    wanted = put_or_again(rt, &mut logged, &done, WriteAnswer::NotReady) || wanted;
-    for (step, want) in [
+/// Puts a result of node 0 once and again, and then when the node has read once more. Whether memory was wanted.
+fn put_thrice(rt: &impl Abort, logged: &mut Logged, done: &Done) -> bool {
+    let first = put_or_again(rt, logged, done, WriteAnswer::Moved);
+    let second = put_or_again(rt, logged, done, WriteAnswer::NotReady);
+    let steps = [
         (read(1, 0), Answer::Taken),
         (write(1), Answer::Moved),
         (read(0, 0), Answer::Taken),
-    ] {
-        wanted = step_or_again(rt, &mut logged, step, want) || wanted;
-    }
-    wanted = put_or_again(rt, &mut logged, &done, WriteAnswer::Stale) || wanted;
+    ];
+    let between = steps_or_again(rt, logged, &steps);
+    let third = put_or_again(rt, logged, done, WriteAnswer::Stale);
+    first || second || between || third
+}
+
+/// The result of a node that has work.
+fn done_of(rt: &impl Abort, logged: &Logged, node: u32) -> Result<Option<Done>, AllocError> {
+    let work = logged.work(node)?;
+    assert!(rt; work.is_some());
+    Ok(work.map(|work| work.compute()))
+}
+
+/// A result that is put once, and again when its node has read once more.
+fn logged_result(rt: &impl Abort, alloc: Global) -> Found {
+    let (mut logged, _plan) = opened(alloc, 10)?;
+    let felt_before = step_or_again(rt, &mut logged, read(0, 0), Answer::Taken);
+    let Some(done) = done_of(rt, &logged, 0)? else {
+        return Ok(());
+    };
+    let wanted = put_thrice(rt, &mut logged, &done) || felt_before;
     assert_nodes(rt, logged.world(), &[(1, 7), (1, 5)]);
     assert_eq!(rt; stored(&logged), 5);
     felt(wanted)
@@ -165,12 +189,9 @@ fn first_stored_result(rt: &impl Abort, alloc: Global) -> Found {
     let program = "field s = 4; next s = (s + 1);";
     let plan = shared_plan(alloc, program, ALONE)?;
     let mut logged = Logged::new(alloc, plan, 10, Some(8))?;
-    let work = logged.work(0)?;
-    assert!(rt; work.is_some());
-    let Some(work) = work else {
+    let Some(done) = done_of(rt, &logged, 0)? else {
         return Ok(());
     };
-    let done = work.compute();
     let wanted = put_or_again(rt, &mut logged, &done, WriteAnswer::Moved);
     assert_nodes(rt, logged.world(), &[(1, 5)]);
     assert_eq!(rt; logged.steps(), Some([write(0)].as_slice()));

@@ -33,6 +33,12 @@ impl Write for Wanted<'_> {
     }
 }
 
+/// Asserts what a replay has left to write: all where it wanted memory, else nothing.
+fn assert_left(rt: &impl Abort, out: &Wanted<'_>, left: usize) {
+    assert_eq!(rt; out.rest.len(), left);
+    assert!(rt; !out.is_other);
+}
+
 /// The replay of a schedule on the pair. Where memory is wanted, nothing is written and no device is marked.
 fn replay_of(rt: &impl Abort, alloc: Global, schedule: &[u8], want: &[u8]) -> Result<(), Stopped> {
     let plan = shared_plan(alloc, SWAP, PAIR)?;
@@ -43,8 +49,7 @@ fn replay_of(rt: &impl Abort, alloc: Global, schedule: &[u8], want: &[u8]) -> Re
     });
     let answer = replay_over(alloc, plan, 10, &mut schedule, &mut out);
     let left = if answer.is_ok() { 0 } else { want.len() };
-    assert_eq!(rt; out.inner().rest.len(), left);
-    assert!(rt; !out.inner().is_other);
+    assert_left(rt, out.inner(), left);
     assert!(rt; !schedule.failed() && !out.failed());
     Ok(answer?)
 }

@@ -2,8 +2,8 @@
 //! starts among them.
 
 use crate::memory_answers::{Stopped, tell};
-use lockstep::lockstep_par;
-use row_plans::plan_of;
+use lockstep::{Config, Plan, lockstep_par};
+use row_plans::{Refusal, plan_of};
 use row_texts::programs::DISTANCE;
 use std::alloc::{AllocError, Global};
 use std::process::Abort;
@@ -27,6 +27,22 @@ fn path_text(alloc: Global, nodes: u32, linked: u32) -> Result<String, AllocErro
     Ok(text)
 }
 
+/// The plan of a program on so many nodes, the first of which are a path.
+fn plan_of_path(alloc: Global, program: &str, nodes: u32, linked: u32) -> Result<Plan, Refusal> {
+    let network = path_text(alloc, nodes, linked)?;
+    plan_of(alloc, program, network.as_str())
+}
+
+/// Asserts the distances on a path after 10 rounds.
+fn assert_distances(rt: &impl Abort, config: &Config, nodes: u32) {
+    assert_eq!(rt; config.nodes(), nodes);
+    for node in 0..nodes {
+        let distance = if node <= 10 { node } else { 4_294_967_295 };
+        let word = config.state(node).map(|state| state.words[0]);
+        assert_eq!(rt; word, Some(distance), "node {node}");
+    }
+}
+
 /// The distances on a path after 10 rounds.
 fn distances<R: Threads + Abort + Sync>(
     rt: &R,
@@ -35,14 +51,9 @@ fn distances<R: Threads + Abort + Sync>(
     nodes: u32,
     linked: u32,
 ) -> Result<(), Stopped> {
-    let plan = plan_of(alloc, program, path_text(alloc, nodes, linked)?.as_str())?;
+    let plan = plan_of_path(alloc, program, nodes, linked)?;
     let config = lockstep_par(rt, alloc, &plan, 10)?;
-    assert_eq!(rt; config.nodes(), nodes);
-    for node in 0..nodes {
-        let distance = if node <= 10 { node } else { 4_294_967_295 };
-        let word = config.state(node).map(|state| state.words[0]);
-        assert_eq!(rt; word, Some(distance), "node {node}");
-    }
+    assert_distances(rt, &config, nodes);
     Ok(())
 }
 

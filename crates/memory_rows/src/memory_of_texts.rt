@@ -38,8 +38,8 @@ fn assert_report(
 fn reports_of_cells(rt: &impl Abort, alloc: Global) -> Result<(), Stopped> {
     assert_spelling(rt, alloc).map_err(|fault| Stopped::Program(NoProgram::Text(fault)))?;
     let plan = plan_of(alloc, RULE_110, CELLS)?;
-    for (rounds, want) in [0, 1, 2, 3].into_iter().zip(CELLS_AFTER) {
-        assert_report(rt, alloc, &plan, rounds, want)?;
+    for (rounds, want) in [0, 1, 2, 3].iter().zip(&CELLS_AFTER) {
+        assert_report(rt, alloc, &plan, *rounds, want)?;
     }
     Ok(())
 }
@@ -49,12 +49,17 @@ fn rule_110_where_memory_is_refused(rt: HostRuntime) -> Result<(), Fail> {
     tell(&rt, reports_of_cells(&rt, rt.alloc()))
 }
 
-/// The sum of the rounds, gone on from round 3.
-fn rounds_from_three(rt: &impl Abort, alloc: Global) -> Result<(), Stopped> {
+/// The plan that sums the rounds, from the report after round 3 on.
+fn resumed_at_three(rt: &impl Abort, alloc: Global) -> Result<Plan, Stopped> {
     let plan = plan_of(alloc, ROUNDS, ALONE)?;
     let config = read_report(alloc, &plan, b"round 3\n0 s=3\n")?;
     assert_eq!(rt; config.rounds(), 3);
-    let resumed = plan.resume(alloc, &config)?;
+    Ok(plan.resume(alloc, &config)?)
+}
+
+/// The sum of the rounds, gone on from round 3.
+fn rounds_from_three(rt: &impl Abort, alloc: Global) -> Result<(), Stopped> {
+    let resumed = resumed_at_three(rt, alloc)?;
     assert_eq!(rt; resumed.start(), 3);
     let last = lockstep(alloc, &resumed, 4)?;
     assert_eq!(rt; last.state(0).map(|state| state.words[0]), Some(6));

@@ -1,10 +1,11 @@
 //! A report damaged in any one byte: refused with the right line, or another report.
 
-use lockstep::{ReportFault, read_report, report};
-use row_plans::plan_of;
+use lockstep::{Plan, ReportFault, read_report};
+use row_plans::{Refusal, plan_of, report_of};
 use row_texts::networks::UNSET_PAIR;
 use row_texts::programs::SWAP;
 use std::alloc::Global;
+use std::process::Abort;
 use std::test::Fail;
 
 /// A report of two nodes.
@@ -50,41 +51,67 @@ fn first_bad_line(alloc: Global, text: &[u8]) -> Result<Option<u64>, Fail> {
     Ok(None)
 }
 
-#[test]
-fn any_byte_changed(rt: HostRuntime) -> Result<(), Fail> {
-    let alloc = rt.alloc();
-    let plan = plan_of(alloc, SWAP, UNSET_PAIR)?;
-    for place in 0..REPORT.len() {
-        for byte in 0..=255u8 {
-            let mut text = Vec::from_slice(alloc, REPORT)?;
-            text[place] = byte;
-            match (
-                first_bad_line(alloc, &text)?,
-                read_report(alloc, &plan, &text),
-            ) {
-                (None, Ok(config)) => assert_eq!(rt; report(alloc, &plan, &config)?, text),
-                (Some(line), Err(fault)) => {
-                    assert_eq!(rt; fault, ReportFault::BadLine { line }, "{byte} at {place}")
-                }
-                _ => assert!(rt; false, "{byte} at {place}"),
-            }
-        }
+/// Asserts that a text is read as a report, and written again as it was.
+fn assert_report(rt: &impl Abort, alloc: Global, plan: &Plan, text: &[u8]) -> Result<(), Refusal> {
+    let config = read_report(alloc, plan, text)?;
+    let written = report_of(alloc, plan, &config)?;
+    assert_eq!(rt; written.as_slice(), text);
+    Ok(())
+}
+
+/// Asserts that a text is refused, and which of its lines is told.
+fn assert_bad_line(rt: &impl Abort, alloc: Global, plan: &Plan, text: &[u8], line: u64) {
+    let fault = read_report(alloc, plan, text).err();
+    assert_eq!(rt; fault, Some(ReportFault::BadLine { line }), "{text:?}");
+}
+
+/// Asserts that a text is refused with its first bad line, or read where it has none.
+fn assert_read(rt: &impl Abort, alloc: Global, plan: &Plan, text: &[u8]) -> Result<(), Fail> {
+    match first_bad_line(alloc, text)? {
+        Some(line) => assert_bad_line(rt, alloc, plan, text, line),
+        None => assert_report(rt, alloc, plan, text)?,
+    }
+    Ok(())
+}
+
+/// The report with another byte at a place.
+fn changed(alloc: Global, place: usize, byte: u8) -> Result<Vec<u8>, Fail> {
+    let mut text = Vec::from_slice(alloc, REPORT)?;
+    let found = text.get_mut(place).ok_or("a place")?;
+    *found = byte;
+    Ok(text)
+}
+
+/// Asserts what is read with any byte at a place.
+fn assert_place(rt: &impl Abort, alloc: Global, plan: &Plan, place: usize) -> Result<(), Fail> {
+    for byte in 0..=255u8 {
+        let text = changed(alloc, place, byte)?;
+        assert_read(rt, alloc, plan, &text)?;
     }
     Ok(())
 }
 
 #[test]
+fn any_byte_changed(rt: HostRuntime) -> Result<(), Fail> {
+    let plan = plan_of(rt.alloc(), SWAP, UNSET_PAIR)?;
+    for place in 0..REPORT.len() {
+        assert_place(&rt, rt.alloc(), &plan, place)?;
+    }
+    Ok(())
+}
+
+/// How many lines of a text are ended.
+fn ended_lines(text: &[u8]) -> u64 {
+    text.iter().filter(|byte| **byte == b'\n').count() as u64
+}
+
+#[test]
 fn cut_at_any_byte(rt: HostRuntime) -> Result<(), Fail> {
-    let alloc = rt.alloc();
-    let plan = plan_of(alloc, SWAP, UNSET_PAIR)?;
+    let plan = plan_of(rt.alloc(), SWAP, UNSET_PAIR)?;
     for length in 0..REPORT.len() {
-        let line = 1
-            + REPORT[..length]
-                .iter()
-                .filter(|byte| **byte == b'\n')
-                .count() as u64;
-        let fault = read_report(alloc, &plan, &REPORT[..length]).err();
-        assert_eq!(rt; fault, Some(ReportFault::BadLine { line }), "{length}");
+        let text = &REPORT[..length];
+        let line = ended_lines(text).saturating_add(1);
+        assert_bad_line(&rt, rt.alloc(), &plan, text, line);
     }
     Ok(())
 }

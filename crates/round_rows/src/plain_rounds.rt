@@ -1,10 +1,11 @@
 //! Lockstep rounds beside the plain evaluation: node by node, each by the one call that gives its next state.
 
-use lockstep::{Plan, lockstep, lockstep_par};
-use row_plans::plan_of;
+use lockstep::{Config, Plan, RoundFault, lockstep, lockstep_par};
+use row_plans::{Refusal, plan_of};
+use row_texts::grown::put_link;
 use row_texts::programs::EIGHT_FIELDS;
 use rule_check::{Near, State};
-use std::alloc::Global;
+use std::alloc::{AllocError, Global};
 use std::process::Abort;
 use std::test::Fail;
 use std::thread::Threads;
@@ -33,32 +34,50 @@ const LIMITS: &str = "field a = 4294967295; field b = 65536; field c = 0;
 /// A field without a rule, and one with.
 const KEEPS_ONE: &str = "field a = 11; field b = 0; next b = ((b + a) + most n.b);";
 
+/// The programs whose rounds are compared.
+const PROGRAMS: [&str; 5] = [OPERATORS, AGGREGATES, SHARED_PARTS, LIMITS, KEEPS_ONE];
+
+/// Adds a link with a weight to the list of links in the text of a network.
+fn put_weighted(text: &mut String, u: u32, w: u32, weight: u32) -> Result<(), AllocError> {
+    write!(text, "[{u},{w},{weight}],")?;
+    Ok(())
+}
+
+/// Adds the links of a node of the grid with the one before it and the one above it.
+fn put_grid_links(text: &mut String, node: u32) -> Result<(), AllocError> {
+    if node % 20 != 0 {
+        put_weighted(text, node.saturating_sub(1), node, node % 11)?;
+    }
+    if node >= 20 {
+        put_weighted(text, node, node - 20, node % 7)?;
+    }
+    Ok(())
+}
+
 /// A grid, 20 nodes wide, whose links have weights from 0 to 10.
-fn grid(alloc: Global, nodes: u32) -> Result<String, Fail> {
+fn grid(alloc: Global, nodes: u32) -> Result<String, AllocError> {
     let mut text = format!(in alloc; "nodes = {nodes}\nlinks = [")?;
-    for other in 1..nodes {
-        let before = other - 1;
-        if other % 20 != 0 {
-            text.push_str(format!(in alloc; "[{before},{other},{}],", other % 11)?.as_str())?;
-        }
-        if other >= 20 {
-            let above = other - 20;
-            text.push_str(format!(in alloc; "[{other},{above},{}],", other % 7)?.as_str())?;
-        }
+    for node in 1..nodes {
+        put_grid_links(&mut text, node)?;
     }
     text.push_str("]\n")?;
     Ok(text)
 }
 
+/// Adds the link of node 0 with another one, and where that is the third, sixth, .. its link with the next one.
+fn put_hub_links(alloc: Global, text: &mut String, node: u32) -> Result<(), AllocError> {
+    put_weighted(text, 0, node, node % 5)?;
+    if node % 3 == 0 {
+        put_link(alloc, text, node, node.saturating_add(1))?;
+    }
+    Ok(())
+}
+
 /// Node 0 is linked with 520 others, a third of which have a link to the next one; the last nodes have no links.
-fn hub(alloc: Global) -> Result<String, Fail> {
-    let mut text = format!(in alloc; "nodes = 600\nlinks = [")?;
-    for other in 1..521u32 {
-        text.push_str(format!(in alloc; "[0,{other},{}],", other % 5)?.as_str())?;
-        if other % 3 == 0 {
-            let next = other + 1;
-            text.push_str(format!(in alloc; "[{other},{next}],")?.as_str())?;
-        }
+fn hub(alloc: Global) -> Result<String, AllocError> {
+    let mut text = String::from_str(alloc, "nodes = 600\nlinks = [")?;
+    for node in 1..521 {
+        put_hub_links(alloc, &mut text, node)?;
     }
     text.push_str("]\n")?;
     Ok(text)
@@ -81,6 +100,22 @@ fn nears_of(alloc: Global, plan: &Plan, states: &[State], node: u32) -> Result<V
     Ok(nears)
 }
 
+/// The state of a node one round later.
+fn plain_next(
+    alloc: Global,
+    plan: &Plan,
+    round: u32,
+    states: &[State],
+    node: u32,
+) -> Result<State, Fail> {
+    let state = *states.get(node as usize).ok_or("a state")?;
+    let nears = nears_of(alloc, plan, states, node)?;
+    if nears.len() > 4096 {
+        return Err(Fail::from("too many neighbours"));
+    }
+    Ok(plan.program().next(node, state, round, &nears))
+}
+
 /// The states one round later, node by node.
 fn plain_round(
     alloc: Global,
@@ -90,17 +125,82 @@ fn plain_round(
 ) -> Result<Vec<State>, Fail> {
     let mut next = Vec::new(alloc);
     for node in 0..plan.network().nodes() {
-        let state = *states.get(node as usize).ok_or("a state")?;
-        let nears = nears_of(alloc, plan, states, node)?;
-        if nears.len() > 4096 {
-            return Err(Fail::from("too many neighbours"));
-        }
-        next.push(plan.program().next(node, state, round, &nears))?;
+        next.push(plain_next(alloc, plan, round, states, node)?)?;
     }
     Ok(next)
 }
 
-/// Asserts that the rounds are the plain ones, alone and shared among threads.
+/// What is wanted after so many rounds of a program: the states of the nodes.
+#[derive(Clone, Copy)]
+struct Wanted<'a> {
+    program: &'a str,
+    rounds: u32,
+    states: &'a [State],
+}
+
+/// Asserts the states of a configuration.
+fn assert_states(rt: &impl Abort, config: &Config, wanted: Wanted<'_>) {
+    let Wanted {
+        program,
+        rounds,
+        states,
+    } = wanted;
+    assert_eq!(rt; config.states(), states, "{program} after {rounds}");
+}
+
+/// Asserts the rounds of one thread.
+fn assert_alone(
+    rt: &impl Abort,
+    alloc: Global,
+    plan: &Plan,
+    wanted: Wanted<'_>,
+) -> Result<(), RoundFault> {
+    let config = lockstep(alloc, plan, wanted.rounds)?;
+    assert_states(rt, &config, wanted);
+    Ok(())
+}
+
+/// Asserts the rounds that are shared among threads.
+fn assert_shared<R: Threads + Abort + Sync>(
+    rt: &R,
+    alloc: Global,
+    plan: &Plan,
+    wanted: Wanted<'_>,
+) -> Result<(), RoundFault> {
+    let config = lockstep_par(rt, alloc, plan, wanted.rounds)?;
+    assert_states(rt, &config, wanted);
+    Ok(())
+}
+
+/// The states before the first round.
+fn opening(alloc: Global, plan: &Plan) -> Result<Vec<State>, Refusal> {
+    let config = lockstep(alloc, plan, 0)?;
+    Ok(config.states().to_vec(alloc)?)
+}
+
+/// Asserts that the rounds of a plan are the plain ones, alone and shared among threads.
+fn assert_plain_rounds_of<R: Threads + Abort + Sync>(
+    rt: &R,
+    alloc: Global,
+    plan: &Plan,
+    program: &str,
+    rounds: u32,
+) -> Result<(), Fail> {
+    let mut states = opening(alloc, plan)?;
+    for round in 0..rounds {
+        states = plain_round(alloc, plan, round, &states)?;
+        let wanted = Wanted {
+            program,
+            rounds: round + 1,
+            states: &states,
+        };
+        assert_alone(rt, alloc, plan, wanted)?;
+        assert_shared(rt, alloc, plan, wanted)?;
+    }
+    Ok(())
+}
+
+/// Asserts that the rounds of a program on a network are the plain ones.
 fn assert_plain_rounds<R: Threads + Abort + Sync>(
     rt: &R,
     alloc: Global,
@@ -109,49 +209,35 @@ fn assert_plain_rounds<R: Threads + Abort + Sync>(
     rounds: u32,
 ) -> Result<(), Fail> {
     let plan = plan_of(alloc, program, network)?;
-    let opening = lockstep(alloc, &plan, 0)?;
-    let mut states = opening.states().to_vec(alloc)?;
-    for round in 0..rounds {
-        states = plain_round(alloc, &plan, round, &states)?;
-        let alone = lockstep(alloc, &plan, round + 1)?;
-        assert_eq!(rt;
-            alone.states(),
-            states.as_slice(),
-            "{program} from round {round}"
-        );
-        let shared = lockstep_par(rt, alloc, &plan, round + 1)?;
-        assert_eq!(rt;
-            shared.states(),
-            states.as_slice(),
-            "{program} from round {round}"
-        );
+    assert_plain_rounds_of(rt, alloc, &plan, program, rounds)
+}
+
+/// Asserts that the first five rounds of each program on a network are the plain ones.
+fn assert_programs<R: Threads + Abort + Sync>(
+    rt: &R,
+    alloc: Global,
+    network: &str,
+) -> Result<(), Fail> {
+    for program in &PROGRAMS {
+        assert_plain_rounds(rt, alloc, program, network, 5)?;
     }
     Ok(())
 }
 
 #[test]
 fn plain_rounds_of_a_grid(rt: HostRuntime) -> Result<(), Fail> {
-    let alloc = rt.alloc();
-    let network = grid(alloc, 530)?;
-    for program in [OPERATORS, AGGREGATES, SHARED_PARTS, LIMITS, KEEPS_ONE] {
-        assert_plain_rounds(&rt, alloc, program, network.as_str(), 5)?;
-    }
-    Ok(())
+    let network = grid(rt.alloc(), 530)?;
+    assert_programs(&rt, rt.alloc(), network.as_str())
 }
 
 #[test]
 fn plain_rounds_of_a_hub(rt: HostRuntime) -> Result<(), Fail> {
-    let alloc = rt.alloc();
-    let network = hub(alloc)?;
-    for program in [OPERATORS, AGGREGATES, SHARED_PARTS, LIMITS, KEEPS_ONE] {
-        assert_plain_rounds(&rt, alloc, program, network.as_str(), 5)?;
-    }
-    Ok(())
+    let network = hub(rt.alloc())?;
+    assert_programs(&rt, rt.alloc(), network.as_str())
 }
 
 #[test]
 fn plain_rounds_shared_among_threads(rt: HostRuntime) -> Result<(), Fail> {
-    let alloc = rt.alloc();
-    let network = grid(alloc, 30_000)?;
-    assert_plain_rounds(&rt, alloc, EIGHT_FIELDS, network.as_str(), 2)
+    let network = grid(rt.alloc(), 30_000)?;
+    assert_plain_rounds(&rt, rt.alloc(), EIGHT_FIELDS, network.as_str(), 2)
 }

@@ -12,15 +12,22 @@ use std::test::Fail;
 /// A program text, a network text, a number of lockstep rounds, and the report after them.
 type Row = (&'static str, &'static str, u32, &'static str);
 
+/// Asserts the report of a row.
+fn assert_report(rt: &impl Abort, alloc: Global, row: &Row) -> Result<(), Refusal> {
+    let (program, network, rounds, want) = row;
+    let text = report_after(alloc, program, network, *rounds)?;
+    assert_eq!(rt;
+        text.as_slice(),
+        want.as_bytes(),
+        "{program} after {rounds}"
+    );
+    Ok(())
+}
+
 /// Asserts the report of each row.
 fn assert_reports(rt: &impl Abort, alloc: Global, rows: &[Row]) -> Result<(), Fail> {
-    for (program, network, rounds, want) in rows {
-        let text = report_after(alloc, program, network, *rounds)?;
-        assert_eq!(rt;
-            text.as_slice(),
-            want.as_bytes(),
-            "{program} after {rounds}"
-        );
+    for row in rows {
+        assert_report(rt, alloc, row)?;
     }
     Ok(())
 }
@@ -136,8 +143,8 @@ fn examples(rt: HostRuntime) -> Result<(), Fail> {
 /// Rule 110 on a path of eight cells, after rounds 0 to 3.
 #[test]
 fn rule_110(rt: HostRuntime) -> Result<(), Fail> {
-    for (rounds, want) in [0, 1, 2, 3].into_iter().zip(CELLS_AFTER) {
-        assert_reports(&rt, rt.alloc(), &[(RULE_110, CELLS, rounds, want)])?;
+    for (rounds, want) in [0, 1, 2, 3].iter().zip(&CELLS_AFTER) {
+        assert_report(&rt, rt.alloc(), &(RULE_110, CELLS, *rounds, *want))?;
     }
     Ok(())
 }

@@ -5,5 +5,5 @@
 mod made;
 mod refusal;
 
-pub use made::{difference, plan_of, report_after, report_of, resumed};
+pub use made::{config_after, difference, plan_of, report_after, report_of, resumed};
 pub use refusal::Refusal;

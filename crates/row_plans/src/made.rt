@@ -31,6 +31,17 @@ pub fn report_of(alloc: Global, plan: &Plan, config: &Config) -> Result<Vec<u8>,
     Ok(report(alloc, plan, config)?)
 }
 
+/// The configuration after a number of lockstep rounds of a program text on a network text.
+pub fn config_after(
+    alloc: Global,
+    program: &str,
+    network: &str,
+    rounds: u32,
+) -> Result<Config, Refusal> {
+    let plan = plan_of(alloc, program, network)?;
+    Ok(lockstep(alloc, &plan, rounds)?)
+}
+
 /// The report after a number of lockstep rounds of a program text on a network text.
 pub fn report_after(
     alloc: Global,

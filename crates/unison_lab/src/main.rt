@@ -5,6 +5,8 @@ mod ending;
 mod files;
 mod help;
 mod why;
+#[cfg(test)]
+mod word_tests;
 
 use crate::ending::{Ending, refused};
 use crate::help::help_text;

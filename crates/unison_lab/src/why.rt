@@ -49,7 +49,7 @@ fn usage_text(alloc: Global, words: &[String], text: String) -> Result<String, A
 }
 
 /// The request that the words make.
-fn request_of(alloc: Global, words: &[String]) -> Result<Request, Ending> {
+pub(crate) fn request_of(alloc: Global, words: &[String]) -> Result<Request, Ending> {
     let command = command_as(
         alloc,
         "unison why",
@@ -140,11 +140,16 @@ fn print_fault(rt: &HostRuntime, fault: &ServeFault) -> io::Result<()> {
     }
 }
 
+/// What is found in the texts that the words name.
+fn finding_for(rt: &HostRuntime, words: &[String]) -> Result<Finding, Ending> {
+    let request = request_of(rt.alloc(), words)?;
+    let given = read(rt, &request)?;
+    Ok(finding_of(rt.alloc(), &request, &given)?)
+}
+
 /// Tells why a command refuses its texts. The status with which that command would end.
 pub(crate) fn why_command(rt: &HostRuntime, words: &[String]) -> Result<u8, Ending> {
-    let request = request_of(rt.alloc(), words)?;
-    let read = read(rt, &request)?;
-    let finding = finding_of(rt.alloc(), &request, &read)?;
+    let finding = finding_for(rt, words)?;
     write_out(rt, finding.text.as_str())?;
     match finding.fault {
         Some(fault) => {

@@ -1,10 +1,12 @@
 //! Why a job is not done, told for people.
-ghost use Rattle.std.specs.Prelude.{◌≡◌, IfOk, IfSome, IsNone, true};
+ghost use Rattle.std.specs.Prelude.{◌≡◌, IfOk, IfSome, IsNone, Some, true};
+ghost use Rattle.link_net.specs.Causes.{fault_of};
+ghost use Rattle.unison_jobs.specs.declared.fault.ServeFault.TheVariants as fault;
 ghost use Rattle.unison_jobs.specs.Served.{given};
 ghost use Rattle.unison_why.specs.FirstFault.{IsFirstFault, IsUnrefused, is_shown};
 ghost use Rattle.unison_why.specs.Given.{network_of, report_of, schedule_of};
 
-use crate::first::first_fault;
+use crate::first::{answer, first_fault, network_cause};
 use crate::lexical::tell_lexical;
 use crate::lines::{tell_report_line, tell_step};
 use crate::network::tell_network;
@@ -18,7 +20,7 @@ use crate::runs::{
 use crate::shown::shown;
 use crate::syntax::tell_syntax;
 use crate::told::{Part, Texts, Told};
-use link_net::{NetFile, read_network};
+use link_net::{NetCause, NetFile, read_network};
 use lockstep::{Plan, ReportFault, RoundFault, diagnose_plan};
 use rule_check::{Program, check};
 use rule_lang::{LangCause, Source, read_program};
@@ -126,15 +128,6 @@ fn tell_check(alloc: Global, text: &[u8]) -> Result<Told, AllocError> {
     }
 }
 
-/// What is told of a network file that is refused.
-fn tell_net(alloc: Global, texts: &Texts) -> Result<Told, AllocError> {
-    let bytes = network_text(texts);
-    match link_net::diagnose(alloc, bytes)? {
-        Some(cause) => tell_network(alloc, bytes, &cause),
-        None => tell_else(alloc),
-    }
-}
-
 /// What is told of a network file whose `set` does not fit the program.
 fn tell_set(alloc: Global, texts: &Texts) -> Result<Told, AllocError> {
     let program = program_of(alloc, texts.program.text)?;
@@ -209,7 +202,6 @@ fn tell(alloc: Global, texts: &Texts, job: &Job, fault: ServeFault) -> Result<To
     match fault {
         ServeFault::Lang(_) => tell_program(alloc, texts.program.text),
         ServeFault::Check(_) => tell_check(alloc, texts.program.text),
-        ServeFault::Net(_) => tell_net(alloc, texts),
         ServeFault::Plan(_) => tell_set(alloc, texts),
         ServeFault::Report(fault) => tell_report(alloc, texts, fault),
         ServeFault::Round(RoundFault::RoundsBelowStart) => tell_run(
@@ -221,8 +213,20 @@ fn tell(alloc: Global, texts: &Texts, job: &Job, fault: ServeFault) -> Result<To
         ServeFault::Round(_) => tell_too_large(alloc, job),
         ServeFault::Run(fault) => tell_run(alloc, texts, job, fault),
         ServeFault::Replay(fault) => tell_replay(alloc, texts, job, fault),
-        ServeFault::Write { .. } | ServeFault::Memory => tell_else(alloc),
+        // (why a network is refused is told before)
+        ServeFault::Net(_) | ServeFault::Write { .. } | ServeFault::Memory => tell_else(alloc),
     }
+}
+
+/// What is found where a network is refused, for its cause.
+fn found_in_network(alloc: Global, texts: &Texts, cause: &NetCause) -> Result<Finding, AllocError>
+    ensures fault { IfOk result (λ finding. (finding.fault ≡ Some (fault.Net (fault_of cause.now))) × (is_shown (fault.Net (fault_of cause.now)) ≡ true)) }
+{
+    let fault = answer(ServeFault::Net(cause.fault()))?;
+    let told = tell_network(alloc, network_text(texts), cause)?;
+    let (part, name) = ServeFault::Net(cause.fault()).part_and_name();
+    let text = shown(alloc, texts, &told, part, name)?;
+    Ok(Finding { text, fault })
 }
 
 /// What people are told of a fault.
@@ -246,6 +250,9 @@ pub fn why(alloc: Global, job: &Job, texts: &Texts) -> Result<Finding, AllocErro
     ensures shown { IfOk result (λ finding. IfSome finding.fault (λ f. is_shown f ≡ true)) }
     ensures accepted { IfOk result (λ finding. IsNone finding.fault → IsUnrefused job.now texts.now.program.text.now (network_of texts.now) (report_of texts.now) (schedule_of texts.now)) }
 {
+    if let Some(cause) = network_cause(alloc, job, texts.program.text, network_text(texts))? {
+        return found_in_network(alloc, texts, &cause);
+    }
     let fault = first_fault(
         alloc,
         job,

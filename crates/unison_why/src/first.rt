@@ -1,6 +1,8 @@
 //! The first fault of a job, found without doing it.
-ghost use Rattle.std.specs.Prelude.{◌≡◌, ◌≢◌, List, IfOk, IfSome, IsNone, Some, Ok, Err, true};
+ghost use Rattle.std.specs.Prelude.{◌≡◌, ◌≢◌, List, IfOk, IfSome, IsNone, None, Some, Ok, Err, true};
 ghost use Rattle.rule_lang.specs.Tree.{ItemTree};
+ghost use Rattle.link_net.specs.Causes.{fault_of};
+ghost use Rattle.link_net.specs.Reading.{reading_of};
 ghost use Rattle.lockstep.specs.declared.fault.RoundFault.{RoundFault as RefusedRound};
 ghost use Rattle.lockstep.specs.Lockstep.{rounds_of};
 ghost use Rattle.unison_world.specs.declared.fault.OpenFault.{OpenFault as Refused};
@@ -14,10 +16,10 @@ ghost use Rattle.unison_pool.specs.declared.fault.RunFault.{RunFault as RefusedR
 ghost use Rattle.unison_pool.specs.Refusals.{Refuses};
 ghost use Rattle.unison_jobs.specs.declared.job.Job.{Job};
 ghost use Rattle.unison_jobs.specs.declared.fault.ServeFault.TheVariants as fault;
-ghost use Rattle.unison_jobs.specs.Served.{IsAccepted, RefusesProgram, given, trace_limit};
+ghost use Rattle.unison_jobs.specs.Served.{IsAccepted, NeedsNetwork, RefusesProgram, RefusesTexts, given, trace_limit};
 ghost use Rattle.unison_why.specs.FirstFault.{HasRounds, IsFirstFault, IsPlanFault, IsReplayable, IsRunnable, IsUnrefused, IsUnrefusedPlan, is_shown};
 
-use link_net::NetFault;
+use link_net::{NetCause, NetFault};
 use lockstep::{MOST_ROUNDS, Plan, PlanFault, ReportFault, RoundFault};
 use rule_check::{CheckFault, check};
 use rule_lang::{LangFault, read_program};
@@ -49,7 +51,7 @@ fn is_shown(fault: &ServeFault) -> bool
 }
 
 /// The fault as an answer, or want of memory: that is all that remains where the texts do not show it.
-fn answer(fault: ServeFault) -> Result<Option<ServeFault>, AllocError>
+pub(crate) fn answer(fault: ServeFault) -> Result<Option<ServeFault>, AllocError>
     ensures fault { IfOk result (λ found. (found ≡ Some fault) × (is_shown fault ≡ true)) }
 {
     if !is_shown(&fault) {
@@ -159,6 +161,34 @@ fn plan_fault(
             None => Ok(run_fault(plan, rounds, workers, false)),
         },
     }
+}
+
+/// Why a network is refused.
+fn refused_network(alloc: Global, network: &[u8]) -> Result<Option<NetCause>, AllocError>
+    ensures refused { IfOk result (λ found. IfSome found (λ cause. reading_of network.now ≡ Err (fault_of cause))) }
+{
+    let cause = link_net::diagnose(alloc, network)?;
+    Ok(cause)
+}
+
+/// Why the network of a job is refused, where that is its first fault: its program is accepted, and it needs a network.
+pub(crate) fn network_cause(
+    alloc: Global,
+    job: &Job,
+    program: &[u8],
+    network: &[u8],
+) -> Result<Option<NetCause>, AllocError>
+    ensures needed { IfOk result (λ found. IfSome found (λ cause. NeedsNetwork job.now)) }
+    ensures refused { IfOk result (λ found. IfSome found (λ cause. RefusesTexts program.now network.now None (fault.Net (fault_of cause)))) }
+{
+    if let Job::Check = *job {
+        return Ok(None);
+    }
+    if program_fault(alloc, program)?.is_some() {
+        return Ok(None);
+    }
+    let cause = refused_network(alloc, network)?;
+    Ok(cause)
 }
 
 /// The first fault with which a job on these texts would end, found without doing it; none where it would be done, want

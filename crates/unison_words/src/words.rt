@@ -160,21 +160,32 @@ fn compare_command<'a>(alloc: Global) -> Result<Command<'a>, AllocError> {
         .arg(from_option(alloc))
 }
 
+/// The command with those subcommands that make no single steps.
+fn with_rounds<'a>(alloc: Global, whole: Command<'a>) -> Result<Command<'a>, AllocError> {
+    whole
+        .subcommand(check_command(alloc)?)?
+        .subcommand(lockstep_command(alloc)?)
+}
+
+/// The command with those subcommands that make single steps.
+fn with_steps<'a>(alloc: Global, whole: Command<'a>) -> Result<Command<'a>, AllocError> {
+    whole
+        .subcommand(run_command(alloc)?)?
+        .subcommand(replay_command(alloc)?)?
+        .subcommand(compare_command(alloc)?)
+}
+
 /// The five commands as subcommands of a command that is called by this name, as in `unison`, with this line about it.
 pub fn command_as<'a>(
     alloc: Global,
     name: &'a str,
     about: &'a str,
 ) -> Result<Command<'a>, AllocError> {
-    Command::new(alloc, "unison")
+    let whole = Command::new(alloc, "unison")
         .bin_name(name)?
         .about(about)
-        .subcommand_required(true)
-        .subcommand(check_command(alloc)?)?
-        .subcommand(lockstep_command(alloc)?)?
-        .subcommand(run_command(alloc)?)?
-        .subcommand(replay_command(alloc)?)?
-        .subcommand(compare_command(alloc)?)
+        .subcommand_required(true);
+    with_steps(alloc, with_rounds(alloc, whole)?)
 }
 
 /// The whole command with its subcommands.

@@ -1,6 +1,7 @@
 //! What `why` tells of mistakes: whole texts, written by hand.
 
 use std::alloc::{AllocError, Global};
+use std::process::Abort;
 use unison_jobs::{Job, ServeFault};
 use unison_why::{Finding, Named, Texts, why};
 
@@ -45,4 +46,10 @@ pub(crate) fn part(fault: &Option<ServeFault>) -> &'static str {
         Some(fault) => fault.part_and_name().0,
         None => "none",
     }
+}
+
+/// Asserts what is told, and the part of the fault.
+pub(crate) fn assert_told(rt: &impl Abort, found: &Finding, wanted: &str, wanted_part: &str) {
+    assert_eq!(rt; found.text.as_str(), wanted);
+    assert_eq!(rt; part(&found.fault), wanted_part);
 }
