@@ -1,7 +1,7 @@
 //! The command line: which job the words ask for.
 ghost use Rattle.std.specs.Prelude.{◌≡◌, ◌≤◌, IfOk, IfSome};
 ghost use Rattle.lockstep.specs.Configs.{most_rounds};
-ghost use Rattle.unison_words.specs.Requests.{IsWithinLimits};
+ghost use Rattle.unison_words.specs.Requests.{IsWithinLimits, IsWrongWords};
 
 use crate::request::{Request, UsageFault};
 use clap::error::ErrorKind;
@@ -212,27 +212,29 @@ fn number(text: &str, least: u32, most: u32) -> Option<u32>
 }
 
 /// Wrong words, told by the name of the option or the argument.
-fn bad_value(alloc: Global, option: &str) -> UsageFault {
-    match String::from_str(alloc, option) {
+pub fn wrong_words(alloc: Global, name: &str) -> UsageFault
+    ensures named { IsWrongWords name.now result }
+{
+    match String::from_str(alloc, name) {
         Ok(text) => UsageFault::Usage { text },
         Err(_) => UsageFault::Memory,
     }
 }
 
-/// The number that an option has.
-fn option_number(
+/// The number, between bounds, that an option or an argument has. `Usage` with its name as the text where it has none.
+pub fn number_in(
     alloc: Global,
     matches: &ArgMatches<'_>,
-    option: &str,
+    name: &str,
     least: u32,
     most: u32,
 ) -> Result<u32, UsageFault>
     ensures within { IfOk result (λ n. (least ≤ n) × (n ≤ most)) }
 {
-    let text = matches.get_str(option).unwrap_or("");
+    let text = matches.get_str(name).unwrap_or("");
     match number(text, least, most) {
         Some(number) => Ok(number),
-        None => Err(bad_value(alloc, option)),
+        None => Err(wrong_words(alloc, name)),
     }
 }
 
@@ -252,7 +254,7 @@ fn text_of(
 fn path_of(alloc: Global, matches: &ArgMatches<'_>, id: &str) -> Result<String, UsageFault> {
     match text_of(alloc, matches, id)? {
         Some(path) => Ok(path),
-        None => Err(bad_value(alloc, id)),
+        None => Err(wrong_words(alloc, id)),
     }
 }
 
@@ -260,14 +262,14 @@ fn path_of(alloc: Global, matches: &ArgMatches<'_>, id: &str) -> Result<String, 
 fn rounds_in(alloc: Global, matches: &ArgMatches<'_>) -> Result<u32, UsageFault>
     ensures within { IfOk result (λ n. n ≤ most_rounds) }
 {
-    option_number(alloc, matches, "rounds", 0, MOST_ROUNDS)
+    number_in(alloc, matches, "rounds", 0, MOST_ROUNDS)
 }
 
 /// The number of threads that `--workers` names.
 fn workers_in(alloc: Global, matches: &ArgMatches<'_>) -> Result<u32, UsageFault>
     ensures within { IfOk result (λ n. (1 ≤ n) × (n ≤ 64)) }
 {
-    option_number(alloc, matches, "workers", 1, MOST_WORKERS)
+    number_in(alloc, matches, "workers", 1, MOST_WORKERS)
 }
 
 /// The job of `run`.
@@ -288,7 +290,7 @@ fn run_in(alloc: Global, matches: &ArgMatches<'_>) -> Result<Job, UsageFault>
 fn replay_in(alloc: Global, matches: &ArgMatches<'_>) -> Result<Job, UsageFault>
     ensures within { IfOk result IsWithinLimits }
 {
-    let stop = option_number(alloc, matches, "stop", 0, MOST_ROUNDS)?;
+    let stop = number_in(alloc, matches, "stop", 0, MOST_ROUNDS)?;
     Ok(Job::Replay { stop })
 }
 
@@ -359,6 +361,19 @@ fn fault_of(alloc: Global, error: &clap::Error) -> UsageFault {
     }
 }
 
+/// What the words mean by a command, the name by which it is called first: `Help` where they ask for help, `Usage` where
+/// they are wrong.
+pub fn matches_of<'a>(
+    alloc: Global,
+    command: Command<'a>,
+    words: &'a [String],
+) -> Result<ArgMatches<'a>, UsageFault> {
+    match command.try_get_matches_from(words) {
+        Ok(matches) => Ok(matches),
+        Err(error) => Err(fault_of(alloc, &error)),
+    }
+}
+
 /// The request that the words make by a command of `command_as`, the name by which it is called first. The numbers of
 /// its job are within their limits; a number outside them is `Usage` with the option's name as its text.
 pub fn job_by<'a>(
@@ -368,13 +383,10 @@ pub fn job_by<'a>(
 ) -> Result<Request, UsageFault>
     ensures within { IfOk result (λ r. IsWithinLimits r.job) }
 {
-    let matches = match command.try_get_matches_from(words) {
-        Ok(matches) => matches,
-        Err(error) => return Err(fault_of(alloc, &error)),
-    };
+    let matches = matches_of(alloc, command, words)?;
     match matches.subcommand() {
         Some((name, inner)) => request_in(alloc, name, inner),
-        None => Err(bad_value(alloc, "command")),
+        None => Err(wrong_words(alloc, "command")),
     }
 }
 

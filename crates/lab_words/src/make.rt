@@ -1,0 +1,203 @@
+//! The words of `make`: a shape and its numbers.
+
+use clap::{Arg, ArgAction, ArgMatches, Command};
+use net_shapes::Shape;
+use std::alloc::{AllocError, Global};
+use unison_words::{UsageFault, matches_of, number_in, wrong_words};
+
+/// What a number of a shape is called, and what it is.
+type NumberWords = (&'static str, &'static str);
+
+/// The name of a shape, what it is, and its numbers.
+type ShapeWords = (&'static str, &'static str, &'static [NumberWords]);
+
+/// The words of each shape.
+const SHAPES: [ShapeWords; 9] = [
+    (
+        "path",
+        "Each node is linked with the next one",
+        &[("N", "The number of nodes")],
+    ),
+    (
+        "ring",
+        "A path whose last node is linked with the first",
+        &[("N", "The number of nodes, 3 or more")],
+    ),
+    (
+        "star",
+        "Node 0 is linked with each other node",
+        &[("N", "The number of nodes, 4097 at most")],
+    ),
+    (
+        "complete",
+        "Each node is linked with each other one",
+        &[("N", "The number of nodes, 724 at most")],
+    ),
+    (
+        "bipartite",
+        "Each of A nodes is linked with each of B others",
+        &[
+            ("A", "The number of nodes that come first"),
+            ("B", "The number of the others"),
+        ],
+    ),
+    (
+        "tree",
+        "Each node has K children, numbered level by level",
+        &[("N", "The number of nodes")],
+    ),
+    (
+        "hypercube",
+        "Nodes are linked whose numbers differ in one of D binary digits",
+        &[("D", "The number of digits, 16 at most")],
+    ),
+    (
+        "grid",
+        "Each node is linked with those beside it, above it and below it",
+        &[
+            ("W", "The number of nodes in a row"),
+            ("H", "The number of rows"),
+        ],
+    ),
+    (
+        "torus",
+        "A grid whose rows and columns are rings",
+        &[
+            ("W", "The number of nodes in a row, 3 or more"),
+            ("H", "The number of rows, 3 or more"),
+        ],
+    ),
+];
+
+/// What stands behind the help of `make`.
+const EXAMPLE: &str =
+    "Prints a network file; its nodes are numbered from 0, row by row in a grid.\nAn example: unison make torus 16 16 --diagonals > torus.toml\n";
+
+/// A number, which has to be there.
+fn number_argument<'a>(alloc: Global, words: &NumberWords) -> Arg<'a> {
+    let (id, help) = *words;
+    Arg::new(alloc, id)
+        .required(true)
+        .value_name(id)
+        .help(help)
+        .action(ArgAction::Set)
+}
+
+/// `--arity K`, which has to be there.
+fn arity_option<'a>(alloc: Global) -> Arg<'a> {
+    Arg::new(alloc, "arity")
+        .long("arity")
+        .required(true)
+        .value_name("K")
+        .help("The number of children of a node, as far as there are nodes")
+        .action(ArgAction::Set)
+}
+
+/// `--diagonals`.
+fn diagonals_flag<'a>(alloc: Global) -> Arg<'a> {
+    Arg::new(alloc, "diagonals")
+        .long("diagonals")
+        .help("Link each node with the four beside its corners, too")
+        .action(ArgAction::SetTrue)
+}
+
+/// The command with the options of a shape beside its numbers.
+fn with_options<'a>(
+    alloc: Global,
+    name: &str,
+    command: Command<'a>,
+) -> Result<Command<'a>, AllocError> {
+    match name {
+        "tree" => command.arg(arity_option(alloc)),
+        "torus" => command.arg(diagonals_flag(alloc)),
+        _ => Ok(command),
+    }
+}
+
+/// The subcommand of a shape.
+fn shape_command<'a>(alloc: Global, words: &ShapeWords) -> Result<Command<'a>, AllocError> {
+    let (name, about, numbers) = *words;
+    let mut command = Command::new(alloc, name).about(about);
+    for number in numbers {
+        command = command.arg(number_argument(alloc, number))?;
+    }
+    with_options(alloc, name, command)
+}
+
+/// `make` with a subcommand for each shape.
+pub fn make_command<'a>(alloc: Global) -> Result<Command<'a>, AllocError> {
+    let mut command = Command::new(alloc, "make")
+        .bin_name("unison make")?
+        .about("Make a network of a shape")
+        .subcommand_required(true)
+        .after_help(EXAMPLE);
+    for words in &SHAPES {
+        command = command.subcommand(shape_command(alloc, words)?)?;
+    }
+    Ok(command)
+}
+
+/// A number of a shape; one that is none, or above 4,294,967,295, is wrong words.
+fn size(alloc: Global, matches: &ArgMatches<'_>, id: &str) -> Result<u32, UsageFault> {
+    number_in(alloc, matches, id, 0, 4_294_967_295)
+}
+
+/// A grid, or a torus where that is its name.
+fn rows_in(alloc: Global, name: &str, matches: &ArgMatches<'_>) -> Result<Shape, UsageFault> {
+    let width = size(alloc, matches, "W")?;
+    let height = size(alloc, matches, "H")?;
+    if name == "grid" {
+        return Ok(Shape::Grid { width, height });
+    }
+    let diagonals = matches.get_flag("diagonals");
+    Ok(Shape::Torus {
+        width,
+        height,
+        diagonals,
+    })
+}
+
+/// A shape of two sides.
+fn bipartite_in(alloc: Global, matches: &ArgMatches<'_>) -> Result<Shape, UsageFault> {
+    let left = size(alloc, matches, "A")?;
+    let right = size(alloc, matches, "B")?;
+    Ok(Shape::Bipartite { left, right })
+}
+
+/// A tree.
+fn tree_in(alloc: Global, matches: &ArgMatches<'_>) -> Result<Shape, UsageFault> {
+    let nodes = size(alloc, matches, "N")?;
+    let arity = size(alloc, matches, "arity")?;
+    Ok(Shape::Tree { nodes, arity })
+}
+
+/// The shape of this name, with the numbers of its words.
+fn shape_in(alloc: Global, name: &str, matches: &ArgMatches<'_>) -> Result<Shape, UsageFault> {
+    match name {
+        "bipartite" => return bipartite_in(alloc, matches),
+        "tree" => return tree_in(alloc, matches),
+        "grid" | "torus" => return rows_in(alloc, name, matches),
+        "hypercube" => {
+            let dimension = size(alloc, matches, "D")?;
+            return Ok(Shape::Hypercube { dimension });
+        }
+        _ => {}
+    }
+    let nodes = size(alloc, matches, "N")?;
+    match name {
+        "path" => Ok(Shape::Path { nodes }),
+        "ring" => Ok(Shape::Ring { nodes }),
+        "star" => Ok(Shape::Star { nodes }),
+        _ => Ok(Shape::Complete { nodes }),
+    }
+}
+
+/// The shape that the words ask for, the command's name first. A number that is none, or above 4,294,967,295, is `Usage`
+/// with its name as the text; whether a network of that size is there, the shape says.
+pub fn shape_of(alloc: Global, words: &[String]) -> Result<Shape, UsageFault> {
+    let matches = matches_of(alloc, make_command(alloc)?, words)?;
+    match matches.subcommand() {
+        Some((name, inner)) => shape_in(alloc, name, inner),
+        None => Err(wrong_words(alloc, "SHAPE")),
+    }
+}
