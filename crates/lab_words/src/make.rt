@@ -137,9 +137,24 @@ pub fn make_command<'a>(alloc: Global) -> Result<Command<'a>, AllocError> {
     Ok(command)
 }
 
-/// A number of a shape; one that is none, or above 4,294,967,295, is wrong words.
+/// What is told of a number of a shape that is none.
+fn no_number(alloc: Global, matches: &ArgMatches<'_>, id: &str) -> UsageFault {
+    let found = matches.get_str(id).unwrap_or("");
+    let text = format!(in alloc;
+        "{id}: expected a whole number from 0 to 4294967295, found `{found}`"
+    );
+    match text {
+        Ok(text) => UsageFault::Usage { text },
+        Err(_) => UsageFault::Memory,
+    }
+}
+
+/// A number of a shape.
 fn size(alloc: Global, matches: &ArgMatches<'_>, id: &str) -> Result<u32, UsageFault> {
-    number_in(alloc, matches, id, 0, 4_294_967_295)
+    match number_in(alloc, matches, id, 0, 4_294_967_295) {
+        Ok(number) => Ok(number),
+        Err(_) => Err(no_number(alloc, matches, id)),
+    }
 }
 
 /// A grid, or a torus where that is its name.
@@ -192,8 +207,8 @@ fn shape_in(alloc: Global, name: &str, matches: &ArgMatches<'_>) -> Result<Shape
     }
 }
 
-/// The shape that the words ask for, the command's name first. A number that is none, or above 4,294,967,295, is `Usage`
-/// with its name as the text; whether a network of that size is there, the shape says.
+/// The shape that the words ask for, the command's name first. A number that is none, or above 4,294,967,295, is `Usage`;
+/// whether a network of that size is there, the shape says.
 pub fn shape_of(alloc: Global, words: &[String]) -> Result<Shape, UsageFault> {
     let matches = matches_of(alloc, make_command(alloc)?, words)?;
     match matches.subcommand() {

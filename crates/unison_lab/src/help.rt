@@ -17,6 +17,12 @@ pub(crate) fn help_text(alloc: Global) -> Result<String, AllocError> {
     for known in command(alloc)?.get_subcommands() {
         put_command(&mut out, known.get_name(), known.get_about().unwrap_or(""))?;
     }
+    out.push_str("\nNetworks:\n")?;
+    put_command(
+        &mut out,
+        "make",
+        "Make a network of a shape: path, ring, star, complete, bipartite, tree, hypercube, grid, torus",
+    )?;
     out.push_str("\nFor people at work:\n")?;
     put_command(
         &mut out,

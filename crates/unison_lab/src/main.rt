@@ -4,12 +4,15 @@
 mod ending;
 mod files;
 mod help;
+mod make;
+mod output;
 mod why;
 #[cfg(test)]
 mod word_tests;
 
 use crate::ending::{Ending, refused};
 use crate::help::help_text;
+use crate::make::make_network;
 use crate::why::why_command;
 use std::process::ExitCode;
 use std::{env, io};
@@ -41,6 +44,7 @@ fn run(rt: &HostRuntime) -> Result<u8, Ending> {
         None => return Err(Ending::Usage(help_text(rt.alloc())?)),
     };
     match command {
+        "make" => make_network(rt, &words[1..]),
         "why" => why_command(rt, &words[1..]),
         "help" | "--help" | "-h" => Err(Ending::Help(help_text(rt.alloc())?)),
         word => no_command(rt, word),

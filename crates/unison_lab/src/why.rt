@@ -2,9 +2,9 @@
 
 use crate::ending::Ending;
 use crate::files::{Text, text_at, text_where};
+use crate::output::write_out;
 use std::alloc::{AllocError, Global};
 use std::io;
-use std::io::{BufWriter, Write};
 use unison_jobs::ServeFault;
 use unison_why::{Finding, Named, Texts, why};
 use unison_words::{Request, UsageFault, command_as, job_by};
@@ -119,18 +119,6 @@ fn finding_of(alloc: Global, request: &Request, read: &Given) -> Result<Finding,
     why(alloc, &request.job, &texts)
 }
 
-/// Writes a text on standard output, whole.
-fn write_out(rt: &HostRuntime, text: &str) -> Result<(), Ending> {
-    let mut output = match BufWriter::new(rt.alloc(), io::writer(rt)) {
-        Ok(output) => output,
-        Err(error) => return Err(crate::ending::refused(&error, Ending::Output)),
-    };
-    if output.write_all(text.as_bytes()).is_err() || output.flush().is_err() {
-        return Err(Ending::Output);
-    }
-    Ok(())
-}
-
 /// Prints the line of a fault on standard error, as the command would.
 fn print_fault(rt: &HostRuntime, fault: &ServeFault) -> io::Result<()> {
     let (part, name) = fault.part_and_name();
@@ -150,7 +138,7 @@ fn finding_for(rt: &HostRuntime, words: &[String]) -> Result<Finding, Ending> {
 /// Tells why a command refuses its texts. The status with which that command would end.
 pub(crate) fn why_command(rt: &HostRuntime, words: &[String]) -> Result<u8, Ending> {
     let finding = finding_for(rt, words)?;
-    write_out(rt, finding.text.as_str())?;
+    write_out(rt, finding.text.as_bytes())?;
     match finding.fault {
         Some(fault) => {
             let _ = print_fault(rt, &fault);

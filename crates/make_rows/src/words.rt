@@ -1,0 +1,128 @@
+//! The words of `make`.
+
+use lab_words::shape_of;
+use net_shapes::Shape;
+use std::alloc::{AllocError, Global};
+use std::test::Fail;
+use unison_words::UsageFault;
+
+/// The words as owned texts.
+fn owned(alloc: Global, words: &[&str]) -> Result<Vec<String>, AllocError> {
+    let mut all = Vec::new(alloc);
+    for word in words {
+        all.push(String::from_str(alloc, word)?)?;
+    }
+    Ok(all)
+}
+
+/// Words and the shape that they ask for.
+const RIGHT: [(&[&str], Shape); 11] = [
+    (&["make", "path", "7"], Shape::Path { nodes: 7 }),
+    (&["make", "ring", "0020"], Shape::Ring { nodes: 20 }),
+    (&["make", "star", "5"], Shape::Star { nodes: 5 }),
+    (
+        &["make", "complete", "4294967295"],
+        Shape::Complete {
+            nodes: 4_294_967_295,
+        },
+    ),
+    (
+        &["make", "bipartite", "3", "4"],
+        Shape::Bipartite { left: 3, right: 4 },
+    ),
+    (
+        &["make", "tree", "15", "--arity", "2"],
+        Shape::Tree {
+            nodes: 15,
+            arity: 2,
+        },
+    ),
+    (
+        &["make", "tree", "--arity=3", "15"],
+        Shape::Tree {
+            nodes: 15,
+            arity: 3,
+        },
+    ),
+    (
+        &["make", "hypercube", "4"],
+        Shape::Hypercube { dimension: 4 },
+    ),
+    (
+        &["make", "grid", "8", "3"],
+        Shape::Grid {
+            width: 8,
+            height: 3,
+        },
+    ),
+    (
+        &["make", "torus", "8", "3"],
+        Shape::Torus {
+            width: 8,
+            height: 3,
+            diagonals: false,
+        },
+    ),
+    (
+        &["make", "torus", "--diagonals", "8", "3"],
+        Shape::Torus {
+            width: 8,
+            height: 3,
+            diagonals: true,
+        },
+    ),
+];
+
+/// The shape of words, where there is one.
+fn shape_in(alloc: Global, words: &[&str]) -> Result<Option<Shape>, AllocError> {
+    let words = owned(alloc, words)?;
+    Ok(shape_of(alloc, &words).ok())
+}
+
+#[test]
+fn right_words(rt: HostRuntime) -> Result<(), Fail> {
+    for (words, wanted) in &RIGHT {
+        let shape = shape_in(rt.alloc(), words)?;
+        assert_eq!(rt; shape, Some(*wanted));
+    }
+    Ok(())
+}
+
+/// Whether the words are wrong, and what is told of them ends so.
+fn is_told(alloc: Global, words: &[&str], wanted: &str) -> Result<bool, AllocError> {
+    let words = owned(alloc, words)?;
+    match shape_of(alloc, &words) {
+        Err(UsageFault::Usage { text }) => Ok(text.as_str().contains(wanted)),
+        _ => Ok(false),
+    }
+}
+
+/// Wrong words, and a part of what is told of them.
+const WRONG: [(&[&str], &str); 9] = [
+    (&["make"], "Usage: unison make"),
+    (&["make", "wheel", "5"], "wheel"),
+    (&["make", "ring"], "<N>"),
+    (
+        &["make", "ring", "x"],
+        "N: expected a whole number from 0 to 4294967295, found `x`",
+    ),
+    (
+        &["make", "ring", "4294967296"],
+        "N: expected a whole number from 0 to 4294967295, found `4294967296`",
+    ),
+    (&["make", "grid", "3"], "<H>"),
+    (
+        &["make", "grid", "3", "1.5"],
+        "H: expected a whole number from 0 to 4294967295, found `1.5`",
+    ),
+    (&["make", "tree", "5"], "--arity <K>"),
+    (&["make", "ring", "5", "--diagonals"], "--diagonals"),
+];
+
+#[test]
+fn wrong_words(rt: HostRuntime) -> Result<(), Fail> {
+    for (words, wanted) in &WRONG {
+        assert!(rt; is_told(rt.alloc(), words, wanted)?, "{wanted}");
+    }
+    Ok(())
+}
