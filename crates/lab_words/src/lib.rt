@@ -1,6 +1,8 @@
-//! The words of the commands that make networks.
+//! The words of the commands for networks.
 #![tactic(auto)]
 
 mod make;
+mod show;
 
 pub use make::{make_command, shape_of};
+pub use show::{show_command, shown_path};

@@ -1,6 +1,8 @@
-//! Tests of the networks that `make` prints, and of its words.
+//! Tests of the networks that `make` prints, of what `show` tells of them, and of their words.
 #![tactic(auto)]
 
+#[cfg(test)]
+mod facts;
 #[cfg(test)]
 mod shapes;
 #[cfg(test)]

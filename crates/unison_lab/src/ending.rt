@@ -1,8 +1,11 @@
 //! How the program ends where it does not do what it was asked for.
 
+use link_net::NetFault;
 use std::alloc::AllocError;
 use std::io;
 use std::io::ErrorKind;
+use unison_jobs::ServeFault;
+use unison_words::UsageFault;
 
 /// Why the program ends with a status other than that of a job, or after help.
 #[derive(Debug, Drop)]
@@ -11,6 +14,8 @@ pub(crate) enum Ending {
     Usage(String),
     /// A file could not be read, as the text says.
     File(String),
+    /// A network file is refused.
+    Network(NetFault),
     /// Standard output refused.
     Output,
     Memory,
@@ -22,6 +27,7 @@ impl Ending {
         match self {
             Ending::Help(_) => 0,
             Ending::Usage(_) => 2,
+            Ending::Network(fault) => ServeFault::Net(*fault).status(),
             Ending::File(_) | Ending::Output | Ending::Memory => 1,
         }
     }
@@ -30,6 +36,16 @@ impl Ending {
 impl From<AllocError> for Ending {
     fn from(_error: AllocError) -> Ending {
         Ending::Memory
+    }
+}
+
+impl From<UsageFault> for Ending {
+    fn from(fault: UsageFault) -> Ending {
+        match fault {
+            UsageFault::Help { text } => Ending::Help(text),
+            UsageFault::Usage { text } => Ending::Usage(text),
+            UsageFault::Memory => Ending::Memory,
+        }
     }
 }
 

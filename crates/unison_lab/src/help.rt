@@ -8,27 +8,60 @@ fn put_command(out: &mut String, name: &str, about: &str) -> Result<(), AllocErr
     write!(out, "  {name:<10}{about}\n")
 }
 
+/// A command and a line about it.
+type Known = (&'static str, &'static str);
+
+/// The commands of this program, in groups.
+const GROUPS: [(&str, &[Known]); 2] = [
+    (
+        "Networks",
+        &[
+            (
+                "make",
+                "Make a network of a shape: path, ring, star, complete, bipartite, tree, hypercube, grid, torus",
+            ),
+            (
+                "show",
+                "Show what one wants to know of a network before a run",
+            ),
+        ],
+    ),
+    (
+        "For people at work",
+        &[(
+            "why",
+            "Tell why a command refuses its texts: the place, what is wrong, what to do",
+        )],
+    ),
+];
+
+/// Adds a group of commands.
+fn put_group(out: &mut String, name: &str, commands: &[Known]) -> Result<(), AllocError> {
+    write!(out, "\n{name}:\n")?;
+    for (command, about) in commands {
+        put_command(out, command, about)?;
+    }
+    Ok(())
+}
+
+/// Adds the five commands.
+fn put_five(alloc: Global, out: &mut String) -> Result<(), AllocError> {
+    for known in command(alloc)?.get_subcommands() {
+        put_command(out, known.get_name(), known.get_about().unwrap_or(""))?;
+    }
+    Ok(())
+}
+
 /// The commands, in groups, a line each.
 pub(crate) fn help_text(alloc: Global) -> Result<String, AllocError> {
     let mut out = String::from_str(
         alloc,
         "Synchronous programs on networks whose nodes move at their own pace\n\nUsage: unison COMMAND WORDS..\n\nRounds and runs:\n",
     )?;
-    for known in command(alloc)?.get_subcommands() {
-        put_command(&mut out, known.get_name(), known.get_about().unwrap_or(""))?;
+    put_five(alloc, &mut out)?;
+    for (name, commands) in &GROUPS {
+        put_group(&mut out, name, commands)?;
     }
-    out.push_str("\nNetworks:\n")?;
-    put_command(
-        &mut out,
-        "make",
-        "Make a network of a shape: path, ring, star, complete, bipartite, tree, hypercube, grid, torus",
-    )?;
-    out.push_str("\nFor people at work:\n")?;
-    put_command(
-        &mut out,
-        "why",
-        "Tell why a command refuses its texts: the place, what is wrong, what to do",
-    )?;
     out.push_str(
         "\nThe words of a command: unison COMMAND --help\nAn example: unison lockstep examples/distance.rules examples/path.toml --rounds 2\n",
     )?;

@@ -6,6 +6,7 @@ mod files;
 mod help;
 mod make;
 mod output;
+mod show;
 mod why;
 #[cfg(test)]
 mod word_tests;
@@ -13,6 +14,7 @@ mod word_tests;
 use crate::ending::{Ending, refused};
 use crate::help::help_text;
 use crate::make::make_network;
+use crate::show::show_network;
 use crate::why::why_command;
 use std::process::ExitCode;
 use std::{env, io};
@@ -45,6 +47,7 @@ fn run(rt: &HostRuntime) -> Result<u8, Ending> {
     };
     match command {
         "make" => make_network(rt, &words[1..]),
+        "show" => show_network(rt, &words[1..]),
         "why" => why_command(rt, &words[1..]),
         "help" | "--help" | "-h" => Err(Ending::Help(help_text(rt.alloc())?)),
         word => no_command(rt, word),
@@ -57,6 +60,9 @@ fn print_ending(rt: &HostRuntime, ending: &Ending) -> io::Result<()> {
         Ending::Help(text) => print!(rt; "{text}"),
         Ending::Usage(text) => eprintln!(rt; "fault: usage\n{text}"),
         Ending::File(text) => eprintln!(rt; "fault: file\n{text}"),
+        Ending::Network(fault) => eprintln!(rt;
+            "fault: network {fault}\nunison why tells where: unison why lockstep PROGRAM NETWORK --rounds 0"
+        ),
         Ending::Output => eprintln!(rt; "fault: device Write"),
         Ending::Memory => eprintln!(rt; "fault: memory Memory"),
     }

@@ -5,7 +5,6 @@ use crate::output::write_out;
 use lab_words::shape_of;
 use net_shapes::{Shape, ShapeFault, made_text};
 use std::alloc::{AllocError, Global};
-use unison_words::UsageFault;
 
 /// How many nodes a shape has.
 fn size_text(shape: &Shape) -> &'static str {
@@ -33,19 +32,9 @@ fn no_network(alloc: Global, shape: &Shape, fault: ShapeFault) -> Result<Ending,
     Ok(Ending::Usage(String::from_str(alloc, text)?))
 }
 
-/// The shape that the words ask for.
-fn shape_for(alloc: Global, words: &[String]) -> Result<Shape, Ending> {
-    match shape_of(alloc, words) {
-        Ok(shape) => Ok(shape),
-        Err(UsageFault::Help { text }) => Err(Ending::Help(text)),
-        Err(UsageFault::Usage { text }) => Err(Ending::Usage(text)),
-        Err(UsageFault::Memory) => Err(Ending::Memory),
-    }
-}
-
 /// Prints the network file of a shape. The status with which the program ends.
 pub(crate) fn make_network(rt: &HostRuntime, words: &[String]) -> Result<u8, Ending> {
-    let shape = shape_for(rt.alloc(), words)?;
+    let shape = shape_of(rt.alloc(), words)?;
     match made_text(rt.alloc(), &shape) {
         Ok(text) => write_out(rt, &text)?,
         Err(fault) => return Err(no_network(rt.alloc(), &shape, fault)?),
