@@ -269,46 +269,52 @@ fn sizes_that_no_network_has(rt: HostRuntime) -> Result<(), Fail> {
     Ok(())
 }
 
-/// The largest of each kind are made.
-#[test]
-fn largest_shapes(rt: HostRuntime) -> Result<(), Fail> {
-    let torus = Shape::Torus {
+/// The largest torus with diagonals, which has as many nodes and links as a network can have.
+const LARGEST: Row = (
+    Shape::Torus {
         width: 256,
         height: 256,
         diagonals: true,
-    };
-    let row = (
-        torus,
-        65_536,
-        262_144,
-        &[(0, &[1, 255, 256, 257, 511, 65_280, 65_281, 65_535])],
-    );
-    if let Err(fault) = assert_row(&rt, rt.alloc(), &row) {
-        return Err(Fail::new(format_args!("{fault:?}")));
+    },
+    65_536,
+    262_144,
+    &[(0, &[1, 255, 256, 257, 511, 65_280, 65_281, 65_535])],
+);
+
+#[test]
+fn largest_torus(rt: HostRuntime) -> Result<(), Fail> {
+    match assert_row(&rt, rt.alloc(), &LARGEST) {
+        Ok(()) => Ok(()),
+        Err(fault) => Err(Fail::new(format_args!("{fault:?}"))),
     }
-    Ok(())
+}
+
+/// A grid of four nodes.
+const GRID: Row = (
+    Shape::Grid {
+        width: 2,
+        height: 2,
+    },
+    4,
+    4,
+    &[(0, &[1, 2]), (3, &[1, 2])],
+);
+
+/// Whether the call wanted memory.
+fn is_memory(fault: NoNetwork) -> bool {
+    matches!(
+        fault,
+        NoNetwork::Memory | NoNetwork::Shape(ShapeFault::Memory) | NoNetwork::Text(NetFault::Memory)
+    )
 }
 
 /// Prints `answer` where the text of a shape is the row's, and `memory` where a request for memory was refused; see
 /// `.ci/refuse_memory`. Anything else fails the test.
 #[test]
 fn shape_where_memory_is_refused(rt: HostRuntime) -> Result<(), Fail> {
-    let row = (
-        Shape::Grid {
-            width: 2,
-            height: 2,
-        },
-        4,
-        4,
-        &[(0, &[1, 2]), (3, &[1, 2])],
-    );
-    match assert_row(&rt, rt.alloc(), &row) {
+    match assert_row(&rt, rt.alloc(), &GRID) {
         Ok(()) => println!(rt; "answer")?,
-        Err(
-            NoNetwork::Memory
-            | NoNetwork::Shape(ShapeFault::Memory)
-            | NoNetwork::Text(NetFault::Memory),
-        ) => println!(rt; "memory")?,
+        Err(fault) if is_memory(fault) => println!(rt; "memory")?,
         Err(fault) => return Err(Fail::new(format_args!("{fault:?}"))),
     }
     Ok(())
