@@ -1,15 +1,14 @@
 -- Complete networks.
-use Rattle.std.proofs.Common.{◌≡◌, ℕ, ◌+◌, ◌-◌, ◌*◌, ◌/◌, ◌<◌, ◌≤◌, ◌||◌, nat_lt, true, List, ◌++◌, map, length, length-append, arith, zero, suc}
+use Rattle.std.proofs.Common.{◌≡◌, ℕ, ◌+◌, ◌-◌, ◌*◌, ◌<◌, ◌≤◌, ◌||◌, nat_lt, true, List, ◌++◌, map, length, length-append, arith, zero, suc}
 use Rattle.std.specs.List.{range_with_len}
 use Rattle.std.proofs.lemmas.Bool.Decides.{nat_tests}
 use Rattle.std.proofs.lemmas.List.{length-map}
 use Rattle.std.proofs.lemmas.List.FromFn.{length-range_with_len}
-use Rattle.link_net.specs.Limits.{most_links, most_neighbours}
+use Rattle.link_net.specs.Limits.{most_neighbours}
 use Rattle.net_shapes.specs.declared.shape.Shape.{Shape}
 use Rattle.net_shapes.specs.Shapes.{leads}
 use Rattle.net_shapes.specs.Ahead.{link_to, links_ahead, ahead}
 use Rattle.net_shapes.proofs.Ahead.{IsAhead, has}
-use Rattle.net_shapes.proofs.Few.{HasFew}
 use Rattle.net_shapes.proofs.Lists.{has-append}
 use Rattle.net_shapes.proofs.Rows.{has_row, once_row}
 use Rattle.net_shapes.proofs.Sound.{IsSound, Fits, sizes}
@@ -59,7 +58,6 @@ complete_sound n f =
     let (low, high) = sizes 1 n f.size in
     let total = links_from n 0 n (omega arith) in
     let formula = square n low in
-    let few = f.links in
     record {
       some = low;
       small = high;

@@ -1,5 +1,5 @@
 -- Hypercubes.
-use Rattle.std.proofs.Common.{◌≡◌, ℕ, ◌+◌, ◌-◌, ◌*◌, ◌/◌, ◌%◌, ◌^◌, ◌<◌, ◌≤◌, ◌==◌, Bool, true, false, ◌||◌, ◌&&◌, nat_le, nat_lt, List, [], ◌∷◌, ◌++◌, map, length, length-append, append_assoc, refl, ap, sym, ◌∙◌, inl, inr, arith, zero, suc, if◌then◌else◌}
+use Rattle.std.proofs.Common.{◌≡◌, ℕ, ◌+◌, ◌-◌, ◌*◌, ◌/◌, ◌%◌, ◌^◌, ◌<◌, ◌≤◌, ◌==◌, Bool, true, false, ◌||◌, ◌&&◌, nat_lt, List, [], ◌∷◌, ◌++◌, map, length, length-append, append_assoc, refl, ap, sym, ◌∙◌, inl, inr, arith, zero, suc, if◌then◌else◌}
 use Rattle.std.specs.List.{list_any, range_with_len}
 use Rattle.std.proofs.Math.Nat.{mul-le-mul_right, pow-le-pow_right, pow-suc}
 use Rattle.std.proofs.lemmas.Bool.{cases_Bool}
@@ -7,14 +7,11 @@ use Rattle.std.proofs.lemmas.Bool.Decides.{nat_tests}
 use Rattle.std.proofs.lemmas.List.{length-map}
 use Rattle.std.proofs.lemmas.List.FromFn.{length-range_with_len}
 use Rattle.std.proofs.lemmas.Nat.{div-mul-add, div-add-mod', mod_below, pow_pos, pow_below, pow-add}
-use Rattle.link_net.specs.Limits.{most_nodes, most_links, most_neighbours}
 use Rattle.link_net.specs.Neighbours.{numbers_below}
-use Rattle.net_text.specs.Listing.{Link}
 use Rattle.net_shapes.specs.declared.shape.Shape.{Shape}
-use Rattle.net_shapes.specs.Shapes.{digit, leads}
-use Rattle.net_shapes.specs.Ahead.{link_to, links_ahead, when, raised, ahead}
-use Rattle.net_shapes.proofs.Ahead.{IsAhead, has, has_twice, range_more, no_more}
-use Rattle.net_shapes.proofs.Few.{HasFew}
+use Rattle.net_shapes.specs.Shapes.{digit}
+use Rattle.net_shapes.specs.Ahead.{link_to, links_ahead, when, raised}
+use Rattle.net_shapes.proofs.Ahead.{has, has_twice, range_more}
 use Rattle.net_shapes.proofs.Lists.{has-append, has_when}
 use Rattle.net_shapes.proofs.Sound.{IsSound, Fits}
 
@@ -261,7 +258,6 @@ cube_sound d f =
     let some = pow_pos d in
     let high : 2 ^ d ≤ 2 ^ 16 = pow-le-pow_right (omega arith) small in
     let total = cube_links d 0 d (omega arith) in
-    let links = f.links in
     record {
       some = some;
       small = high;

@@ -33,7 +33,7 @@ sound (Shape.Hypercube d) f = cube_sound d f
 pub shape_listing : (s : Shape) → refusal_of s ≡ None → IsListing (record { nodes = node_count s; links = links_ahead (ahead s) (numbers_below (node_count s)) })
 shape_listing s h =
     let is = sound s (fits s h) in
-    is_listing (node_count s) (ahead s) (leads s) is.is_ahead is.has_few is.some is.small is.count
+    is_listing (node_count s) (ahead s) (leads s) is.is_ahead is.has_few is.some is.small (rw is.count (fits s h).links)
 
 pub shape_has : (s : Shape) → refusal_of s ≡ None → HasShape s (record { nodes = node_count s; links = links_ahead (ahead s) (numbers_below (node_count s)) })
 shape_has s h =
@@ -41,5 +41,6 @@ shape_has s h =
     record {
       nodes = refl;
       links = linked (node_count s) (ahead s) (leads s) is.is_ahead;
+      count = is.count;
       weights = all_between (λ l. l.2 ≡ 1) (ahead s) 0 (node_count s) (λ u w a b e. refl);
     }

@@ -2,6 +2,7 @@ mod Ahead
 mod Few
 mod Lists
 mod Rows
+mod Counts
 mod Sound
 mod Paths
 mod Rings

@@ -1,12 +1,13 @@
 -- Paths.
-use Rattle.std.proofs.Common.{◌≡◌, ℕ, ◌+◌, ◌-◌, ◌==◌, nat_lt, [], ◌∷◌, arith}
+use Rattle.std.proofs.Common.{ℕ, ◌+◌, ◌-◌, nat_lt, [], ◌∷◌, arith}
 use Rattle.std.proofs.lemmas.Bool.Decides.{nat_tests}
 use Rattle.net_shapes.specs.declared.shape.Shape.{Shape}
 use Rattle.net_shapes.specs.Shapes.{leads}
-use Rattle.net_shapes.specs.Ahead.{when, ahead}
+use Rattle.net_shapes.specs.Ahead.{ahead}
 use Rattle.net_shapes.proofs.Ahead.{IsAhead}
-use Rattle.net_shapes.proofs.Few.{HasFew, few_ahead}
-use Rattle.net_shapes.proofs.Lists.{has_when, once_when, short_when}
+use Rattle.net_shapes.proofs.Counts.{length_when, all_but_last}
+use Rattle.net_shapes.proofs.Few.{HasFew}
+use Rattle.net_shapes.proofs.Lists.{has_when, once_when}
 use Rattle.net_shapes.proofs.Sound.{IsSound, Fits, sizes}
 
 module _ (n : ℕ) where
@@ -32,5 +33,5 @@ module _ (n : ℕ) where
         small = high;
         is_ahead = path_ahead;
         has_few = path_few;
-        count = omega (arith, few_ahead (ahead (Shape.Path n)) 1 0 n (λ u. short_when (nat_lt (u + 1) n) (u + 1)));
+        count = all_but_last (ahead (Shape.Path n)) n 0 n (omega arith) (λ u. length_when (nat_lt (u + 1) n) (u + 1));
       }

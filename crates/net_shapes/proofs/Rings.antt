@@ -1,11 +1,12 @@
 -- Rings.
-use Rattle.std.proofs.Common.{◌≡◌, ℕ, ◌+◌, ◌-◌, ◌<◌, ◌≤◌, ◌==◌, Bool, true, false, ◌||◌, nat_lt, [], ◌∷◌, refl, arith, if◌then◌else◌}
+use Rattle.std.proofs.Common.{◌≡◌, ℕ, ◌<◌, ◌≤◌, ◌==◌, true, false, [], ◌∷◌, refl, arith}
 use Rattle.std.proofs.lemmas.Bool.Decides.{nat_tests}
 use Rattle.net_shapes.specs.declared.shape.Shape.{Shape}
 use Rattle.net_shapes.specs.Shapes.{next, leads}
 use Rattle.net_shapes.specs.Ahead.{prev, ahead}
-use Rattle.net_shapes.proofs.Ahead.{IsAhead, has}
-use Rattle.net_shapes.proofs.Few.{HasFew, few_ahead}
+use Rattle.net_shapes.proofs.Ahead.{IsAhead}
+use Rattle.net_shapes.proofs.Counts.{each_ahead}
+use Rattle.net_shapes.proofs.Few.{HasFew}
 use Rattle.net_shapes.proofs.Sound.{IsSound, Fits, sizes}
 
 module _ (n : ℕ) (some : 3 ≤ n) where
@@ -48,5 +49,5 @@ ring_sound n f =
       small = high;
       is_ahead = ring_ahead n low;
       has_few = ring_few n low;
-      count = omega (arith, few_ahead (ahead (Shape.Ring n)) 1 0 n (λ u. omega arith));
+      count = omega (arith, each_ahead (ahead (Shape.Ring n)) 1 0 n (λ u from. refl));
     }

@@ -1,18 +1,18 @@
 -- Trees.
-use Rattle.std.proofs.Common.{◌≡◌, ℕ, ◌+◌, ◌-◌, ◌*◌, ◌/◌, ◌%◌, ◌<◌, ◌≤◌, ◌==◌, ◌||◌, ◌&&◌, true, false, nat_le, nat_lt, List, ◌++◌, length, length-append, min, max, ap, inl, inr, arith, zero, suc}
+use Rattle.std.proofs.Common.{◌≡◌, ℕ, ◌+◌, ◌-◌, ◌*◌, ◌/◌, ◌<◌, ◌≤◌, ◌==◌, ◌||◌, ◌&&◌, true, false, nat_le, nat_lt, List, ◌++◌, length, length-append, min, ap, inl, inr, refl, arith, zero, suc}
 use Rattle.std.specs.List.{range_with_len}
-use Rattle.std.proofs.Math.Nat.{div-le_self, mul-le-mul_left}
+use Rattle.std.proofs.Math.Nat.{div-le_self}
 use Rattle.std.proofs.lemmas.Bool.{and_parts, cases_Bool}
 use Rattle.std.proofs.lemmas.Bool.Decides.{nat_tests}
 use Rattle.std.proofs.lemmas.Nat.{div-add-mod', mod_below}
 use Rattle.std.proofs.lemmas.List.FromFn.{length-range_with_len}
-use Rattle.link_net.specs.Limits.{most_nodes, most_neighbours}
+use Rattle.link_net.specs.Limits.{most_neighbours}
 use Rattle.net_shapes.specs.declared.shape.Shape.{Shape}
 use Rattle.net_shapes.specs.Shapes.{leads}
 use Rattle.net_shapes.specs.Sizes.{tree_neighbours, is_from}
 use Rattle.net_shapes.specs.Ahead.{when, ahead}
 use Rattle.net_shapes.proofs.Ahead.{IsAhead, has}
-use Rattle.net_shapes.proofs.Few.{HasFew, few_ahead}
+use Rattle.net_shapes.proofs.Counts.{one_above, all_but_first}
 use Rattle.net_shapes.proofs.Lists.{has-append, has_when, once_when, short_when}
 use Rattle.net_shapes.proofs.Rows.{has_row}
 use Rattle.net_shapes.proofs.Sound.{IsSound, Fits, sizes}
@@ -82,5 +82,5 @@ tree_sound n k f =
       small = high;
       is_ahead = tree_ahead n k some;
       has_few = record { near = family n k some; few = λ u below. family_few n k some u f.neighbours; holds = family_holds n k some };
-      count = omega (arith, few_ahead (ahead (Shape.Tree n k)) 1 0 n (λ u. short_when (nat_lt 0 u) ((u - 1) / k)));
+      count = all_but_first (ahead (Shape.Tree n k)) n low refl (λ u from. one_above u ((u - 1) / k) from);
     }
