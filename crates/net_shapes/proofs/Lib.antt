@@ -14,4 +14,5 @@ mod Completes
 mod Bipartites
 mod Trees
 mod Cubes
+mod Crowds
 mod EachShape

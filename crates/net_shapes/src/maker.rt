@@ -1,11 +1,11 @@
 //! The links of shapes.
-ghost use Rattle.std.specs.Prelude.{◌≡◌, ◌<◌, ◌≤◌, ◌+◌, ◌*◌, [], ◌∷◌, ◌++◌, map, true, false, None, OnOk, IfOk, IfErr};
+ghost use Rattle.std.specs.Prelude.{◌≡◌, ◌≢◌, ◌<◌, ◌≤◌, ◌+◌, ◌*◌, [], ◌∷◌, ◌++◌, map, true, false, None, OnOk, IfOk, IfErr};
 ghost use Rattle.std.specs.List.{range_with_len};
 ghost use Rattle.link_net.specs.Neighbours.{numbers_below};
 ghost use Rattle.link_net.specs.Limits.{most_nodes};
 ghost use Rattle.net_shapes.specs.declared.shape.Shape.{Shape};
 ghost use Rattle.net_shapes.specs.Ahead.{link_to, when, prev, place, diagonals, ahead, links_ahead};
-ghost use Rattle.net_shapes.specs.Shapes.{next, row, column, node_count, HasShape};
+ghost use Rattle.net_shapes.specs.Shapes.{next, row, column, node_count, HasShape, HasNone};
 ghost use Rattle.net_shapes.specs.Sizes.{has_size, refusal_of, refused_by};
 
 use crate::sizes::{link_count, node_count, power, refusal};
@@ -218,6 +218,7 @@ fn all_links(alloc: Global, shape: &Shape) -> Result<Vec<Link>, AllocError>
 pub fn links_of(alloc: Global, shape: &Shape) -> Result<LinkList, ShapeFault>
     ensures made { IfOk result (λ list. HasShape shape.now list) }
     ensures fits { IfOk result (λ _. refusal_of shape.now ≡ None) }
+    ensures too_many { IfErr result (λ fault. fault ≢ ShapeFault.Memory → fault ≢ ShapeFault.NodeCount → HasNone shape.now) }
     ensures refused { IfErr result (λ fault. refusal_of shape.now ≡ refused_by fault) }
 {
     if let Some(fault) = refusal(shape) {
