@@ -7,11 +7,12 @@ use Rattle.std.proofs.lemmas.List.FromFn.{length-range_with_len}
 use Rattle.link_net.specs.Limits.{most_nodes, most_neighbours}
 use Rattle.net_shapes.specs.declared.shape.Shape.{Shape}
 use Rattle.net_shapes.specs.Shapes.{leads}
+use Rattle.net_shapes.specs.Sizes.{has_size}
 use Rattle.net_shapes.specs.Ahead.{links_ahead, ahead}
 use Rattle.net_shapes.proofs.Ahead.{IsAhead, has}
 use Rattle.net_shapes.proofs.Counts.{one_more}
 use Rattle.net_shapes.proofs.Rows.{has_row, once_row}
-use Rattle.net_shapes.proofs.Sound.{IsSound, Fits}
+use Rattle.net_shapes.proofs.Sound.{IsSound}
 
 module _ (l r : ℕ) where
   bipartite_ahead : IsAhead (l + r) (ahead (Shape.Bipartite l r)) (leads (Shape.Bipartite l r))
@@ -58,9 +59,9 @@ module _ (l r : ℕ) where
                   rw none (omega arith)
             ]
 
-pub bipartite_sound : (l r : ℕ) → Fits (Shape.Bipartite l r) → IsSound (Shape.Bipartite l r)
+pub bipartite_sound : (l r : ℕ) → has_size (Shape.Bipartite l r) ≡ true → IsSound (Shape.Bipartite l r)
 bipartite_sound l r f =
-    let (sides, few) = and_parts (nat_le 1 l && nat_le 1 r) (nat_le (l + r) most_nodes) f.size in
+    let (sides, few) = and_parts (nat_le 1 l && nat_le 1 r) (nat_le (l + r) most_nodes) f in
     let (a, b) = and_parts (nat_le 1 l) (nat_le 1 r) sides in
     let some : 1 ≤ l = grind (arith, nat_tests) in
     let small : l + r ≤ most_nodes = grind (arith, nat_tests) in
@@ -70,6 +71,6 @@ bipartite_sound l r f =
       some = omega arith;
       small = small;
       is_ahead = bipartite_ahead l r;
-      has_few = record { near = opposite l r; few = λ u below. opposite_few l r u f.neighbours; holds = opposite_holds l r };
+      has_few = λ bound. record { near = opposite l r; few = λ u below. opposite_few l r u bound; holds = opposite_holds l r };
       count = total;
     }

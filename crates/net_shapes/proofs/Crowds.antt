@@ -1,5 +1,5 @@
 -- Shapes with too many links or neighbours: no links within the bounds have them.
-use Rattle.std.proofs.Common.{◌≡◌, ℕ, ◌+◌, ◌-◌, ◌*◌, ◌/◌, ◌<◌, ◌≤◌, ◌==◌, ◌≢◌, Bool, true, false, not, Some, None, ◌||◌, ◌&&◌, nat_le, nat_lt, List, [], ◌∷◌, length, min, max, Ok, Err, refl, sym, ap, ◌∙◌, inl, inr, arith, zero, suc, if◌then◌else◌}
+use Rattle.std.proofs.Common.{◌≡◌, ℕ, ◌+◌, ◌-◌, ◌*◌, ◌/◌, ◌<◌, ◌≤◌, ◌==◌, ◌≢◌, Bool, true, false, not, Some, None, ◌||◌, ◌&&◌, nat_le, nat_lt, List, length, min, Ok, Err, refl, sym, ap, ◌∙◌, inl, inr, arith, zero, suc, if◌then◌else◌}
 use Rattle.std.specs.List.{list_any, filter, range_with_len}
 use Rattle.std.proofs.lemmas.Bool.{and_parts, cases_Bool}
 use Rattle.std.proofs.lemmas.Bool.Decides.{nat_tests}
@@ -9,24 +9,30 @@ use Rattle.link_net.specs.declared.fault.NetFault.TheVariants.{SelfLink, LinkTwi
 use Rattle.link_net.specs.Limits.{most_links, most_neighbours}
 use Rattle.link_net.specs.Links.{is_self_link, has_link_twice, are_linked, linked_with}
 use Rattle.link_net.specs.Neighbours.{numbers_below}
-use Rattle.link_net.specs.Reading.{sound, is_crowded}
+use Rattle.link_net.specs.Reading.{is_crowded}
 use Rattle.net_text.specs.Listing.{Link, Listing, IsListing}
 use Rattle.net_shapes.specs.declared.shape.Shape.{Shape}
 use Rattle.net_shapes.specs.declared.fault.ShapeFault.{ShapeFault}
 use Rattle.net_shapes.specs.declared.fault.ShapeFault.TheVariants as fault
 use Rattle.net_shapes.specs.Shapes.{node_count, leads, shape_joins, HasShape, HasNone}
-use Rattle.net_shapes.specs.Sizes.{is_from, has_size, link_count, neighbour_count, tree_neighbours, refusal_of}
+use Rattle.net_shapes.specs.Ahead.{ahead, links_ahead}
+use Rattle.net_shapes.proofs.Ahead.{within, straight, once, linked}
+use Rattle.net_shapes.proofs.Pairs.{same_count}
+use Rattle.net_shapes.proofs.EachShape.{sound}
+use Rattle.net_shapes.specs.Sizes.{is_from, has_size, link_count, neighbour_count, refusal_of}
 
--- sound links are few, and leave no node crowded
-untold : (a b c d : Bool) (ls : List Link) → (if a then Err SelfLink else if b then Err LinkTwice else if c then Err TooManyLinks else if d then Err TooManyNeighbours else Ok ls) ≡ Ok ls → (c ≡ false) × (d ≡ false)
+-- what sound links pass
+untold : (a b c d : Bool) (ls : List Link) → (if a then Err SelfLink else if b then Err LinkTwice else if c then Err TooManyLinks else if d then Err TooManyNeighbours else Ok ls) ≡ Ok ls
+    → (a ≡ false) × (b ≡ false) × (c ≡ false) × (d ≡ false)
 untold true b c d ls h = cc
 untold false true c d ls h = cc
 untold false false true d ls h = cc
 untold false false false true ls h = cc
-untold false false false false ls h = (refl, refl)
+untold false false false false ls h = (refl, refl, refl, refl)
 
-few_links : (l : Listing) → IsListing l → (nat_lt most_links (length l.links) ≡ false) × (is_crowded l.nodes l.links ≡ false)
-few_links l is = untold (list_any is_self_link l.links) (has_link_twice l.links) (nat_lt most_links (length l.links)) (is_crowded l.nodes l.links) l.links is.is_sound
+passes_all : (l : Listing) → IsListing l
+    → (list_any is_self_link l.links ≡ false) × (has_link_twice l.links ≡ false) × (nat_lt most_links (length l.links) ≡ false) × (is_crowded l.nodes l.links ≡ false)
+passes_all l is = untold (list_any is_self_link l.links) (has_link_twice l.links) (nat_lt most_links (length l.links)) (is_crowded l.nodes l.links) l.links is.is_sound
 
 -- numbers in a row that all pass are kept
 row_kept : (p : ℕ → Bool) (a k i m : ℕ) → i ≤ a → a + k ≤ i + m → ((x : ℕ) → a ≤ x → x < a + k → p x ≡ true) → k ≤ length (filter p (range_with_len i m))
@@ -64,10 +70,14 @@ some_in p u i (suc m) low high h =
       clash false h k = cc
 
 module _ (s : Shape) (list : Listing) (is : IsListing list) (has : HasShape s list) where
-  not_many_links : most_links < link_count s → ⊥
-  not_many_links many =
-      let few = (few_links list is).0 in
-      let count = has.count in
+  not_many_links : has_size s ≡ true → most_links < link_count s → ⊥
+  not_many_links size many =
+      let made = sound s size in
+      let (straight_list, once_list, few, sparse) = passes_all list is in
+      let same = same_count (node_count s) list.links (links_ahead (ahead s) (numbers_below (node_count s))) (rw has.nodes at is.within) straight_list once_list
+      (within (node_count s) (ahead s) (leads s) made.is_ahead) (straight (node_count s) (ahead s) (leads s) made.is_ahead) (once (node_count s) (ahead s) (leads s) made.is_ahead)
+      (λ u w a b. has.links u w a b ∙ sym (linked (node_count s) (ahead s) (leads s) made.is_ahead u w a b)) in
+      let count = made.count in
       absurd (grind (arith, nat_tests))
 
   -- a node with many in a row that the shape joins to it
@@ -77,7 +87,7 @@ module _ (s : Shape) (list : Listing) (is : IsListing list) (has : HasShape s li
       let many_here : most_neighbours < length (linked_with list.nodes list.links u) = rw same many in
       let test : nat_lt most_neighbours (length (linked_with list.nodes list.links u)) ≡ true = grind (arith, nat_tests) in
       let crowded = some_in (λ v. nat_lt most_neighbours (length (linked_with list.nodes list.links v))) u 0 list.nodes (omega arith) (omega arith) test in
-      clash (is_crowded list.nodes list.links) crowded (few_links list is).1 where
+      clash (is_crowded list.nodes list.links) crowded (passes_all list is).3 where
         clash : (b : Bool) → b ≡ true → b ≡ false → ⊥
         clash true h k = cc
         clash false h k = cc
@@ -158,7 +168,7 @@ crowded_none (Shape.Hypercube d) size many list is has = let low : d ≤ 16 = gr
 pub none_has : (s : Shape) → has_size s ≡ true → (nat_lt most_links (link_count s) || nat_lt most_neighbours (neighbour_count s)) ≡ true → HasNone s
 none_has s size many list is has =
     elim (cases_Bool (nat_lt most_links (link_count s))) [
-      | inl links ↦ not_many_links s list is has (grind (arith, nat_tests))
+      | inl links ↦ not_many_links s list is has size (grind (arith, nat_tests))
       | inr few ↦ crowded_none s size (grind (arith, nat_tests)) list is has
     ]
 

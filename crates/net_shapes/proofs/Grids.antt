@@ -8,14 +8,14 @@ use Rattle.link_net.specs.Limits.{most_nodes}
 use Rattle.link_net.specs.Neighbours.{numbers_below}
 use Rattle.net_shapes.specs.declared.shape.Shape.{Shape}
 use Rattle.net_shapes.specs.Shapes.{row, column, leads}
-use Rattle.net_shapes.specs.Sizes.{grid_links}
+use Rattle.net_shapes.specs.Sizes.{has_size, grid_links}
 use Rattle.net_shapes.specs.Ahead.{when, place, links_ahead, ahead}
 use Rattle.net_shapes.proofs.Ahead.{IsAhead}
 use Rattle.net_shapes.proofs.Counts.{length_when, one_more, split_ahead}
 use Rattle.net_shapes.proofs.Few.{HasFew}
 use Rattle.net_shapes.proofs.Lists.{has-append, has_when, once_two}
 use Rattle.net_shapes.proofs.Places.{at_place, column_below, place_test, row_below, low_test}
-use Rattle.net_shapes.proofs.Sound.{IsSound, Fits}
+use Rattle.net_shapes.proofs.Sound.{IsSound}
 
 module _ (w h : ℕ) (wide : 1 ≤ w) where
   -- the node to the right
@@ -117,9 +117,9 @@ all_links w h wide =
 area : (w h : ℕ) → 1 ≤ w → 1 ≤ h → 1 ≤ w * h
 area w h a b = search arith
 
-pub grid_sound : (w h : ℕ) → Fits (Shape.Grid w h) → IsSound (Shape.Grid w h)
+pub grid_sound : (w h : ℕ) → has_size (Shape.Grid w h) ≡ true → IsSound (Shape.Grid w h)
 grid_sound w h f =
-    let (sides, few) = and_parts (nat_le 1 w && nat_le 1 h) (nat_le (w * h) most_nodes) f.size in
+    let (sides, few) = and_parts (nat_le 1 w && nat_le 1 h) (nat_le (w * h) most_nodes) f in
     let (a, b) = and_parts (nat_le 1 w) (nat_le 1 h) sides in
     let wide : 1 ≤ w = grind (arith, nat_tests) in
     let high : 1 ≤ h = grind (arith, nat_tests) in
@@ -128,6 +128,6 @@ grid_sound w h f =
       some = area w h wide high;
       small = small;
       is_ahead = grid_ahead w h wide;
-      has_few = grid_few w h wide;
+      has_few = λ bound. grid_few w h wide;
       count = all_links w h wide;
     }

@@ -14,5 +14,6 @@ mod Completes
 mod Bipartites
 mod Trees
 mod Cubes
+mod Pairs
 mod Crowds
 mod EachShape

@@ -1,10 +1,9 @@
 -- Shapes: which nodes they join.
-use Rattle.std.specs.Prelude.{◌≡◌, ℕ, ◌+◌, ◌-◌, ◌*◌, ◌/◌, ◌%◌, ◌^◌, ◌<◌, ◌==◌, Bool, length, ◌&&◌, ◌||◌, nat_le, nat_lt, if◌then◌else◌}
+use Rattle.std.specs.Prelude.{◌≡◌, ℕ, ◌+◌, ◌-◌, ◌*◌, ◌/◌, ◌%◌, ◌^◌, ◌<◌, ◌==◌, Bool, ◌&&◌, ◌||◌, nat_le, nat_lt, if◌then◌else◌}
 use Rattle.std.specs.List.{AllByRecursion, list_any}
 use Rattle.link_net.specs.Links.{are_linked}
 use Rattle.link_net.specs.Neighbours.{numbers_below}
 use Rattle.net_text.specs.Listing.{Listing, IsListing}
-use Rattle.net_shapes.specs.Sizes.{link_count}
 use Rattle.net_shapes.specs.declared.shape.Shape.{Shape}
 
 -- how many nodes a shape has; they are numbered from 0
@@ -62,11 +61,10 @@ leads (Shape.Hypercube d) u w = list_any (λ b. digit u b == 0 && u + 2 ^ b == w
 abbrev pub shape_joins : Shape → ℕ → ℕ → Bool
 shape_joins s u w = leads s u w || leads s w u
 
--- the list has the shape's nodes, a link between two of them exactly where the shape joins them, as many links as the shape, and weight 1 at each
+-- the list has the shape's nodes, a link between two of them exactly where the shape joins them, and weight 1 at each link
 pub record HasShape (s : Shape) (list : Listing) : Type 0 where
   pub nodes : list.nodes ≡ node_count s
   pub links : (u w : ℕ) → u < node_count s → w < node_count s → are_linked list.links u w ≡ shape_joins s u w
-  pub count : length list.links ≡ link_count s
   pub weights : AllByRecursion (λ l. l.2 ≡ 1) list.links
 
 -- no links within the bounds of a network have the shape
