@@ -1,18 +1,18 @@
 -- Complete networks.
-use Rattle.std.proofs.Common.{◌≡◌, ℕ, ◌+◌, ◌-◌, ◌*◌, ◌/◌, ◌<◌, ◌≤◌, ◌||◌, nat_lt, true, List, ◌++◌, map, length, length-append, arith, zero, suc}
+use Rattle.std.proofs.Common.{◌≡◌, ℕ, ◌+◌, ◌-◌, ◌*◌, ◌<◌, ◌≤◌, ◌||◌, nat_lt, true, List, ◌++◌, map, length, length-append, arith, zero, suc}
 use Rattle.std.specs.List.{range_with_len}
 use Rattle.std.proofs.lemmas.Bool.Decides.{nat_tests}
 use Rattle.std.proofs.lemmas.List.{length-map}
 use Rattle.std.proofs.lemmas.List.FromFn.{length-range_with_len}
-use Rattle.link_net.specs.Limits.{most_links, most_neighbours}
+use Rattle.link_net.specs.Limits.{most_neighbours}
 use Rattle.net_shapes.specs.declared.shape.Shape.{Shape}
 use Rattle.net_shapes.specs.Shapes.{leads}
+use Rattle.net_shapes.specs.Sizes.{has_size}
 use Rattle.net_shapes.specs.Ahead.{link_to, links_ahead, ahead}
 use Rattle.net_shapes.proofs.Ahead.{IsAhead, has}
-use Rattle.net_shapes.proofs.Few.{HasFew}
 use Rattle.net_shapes.proofs.Lists.{has-append}
 use Rattle.net_shapes.proofs.Rows.{has_row, once_row}
-use Rattle.net_shapes.proofs.Sound.{IsSound, Fits, sizes}
+use Rattle.net_shapes.proofs.Sound.{IsSound, sizes}
 
 module _ (n : ℕ) where
   complete_ahead : IsAhead n (ahead (Shape.Complete n)) (leads (Shape.Complete n))
@@ -54,16 +54,15 @@ square : (n : ℕ) → 1 ≤ n → n * (n - 1) + n ≡ n * n
 square zero some = omega arith
 square (suc n) some = let down : suc n - 1 ≡ n = omega arith in rw down (omega arith)
 
-pub complete_sound : (n : ℕ) → Fits (Shape.Complete n) → IsSound (Shape.Complete n)
+pub complete_sound : (n : ℕ) → has_size (Shape.Complete n) ≡ true → IsSound (Shape.Complete n)
 complete_sound n f =
-    let (low, high) = sizes 1 n f.size in
+    let (low, high) = sizes 1 n f in
     let total = links_from n 0 n (omega arith) in
     let formula = square n low in
-    let few = f.links in
     record {
       some = low;
       small = high;
       is_ahead = complete_ahead n;
-      has_few = record { near = others n; few = λ u below. others_few n u below f.neighbours; holds = others_hold n };
+      has_few = λ bound. record { near = others n; few = λ u below. others_few n u below bound; holds = others_hold n };
       count = omega arith;
     }

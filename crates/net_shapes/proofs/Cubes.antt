@@ -1,5 +1,5 @@
 -- Hypercubes.
-use Rattle.std.proofs.Common.{◌≡◌, ℕ, ◌+◌, ◌-◌, ◌*◌, ◌/◌, ◌%◌, ◌^◌, ◌<◌, ◌≤◌, ◌==◌, Bool, true, false, ◌||◌, ◌&&◌, nat_le, nat_lt, List, [], ◌∷◌, ◌++◌, map, length, length-append, append_assoc, refl, ap, sym, ◌∙◌, inl, inr, arith, zero, suc, if◌then◌else◌}
+use Rattle.std.proofs.Common.{◌≡◌, ℕ, ◌+◌, ◌-◌, ◌*◌, ◌/◌, ◌%◌, ◌^◌, ◌<◌, ◌≤◌, ◌==◌, Bool, true, false, ◌||◌, ◌&&◌, nat_lt, List, [], ◌∷◌, ◌++◌, map, length, length-append, append_assoc, refl, ap, sym, ◌∙◌, inl, inr, arith, zero, suc, if◌then◌else◌}
 use Rattle.std.specs.List.{list_any, range_with_len}
 use Rattle.std.proofs.Math.Nat.{mul-le-mul_right, pow-le-pow_right, pow-suc}
 use Rattle.std.proofs.lemmas.Bool.{cases_Bool}
@@ -7,16 +7,14 @@ use Rattle.std.proofs.lemmas.Bool.Decides.{nat_tests}
 use Rattle.std.proofs.lemmas.List.{length-map}
 use Rattle.std.proofs.lemmas.List.FromFn.{length-range_with_len}
 use Rattle.std.proofs.lemmas.Nat.{div-mul-add, div-add-mod', mod_below, pow_pos, pow_below, pow-add}
-use Rattle.link_net.specs.Limits.{most_nodes, most_links, most_neighbours}
 use Rattle.link_net.specs.Neighbours.{numbers_below}
-use Rattle.net_text.specs.Listing.{Link}
 use Rattle.net_shapes.specs.declared.shape.Shape.{Shape}
-use Rattle.net_shapes.specs.Shapes.{digit, leads}
-use Rattle.net_shapes.specs.Ahead.{link_to, links_ahead, when, raised, ahead}
-use Rattle.net_shapes.proofs.Ahead.{IsAhead, has, has_twice, range_more, no_more}
-use Rattle.net_shapes.proofs.Few.{HasFew}
+use Rattle.net_shapes.specs.Shapes.{digit}
+use Rattle.net_shapes.specs.Sizes.{has_size}
+use Rattle.net_shapes.specs.Ahead.{link_to, links_ahead, when, raised}
+use Rattle.net_shapes.proofs.Ahead.{has, has_twice, range_more}
 use Rattle.net_shapes.proofs.Lists.{has-append, has_when}
-use Rattle.net_shapes.proofs.Sound.{IsSound, Fits}
+use Rattle.net_shapes.proofs.Sound.{IsSound}
 
 -- the links of one more digit
 raised-append : (u : ℕ) (bs cs : List ℕ) → raised u (bs ++ cs) ≡ raised u bs ++ raised u cs
@@ -255,18 +253,17 @@ cube_links d i (suc k) le =
     let both = one_place i (range_with_len (i + 1) k) 0 (2 ^ d) in
     omega arith
 
-pub cube_sound : (d : ℕ) → Fits (Shape.Hypercube d) → IsSound (Shape.Hypercube d)
+pub cube_sound : (d : ℕ) → has_size (Shape.Hypercube d) ≡ true → IsSound (Shape.Hypercube d)
 cube_sound d f =
-    let small : d ≤ 16 = grind (arith, nat_tests, f.size) in
+    let small : d ≤ 16 = grind (arith, nat_tests, f) in
     let some = pow_pos d in
     let high : 2 ^ d ≤ 2 ^ 16 = pow-le-pow_right (omega arith) small in
     let total = cube_links d 0 d (omega arith) in
-    let links = f.links in
     record {
       some = some;
       small = high;
       is_ahead = record { member = cube_member d; once = λ u low. once_raised d u 0 d; one_way = λ u w a b led. cube_one_way d u w led };
-      has_few = record {
+      has_few = λ bound. record {
         near = λ u. around d u (numbers_below d);
         few = λ u low. omega (arith, around_few d u (numbers_below d), length-range_with_len 0 d);
         holds = λ u w a b joined. around_has d u w (numbers_below d) joined;

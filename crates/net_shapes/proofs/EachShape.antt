@@ -1,14 +1,14 @@
 -- Each shape that nothing refuses has its links, and they are sound.
-use Rattle.std.proofs.Common.{◌≡◌, None, refl}
+use Rattle.std.proofs.Common.{◌≡◌, None, refl, true, length}
 use Rattle.link_net.specs.Neighbours.{numbers_below}
 use Rattle.net_text.specs.Listing.{IsListing}
 use Rattle.net_shapes.specs.declared.shape.Shape.{Shape}
 use Rattle.net_shapes.specs.Shapes.{node_count, leads, HasShape}
-use Rattle.net_shapes.specs.Sizes.{refusal_of}
+use Rattle.net_shapes.specs.Sizes.{has_size, link_count, refusal_of}
 use Rattle.net_shapes.specs.Ahead.{ahead, links_ahead}
 use Rattle.net_shapes.proofs.Ahead.{linked, all_between}
 use Rattle.net_shapes.proofs.Few.{is_listing}
-use Rattle.net_shapes.proofs.Sound.{IsSound, Fits, fits}
+use Rattle.net_shapes.proofs.Sound.{IsSound, fits}
 use Rattle.net_shapes.proofs.Paths.{path_sound}
 use Rattle.net_shapes.proofs.Rings.{ring_sound}
 use Rattle.net_shapes.proofs.Stars.{star_sound}
@@ -19,7 +19,8 @@ use Rattle.net_shapes.proofs.Bipartites.{bipartite_sound}
 use Rattle.net_shapes.proofs.Trees.{tree_sound}
 use Rattle.net_shapes.proofs.Cubes.{cube_sound}
 
-sound : (s : Shape) → Fits s → IsSound s
+-- what holds of each shape of a size that it can have
+pub sound : (s : Shape) → has_size s ≡ true → IsSound s
 sound (Shape.Path n) f = path_sound n f
 sound (Shape.Ring n) f = ring_sound n f
 sound (Shape.Star n) f = star_sound n f
@@ -32,14 +33,17 @@ sound (Shape.Hypercube d) f = cube_sound d f
 
 pub shape_listing : (s : Shape) → refusal_of s ≡ None → IsListing (record { nodes = node_count s; links = links_ahead (ahead s) (numbers_below (node_count s)) })
 shape_listing s h =
-    let is = sound s (fits s h) in
-    is_listing (node_count s) (ahead s) (leads s) is.is_ahead is.has_few is.some is.small is.count
+    let is = sound s (fits s h).size in
+    is_listing (node_count s) (ahead s) (leads s) is.is_ahead (is.has_few (fits s h).neighbours) is.some is.small (rw is.count (fits s h).links)
 
 pub shape_has : (s : Shape) → refusal_of s ≡ None → HasShape s (record { nodes = node_count s; links = links_ahead (ahead s) (numbers_below (node_count s)) })
 shape_has s h =
-    let is = sound s (fits s h) in
+    let is = sound s (fits s h).size in
     record {
       nodes = refl;
       links = linked (node_count s) (ahead s) (leads s) is.is_ahead;
       weights = all_between (λ l. l.2 ≡ 1) (ahead s) 0 (node_count s) (λ u w a b e. refl);
     }
+
+pub shape_count : (s : Shape) → refusal_of s ≡ None → length (links_ahead (ahead s) (numbers_below (node_count s))) ≡ link_count s
+shape_count s h = (sound s (fits s h).size).count

@@ -1,16 +1,15 @@
 -- Links that leave each node with few neighbours, and are few.
-use Rattle.std.proofs.Common.{◌≡◌, ℕ, ◌+◌, ◌*◌, ◌<◌, ◌≤◌, ◌==◌, Bool, true, false, ◌||◌, ◌&&◌, nat_lt, List, [], ◌∷◌, map, length, length-append, Ok, refl, inl, inr, arith, zero, suc}
+use Rattle.std.proofs.Common.{◌≡◌, ℕ, ◌+◌, ◌<◌, ◌≤◌, ◌==◌, Bool, true, false, ◌||◌, nat_lt, List, [], ◌∷◌, length, refl, inl, inr, arith, zero, suc}
 use Rattle.std.specs.List.{list_any, filter, range_with_len}
 use Rattle.std.proofs.lemmas.Bool.{cases_Bool}
 use Rattle.std.proofs.lemmas.Bool.Decides.{nat_tests}
-use Rattle.std.proofs.lemmas.List.{length-map}
 use Rattle.link_net.specs.Limits.{most_nodes, most_links, most_neighbours}
 use Rattle.link_net.specs.Links.{are_linked, linked_with}
 use Rattle.link_net.specs.Neighbours.{numbers_below}
-use Rattle.link_net.specs.Reading.{sound, is_crowded}
-use Rattle.net_text.specs.Listing.{Link, IsListing}
-use Rattle.net_shapes.specs.Ahead.{link_to, links_ahead}
-use Rattle.net_shapes.proofs.Ahead.{has, between, between_none, between_more, IsAhead, within, straight, once, linked}
+use Rattle.link_net.specs.Reading.{is_crowded}
+use Rattle.net_text.specs.Listing.{IsListing}
+use Rattle.net_shapes.specs.Ahead.{links_ahead}
+use Rattle.net_shapes.proofs.Ahead.{has, IsAhead, within, straight, once, linked}
 
 -- a test that passes less keeps no more
 filter_le : (p q : ℕ → Bool) (a k : ℕ) → ((x : ℕ) → a ≤ x → x < a + k → p x ≡ true → q x ≡ true)
@@ -72,16 +71,6 @@ few_in (x ∷ near) a k = omega (arith, either_le (λ w. w == x) (λ w. has w ne
 none_of : (p : ℕ → Bool) (a k : ℕ) → ((u : ℕ) → a ≤ u → u < a + k → p u ≡ false) → list_any p (range_with_len a k) ≡ false
 none_of p a zero h = refl
 none_of p a (suc k) h = rw (h a (omega arith) (omega arith)) (none_of p (a + 1) k (λ u low high. h u (omega arith) (omega arith)))
-
--- how many links lead from k nodes, where few lead from each
-pub few_ahead : (next : ℕ → List ℕ) (most a k : ℕ) → ((u : ℕ) → length (next u) ≤ most) → length (links_ahead next (range_with_len a k)) ≤ k * most
-few_ahead next most a zero h = omega arith
-few_ahead next most a (suc k) h =
-    let here = h a in
-    let rest = few_ahead next most (a + 1) k h in
-    let both = length-append (map (link_to a) (next a)) (links_ahead next (range_with_len (a + 1) k)) in
-    let same = length-map (next a) (link_to a) in
-    omega arith
 
 -- who may be joined with a node, and how many these are
 pub record HasFew (n : ℕ) (leads : ℕ → ℕ → Bool) : Type 0 where

@@ -2,6 +2,7 @@ mod Ahead
 mod Few
 mod Lists
 mod Rows
+mod Counts
 mod Sound
 mod Paths
 mod Rings
@@ -13,4 +14,6 @@ mod Completes
 mod Bipartites
 mod Trees
 mod Cubes
+mod Pairs
+mod Crowds
 mod EachShape

@@ -25,9 +25,3 @@ once_two true true x y h = let other = h refl refl in grind (arith, nat_tests)
 once_two true false x y h = refl
 once_two false true x y h = refl
 once_two false false x y h = refl
-
-pub short_two : (a b : Bool) (x y : ℕ) → length (when a x ++ when b y) ≤ 2
-short_two true true x y = omega arith
-short_two true false x y = omega arith
-short_two false true x y = omega arith
-short_two false false x y = omega arith

@@ -1,13 +1,15 @@
 -- Paths.
-use Rattle.std.proofs.Common.{◌≡◌, ℕ, ◌+◌, ◌-◌, ◌==◌, nat_lt, [], ◌∷◌, arith}
+use Rattle.std.proofs.Common.{ℕ, ◌+◌, ◌-◌, nat_lt, [], ◌∷◌, arith, true, ◌≡◌}
 use Rattle.std.proofs.lemmas.Bool.Decides.{nat_tests}
 use Rattle.net_shapes.specs.declared.shape.Shape.{Shape}
 use Rattle.net_shapes.specs.Shapes.{leads}
-use Rattle.net_shapes.specs.Ahead.{when, ahead}
+use Rattle.net_shapes.specs.Sizes.{has_size}
+use Rattle.net_shapes.specs.Ahead.{ahead}
 use Rattle.net_shapes.proofs.Ahead.{IsAhead}
-use Rattle.net_shapes.proofs.Few.{HasFew, few_ahead}
-use Rattle.net_shapes.proofs.Lists.{has_when, once_when, short_when}
-use Rattle.net_shapes.proofs.Sound.{IsSound, Fits, sizes}
+use Rattle.net_shapes.proofs.Counts.{length_when, all_but_last}
+use Rattle.net_shapes.proofs.Few.{HasFew}
+use Rattle.net_shapes.proofs.Lists.{has_when, once_when}
+use Rattle.net_shapes.proofs.Sound.{IsSound, sizes}
 
 module _ (n : ℕ) where
   path_ahead : IsAhead n (ahead (Shape.Path n)) (leads (Shape.Path n))
@@ -24,13 +26,13 @@ module _ (n : ℕ) where
     holds = λ u w a b joined. grind (arith, nat_tests);
   }
 
-  pub path_sound : Fits (Shape.Path n) → IsSound (Shape.Path n)
+  pub path_sound : has_size (Shape.Path n) ≡ true → IsSound (Shape.Path n)
   path_sound f =
-      let (low, high) = sizes 1 n f.size in
+      let (low, high) = sizes 1 n f in
       record {
         some = low;
         small = high;
         is_ahead = path_ahead;
-        has_few = path_few;
-        count = omega (arith, few_ahead (ahead (Shape.Path n)) 1 0 n (λ u. short_when (nat_lt (u + 1) n) (u + 1)));
+        has_few = λ bound. path_few;
+        count = all_but_last (ahead (Shape.Path n)) n 0 n (omega arith) (λ u. length_when (nat_lt (u + 1) n) (u + 1));
       }

@@ -1,12 +1,14 @@
 -- Rings.
-use Rattle.std.proofs.Common.{◌≡◌, ℕ, ◌+◌, ◌-◌, ◌<◌, ◌≤◌, ◌==◌, Bool, true, false, ◌||◌, nat_lt, [], ◌∷◌, refl, arith, if◌then◌else◌}
+use Rattle.std.proofs.Common.{◌≡◌, ℕ, ◌<◌, ◌≤◌, ◌==◌, true, false, [], ◌∷◌, refl, arith}
 use Rattle.std.proofs.lemmas.Bool.Decides.{nat_tests}
 use Rattle.net_shapes.specs.declared.shape.Shape.{Shape}
 use Rattle.net_shapes.specs.Shapes.{next, leads}
+use Rattle.net_shapes.specs.Sizes.{has_size}
 use Rattle.net_shapes.specs.Ahead.{prev, ahead}
-use Rattle.net_shapes.proofs.Ahead.{IsAhead, has}
-use Rattle.net_shapes.proofs.Few.{HasFew, few_ahead}
-use Rattle.net_shapes.proofs.Sound.{IsSound, Fits, sizes}
+use Rattle.net_shapes.proofs.Ahead.{IsAhead}
+use Rattle.net_shapes.proofs.Counts.{each_ahead}
+use Rattle.net_shapes.proofs.Few.{HasFew}
+use Rattle.net_shapes.proofs.Sound.{IsSound, sizes}
 
 module _ (n : ℕ) (some : 3 ≤ n) where
   pub next_below : (i : ℕ) → i < n → next n i < n
@@ -40,13 +42,13 @@ module _ (n : ℕ) (some : 3 ≤ n) where
     holds = λ u w a b joined. let same = before_is u w a b in grind (arith, nat_tests);
   }
 
-pub ring_sound : (n : ℕ) → Fits (Shape.Ring n) → IsSound (Shape.Ring n)
+pub ring_sound : (n : ℕ) → has_size (Shape.Ring n) ≡ true → IsSound (Shape.Ring n)
 ring_sound n f =
-    let (low, high) = sizes 3 n f.size in
+    let (low, high) = sizes 3 n f in
     record {
       some = omega arith;
       small = high;
       is_ahead = ring_ahead n low;
-      has_few = ring_few n low;
-      count = omega (arith, few_ahead (ahead (Shape.Ring n)) 1 0 n (λ u. omega arith));
+      has_few = λ bound. ring_few n low;
+      count = omega (arith, each_ahead (ahead (Shape.Ring n)) 1 0 n (λ u from. refl));
     }

@@ -1,5 +1,5 @@
 -- Rows of numbers as lists of nodes.
-use Rattle.std.proofs.Common.{◌≡◌, ℕ, ◌+◌, false, List, [], ◌∷◌, refl, arith, zero, suc}
+use Rattle.std.proofs.Common.{◌≡◌, ℕ, ◌+◌, false, refl, arith, zero, suc}
 use Rattle.std.specs.List.{range_with_len}
 use Rattle.std.proofs.lemmas.Bool.Decides.{nat_tests}
 use Rattle.net_shapes.proofs.Ahead.{has, has_twice, between, between_none, between_more}

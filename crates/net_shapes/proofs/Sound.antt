@@ -17,8 +17,8 @@ pub record IsSound (s : Shape) : Type 0 where
   pub some : 1 ≤ node_count s
   pub small : node_count s ≤ most_nodes
   pub is_ahead : IsAhead (node_count s) (ahead s) (leads s)
-  pub has_few : HasFew (node_count s) (leads s)
-  pub count : length (links_ahead (ahead s) (numbers_below (node_count s))) ≤ most_links
+  pub has_few : neighbour_count s ≤ most_neighbours → HasFew (node_count s) (leads s)
+  pub count : length (links_ahead (ahead s) (numbers_below (node_count s))) ≡ link_count s
 
 -- what is known of a shape that nothing refuses
 pub record Fits (s : Shape) : Type 0 where

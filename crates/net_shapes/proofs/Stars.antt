@@ -1,17 +1,18 @@
 -- Stars.
-use Rattle.std.proofs.Common.{◌≡◌, ℕ, ◌+◌, ◌-◌, ◌<◌, ◌≤◌, ◌==◌, Bool, true, false, ◌||◌, ◌&&◌, nat_lt, List, [], ◌∷◌, length, arith, zero, suc}
+use Rattle.std.proofs.Common.{◌≡◌, ℕ, ◌-◌, ◌<◌, ◌≤◌, true, ◌||◌, nat_lt, List, [], ◌∷◌, length, refl, arith, zero, suc}
 use Rattle.std.specs.List.{range_with_len}
 use Rattle.std.proofs.lemmas.Bool.Decides.{nat_tests}
 use Rattle.std.proofs.lemmas.List.FromFn.{length-range_with_len}
 use Rattle.link_net.specs.Limits.{most_neighbours}
 use Rattle.net_shapes.specs.declared.shape.Shape.{Shape}
 use Rattle.net_shapes.specs.Shapes.{leads}
-use Rattle.net_shapes.specs.Ahead.{when, ahead}
+use Rattle.net_shapes.specs.Sizes.{has_size}
+use Rattle.net_shapes.specs.Ahead.{ahead}
 use Rattle.net_shapes.proofs.Ahead.{IsAhead, has}
-use Rattle.net_shapes.proofs.Few.{HasFew, few_ahead}
-use Rattle.net_shapes.proofs.Lists.{has_when, once_when, short_when}
+use Rattle.net_shapes.proofs.Counts.{one_above, all_but_first}
+use Rattle.net_shapes.proofs.Lists.{has_when, once_when}
 use Rattle.net_shapes.proofs.Rows.{has_row}
-use Rattle.net_shapes.proofs.Sound.{IsSound, Fits, sizes}
+use Rattle.net_shapes.proofs.Sound.{IsSound, sizes}
 
 -- the nodes that are linked with u
 star_near : ℕ → ℕ → List ℕ
@@ -36,13 +37,13 @@ module _ (n : ℕ) where
   near_holds zero w a b joined = rw (has_row w 1 (n - 1)) (grind (arith, nat_tests))
   near_holds (suc u) w a b joined = grind (arith, nat_tests)
 
-pub star_sound : (n : ℕ) → Fits (Shape.Star n) → IsSound (Shape.Star n)
+pub star_sound : (n : ℕ) → has_size (Shape.Star n) ≡ true → IsSound (Shape.Star n)
 star_sound n f =
-    let (low, high) = sizes 1 n f.size in
+    let (low, high) = sizes 1 n f in
     record {
       some = low;
       small = high;
       is_ahead = star_ahead n;
-      has_few = record { near = star_near n; few = λ u below. near_few n u f.neighbours; holds = near_holds n };
-      count = omega (arith, few_ahead (ahead (Shape.Star n)) 1 0 n (λ u. short_when (nat_lt 0 u) 0));
+      has_few = λ bound. record { near = star_near n; few = λ u below. near_few n u bound; holds = near_holds n };
+      count = all_but_first (ahead (Shape.Star n)) n low refl (λ u from. one_above u 0 from);
     }

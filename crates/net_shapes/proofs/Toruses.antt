@@ -1,16 +1,19 @@
 -- Toruses.
-use Rattle.std.proofs.Common.{◌≡◌, ℕ, ◌+◌, ◌*◌, ◌<◌, ◌≤◌, ◌==◌, Bool, true, false, ◌||◌, ◌&&◌, nat_le, nat_lt, List, [], ◌∷◌, length, refl, arith, if◌then◌else◌}
+use Rattle.std.proofs.Common.{◌≡◌, ℕ, ◌*◌, ◌<◌, ◌≤◌, ◌==◌, Bool, true, false, ◌||◌, ◌&&◌, nat_le, nat_lt, List, [], ◌∷◌, length, refl, arith, if◌then◌else◌}
 use Rattle.std.proofs.lemmas.Bool.{and_parts}
 use Rattle.std.proofs.lemmas.Bool.Decides.{nat_tests}
 use Rattle.link_net.specs.Limits.{most_nodes, most_neighbours}
+use Rattle.link_net.specs.Neighbours.{numbers_below}
 use Rattle.net_shapes.specs.declared.shape.Shape.{Shape}
 use Rattle.net_shapes.specs.Shapes.{next, row, column, leads}
-use Rattle.net_shapes.specs.Ahead.{prev, place, ahead}
-use Rattle.net_shapes.proofs.Ahead.{IsAhead, has, has_twice}
-use Rattle.net_shapes.proofs.Few.{HasFew, few_ahead}
+use Rattle.net_shapes.specs.Sizes.{has_size, torus_links}
+use Rattle.net_shapes.specs.Ahead.{prev, place, links_ahead, ahead}
+use Rattle.net_shapes.proofs.Ahead.{has, has_twice}
+use Rattle.net_shapes.proofs.Counts.{each_ahead}
+use Rattle.net_shapes.proofs.Few.{HasFew}
 use Rattle.net_shapes.proofs.Places.{column_below, place_test, place_other, row_below, low_test}
 use Rattle.net_shapes.proofs.Rings.{next_below, prev_below, next_other, next_one_way, before_is}
-use Rattle.net_shapes.proofs.Sound.{IsSound, Fits}
+use Rattle.net_shapes.proofs.Sound.{IsSound}
 
 -- The tests of a torus on plain numbers: nodes at x, y and at a, b; r comes after x and s after a, p after y and q after b.
 abbrev led : Bool → ℕ → ℕ → ℕ → ℕ → ℕ → ℕ → ℕ → Bool
@@ -148,16 +151,16 @@ module _ (w h : ℕ) (wide : 3 ≤ w) (high : 3 ≤ h) (d : Bool) where
         (near_if_led d (column w u) (row w u) (column w v) (row w v) (next w (column w u)) (next w (column w v)) (next h (row w u)) (next h (row w v)) joined);
   }
 
-short : (w h : ℕ) (d : Bool) (u : ℕ) → length (ahead (Shape.Torus w h d) u) ≤ 4
-short w h true u = omega arith
-short w h false u = omega arith
+all_links : (w h : ℕ) (d : Bool) → length (links_ahead (ahead (Shape.Torus w h d)) (numbers_below (w * h))) ≡ torus_links w h d
+all_links w h true = omega (arith, each_ahead (ahead (Shape.Torus w h true)) 4 0 (w * h) (λ u from. refl))
+all_links w h false = omega (arith, each_ahead (ahead (Shape.Torus w h false)) 2 0 (w * h) (λ u from. refl))
 
 area : (w h : ℕ) → 3 ≤ w → 3 ≤ h → 1 ≤ w * h
 area w h a b = search arith
 
-pub torus_sound : (w h : ℕ) (d : Bool) → Fits (Shape.Torus w h d) → IsSound (Shape.Torus w h d)
+pub torus_sound : (w h : ℕ) (d : Bool) → has_size (Shape.Torus w h d) ≡ true → IsSound (Shape.Torus w h d)
 torus_sound w h d f =
-    let (sides, few) = and_parts (nat_le 3 w && nat_le 3 h) (nat_le (w * h) most_nodes) f.size in
+    let (sides, few) = and_parts (nat_le 3 w && nat_le 3 h) (nat_le (w * h) most_nodes) f in
     let (a, b) = and_parts (nat_le 3 w) (nat_le 3 h) sides in
     let wide : 3 ≤ w = grind (arith, nat_tests) in
     let high : 3 ≤ h = grind (arith, nat_tests) in
@@ -166,6 +169,6 @@ torus_sound w h d f =
       some = area w h wide high;
       small = small;
       is_ahead = record { member = torus_member w h wide high d; once = torus_once w h wide high d; one_way = torus_one_way w h wide high d };
-      has_few = torus_few w h wide high d;
-      count = omega (arith, few_ahead (ahead (Shape.Torus w h d)) 4 0 (w * h) (short w h d));
+      has_few = λ bound. torus_few w h wide high d;
+      count = all_links w h d;
     }

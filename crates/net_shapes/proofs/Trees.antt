@@ -1,21 +1,21 @@
 -- Trees.
-use Rattle.std.proofs.Common.{◌≡◌, ℕ, ◌+◌, ◌-◌, ◌*◌, ◌/◌, ◌%◌, ◌<◌, ◌≤◌, ◌==◌, ◌||◌, ◌&&◌, true, false, nat_le, nat_lt, List, ◌++◌, length, length-append, min, max, ap, inl, inr, arith, zero, suc}
+use Rattle.std.proofs.Common.{◌≡◌, ℕ, ◌+◌, ◌-◌, ◌*◌, ◌/◌, ◌<◌, ◌≤◌, ◌==◌, ◌||◌, ◌&&◌, true, false, nat_le, nat_lt, List, ◌++◌, length, length-append, min, ap, inl, inr, refl, arith, zero, suc}
 use Rattle.std.specs.List.{range_with_len}
-use Rattle.std.proofs.Math.Nat.{div-le_self, mul-le-mul_left}
+use Rattle.std.proofs.Math.Nat.{div-le_self}
 use Rattle.std.proofs.lemmas.Bool.{and_parts, cases_Bool}
 use Rattle.std.proofs.lemmas.Bool.Decides.{nat_tests}
 use Rattle.std.proofs.lemmas.Nat.{div-add-mod', mod_below}
 use Rattle.std.proofs.lemmas.List.FromFn.{length-range_with_len}
-use Rattle.link_net.specs.Limits.{most_nodes, most_neighbours}
+use Rattle.link_net.specs.Limits.{most_neighbours}
 use Rattle.net_shapes.specs.declared.shape.Shape.{Shape}
 use Rattle.net_shapes.specs.Shapes.{leads}
-use Rattle.net_shapes.specs.Sizes.{tree_neighbours, is_from}
+use Rattle.net_shapes.specs.Sizes.{has_size, tree_neighbours, is_from}
 use Rattle.net_shapes.specs.Ahead.{when, ahead}
 use Rattle.net_shapes.proofs.Ahead.{IsAhead, has}
-use Rattle.net_shapes.proofs.Few.{HasFew, few_ahead}
+use Rattle.net_shapes.proofs.Counts.{one_above, all_but_first}
 use Rattle.net_shapes.proofs.Lists.{has-append, has_when, once_when, short_when}
 use Rattle.net_shapes.proofs.Rows.{has_row}
-use Rattle.net_shapes.proofs.Sound.{IsSound, Fits, sizes}
+use Rattle.net_shapes.proofs.Sound.{IsSound, sizes}
 
 module _ (n k : ℕ) (some : 1 ≤ k) where
   tree_ahead : IsAhead n (ahead (Shape.Tree n k)) (leads (Shape.Tree n k))
@@ -72,15 +72,15 @@ module _ (n k : ℕ) (some : 1 ≤ k) where
               | inr not_down ↦ grind (arith, nat_tests)
             ]
 
-pub tree_sound : (n k : ℕ) → Fits (Shape.Tree n k) → IsSound (Shape.Tree n k)
+pub tree_sound : (n k : ℕ) → has_size (Shape.Tree n k) ≡ true → IsSound (Shape.Tree n k)
 tree_sound n k f =
-    let (size, wide) = and_parts (is_from 1 n) (nat_le 1 k) f.size in
+    let (size, wide) = and_parts (is_from 1 n) (nat_le 1 k) f in
     let (low, high) = sizes 1 n size in
     let some : 1 ≤ k = grind (arith, nat_tests) in
     record {
       some = low;
       small = high;
       is_ahead = tree_ahead n k some;
-      has_few = record { near = family n k some; few = λ u below. family_few n k some u f.neighbours; holds = family_holds n k some };
-      count = omega (arith, few_ahead (ahead (Shape.Tree n k)) 1 0 n (λ u. short_when (nat_lt 0 u) ((u - 1) / k)));
+      has_few = λ bound. record { near = family n k some; few = λ u below. family_few n k some u bound; holds = family_holds n k some };
+      count = all_but_first (ahead (Shape.Tree n k)) n low refl (λ u from. one_above u ((u - 1) / k) from);
     }

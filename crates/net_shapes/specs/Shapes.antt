@@ -3,7 +3,7 @@ use Rattle.std.specs.Prelude.{◌≡◌, ℕ, ◌+◌, ◌-◌, ◌*◌, ◌/◌
 use Rattle.std.specs.List.{AllByRecursion, list_any}
 use Rattle.link_net.specs.Links.{are_linked}
 use Rattle.link_net.specs.Neighbours.{numbers_below}
-use Rattle.net_text.specs.Listing.{Listing}
+use Rattle.net_text.specs.Listing.{Listing, IsListing}
 use Rattle.net_shapes.specs.declared.shape.Shape.{Shape}
 
 -- how many nodes a shape has; they are numbered from 0
@@ -33,7 +33,7 @@ column w u = u % w
 abbrev pub digit : ℕ → ℕ → ℕ
 digit u b = (u / 2 ^ b) % 2
 
--- there is a link between u and w, which the shape has by the place of u
+-- the shape has a link from u to w: each of its links once, from one of its two ends
 abbrev pub leads : Shape → ℕ → ℕ → Bool
 -- each node to the next
 leads (Shape.Path n) u w = u + 1 == w
@@ -66,3 +66,7 @@ pub record HasShape (s : Shape) (list : Listing) : Type 0 where
   pub nodes : list.nodes ≡ node_count s
   pub links : (u w : ℕ) → u < node_count s → w < node_count s → are_linked list.links u w ≡ shape_joins s u w
   pub weights : AllByRecursion (λ l. l.2 ≡ 1) list.links
+
+-- no links within the bounds of a network have the shape
+abbrev pub HasNone : Shape → Type 0
+HasNone s = (list : Listing) → IsListing list → HasShape s list → ⊥

@@ -1,5 +1,5 @@
 -- Which shapes have a network.
-use Rattle.std.specs.Prelude.{◌≡◌, ℕ, ◌+◌, ◌-◌, ◌*◌, ◌/◌, ◌^◌, min, max, Bool, ◌&&◌, not, nat_lt, nat_le, Option, Some, None, if◌then◌else◌}
+use Rattle.std.specs.Prelude.{ℕ, ◌+◌, ◌-◌, ◌*◌, ◌/◌, ◌^◌, min, max, Bool, ◌&&◌, not, nat_lt, nat_le, Option, Some, None, if◌then◌else◌}
 use Rattle.link_net.specs.Limits.{most_nodes, most_links, most_neighbours}
 use Rattle.net_shapes.specs.declared.shape.Shape.{Shape}
 use Rattle.net_shapes.specs.declared.fault.ShapeFault.{ShapeFault}
@@ -9,7 +9,7 @@ use Rattle.net_shapes.specs.declared.fault.ShapeFault.TheVariants.{NodeCount, To
 abbrev pub is_from : ℕ → ℕ → Bool
 is_from least n = nat_le least n && nat_le n most_nodes
 
--- the nodes are no fewer than the shape needs, and no more than a network may have
+-- the nodes, the sides and the arity are no fewer than the shape needs, and the nodes no more than a network may have
 abbrev pub has_size : Shape → Bool
 has_size (Shape.Path n) = is_from 1 n
 has_size (Shape.Ring n) = is_from 3 n

@@ -8,7 +8,7 @@ use thiserror::Error;
 /// Why a shape has no network. Where several hold, the first in this order.
 #[derive(Clone, Copy, Debug, PartialEq, Eq, Error)]
 pub enum ShapeFault {
-    /// The shape has fewer nodes than it needs, or more than 65,536.
+    /// The shape is smaller than it needs to be, as a ring of two nodes, or has more than 65,536 nodes.
     #[error("NodeCount")]
     NodeCount,
     /// The shape has more than 262,144 links.

@@ -1,12 +1,12 @@
 //! The links of shapes.
-ghost use Rattle.std.specs.Prelude.{◌≡◌, ◌<◌, ◌≤◌, ◌+◌, ◌*◌, [], ◌∷◌, ◌++◌, map, true, false, None, OnOk, IfOk, IfErr};
+ghost use Rattle.std.specs.Prelude.{◌≡◌, ◌≢◌, ◌<◌, ◌≤◌, ◌+◌, ◌*◌, [], ◌∷◌, ◌++◌, length, map, true, false, None, OnOk, IfOk, IfErr};
 ghost use Rattle.std.specs.List.{range_with_len};
 ghost use Rattle.link_net.specs.Neighbours.{numbers_below};
 ghost use Rattle.link_net.specs.Limits.{most_nodes};
 ghost use Rattle.net_shapes.specs.declared.shape.Shape.{Shape};
 ghost use Rattle.net_shapes.specs.Ahead.{link_to, when, prev, place, diagonals, ahead, links_ahead};
-ghost use Rattle.net_shapes.specs.Shapes.{next, row, column, node_count, HasShape};
-ghost use Rattle.net_shapes.specs.Sizes.{has_size, refusal_of, refused_by};
+ghost use Rattle.net_shapes.specs.Shapes.{next, row, column, node_count, HasShape, HasNone};
+ghost use Rattle.net_shapes.specs.Sizes.{has_size, link_count, refusal_of, refused_by};
 
 use crate::sizes::{link_count, node_count, power, refusal};
 use crate::{Shape, ShapeFault};
@@ -217,7 +217,9 @@ fn all_links(alloc: Global, shape: &Shape) -> Result<Vec<Link>, AllocError>
 /// nothing refuses; before anything large is made the sizes are looked at.
 pub fn links_of(alloc: Global, shape: &Shape) -> Result<LinkList, ShapeFault>
     ensures made { IfOk result (λ list. HasShape shape.now list) }
+    ensures count { IfOk result (λ list. length list.links ≡ link_count shape.now) }
     ensures fits { IfOk result (λ _. refusal_of shape.now ≡ None) }
+    ensures too_many { IfErr result (λ fault. fault ≢ ShapeFault.Memory → fault ≢ ShapeFault.NodeCount → HasNone shape.now) }
     ensures refused { IfErr result (λ fault. refusal_of shape.now ≡ refused_by fault) }
 {
     if let Some(fault) = refusal(shape) {

@@ -1,3 +1,5 @@
 mod Members
 mod ReadBack
+mod LinkLines
+mod Texts
 mod Listings

@@ -1,5 +1,5 @@
 -- A table that is made key by key.
-use Rattle.std.proofs.Common.{◌≡◌, ℕ, List, [], ◌∷◌, ◌++◌, ◌≤◌, map, Ordering, Less, Equal, Greater, String, Global, string_bytes, nat_cmp, refl, ap, ◌∙◌, ◌+◌, ◌<◌, length, get_or, take, zero, suc, arith}
+use Rattle.std.proofs.Common.{◌≡◌, ℕ, List, [], ◌∷◌, map, Ordering, Less, Equal, Greater, String, Global, string_bytes, nat_cmp, refl, ap, ◌∙◌, ◌+◌, ◌<◌, length, get_or, take, zero, suc, arith}
 use Rattle.std.specs.Cmp.Lexicographic.{slice_cmp}
 use Rattle.std.specs.String.{string_cmp}
 use Rattle.std.specs.Ordering.{match_ordering, ordering_reverse}
@@ -13,9 +13,7 @@ use Rattle.toml.specs.declared.value.Value.{Value}
 use Rattle.toml.specs.Data.{array, member}
 use Rattle.toml.specs.View.{view, items_of, members_view}
 use Rattle.toml.proofs.Views.{Entry}
-use Rattle.net_text.specs.Listing.{Link}
-use Rattle.net_text.specs.Written.{AllWeights, put_member, pair_data, sets_members}
-use Rattle.link_net.specs.Limits.{most_weight}
+use Rattle.net_text.specs.Written.{put_member, pair_data, sets_members}
 
 match_members : (o : Ordering) (a b c : List Entry) → members_view (match_ordering o a b c) ≡ match_ordering o (members_view a) (members_view b) (members_view c)
 match_members Less a b c = refl
@@ -26,11 +24,6 @@ match_members Greater a b c = refl
 pub members-put : (k : String Global) (v : Value) (es : List Entry) → members_view (insert_entry string_cmp es k v) ≡ put_member (string_bytes k) (view v) (members_view es)
 members-put k v [] = refl
 members-put k v (e ∷ es) = match_members (string_cmp k e.0) _ _ _ ∙ rw (members-put k v es)
-
--- one more link that has been looked at
-pub weights-push : (ls : List Link) (l : Link) → AllWeights ls → l.2 ≤ most_weight → AllWeights (ls ++ l ∷ [])
-weights-push [] l all here = (here, tt)
-weights-push (k ∷ ls) l all here = (all.0, weights-push ls l all.1 here)
 
 name_at : (p : List ℕ → Type 0) (ss : List FieldSet) (i : ℕ) (d : FieldSet) → AllByRecursion p (map (λ s. s.name) ss) → i < length ss → p (get_or ss i d).name
 name_at p [] i d all low = absurd (omega arith)

@@ -7,7 +7,7 @@ use Rattle.std.proofs.lemmas.Bool.{cases_Bool}
 use Rattle.std.proofs.lemmas.Bool.Decides.{nat_tests}
 use Rattle.std.proofs.lemmas.List.{length-map}
 use Rattle.std.proofs.lemmas.List.Elements.{filter_agree}
-use Rattle.toml.specs.Data.{members_depth, items_depth}
+use Rattle.toml.specs.Data.{items_depth}
 use Rattle.toml.specs.View.{items_of}
 use Rattle.toml.specs.Parse.{parse_document}
 use Rattle.link_net.specs.declared.fault.NetFault.TheVariants.{SelfLink, LinkTwice, TooManyLinks, TooManyNeighbours}
@@ -18,7 +18,7 @@ use Rattle.link_net.specs.Links.{AllWithin, network_of, is_self_link, has_link_t
 use Rattle.link_net.specs.Document.{link_of, links_in, pairs_of, sets_of}
 use Rattle.link_net.specs.Reading.{reading_of, sound, is_crowded, number_in, all_placed, all_weighed, description_in, description_of}
 use Rattle.net_text.specs.Listing.{Link}
-use Rattle.net_text.specs.Written.{link_data, pair_data, sets_members, set_part, AllWeights, network_document}
+use Rattle.net_text.specs.Written.{link_data, pair_data, sets_members, AllWeights, network_document}
 
 -- a link as the document has it, and one with placed ends
 abbrev raw : Link → ℤ × ℤ × ℤ
@@ -90,7 +90,7 @@ sound_half n ls h =
     (fused (list_any is_self_link ls) (has_link_twice ls) (nat_lt most_links (length ls)) (is_crowded n ls) ls h)
 
 -- how deep the document is
-links_depth : (ls : List Link) → items_depth (items_of (map link_data ls)) ≤ 1
+pub links_depth : (ls : List Link) → items_depth (items_of (map link_data ls)) ≤ 1
 links_depth [] = omega arith
 links_depth (l ∷ ls) =
     elim (cases_Bool (l.2 == 1)) [
@@ -107,22 +107,11 @@ all_sets : (ss : List FieldSet) → sets_of (sets_members ss) ≡ Some ss
 all_sets [] = refl
 all_sets (s ∷ ss) = rw (all_pairs s.pairs, all_sets ss) refl
 
-pairs_depth : (ps : List (ℤ × ℤ)) → items_depth (items_of (map pair_data ps)) ≤ 1
+pub pairs_depth : (ps : List (ℤ × ℤ)) → items_depth (items_of (map pair_data ps)) ≤ 1
 pairs_depth [] = omega arith
 pairs_depth (p ∷ ps) = grind (arith, pairs_depth ps)
 
-sets_depth : (ss : List FieldSet) → members_depth (sets_members ss) ≤ 2
-sets_depth [] = omega arith
-sets_depth (s ∷ ss) = grind (arith, pairs_depth s.pairs, sets_depth ss)
-
-set_depth : (ss : List FieldSet) → members_depth (set_part ss) ≤ 3
-set_depth [] = omega arith
-set_depth (s ∷ ss) = grind (arith, sets_depth (s ∷ ss))
-
 module _ (n : ℕ) (ls : List Link) (phase : ℕ) (sets : List FieldSet) where
-  pub depth_of : members_depth (network_document n ls phase sets) ≤ 80
-  depth_of = grind (arith, links_depth ls, set_depth sets)
-
   module _ (some : 1 ≤ n) (small : n ≤ most_nodes) (within : AllWithin n ls) (is_sound : sound n ls ≡ Ok ls) (words : AllWeights ls) (low : phase ≤ 2) where
     described : description_of (record { nodes = pos n; links = map raw ls; phase = pos phase; sets = sets }) ≡ Ok (record { network = network_of n ls; phase = phase; sets = sets })
     described = rw (fits 1 most_nodes n some small, ends n ls some within, sound_half n ls is_sound, fits 0 2 phase (omega arith) low, weights ls words) refl

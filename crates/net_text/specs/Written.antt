@@ -1,5 +1,6 @@
 -- The document that a network is written as.
-use Rattle.std.specs.Prelude.{◌==◌, ◌≤◌, ℕ, ℤ, pos, List, [], ◌∷◌, map, codes, if◌then◌else◌}
+use Rattle.std.specs.Prelude.{◌==◌, ◌≤◌, ℕ, ℤ, pos, List, [], ◌∷◌, ◌++◌, map, codes, if◌then◌else◌}
+use Rattle.std.specs.Fmt.{decimal}
 use Rattle.std.specs.Ordering.{nat_cmp, match_ordering}
 use Rattle.std.specs.Cmp.Lexicographic.{slice_cmp}
 use Rattle.std.specs.List.{AllByRecursion}
@@ -40,9 +41,27 @@ abbrev pub set_part : List FieldSet → Members
 set_part [] = no_members
 set_part (s ∷ ss) = member (codes "set") (table (sets_members (s ∷ ss))) no_members
 
--- links, nodes, the phase and field sets as a document
+-- nodes, the phase and field sets as a document
+abbrev pub rest_document : ℕ → ℕ → List FieldSet → Members
+rest_document n phase sets = member (codes "nodes") (integer (pos n)) (member (codes "phase") (integer (pos phase)) (set_part sets))
+
+-- the same with the links before it
 abbrev pub network_document : ℕ → List Link → ℕ → List FieldSet → Members
-network_document n links phase sets =
-    member (codes "links") (array (items_of (map link_data links)))
-    (member (codes "nodes") (integer (pos n))
-    (member (codes "phase") (integer (pos phase)) (set_part sets)))
+network_document n links phase sets = member (codes "links") (array (items_of (map link_data links))) (rest_document n phase sets)
+
+-- the weight of a link as text, which is left out where it is 1
+abbrev pub weight_text : ℕ → List ℕ
+weight_text w = if w == 1 then [] else codes ", " ++ decimal w
+
+-- a link as the text of an array
+abbrev pub link_text : Link → List ℕ
+link_text l = codes "[" ++ (decimal l.0 ++ (codes ", " ++ (decimal l.1 ++ (weight_text l.2 ++ codes "]"))))
+
+-- the links, each with a line of its own
+abbrev pub link_lines : List Link → List ℕ
+link_lines [] = []
+link_lines (l ∷ ls) = (codes "\n    " ++ (link_text l ++ codes ",")) ++ link_lines ls
+
+-- the links as the first lines of a document
+abbrev pub links_text : List Link → List ℕ
+links_text ls = codes "links = [" ++ (link_lines ls ++ codes "\n]\n")

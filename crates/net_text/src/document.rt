@@ -1,41 +1,13 @@
-//! The document that a network is written as.
-ghost use Rattle.std.specs.Prelude.{◌≡◌, ◌≤◌, map, IfOk, OnOk};
-ghost use Rattle.link_net.specs.Limits.{most_weight};
+//! The document that a network is written as, but for its links.
+ghost use Rattle.std.specs.Prelude.{◌≡◌, map, IfOk, OnOk};
 ghost use Rattle.link_net.specs.Names.{AreRising};
 ghost use Rattle.toml.specs.Data.{array};
 ghost use Rattle.toml.specs.View.{view, table_view, items_of};
-ghost use Rattle.net_text.specs.Written.{link_data, pair_data, put_member, sets_members, AllWeights, network_document};
+ghost use Rattle.net_text.specs.Written.{pair_data, put_member, sets_members, rest_document};
 
-use link_net::{FieldSet, Link};
+use link_net::FieldSet;
 use std::alloc::{AllocError, Global};
 use toml::{Table, Value};
-
-/// A link as an array of its ends, and of its weight where that is not 1.
-fn link_value(alloc: Global, link: &Link) -> Result<Value, AllocError>
-    ensures data { IfOk result (λ v. view v ≡ link_data link.now) }
-    ensures weight { IfOk result (λ _. link.now.2 ≤ most_weight) }
-{
-    let mut items = Vec::with_capacity(alloc, 3)?;
-    items.push(Value::Integer(link.0 as i64))?;
-    items.push(Value::Integer(link.1 as i64))?;
-    if link.2 != 1 {
-        items.push(Value::Integer(link.2 as i64))?;
-    }
-    Ok(Value::Array(items))
-}
-
-/// The links as an array of arrays.
-fn links_value(alloc: Global, links: &[Link]) -> Result<Value, AllocError>
-    ensures data { IfOk result (λ v. view v ≡ array (items_of (map link_data links.now))) }
-    ensures weights { IfOk result (λ _. AllWeights links.now) }
-{
-    let mut items = Vec::with_capacity(alloc, links.len())?;
-    for link in links {
-        let value = link_value(alloc, link)?;
-        items.push(value)?;
-    }
-    Ok(Value::Array(items))
-}
 
 /// Puts a value under a key.
 fn put(alloc: Global, table: &mut Table, key: &str, value: Value) -> Result<(), AllocError>
@@ -81,20 +53,17 @@ fn sets_table(alloc: Global, sets: &[FieldSet]) -> Result<Table, AllocError>
     Ok(table)
 }
 
-/// The table of a network file; without field sets it has no `set`.
-pub(crate) fn network_table(
+/// The table of a network file but for its links; without field sets it has no `set`.
+pub(crate) fn rest_table(
     alloc: Global,
     nodes: u32,
-    links: &[Link],
     phase: u8,
     sets: &[FieldSet],
 ) -> Result<Table, AllocError>
     requires { AreRising sets.now }
-    ensures document { IfOk result (λ t. table_view t ≡ network_document nodes links.now phase sets.now) }
-    ensures weights { IfOk result (λ _. AllWeights links.now) }
+    ensures { IfOk result (λ t. table_view t ≡ rest_document nodes phase sets.now) }
 {
     let mut table = Table::new(alloc);
-    put(alloc, &mut table, "links", links_value(alloc, links)?)?;
     put(alloc, &mut table, "nodes", Value::Integer(nodes as i64))?;
     put(alloc, &mut table, "phase", Value::Integer(phase as i64))?;
     if !sets.is_empty() {

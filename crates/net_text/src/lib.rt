@@ -2,6 +2,7 @@
 #![tactic(auto)]
 
 mod document;
+mod link_lines;
 mod link_list;
 mod writer;
 

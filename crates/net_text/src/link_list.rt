@@ -1,9 +1,7 @@
 //! Links between numbered nodes, within the bounds of a network.
-ghost use Rattle.std.specs.Prelude.{◌≡◌, ◌≤◌};
+ghost use Rattle.std.specs.Prelude.{◌≡◌};
 ghost use Rattle.std.specs.List.{list_all};
-ghost use Rattle.link_net.specs.Limits.{most_nodes};
-ghost use Rattle.link_net.specs.Links.{AllWithin};
-ghost use Rattle.link_net.specs.Reading.{IsAnswer, sound};
+ghost use Rattle.link_net.specs.Reading.{IsAnswer};
 ghost use Rattle.net_text.specs.Listing.{is_within, listing_of, IsListing};
 
 use link_net::{Link, NetFault, link_network};
