@@ -25,7 +25,8 @@ pub use fault::NetFault;
 pub use field_set::{FieldSet, Name, Pairs};
 pub use net_file::NetFile;
 pub use network::Network;
-pub use tables::{Link, link_network};
+pub use numbers::MOST_NODES;
+pub use tables::{Link, MOST_LINKS, link_network};
 use std::alloc::Global;
 use toml::Table;
 

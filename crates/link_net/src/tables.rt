@@ -13,7 +13,7 @@ use crate::{NetFault, Network};
 use std::alloc::{AllocError, Global};
 
 /// The most links of a network.
-pub(crate) const MOST_LINKS: usize = 262_144;
+pub const MOST_LINKS: usize = 262_144;
 
 /// The most neighbours of a node.
 pub(crate) const MOST_NEIGHBOURS: usize = 4096;
