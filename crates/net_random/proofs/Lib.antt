@@ -1,0 +1,4 @@
+mod Places
+mod Sized
+mod Counting
+mod Growing
