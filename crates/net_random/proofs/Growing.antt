@@ -9,8 +9,8 @@ use Rattle.std.proofs.lemmas.List.Sums.{sum_by-append, sum_by-cons}
 use Rattle.link_net.specs.Links.{AllWithin, is_self_link, has_link_twice, joins, are_linked, linked_with}
 use Rattle.net_text.specs.Listing.{Link}
 use Rattle.net_random.specs.declared.lot.Lot.{Lot}
-use Rattle.net_random.specs.Lots.{AreSimpleLinks, AreLinkedBack, HasLot}
-use Rattle.net_random.specs.Growth.{grown_count, IsGrown, link_to, has, has_twice, IsChoice}
+use Rattle.net_random.specs.Lots.{grown_count, AreSimpleLinks, AreLinkedBack, HasLot}
+use Rattle.net_random.specs.Growth.{IsGrown, link_to, has, has_twice, IsChoice}
 use Rattle.net_random.proofs.Counting.{filter_same, count_in}
 
 all-append : (P : Link → Type 0) (xs ys : List Link) → AllByRecursion P xs → AllByRecursion P ys → AllByRecursion P (xs ++ ys)
@@ -154,3 +154,6 @@ tree_count (suc n) some =
 
 pub tree_has : (n : ℕ) (links : List Link) → 1 ≤ n → IsGrown 1 n links → HasLot (Lot.Tree n) links
 tree_has n links some grown = record { count = grown.count ∙ tree_count n some; simple = grown.simple; back = grown.back }
+
+pub preferential_has : (n each : ℕ) (links : List Link) → IsGrown each n links → HasLot (Lot.Preferential n each) links
+preferential_has n each links grown = record { count = grown.count; simple = grown.simple; back = grown.back }

@@ -2,3 +2,4 @@ mod Places
 mod Sized
 mod Counting
 mod Growing
+mod Choices

@@ -1,13 +1,8 @@
 -- Internal: links that are drawn node by node. No public clause cites it.
-use Rattle.std.specs.Prelude.{◌≡◌, ◌<◌, ◌==◌, min, ℕ, Bool, false, ◌||◌, List, [], ◌∷◌, length}
-use Rattle.std.specs.List.{list_any, sum_by, AllByRecursion}
-use Rattle.link_net.specs.Neighbours.{numbers_below}
+use Rattle.std.specs.Prelude.{◌≡◌, ◌<◌, ◌==◌, ℕ, Bool, false, ◌||◌, List, [], ◌∷◌, ◌++◌, length, if◌then◌else◌}
+use Rattle.std.specs.List.{list_any, AllByRecursion}
 use Rattle.net_text.specs.Listing.{Link}
-use Rattle.net_random.specs.Lots.{AreSimpleLinks, AreLinkedBack}
-
--- how many links n nodes have where each is linked with so many before it
-abbrev pub grown_count : ℕ → ℕ → ℕ
-grown_count each n = sum_by (λ u. min each u) (numbers_below n)
+use Rattle.net_random.specs.Lots.{grown_count, AreSimpleLinks, AreLinkedBack}
 
 -- the links that n nodes have so far
 pub record IsGrown (each n : ℕ) (links : List Link) : Type 0 where
@@ -32,3 +27,7 @@ has_twice (x ∷ xs) = has x xs || has_twice xs
 pub record IsChoice (u : ℕ) (xs : List ℕ) : Type 0 where
   pub below : AllByRecursion (λ x. x < u) xs
   pub once : has_twice xs ≡ false
+
+-- the numbers with one more, where it does not stand among them yet
+abbrev pub with_choice : ℕ → List ℕ → List ℕ
+with_choice x xs = if has x xs then xs else xs ++ x ∷ []

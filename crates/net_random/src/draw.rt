@@ -3,7 +3,7 @@ ghost use Rattle.std.specs.Prelude.{◌≡◌, None, IfOk, IfErr};
 ghost use Rattle.net_random.specs.Lots.{node_count, HasLot};
 ghost use Rattle.net_random.specs.Sizes.{refusal_of, IsFaultOf};
 
-use crate::growth::tree_links;
+use crate::growth::{preferential_links, tree_links};
 use crate::listed::listed;
 use crate::pairs::random_links;
 use crate::sizes::{node_count, refusal};
@@ -22,6 +22,7 @@ fn drawn_links(alloc: Global, lot: &Lot, rng: &mut Pcg64) -> Result<Vec<Link>, A
     match *lot {
         Lot::Random { nodes, links } => random_links(alloc, rng, nodes, links),
         Lot::Tree { nodes } => tree_links(alloc, rng, nodes),
+        Lot::Preferential { nodes, each } => preferential_links(alloc, rng, nodes, each),
     }
 }
 

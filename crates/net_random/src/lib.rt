@@ -1,6 +1,7 @@
 //! Networks that are drawn by lot. The same seed gives the same network on every machine.
 #![tactic(auto)]
 
+mod choice;
 mod draw;
 mod fault;
 mod growth;

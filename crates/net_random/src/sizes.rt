@@ -1,7 +1,7 @@
 //! How large lots are.
 ghost use Rattle.std.specs.Prelude.{◌≡◌, ◌≤◌};
 ghost use Rattle.link_net.specs.Limits.{most_nodes};
-ghost use Rattle.net_random.specs.Lots.{node_count, pair_count, link_count};
+ghost use Rattle.net_random.specs.Lots.{node_count, pair_count, grown_count, link_count};
 ghost use Rattle.net_random.specs.Sizes.{refusal_of};
 
 use crate::{Lot, LotFault};
@@ -23,7 +23,20 @@ pub(crate) fn node_count(lot: &Lot) -> u32
     match *lot {
         Lot::Random { nodes, .. } => nodes,
         Lot::Tree { nodes } => nodes,
+        Lot::Preferential { nodes, .. } => nodes,
     }
+}
+
+/// How many links there are where each node is linked with so many before it, or with all of them where they are fewer.
+pub(crate) fn grown_count(nodes: u32, each: u32) -> u64
+    requires { nodes ≤ most_nodes }
+    ensures { result ≡ grown_count each nodes }
+{
+    let mut links = 0;
+    for node in 0..nodes {
+        links += each.min(node) as u64;
+    }
+    links
 }
 
 /// How many links the lot has.
@@ -35,6 +48,7 @@ fn link_count(lot: &Lot) -> u64
     match *lot {
         Lot::Random { links, .. } => links as u64,
         Lot::Tree { nodes } => nodes as u64 - 1,
+        Lot::Preferential { nodes, each } => grown_count(nodes, each),
     }
 }
 
