@@ -26,8 +26,8 @@ pub use field_set::{FieldSet, Name, Pairs};
 pub use net_file::NetFile;
 pub use network::Network;
 pub use numbers::MOST_NODES;
-pub use tables::{Link, MOST_LINKS, link_network};
 use std::alloc::Global;
+pub use tables::{Link, MOST_LINKS, link_network};
 use toml::Table;
 
 /// Reads a network file: the description that its bytes are, or the first fault in the order of [`NetFault`],
