@@ -25,8 +25,9 @@ pub use fault::NetFault;
 pub use field_set::{FieldSet, Name, Pairs};
 pub use net_file::NetFile;
 pub use network::Network;
-pub use tables::{Link, link_network};
+pub use numbers::MOST_NODES;
 use std::alloc::Global;
+pub use tables::{Link, MOST_LINKS, MOST_NEIGHBOURS, link_network};
 use toml::Table;
 
 /// Reads a network file: the description that its bytes are, or the first fault in the order of [`NetFault`],

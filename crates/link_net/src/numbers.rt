@@ -13,7 +13,7 @@ use crate::{NetFault, NetFile};
 use std::alloc::Global;
 
 /// The most nodes of a network.
-pub(crate) const MOST_NODES: u32 = 65_536;
+pub const MOST_NODES: u32 = 65_536;
 
 /// The last of the three phases.
 pub(crate) const LAST_PHASE: u32 = 2;

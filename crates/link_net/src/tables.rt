@@ -13,10 +13,10 @@ use crate::{NetFault, Network};
 use std::alloc::{AllocError, Global};
 
 /// The most links of a network.
-pub(crate) const MOST_LINKS: usize = 262_144;
+pub const MOST_LINKS: usize = 262_144;
 
 /// The most neighbours of a node.
-pub(crate) const MOST_NEIGHBOURS: usize = 4096;
+pub const MOST_NEIGHBOURS: usize = 4096;
 
 /// A link: its two ends and its weight.
 pub type Link = (u32, u32, u32);

@@ -5,15 +5,7 @@ ghost use Rattle.net_shapes.specs.Shapes.{node_count};
 ghost use Rattle.net_shapes.specs.Sizes.{is_from, has_size, grid_links, torus_links, tree_neighbours, link_count, neighbour_count, refusal_of};
 
 use crate::{Shape, ShapeFault};
-
-/// The most nodes of a network.
-const MOST_NODES: u64 = 65_536;
-
-/// The most links of a network.
-const MOST_LINKS: u64 = 262_144;
-
-/// The most neighbours of a node.
-const MOST_NEIGHBOURS: u64 = 4096;
+use link_net::{MOST_LINKS, MOST_NEIGHBOURS, MOST_NODES};
 
 /// The most dimensions of a hypercube that has no more nodes than a network may have.
 const MOST_DIMENSIONS: u32 = 16;
@@ -32,7 +24,7 @@ pub(crate) fn power(exponent: u32) -> u32
 fn is_from(least: u64, nodes: u64) -> bool
     ensures { result ≡ is_from least nodes }
 {
-    nodes >= least && nodes <= MOST_NODES
+    nodes >= least && nodes <= MOST_NODES as u64
 }
 
 /// Whether the number of nodes is one that the shape can have.
@@ -44,14 +36,14 @@ fn has_size(shape: &Shape) -> bool
         Shape::Ring { nodes } => is_from(3, nodes as u64),
         Shape::Star { nodes } => is_from(1, nodes as u64),
         Shape::Grid { width, height } => {
-            width >= 1 && height >= 1 && width as u64 * height as u64 <= MOST_NODES
+            width >= 1 && height >= 1 && width as u64 * height as u64 <= MOST_NODES as u64
         }
         Shape::Torus { width, height, .. } => {
-            width >= 3 && height >= 3 && width as u64 * height as u64 <= MOST_NODES
+            width >= 3 && height >= 3 && width as u64 * height as u64 <= MOST_NODES as u64
         }
         Shape::Complete { nodes } => is_from(1, nodes as u64),
         Shape::Bipartite { left, right } => {
-            left >= 1 && right >= 1 && left as u64 + right as u64 <= MOST_NODES
+            left >= 1 && right >= 1 && left as u64 + right as u64 <= MOST_NODES as u64
         }
         Shape::Tree { nodes, arity } => is_from(1, nodes as u64) && arity >= 1,
         Shape::Hypercube { dimension } => dimension <= MOST_DIMENSIONS,
@@ -142,10 +134,10 @@ pub(crate) fn refusal(shape: &Shape) -> Option<ShapeFault>
     if !has_size(shape) {
         return Some(ShapeFault::NodeCount);
     }
-    if link_count(shape) > MOST_LINKS {
+    if link_count(shape) > MOST_LINKS as u64 {
         return Some(ShapeFault::TooManyLinks);
     }
-    if neighbour_count(shape) > MOST_NEIGHBOURS {
+    if neighbour_count(shape) > MOST_NEIGHBOURS as u64 {
         return Some(ShapeFault::TooManyNeighbours);
     }
     None

@@ -4,12 +4,9 @@ ghost use Rattle.std.specs.List.{list_all};
 ghost use Rattle.link_net.specs.Reading.{IsAnswer};
 ghost use Rattle.net_text.specs.Listing.{is_within, listing_of, IsListing};
 
-use link_net::{Link, NetFault, link_network};
+use link_net::{Link, MOST_NODES, NetFault, link_network};
 use std::alloc::Global;
 use std::marker::Model;
-
-/// The most nodes of a network.
-const MOST_NODES: u32 = 65_536;
 
 /// Links between so many nodes that a network may have: 1 to 65,536 nodes, no link of a node with itself, no two links
 /// between the same two nodes, at most 262,144 links and at most 4,096 neighbours of a node.

@@ -1,0 +1,5 @@
+mod Places
+mod Sized
+mod Counting
+mod Growing
+mod Choices

@@ -1,0 +1,4 @@
+pub mod Lots
+pub mod Sizes
+pub mod Pairs
+pub mod Growth

@@ -1,0 +1,50 @@
+-- Lots: what is drawn.
+use Rattle.std.specs.Prelude.{◌≡◌, ◌<◌, ◌-◌, ◌*◌, ◌/◌, min, ℕ, ⊤, false, List, length}
+use Rattle.std.specs.List.{list_any, sum_by, AllByRecursion}
+use Rattle.link_net.specs.Links.{AllWithin, is_self_link, has_link_twice, linked_with}
+use Rattle.link_net.specs.Neighbours.{numbers_below}
+use Rattle.net_text.specs.Listing.{Link}
+use Rattle.net_random.specs.declared.lot.Lot.{Lot}
+
+-- how many nodes a lot has; they are numbered from 0
+abbrev pub node_count : Lot → ℕ
+node_count (Lot.Random n k) = n
+node_count (Lot.Tree n) = n
+node_count (Lot.Preferential n e) = n
+
+-- how many pairs of different nodes there are among n
+abbrev pub pair_count : ℕ → ℕ
+pair_count n = n * (n - 1) / 2
+
+-- how many links n nodes have where each is linked with so many before it, or with all of them where they are fewer
+abbrev pub grown_count : ℕ → ℕ → ℕ
+grown_count each n = sum_by (λ u. min each u) (numbers_below n)
+
+-- how many links a lot has
+abbrev pub link_count : Lot → ℕ
+link_count (Lot.Random n k) = k
+link_count (Lot.Tree n) = n - 1
+link_count (Lot.Preferential n e) = grown_count e n
+
+-- each link has weight 1 and joins two different nodes below n, and no two links join the same nodes
+pub record AreSimpleLinks (n : ℕ) (links : List Link) : Type 0 where
+  pub weights : AllByRecursion (λ l. l.2 ≡ 1) links
+  pub within : AllWithin n links
+  pub apart : list_any is_self_link links ≡ false
+  pub once : has_link_twice links ≡ false
+
+-- each node below n is linked with so many of the nodes before it, or with all of them where they are fewer
+abbrev pub AreLinkedBack : ℕ → ℕ → List Link → Type 0
+AreLinkedBack each n links = (u : ℕ) → u < n → length (linked_with u links u) ≡ min each u
+
+-- how many nodes before it each node is linked with, where the lot says this
+abbrev pub HasBack : Lot → List Link → Type 0
+HasBack (Lot.Random n k) links = ⊤
+HasBack (Lot.Tree n) links = AreLinkedBack 1 n links
+HasBack (Lot.Preferential n e) links = AreLinkedBack e n links
+
+-- the links may be drawn by the lot
+pub record HasLot (lot : Lot) (links : List Link) : Type 0 where
+  pub count : length links ≡ link_count lot
+  pub simple : AreSimpleLinks (node_count lot) links
+  pub back : HasBack lot links

@@ -1,0 +1,14 @@
+//! Ways to draw a network by lot.
+
+/// A way to draw a network by lot, with its size.
+#[derive(Clone, Copy, Debug, PartialEq, Eq)]
+pub enum Lot {
+    /// So many different links among all pairs of nodes. All sets of so many links are alike.
+    Random { nodes: u32, links: u32 },
+    /// A random recursive tree: each node but node 0 is linked with one of the nodes before it, all of which are alike.
+    Tree { nodes: u32 },
+    /// Preferential attachment, as Barabási and Albert described it in 1999: nodes come one after another, and each is
+    /// linked with so many different ones before it, or with all of them while they are fewer, each drawn in proportion to
+    /// the links that it has.
+    Preferential { nodes: u32, each: u32 },
+}
