@@ -4,5 +4,5 @@
 mod make;
 mod show;
 
-pub use make::{make_command, shape_of};
+pub use make::{Making, make_command, making_of};
 pub use show::{show_command, shown_path};

@@ -1,14 +1,22 @@
-//! The words of `make`: a shape and its numbers.
+//! The words of `make`: a shape and its numbers, or a lot, its numbers and a seed.
 
 use clap::{Arg, ArgAction, ArgMatches, Command};
+use net_random::Lot;
 use net_shapes::Shape;
 use std::alloc::{AllocError, Global};
 use unison_words::{UsageFault, matches_of, number_in, wrong_words};
 
-/// What a number of a shape is called, and what it is.
+/// What network is asked for.
+#[derive(Clone, Copy, Debug, PartialEq, Eq)]
+pub enum Making {
+    Shape(Shape),
+    Lot { lot: Lot, seed: u64 },
+}
+
+/// What a number is called, and what it is.
 type NumberWords = (&'static str, &'static str);
 
-/// The name of a shape, what it is, and its numbers.
+/// The name of a shape or a lot, what it is, and its numbers.
 type ShapeWords = (&'static str, &'static str, &'static [NumberWords]);
 
 /// The words of each shape.
@@ -69,9 +77,28 @@ const SHAPES: [ShapeWords; 9] = [
     ),
 ];
 
+/// The words of each lot. Each has a seed, too.
+const LOTS: [ShapeWords; 3] = [
+    (
+        "random",
+        "M links, all sets of so many links alike",
+        &[("N", "The number of nodes")],
+    ),
+    (
+        "random-tree",
+        "Each node but node 0 is linked with one before it",
+        &[("N", "The number of nodes")],
+    ),
+    (
+        "preferential",
+        "Each node is linked with K before it, rather with those that have many links",
+        &[("N", "The number of nodes")],
+    ),
+];
+
 /// What stands behind the help of `make`.
 const EXAMPLE: &str =
-    "Prints a network file; its nodes are numbered from 0, row by row in a grid.\nAn example: unison make torus 16 16 --diagonals > torus.toml\n";
+    "Prints a network file; its nodes are numbered from 0, row by row in a grid.\nAn example: unison make torus 16 16 --diagonals > torus.toml\nAnother one: unison make random 100 --links 300 --seed 7 > random.toml\n";
 
 /// A number, which has to be there.
 fn number_argument<'a>(alloc: Global, words: &NumberWords) -> Arg<'a> {
@@ -83,14 +110,49 @@ fn number_argument<'a>(alloc: Global, words: &NumberWords) -> Arg<'a> {
         .action(ArgAction::Set)
 }
 
-/// `--arity K`, which has to be there.
-fn arity_option<'a>(alloc: Global) -> Arg<'a> {
-    Arg::new(alloc, "arity")
-        .long("arity")
+/// An option with a number, which has to be there.
+fn number_option<'a>(alloc: Global, id: &'a str, name: &'a str, help: &'a str) -> Arg<'a> {
+    Arg::new(alloc, id)
+        .long(id)
         .required(true)
-        .value_name("K")
-        .help("The number of children of a node, as far as there are nodes")
+        .value_name(name)
+        .help(help)
         .action(ArgAction::Set)
+}
+
+/// `--arity K`.
+fn arity_option<'a>(alloc: Global) -> Arg<'a> {
+    number_option(
+        alloc,
+        "arity",
+        "K",
+        "The number of children of a node, as far as there are nodes",
+    )
+}
+
+/// `--links M`.
+fn links_option<'a>(alloc: Global) -> Arg<'a> {
+    number_option(alloc, "links", "M", "The number of links, 262144 at most")
+}
+
+/// `--links-each K`.
+fn links_each_option<'a>(alloc: Global) -> Arg<'a> {
+    number_option(
+        alloc,
+        "links-each",
+        "K",
+        "The number of nodes before it with which a node is linked",
+    )
+}
+
+/// `--seed S`.
+fn seed_option<'a>(alloc: Global) -> Arg<'a> {
+    number_option(
+        alloc,
+        "seed",
+        "S",
+        "The same seed gives the same network on every machine",
+    )
 }
 
 /// `--diagonals`.
@@ -110,6 +172,8 @@ fn with_options<'a>(
     match name {
         "tree" => command.arg(arity_option(alloc)),
         "torus" => command.arg(diagonals_flag(alloc)),
+        "random" => command.arg(links_option(alloc)),
+        "preferential" => command.arg(links_each_option(alloc)),
         _ => Ok(command),
     }
 }
@@ -124,17 +188,26 @@ fn shape_command<'a>(alloc: Global, words: &ShapeWords) -> Result<Command<'a>, A
     with_options(alloc, name, command)
 }
 
-/// `make` with a subcommand for each shape.
+/// The command with a subcommand for each lot.
+fn with_lots<'a>(alloc: Global, make: Command<'a>) -> Result<Command<'a>, AllocError> {
+    let mut make = make;
+    for words in &LOTS {
+        make = make.subcommand(shape_command(alloc, words)?.arg(seed_option(alloc))?)?;
+    }
+    Ok(make)
+}
+
+/// `make` with a subcommand for each shape and each lot.
 pub fn make_command<'a>(alloc: Global) -> Result<Command<'a>, AllocError> {
     let mut command = Command::new(alloc, "make")
         .bin_name("unison make")?
-        .about("Make a network of a shape")
+        .about("Make a network of a shape, or by lot")
         .subcommand_required(true)
         .after_help(EXAMPLE);
     for words in &SHAPES {
         command = command.subcommand(shape_command(alloc, words)?)?;
     }
-    Ok(command)
+    with_lots(alloc, command)
 }
 
 /// What is told of a number of a shape that is none.
@@ -207,12 +280,39 @@ fn shape_in(alloc: Global, name: &str, matches: &ArgMatches<'_>) -> Result<Shape
     }
 }
 
-/// The shape that the words ask for, the command's name first. A number that is none, or above 4,294,967,295, is `Usage`;
-/// whether a network of that size is there, the shape says.
-pub fn shape_of(alloc: Global, words: &[String]) -> Result<Shape, UsageFault> {
+/// The lot of this name, with the numbers of its words.
+fn lot_in(alloc: Global, name: &str, matches: &ArgMatches<'_>) -> Result<Lot, UsageFault> {
+    let nodes = size(alloc, matches, "N")?;
+    match name {
+        "random" => {
+            let links = size(alloc, matches, "links")?;
+            Ok(Lot::Random { nodes, links })
+        }
+        "preferential" => {
+            let each = size(alloc, matches, "links-each")?;
+            Ok(Lot::Preferential { nodes, each })
+        }
+        _ => Ok(Lot::Tree { nodes }),
+    }
+}
+
+/// The network of this name, with the numbers of its words.
+fn making_in(alloc: Global, name: &str, matches: &ArgMatches<'_>) -> Result<Making, UsageFault> {
+    if let "random" | "random-tree" | "preferential" = name {
+        let lot = lot_in(alloc, name, matches)?;
+        let seed = size(alloc, matches, "seed")? as u64;
+        return Ok(Making::Lot { lot, seed });
+    }
+    let shape = shape_in(alloc, name, matches)?;
+    Ok(Making::Shape(shape))
+}
+
+/// The network that the words ask for, the command's name first. A number that is none, or above 4,294,967,295, is
+/// `Usage`; whether a network of that size is there, its making says.
+pub fn making_of(alloc: Global, words: &[String]) -> Result<Making, UsageFault> {
     let matches = matches_of(alloc, make_command(alloc)?, words)?;
     match matches.subcommand() {
-        Some((name, inner)) => shape_in(alloc, name, inner),
+        Some((name, inner)) => making_in(alloc, name, inner),
         None => Err(wrong_words(alloc, "SHAPE")),
     }
 }

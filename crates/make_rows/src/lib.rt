@@ -4,6 +4,8 @@
 #[cfg(test)]
 mod facts;
 #[cfg(test)]
+mod lots;
+#[cfg(test)]
 mod shapes;
 #[cfg(test)]
 mod words;

@@ -1,6 +1,7 @@
 //! The words of `make`.
 
-use lab_words::shape_of;
+use lab_words::{Making, making_of};
+use net_random::Lot;
 use net_shapes::Shape;
 use std::alloc::{AllocError, Global};
 use std::test::Fail;
@@ -73,17 +74,65 @@ const RIGHT: [(&[&str], Shape); 11] = [
     ),
 ];
 
-/// The shape of words, where there is one.
-fn shape_in(alloc: Global, words: &[&str]) -> Result<Option<Shape>, AllocError> {
+/// What network the words ask for, where they do.
+fn making_in(alloc: Global, words: &[&str]) -> Result<Option<Making>, AllocError> {
     let words = owned(alloc, words)?;
-    Ok(shape_of(alloc, &words).ok())
+    Ok(making_of(alloc, &words).ok())
 }
 
 #[test]
 fn right_words(rt: HostRuntime) -> Result<(), Fail> {
     for (words, wanted) in &RIGHT {
-        let shape = shape_in(rt.alloc(), words)?;
-        assert_eq!(rt; shape, Some(*wanted));
+        let making = making_in(rt.alloc(), words)?;
+        assert_eq!(rt; making, Some(Making::Shape(*wanted)));
+    }
+    Ok(())
+}
+
+/// Words, and the lot and the seed that they ask for.
+const LOTS: [(&[&str], Lot, u64); 4] = [
+    (
+        &["make", "random", "9", "--links", "12", "--seed", "7"],
+        Lot::Random {
+            nodes: 9,
+            links: 12,
+        },
+        7,
+    ),
+    (
+        &["make", "random", "--seed=4294967295", "--links=0", "1"],
+        Lot::Random { nodes: 1, links: 0 },
+        4_294_967_295,
+    ),
+    (
+        &["make", "random-tree", "20", "--seed", "0"],
+        Lot::Tree { nodes: 20 },
+        0,
+    ),
+    (
+        &[
+            "make",
+            "preferential",
+            "50",
+            "--links-each",
+            "3",
+            "--seed",
+            "5",
+        ],
+        Lot::Preferential { nodes: 50, each: 3 },
+        5,
+    ),
+];
+
+#[test]
+fn words_of_lots(rt: HostRuntime) -> Result<(), Fail> {
+    for (words, lot, seed) in &LOTS {
+        let making = making_in(rt.alloc(), words)?;
+        let wanted = Making::Lot {
+            lot: *lot,
+            seed: *seed,
+        };
+        assert_eq!(rt; making, Some(wanted));
     }
     Ok(())
 }
@@ -91,14 +140,14 @@ fn right_words(rt: HostRuntime) -> Result<(), Fail> {
 /// Whether the words are wrong, and what is told of them ends so.
 fn is_told(alloc: Global, words: &[&str], wanted: &str) -> Result<bool, AllocError> {
     let words = owned(alloc, words)?;
-    match shape_of(alloc, &words) {
+    match making_of(alloc, &words) {
         Err(UsageFault::Usage { text }) => Ok(text.as_str().contains(wanted)),
         _ => Ok(false),
     }
 }
 
 /// Wrong words, and a part of what is told of them.
-const WRONG: [(&[&str], &str); 9] = [
+const WRONG: [(&[&str], &str); 11] = [
     (&["make"], "Usage: unison make"),
     (&["make", "wheel", "5"], "wheel"),
     (&["make", "ring"], "<N>"),
@@ -117,6 +166,11 @@ const WRONG: [(&[&str], &str); 9] = [
     ),
     (&["make", "tree", "5"], "--arity <K>"),
     (&["make", "ring", "5", "--diagonals"], "--diagonals"),
+    (&["make", "random", "5", "--links", "4"], "--seed <S>"),
+    (
+        &["make", "random-tree", "5", "--seed", "1.5"],
+        "seed: expected a whole number from 0 to 4294967295, found `1.5`",
+    ),
 ];
 
 #[test]

@@ -1,3 +1,4 @@
+pub mod Drawn
 pub mod Lots
 pub mod Sizes
 pub mod Pairs

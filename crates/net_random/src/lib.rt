@@ -9,7 +9,9 @@ mod listed;
 mod lot;
 mod pairs;
 mod sizes;
+mod text;
 
 pub use draw::drawn;
 pub use fault::LotFault;
 pub use lot::Lot;
+pub use text::drawn_text;

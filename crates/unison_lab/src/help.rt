@@ -18,7 +18,7 @@ const GROUPS: [(&str, &[Known]); 2] = [
         &[
             (
                 "make",
-                "Make a network of a shape: path, ring, star, complete, bipartite, tree, hypercube, grid, torus",
+                "Make a network of a shape (path, ring, grid, torus, tree and more), or by lot",
             ),
             (
                 "show",

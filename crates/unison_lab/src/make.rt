@@ -1,8 +1,9 @@
-//! `make SHAPE NUMBERS..`: the network file of a shape.
+//! `make SHAPE NUMBERS..`: the network file of a shape, or of a lot.
 
 use crate::ending::Ending;
 use crate::output::write_out;
-use lab_words::shape_of;
+use lab_words::{Making, making_of};
+use net_random::{Lot, LotFault, drawn_text};
 use net_shapes::{Shape, ShapeFault, made_text};
 use std::alloc::{AllocError, Global};
 
@@ -32,12 +33,46 @@ fn no_network(alloc: Global, shape: &Shape, fault: ShapeFault) -> Result<Ending,
     Ok(Ending::Usage(String::from_str(alloc, text)?))
 }
 
-/// Prints the network file of a shape. The status with which the program ends.
-pub(crate) fn make_network(rt: &HostRuntime, words: &[String]) -> Result<u8, Ending> {
-    let shape = shape_of(rt.alloc(), words)?;
-    match made_text(rt.alloc(), &shape) {
-        Ok(text) => write_out(rt, &text)?,
-        Err(fault) => return Err(no_network(rt.alloc(), &shape, fault)?),
+/// The ending where a lot has no network.
+fn no_lot(alloc: Global, fault: LotFault) -> Result<Ending, AllocError> {
+    let text = match fault {
+        LotFault::NodeCount => "there are 1 to 65536 nodes",
+        LotFault::TooManyLinks =>
+            "a network has 262144 links at most, and no more than there are pairs of nodes",
+        LotFault::TooManyNeighbours =>
+            "a node came out with more than 4096 neighbours: take another seed, or fewer links",
+        LotFault::Memory => return Ok(Ending::Memory),
+    };
+    Ok(Ending::Usage(String::from_str(alloc, text)?))
+}
+
+/// The network file of a shape.
+fn shape_text(alloc: Global, shape: &Shape) -> Result<Vec<u8>, Ending> {
+    match made_text(alloc, shape) {
+        Ok(text) => Ok(text),
+        Err(fault) => Err(no_network(alloc, shape, fault)?),
     }
+}
+
+/// The network file of a lot.
+fn lot_text(alloc: Global, lot: &Lot, seed: u64) -> Result<Vec<u8>, Ending> {
+    match drawn_text(alloc, lot, seed) {
+        Ok(text) => Ok(text),
+        Err(fault) => Err(no_lot(alloc, fault)?),
+    }
+}
+
+/// The network file that the words ask for.
+fn text_for(alloc: Global, words: &[String]) -> Result<Vec<u8>, Ending> {
+    match making_of(alloc, words)? {
+        Making::Shape(shape) => shape_text(alloc, &shape),
+        Making::Lot { lot, seed } => lot_text(alloc, &lot, seed),
+    }
+}
+
+/// Prints the network file of a shape or a lot. The status with which the program ends.
+pub(crate) fn make_network(rt: &HostRuntime, words: &[String]) -> Result<u8, Ending> {
+    let text = text_for(rt.alloc(), words)?;
+    write_out(rt, &text)?;
     Ok(0)
 }
