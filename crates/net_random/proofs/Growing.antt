@@ -12,6 +12,7 @@ use Rattle.net_random.specs.declared.lot.Lot.{Lot}
 use Rattle.net_random.specs.Lots.{grown_count, AreSimpleLinks, AreLinkedBack, HasLot}
 use Rattle.net_random.specs.Growth.{IsGrown, link_to, has, has_twice, IsChoice}
 use Rattle.net_random.proofs.Counting.{filter_same, count_in}
+use Rattle.net_random.proofs.Walks.{all_reach}
 
 all-append : (P : Link → Type 0) (xs ys : List Link) → AllByRecursion P xs → AllByRecursion P ys → AllByRecursion P (xs ++ ys)
 all-append P [] ys a b = b
@@ -153,7 +154,7 @@ tree_count (suc n) some =
     omega arith
 
 pub tree_has : (n : ℕ) (links : List Link) → 1 ≤ n → IsGrown 1 n links → HasLot (Lot.Tree n) links
-tree_has n links some grown = record { count = grown.count ∙ tree_count n some; simple = grown.simple; back = grown.back }
+tree_has n links some grown = record { count = grown.count ∙ tree_count n some; simple = grown.simple; back = grown.back; connected = all_reach 1 n links (omega arith) grown.back }
 
 pub preferential_has : (n each : ℕ) (links : List Link) → IsGrown each n links → HasLot (Lot.Preferential n each) links
-preferential_has n each links grown = record { count = grown.count; simple = grown.simple; back = grown.back }
+preferential_has n each links grown = record { count = grown.count; simple = grown.simple; back = grown.back; connected = λ some. all_reach each n links some grown.back }

@@ -1,5 +1,6 @@
 mod Places
 mod Sized
 mod Counting
+mod Walks
 mod Growing
 mod Choices

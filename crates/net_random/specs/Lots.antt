@@ -1,7 +1,7 @@
 -- Lots: what is drawn.
-use Rattle.std.specs.Prelude.{◌≡◌, ◌<◌, ◌-◌, ◌*◌, ◌/◌, min, ℕ, ⊤, false, List, length}
+use Rattle.std.specs.Prelude.{◌≡◌, ◌<◌, ◌≤◌, ◌-◌, ◌*◌, ◌/◌, ◌==◌, min, ℕ, ⊤, Bool, true, false, ◌&&◌, List, [], ◌∷◌, length}
 use Rattle.std.specs.List.{list_any, sum_by, AllByRecursion}
-use Rattle.link_net.specs.Links.{AllWithin, is_self_link, has_link_twice, linked_with}
+use Rattle.link_net.specs.Links.{AllWithin, is_self_link, has_link_twice, are_linked, linked_with}
 use Rattle.link_net.specs.Neighbours.{numbers_below}
 use Rattle.net_text.specs.Listing.{Link}
 use Rattle.net_random.specs.declared.lot.Lot.{Lot}
@@ -43,8 +43,24 @@ HasBack (Lot.Random n k) links = ⊤
 HasBack (Lot.Tree n) links = AreLinkedBack 1 n links
 HasBack (Lot.Preferential n e) links = AreLinkedBack e n links
 
+-- each node of the walk is linked with the one before it, the first with u, and the last node is 0
+abbrev pub is_walk : List Link → ℕ → List ℕ → Bool
+is_walk links u [] = u == 0
+is_walk links u (w ∷ ws) = are_linked links u w && is_walk links w ws
+
+-- each node below n reaches node 0 by links
+abbrev pub AllReach : ℕ → List Link → Type 0
+AllReach n links = (u : ℕ) → u < n → (walk : List ℕ) × (is_walk links u walk ≡ true)
+
+-- the lot's network hangs together, where the lot says this
+abbrev pub IsConnected : Lot → List Link → Type 0
+IsConnected (Lot.Random n k) links = ⊤
+IsConnected (Lot.Tree n) links = AllReach n links
+IsConnected (Lot.Preferential n e) links = 1 ≤ e → AllReach n links
+
 -- the links may be drawn by the lot
 pub record HasLot (lot : Lot) (links : List Link) : Type 0 where
   pub count : length links ≡ link_count lot
   pub simple : AreSimpleLinks (node_count lot) links
   pub back : HasBack lot links
+  pub connected : IsConnected lot links
