@@ -3,6 +3,8 @@
 
 mod make;
 mod show;
+mod weights;
 
-pub use make::{Making, make_command, making_of};
+pub use make::{Asked, Making, make_command, making_of};
 pub use show::{show_command, shown_path};
+pub use weights::Weights;

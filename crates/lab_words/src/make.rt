@@ -1,5 +1,6 @@
 //! The words of `make`: a shape and its numbers, or a lot, its numbers and a seed.
 
+use crate::weights::{Weights, weights_in, weights_option};
 use clap::{Arg, ArgAction, ArgMatches, Command};
 use net_random::Lot;
 use net_shapes::Shape;
@@ -10,7 +11,16 @@ use unison_words::{UsageFault, matches_of, number_in, wrong_words};
 #[derive(Clone, Copy, Debug, PartialEq, Eq)]
 pub enum Making {
     Shape(Shape),
-    Lot { lot: Lot, seed: u64 },
+    Lot(Lot),
+}
+
+/// A network, the weights that its links are to have where they are to be drawn, and the seed by which is drawn; where
+/// nothing is drawn that is 0.
+#[derive(Clone, Copy, Debug, PartialEq, Eq)]
+pub struct Asked {
+    pub making: Making,
+    pub weights: Option<Weights>,
+    pub seed: u32,
 }
 
 /// What a number is called, and what it is.
@@ -188,11 +198,23 @@ fn shape_command<'a>(alloc: Global, words: &ShapeWords) -> Result<Command<'a>, A
     with_options(alloc, name, command)
 }
 
+/// The subcommand of a shape with `--weights` and `--seed`, neither of which stands without the other.
+fn with_weights<'a>(alloc: Global, command: Command<'a>) -> Result<Command<'a>, AllocError> {
+    let weights = weights_option(alloc).requires_arg("seed")?;
+    let seed = seed_option(alloc)
+        .required(false)
+        .requires_arg("weights")?;
+    command.arg(weights)?.arg(seed)
+}
+
 /// The command with a subcommand for each lot.
 fn with_lots<'a>(alloc: Global, make: Command<'a>) -> Result<Command<'a>, AllocError> {
     let mut make = make;
     for words in &LOTS {
-        make = make.subcommand(shape_command(alloc, words)?.arg(seed_option(alloc))?)?;
+        let command = shape_command(alloc, words)?
+            .arg(seed_option(alloc))?
+            .arg(weights_option(alloc))?;
+        make = make.subcommand(command)?;
     }
     Ok(make)
 }
@@ -205,7 +227,8 @@ pub fn make_command<'a>(alloc: Global) -> Result<Command<'a>, AllocError> {
         .subcommand_required(true)
         .after_help(EXAMPLE);
     for words in &SHAPES {
-        command = command.subcommand(shape_command(alloc, words)?)?;
+        let shape = with_weights(alloc, shape_command(alloc, words)?)?;
+        command = command.subcommand(shape)?;
     }
     with_lots(alloc, command)
 }
@@ -300,19 +323,38 @@ fn lot_in(alloc: Global, name: &str, matches: &ArgMatches<'_>) -> Result<Lot, Us
 fn making_in(alloc: Global, name: &str, matches: &ArgMatches<'_>) -> Result<Making, UsageFault> {
     if let "random" | "random-tree" | "preferential" = name {
         let lot = lot_in(alloc, name, matches)?;
-        let seed = size(alloc, matches, "seed")? as u64;
-        return Ok(Making::Lot { lot, seed });
+        return Ok(Making::Lot(lot));
     }
     let shape = shape_in(alloc, name, matches)?;
     Ok(Making::Shape(shape))
 }
 
+/// The seed that the words name, and 0 where they name none.
+fn seed_in(alloc: Global, matches: &ArgMatches<'_>) -> Result<u32, UsageFault> {
+    match matches.get_str("seed") {
+        Some(_) => size(alloc, matches, "seed"),
+        None => Ok(0),
+    }
+}
+
+/// What the words of a shape or a lot ask for.
+fn asked_in(alloc: Global, name: &str, matches: &ArgMatches<'_>) -> Result<Asked, UsageFault> {
+    let making = making_in(alloc, name, matches)?;
+    let weights = weights_in(alloc, matches)?;
+    let seed = seed_in(alloc, matches)?;
+    Ok(Asked {
+        making,
+        weights,
+        seed,
+    })
+}
+
 /// The network that the words ask for, the command's name first. A number that is none, or above 4,294,967,295, is
 /// `Usage`; whether a network of that size is there, its making says.
-pub fn making_of(alloc: Global, words: &[String]) -> Result<Making, UsageFault> {
+pub fn making_of(alloc: Global, words: &[String]) -> Result<Asked, UsageFault> {
     let matches = matches_of(alloc, make_command(alloc)?, words)?;
     match matches.subcommand() {
-        Some((name, inner)) => making_in(alloc, name, inner),
+        Some((name, inner)) => asked_in(alloc, name, inner),
         None => Err(wrong_words(alloc, "SHAPE")),
     }
 }

@@ -8,4 +8,6 @@ mod lots;
 #[cfg(test)]
 mod shapes;
 #[cfg(test)]
+mod weights;
+#[cfg(test)]
 mod words;

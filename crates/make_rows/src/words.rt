@@ -1,6 +1,6 @@
 //! The words of `make`.
 
-use lab_words::{Making, making_of};
+use lab_words::{Asked, Making, Weights, making_of};
 use net_random::Lot;
 use net_shapes::Shape;
 use std::alloc::{AllocError, Global};
@@ -75,22 +75,31 @@ const RIGHT: [(&[&str], Shape); 11] = [
 ];
 
 /// What network the words ask for, where they do.
-fn making_in(alloc: Global, words: &[&str]) -> Result<Option<Making>, AllocError> {
+fn asked_in(alloc: Global, words: &[&str]) -> Result<Option<Asked>, AllocError> {
     let words = owned(alloc, words)?;
     Ok(making_of(alloc, &words).ok())
+}
+
+/// A network without weights.
+fn plain(making: Making, seed: u32) -> Asked {
+    Asked {
+        making,
+        weights: None,
+        seed,
+    }
 }
 
 #[test]
 fn right_words(rt: HostRuntime) -> Result<(), Fail> {
     for (words, wanted) in &RIGHT {
-        let making = making_in(rt.alloc(), words)?;
-        assert_eq!(rt; making, Some(Making::Shape(*wanted)));
+        let asked = asked_in(rt.alloc(), words)?;
+        assert_eq!(rt; asked, Some(plain(Making::Shape(*wanted), 0)));
     }
     Ok(())
 }
 
 /// Words, and the lot and the seed that they ask for.
-const LOTS: [(&[&str], Lot, u64); 4] = [
+const LOTS: [(&[&str], Lot, u32); 4] = [
     (
         &["make", "random", "9", "--links", "12", "--seed", "7"],
         Lot::Random {
@@ -127,12 +136,46 @@ const LOTS: [(&[&str], Lot, u64); 4] = [
 #[test]
 fn words_of_lots(rt: HostRuntime) -> Result<(), Fail> {
     for (words, lot, seed) in &LOTS {
-        let making = making_in(rt.alloc(), words)?;
-        let wanted = Making::Lot {
-            lot: *lot,
-            seed: *seed,
-        };
-        assert_eq!(rt; making, Some(wanted));
+        let asked = asked_in(rt.alloc(), words)?;
+        assert_eq!(rt; asked, Some(plain(Making::Lot(*lot), *seed)));
+    }
+    Ok(())
+}
+
+/// Words with weights, and the weights and the seed that they ask for.
+const WEIGHTS: [(&[&str], Weights, u32); 3] = [
+    (
+        &["make", "ring", "5", "--weights", "1..9", "--seed", "7"],
+        Weights { low: 1, high: 9 },
+        7,
+    ),
+    (
+        &[
+            "make",
+            "grid",
+            "5",
+            "5",
+            "--seed=0",
+            "--weights=0..4294967295",
+        ],
+        Weights {
+            low: 0,
+            high: 4_294_967_295,
+        },
+        0,
+    ),
+    (
+        &["make", "random-tree", "20", "--seed", "3", "--weights", "4..4"],
+        Weights { low: 4, high: 4 },
+        3,
+    ),
+];
+
+#[test]
+fn words_of_weights(rt: HostRuntime) -> Result<(), Fail> {
+    for (words, weights, seed) in &WEIGHTS {
+        let asked = asked_in(rt.alloc(), words)?;
+        assert_eq!(rt; asked.map(|a| (a.weights, a.seed)), Some((Some(*weights), *seed)));
     }
     Ok(())
 }
@@ -147,7 +190,7 @@ fn is_told(alloc: Global, words: &[&str], wanted: &str) -> Result<bool, AllocErr
 }
 
 /// Wrong words, and a part of what is told of them.
-const WRONG: [(&[&str], &str); 11] = [
+const WRONG: [(&[&str], &str); 15] = [
     (&["make"], "Usage: unison make"),
     (&["make", "wheel", "5"], "wheel"),
     (&["make", "ring"], "<N>"),
@@ -170,6 +213,19 @@ const WRONG: [(&[&str], &str); 11] = [
     (
         &["make", "random-tree", "5", "--seed", "1.5"],
         "seed: expected a whole number from 0 to 4294967295, found `1.5`",
+    ),
+    (&["make", "ring", "5", "--weights", "1..9"], "--seed <S>"),
+    (
+        &["make", "ring", "5", "--seed", "7"],
+        "--weights <LOW..HIGH>",
+    ),
+    (
+        &["make", "ring", "5", "--seed", "7", "--weights", "9..1"],
+        "of which the first is not the greater one, found `9..1`",
+    ),
+    (
+        &["make", "ring", "5", "--seed", "7", "--weights", "1-9"],
+        "--weights: expected LOW..HIGH",
     ),
 ];
 

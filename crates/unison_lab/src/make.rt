@@ -2,9 +2,11 @@
 
 use crate::ending::Ending;
 use crate::output::write_out;
-use lab_words::{Making, making_of};
-use net_random::{Lot, LotFault, drawn_text};
-use net_shapes::{Shape, ShapeFault, made_text};
+use lab_words::{Asked, Making, Weights, making_of};
+use net_random::{Lot, LotFault, drawn, drawn_text};
+use net_shapes::{Shape, ShapeFault, links_of, made_text};
+use net_text::LinkList;
+use net_weights::{WeightFault, weighted_text};
 use std::alloc::{AllocError, Global};
 
 /// How many nodes a shape has.
@@ -46,7 +48,57 @@ fn no_lot(alloc: Global, fault: LotFault) -> Result<Ending, AllocError> {
     Ok(Ending::Usage(String::from_str(alloc, text)?))
 }
 
-/// The network file of a shape.
+/// The ending where links get no weights.
+fn no_weights(alloc: Global, fault: WeightFault) -> Result<Ending, AllocError> {
+    match fault {
+        WeightFault::NoWeight => Ok(Ending::Usage(String::from_str(
+            alloc,
+            "--weights: the first number is above the second one",
+        )?)),
+        WeightFault::Memory => Ok(Ending::Memory),
+    }
+}
+
+/// The links of a shape.
+fn shape_links(alloc: Global, shape: &Shape) -> Result<LinkList, Ending> {
+    match links_of(alloc, shape) {
+        Ok(links) => Ok(links),
+        Err(fault) => Err(no_network(alloc, shape, fault)?),
+    }
+}
+
+/// The links of a lot.
+fn lot_links(alloc: Global, lot: &Lot, seed: u32) -> Result<LinkList, Ending> {
+    match drawn(alloc, lot, seed as u64) {
+        Ok(links) => Ok(links),
+        Err(fault) => Err(no_lot(alloc, fault)?),
+    }
+}
+
+/// The links that are asked for, all with weight 1.
+fn links_for(alloc: Global, asked: &Asked) -> Result<LinkList, Ending> {
+    match &asked.making {
+        Making::Shape(shape) => shape_links(alloc, shape),
+        Making::Lot(lot) => lot_links(alloc, lot, asked.seed),
+    }
+}
+
+/// The network file of the links with weights that are drawn apart from the links: the generator's seed is 2 to the power
+/// of 32 greater.
+fn weighted(
+    alloc: Global,
+    links: &LinkList,
+    weights: &Weights,
+    seed: u32,
+) -> Result<Vec<u8>, Ending> {
+    let apart = seed as u64 + 4_294_967_296;
+    match weighted_text(alloc, links, weights.low, weights.high, apart) {
+        Ok(text) => Ok(text),
+        Err(fault) => Err(no_weights(alloc, fault)?),
+    }
+}
+
+/// The network file of a shape, all of whose links have weight 1.
 fn shape_text(alloc: Global, shape: &Shape) -> Result<Vec<u8>, Ending> {
     match made_text(alloc, shape) {
         Ok(text) => Ok(text),
@@ -54,9 +106,9 @@ fn shape_text(alloc: Global, shape: &Shape) -> Result<Vec<u8>, Ending> {
     }
 }
 
-/// The network file of a lot.
-fn lot_text(alloc: Global, lot: &Lot, seed: u64) -> Result<Vec<u8>, Ending> {
-    match drawn_text(alloc, lot, seed) {
+/// The network file of a lot, all of whose links have weight 1.
+fn lot_text(alloc: Global, lot: &Lot, seed: u32) -> Result<Vec<u8>, Ending> {
+    match drawn_text(alloc, lot, seed as u64) {
         Ok(text) => Ok(text),
         Err(fault) => Err(no_lot(alloc, fault)?),
     }
@@ -64,9 +116,14 @@ fn lot_text(alloc: Global, lot: &Lot, seed: u64) -> Result<Vec<u8>, Ending> {
 
 /// The network file that the words ask for.
 fn text_for(alloc: Global, words: &[String]) -> Result<Vec<u8>, Ending> {
-    match making_of(alloc, words)? {
-        Making::Shape(shape) => shape_text(alloc, &shape),
-        Making::Lot { lot, seed } => lot_text(alloc, &lot, seed),
+    let asked = making_of(alloc, words)?;
+    if let Some(weights) = &asked.weights {
+        let links = links_for(alloc, &asked)?;
+        return weighted(alloc, &links, weights, asked.seed);
+    }
+    match &asked.making {
+        Making::Shape(shape) => shape_text(alloc, shape),
+        Making::Lot(lot) => lot_text(alloc, lot, asked.seed),
     }
 }
 

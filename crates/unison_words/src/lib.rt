@@ -5,4 +5,4 @@ mod request;
 mod words;
 
 pub use request::{Request, UsageFault};
-pub use words::{command, command_as, job_by, job_of, matches_of, number_in, wrong_words};
+pub use words::{command, command_as, job_by, job_of, matches_of, number, number_in, wrong_words};

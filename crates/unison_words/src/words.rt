@@ -198,7 +198,7 @@ pub fn command<'a>(alloc: Global) -> Result<Command<'a>, AllocError> {
 }
 
 /// The number that decimal digits write, where it lies between the bounds.
-fn number(text: &str, least: u32, most: u32) -> Option<u32>
+pub fn number(text: &str, least: u32, most: u32) -> Option<u32>
     ensures within { IfSome result (λ n. (least ≤ n) × (n ≤ most)) }
 {
     if !text.bytes().all(|byte| byte.is_ascii_digit()) {
