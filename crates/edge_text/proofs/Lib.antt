@@ -1,0 +1,4 @@
+mod EdgeSteps
+mod LinesCut
+mod LineFaults
+mod Numerals

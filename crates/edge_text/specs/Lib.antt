@@ -1,0 +1,4 @@
+pub mod Edges
+pub mod Named
+pub mod Texts
+pub mod Weights
