@@ -1,5 +1,5 @@
 -- Lists of edges, read line by line.
-use Rattle.std.proofs.Common.{◌≡◌, ◌≢◌, ℕ, ◌+◌, List, [], ◌∷◌, ◌++◌, refl, sym, ap, ◌∙◌, append_assoc, append-nil, Result, Ok, Err, Option, Some, None, unwrap_or}
+use Rattle.std.proofs.Common.{◌≡◌, ℕ, List, [], ◌∷◌, ◌++◌, refl, sym, ap, ◌∙◌, append_assoc, append-nil, Result, Ok, Err, Some}
 use Rattle.std.specs.Result.{result_err}
 use Rattle.edge_text.specs.declared.fault.EdgeFault.{EdgeFault}
 use Rattle.edge_text.specs.Named.{NamedEdge}

@@ -1,5 +1,5 @@
 -- Lines that may be shown.
-use Rattle.std.proofs.Common.{◌≡◌, inl, inr, ◌<◌, ◌≤◌, ℕ, Bool, true, false, List, length, nat_lt, refl, sym, ap, ◌∙◌, arith, Result, Ok, Err, IsUtf8}
+use Rattle.std.proofs.Common.{◌≡◌, inl, inr, ◌<◌, ◌≤◌, ℕ, Bool, true, false, List, length, nat_lt, refl, sym, ◌∙◌, arith, Ok, Err, IsUtf8}
 use Rattle.std.specs.List.{list_any}
 use Rattle.std.specs.Str.{is_utf8}
 use Rattle.std.proofs.lemmas.Bool.{cases_Bool}

@@ -1,6 +1,6 @@
 -- Lists cut at the elements that pass a test.
-use Rattle.std.proofs.Common.{◌≡◌, ◌≢◌, ℕ, zero, suc, ◌+◌, ◌<◌, ◌≤◌, Bool, true, false, cond, not, ◌||◌, ◌==◌, List, [], ◌∷◌, ◌++◌, length, take, drop, get_or, slice_get, filter, refl, sym, ap, ◌∙◌, arith, Some, None, nat_lt, subst, length-drop, eq-or-lt_of_le, one-add, add-one, inl, inr, IsUtf8, IsCharBoundary}
-use Rattle.std.specs.List.{list_any, slice_split, onto_first, enumerate_from, prefix_len, position_or_len, before_first, after_first}
+use Rattle.std.proofs.Common.{◌≡◌, ◌≢◌, ℕ, zero, suc, ◌+◌, ◌<◌, ◌≤◌, Bool, true, false, cond, not, ◌||◌, ◌==◌, List, [], ◌∷◌, length, take, drop, get_or, slice_get, filter, refl, sym, ap, ◌∙◌, arith, Some, None, subst, length-drop, eq-or-lt_of_le, one-add, add-one, inl, inr, IsUtf8, IsCharBoundary}
+use Rattle.std.specs.List.{list_any, slice_split, enumerate_from, prefix_len, position_or_len, before_first, after_first}
 use Rattle.std.proofs.lemmas.Bool.{cases_Bool, ne_eqb, eqb-false}
 use Rattle.std.proofs.lemmas.Bool.Decides.{nat_tests, Decides-eqb}
 use Rattle.std.proofs.lemmas.List.Sums.{prefix_len_passes, prefix_len_stops, prefix_len-le-length}
@@ -75,8 +75,8 @@ word_boundary bs n is =
     elim (eq-or-lt_of_le low) [
       | inl end ↦ rw end (IsCharBoundary-end bs)
       | inr inside ↦
-      let stops = prefix_len_stops (λ b. not (is_separator b)) bs 0 (omega arith) in
-      IsCharBoundary-before_ascii bs n inside (rw is (separator_ascii _ (passes_again _ stops)))
+          let stops = prefix_len_stops (λ b. not (is_separator b)) bs 0 (omega arith) in
+          IsCharBoundary-before_ascii bs n inside (rw is (separator_ascii _ (passes_again _ stops)))
     ]
 
 -- ---- lines

@@ -1,5 +1,5 @@
 -- The edges that a text says.
-use Rattle.std.specs.Prelude.{◌≡◌, ◌≢◌, ◌+◌, ℕ, ◌==◌, Bool, ◌||◌, ◌&&◌, not, List, [], ◌∷◌, nat_lt, length, drop, MatchResult, Option, Some, None, Result, Ok, Err, if◌then◌else◌}
+use Rattle.std.specs.Prelude.{◌≡◌, ◌≢◌, ℕ, ◌==◌, Bool, ◌||◌, ◌&&◌, not, List, [], ◌∷◌, nat_lt, length, drop, MatchResult, Option, Some, None, Result, Ok, Err, if◌then◌else◌}
 use Rattle.std.specs.List.{list_any}
 use Rattle.std.specs.Str.{is_utf8}
 use Rattle.edge_text.specs.declared.fault.LineFault.{LineFault}
