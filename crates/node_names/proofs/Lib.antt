@@ -1,0 +1,5 @@
+mod Texts
+mod Names
+mod FirstLines
+mod Refusals
+mod Whole

@@ -1,0 +1,15 @@
+//! Names of nodes, one to one with their numbers, and the files that hold them.
+#![tactic(auto)]
+
+mod fault;
+mod lines;
+mod name_test;
+mod node_names;
+mod reader;
+mod writer;
+
+pub use fault::{NamesFault, NamesFileFault};
+pub use name_test::{MOST_NAME_BYTES, is_name};
+pub use node_names::NodeNames;
+pub use reader::read_names;
+pub use writer::names_text;
