@@ -1,5 +1,5 @@
-mod Texts
-mod Names
+pub mod Texts
+pub mod Names
 mod FirstLines
 mod Refusals
 mod Whole

@@ -1,5 +1,5 @@
 -- Lines that give no new name.
-use Rattle.std.proofs.Common.{◌≡◌, ◌≢◌, ℕ, ◌+◌, ◌<◌, ◌≤◌, Bool, true, false, not, List, length, nat_lt, nat_le, ◌&&◌, Option, None, Result, Ok, Err, refl, sym, ◌∙◌, arith, if◌then◌else◌}
+use Rattle.std.proofs.Common.{◌≡◌, ◌≢◌, ℕ, ◌+◌, Bool, true, false, not, List, length, nat_lt, nat_le, ◌&&◌, None, Ok, Err, refl, arith, if◌then◌else◌}
 use Rattle.std.specs.List.{position}
 use Rattle.std.specs.Str.{bytes_eq}
 use Rattle.std.specs.List.{list_any}
@@ -9,10 +9,9 @@ use Rattle.std.proofs.lemmas.Str.{IsUtf8-from_is_utf8}
 use Rattle.link_net.specs.Limits.{most_nodes}
 use Rattle.node_names.specs.declared.fault.NamesFault.{NamesFault}
 use Rattle.node_names.specs.declared.fault.NamesFault.TheVariants.{BadName, TooManyNames, Memory}
-use Rattle.node_names.specs.Naming.{AreNames, is_control, most_name_bytes, is_name, has_name, place_in, number_in}
+use Rattle.node_names.specs.Naming.{AreNames, is_control, most_name_bytes, is_name, place_in, number_in}
 use Rattle.node_names.specs.NamesFiles.{IsLineFault, at_line}
 use Rattle.node_names.proofs.Names.{is_new, place_of_new}
-
 
 -- bytes that are no text are no name
 pub not_text : (bytes : List ℕ) → (IsUtf8 bytes → ⊥) → is_name bytes ≡ false

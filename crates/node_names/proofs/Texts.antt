@@ -1,6 +1,6 @@
 -- Lists of texts, seen by their bytes.
-use Rattle.std.proofs.Common.{◌≡◌, ℕ, ◌+◌, Bool, true, false, not, ◌||◌, List, [], ◌∷◌, ◌++◌, map, length, nat_lt, suc, Option, Some, None, refl, ap, sym, ◌∙◌, arith, String, Global, string_bytes, cond}
-use Rattle.std.specs.List.{list_any, position_or_len, position, prefix_len, IsDistinct, AllByRecursion}
+use Rattle.std.proofs.Common.{◌≡◌, ℕ, ◌+◌, Bool, true, false, not, ◌||◌, List, [], ◌∷◌, map, length, nat_lt, suc, refl, ap, sym, arith, String, Global, string_bytes, cond}
+use Rattle.std.specs.List.{list_any, position_or_len, position, IsDistinct, AllByRecursion}
 use Rattle.std.specs.Str.{bytes_eq}
 use Rattle.std.specs.String.{string_eq}
 use Rattle.std.proofs.lemmas.Bool.{lt-ltb}

@@ -32,7 +32,10 @@ fn read_line(names: &mut NodeNames, bytes: &[u8]) -> Result<(), NamesFileFault>
         return Err(NamesFileFault::BadName { line });
     };
     if let Some(place) = names.number_of(name) {
-        return Err(NamesFileFault::NameTwice { line, first: place + 1 });
+        return Err(NamesFileFault::NameTwice {
+            line,
+            first: place + 1,
+        });
     }
     match names.number(name) {
         Ok(_) => Ok(()),

@@ -1,4 +1,4 @@
-use Rattle.std.proofs.Common.{◌≡◌, ◌++◌, ◌∷◌, ◌∙◌, sym, ap}
+use Rattle.std.proofs.Common.{◌++◌, ◌∙◌, sym, ap}
 use Rattle.std.specs.Str.Lines.{lines}
 use Rattle.std.proofs.lemmas.Result.{err_from_is_err_and}
 use Rattle.node_names.specs.NamesFiles.{IsFirstBadLine}

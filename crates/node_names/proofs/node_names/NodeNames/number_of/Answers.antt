@@ -1,4 +1,4 @@
-use Rattle.std.proofs.Common.{◌≡◌, ap, ◌∙◌, string_bytes, position}
+use Rattle.std.proofs.Common.{ap, ◌∙◌, string_bytes, position}
 use Rattle.std.specs.Str.{bytes_eq}
 use Rattle.node_names.proofs.Texts.{position-map}
 use Rattle.node_names.proofs.node_names.NodeNames.number_of.Goals as goal
