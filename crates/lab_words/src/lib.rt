@@ -2,9 +2,14 @@
 #![tactic(auto)]
 
 mod make;
+mod open;
+mod parts;
 mod show;
+mod take;
 mod weights;
 
 pub use make::{Asked, Making, make_command, making_of};
+pub use open::{Openings, SetWord, open_command, openings_of};
 pub use show::{show_command, shown_path};
+pub use take::{Taking, take_command, taking_of};
 pub use weights::Weights;

@@ -1,5 +1,6 @@
 //! The words of `make`: a shape and its numbers, or a lot, its numbers and a seed.
 
+use crate::parts::{flag, option, told};
 use crate::weights::{Weights, weights_in, weights_option};
 use clap::{Arg, ArgAction, ArgMatches, Command};
 use net_random::Lot;
@@ -122,12 +123,7 @@ fn number_argument<'a>(alloc: Global, words: &NumberWords) -> Arg<'a> {
 
 /// An option with a number, which has to be there.
 fn number_option<'a>(alloc: Global, id: &'a str, name: &'a str, help: &'a str) -> Arg<'a> {
-    Arg::new(alloc, id)
-        .long(id)
-        .required(true)
-        .value_name(name)
-        .help(help)
-        .action(ArgAction::Set)
+    option(alloc, id, name, help).required(true)
 }
 
 /// `--arity K`.
@@ -167,10 +163,11 @@ fn seed_option<'a>(alloc: Global) -> Arg<'a> {
 
 /// `--diagonals`.
 fn diagonals_flag<'a>(alloc: Global) -> Arg<'a> {
-    Arg::new(alloc, "diagonals")
-        .long("diagonals")
-        .help("Link each node with the four beside its corners, too")
-        .action(ArgAction::SetTrue)
+    flag(
+        alloc,
+        "diagonals",
+        "Link each node with the four beside its corners, too",
+    )
 }
 
 /// The command with the options of a shape beside its numbers.
@@ -236,13 +233,9 @@ pub fn make_command<'a>(alloc: Global) -> Result<Command<'a>, AllocError> {
 /// What is told of a number of a shape that is none.
 fn no_number(alloc: Global, matches: &ArgMatches<'_>, id: &str) -> UsageFault {
     let found = matches.get_str(id).unwrap_or("");
-    let text = format!(in alloc;
+    told(format!(in alloc;
         "{id}: expected a whole number from 0 to 4294967295, found `{found}`"
-    );
-    match text {
-        Ok(text) => UsageFault::Usage { text },
-        Err(_) => UsageFault::Memory,
-    }
+    ))
 }
 
 /// A number of a shape.

@@ -1,6 +1,7 @@
 //! The words `--weights LOW..HIGH`.
 
-use clap::{Arg, ArgAction, ArgMatches};
+use crate::parts::{option, told};
+use clap::{Arg, ArgMatches};
 use std::alloc::Global;
 use unison_words::{UsageFault, number};
 
@@ -13,11 +14,12 @@ pub struct Weights {
 
 /// `--weights LOW..HIGH`.
 pub(crate) fn weights_option<'a>(alloc: Global) -> Arg<'a> {
-    Arg::new(alloc, "weights")
-        .long("weights")
-        .value_name("LOW..HIGH")
-        .help("Draw the weight of each link, from LOW to HIGH, by the seed")
-        .action(ArgAction::Set)
+    option(
+        alloc,
+        "weights",
+        "LOW..HIGH",
+        "Draw the weight of each link, from LOW to HIGH, by the seed",
+    )
 }
 
 /// The weights that a text names, where it names some.
@@ -33,13 +35,9 @@ fn weights_of(text: &str) -> Option<Weights> {
 
 /// What is told of weights that are none.
 fn no_weights(alloc: Global, found: &str) -> UsageFault {
-    let text = format!(in alloc;
+    told(format!(in alloc;
         "--weights: expected LOW..HIGH, two whole numbers from 0 to 4294967295 of which the first is not the greater one, found `{found}`"
-    );
-    match text {
-        Ok(text) => UsageFault::Usage { text },
-        Err(_) => UsageFault::Memory,
-    }
+    ))
 }
 
 /// The weights that the words ask for, where they ask for some.

@@ -1,0 +1,136 @@
+//! The words of `open`: a network, and the opening values that it is to have.
+
+use crate::parts::{network_argument, option, path_of, text_of, told};
+use clap::{Arg, ArgAction, ArgMatches, Command};
+use std::alloc::{AllocError, Global};
+use unison_words::{UsageFault, matches_of, number};
+
+/// A word of `--set FIELD=NODE:VALUE`.
+#[derive(Debug, Drop)]
+pub struct SetWord {
+    pub field: String,
+    /// A node's number or name, or `*` for all nodes.
+    pub node: String,
+    pub value: u32,
+}
+
+/// What `open` is asked for.
+#[derive(Debug, Drop)]
+pub struct Openings {
+    /// The path of the network.
+    pub network: String,
+    /// The path of the names by which nodes are called, where they are.
+    pub names: Option<String>,
+    pub sets: Vec<SetWord>,
+    /// The phase in which all nodes open; where there is none, that of the file.
+    pub phase: Option<u8>,
+}
+
+/// What stands behind the help of `open`.
+const EXAMPLE: &str =
+    "Prints the network with other opening values; where several give one to the same field and node, the last one counts.\nAn example: unison open examples/path.toml --set 'dist=*:9' --set dist=0:0 > opened.toml\n";
+
+/// `--set FIELD=NODE:VALUE`, as often as one likes.
+fn set_option<'a>(alloc: Global) -> Arg<'a> {
+    option(
+        alloc,
+        "set",
+        "FIELD=NODE:VALUE",
+        "Give a field of a node, or of all nodes where NODE is *, its opening value; as often as wanted",
+    )
+    .action(ArgAction::Append)
+}
+
+/// `open` with its options.
+pub fn open_command<'a>(alloc: Global) -> Result<Command<'a>, AllocError> {
+    Command::new(alloc, "open")
+        .bin_name("unison open")?
+        .about("Give a network other opening values")
+        .after_help(EXAMPLE)
+        .arg(network_argument(alloc))?
+        .arg(set_option(alloc))?
+        .arg(option(
+            alloc,
+            "names",
+            "FILE",
+            "Call nodes by the names in FILE, a line each, node 0 first",
+        ))?
+        .arg(option(
+            alloc,
+            "phase",
+            "P",
+            "The phase in which all nodes open: 0, 1 or 2",
+        ))
+}
+
+/// What is told of a word that is none of `--set`.
+fn no_set(alloc: Global, word: &str) -> UsageFault {
+    told(format!(in alloc;
+        "--set: expected FIELD=NODE:VALUE, with a whole number from 0 to 4294967295 behind the last colon, found `{word}`"
+    ))
+}
+
+/// The parts of a word of `--set`: what stands before the first `=`, what follows up to the last colon, and the number
+/// behind it.
+fn parts_of(word: &str) -> Option<(&str, &str, u32)> {
+    let (field, rest) = word.split_once('=')?;
+    let (node, value) = rest.rsplit_once(':')?;
+    let value = number(value, 0, 4_294_967_295)?;
+    Some((field, node, value))
+}
+
+/// The word of `--set`.
+fn set_word(alloc: Global, word: &str) -> Result<SetWord, UsageFault> {
+    match parts_of(word) {
+        Some((field, node, value)) => Ok(SetWord {
+            field: String::from_str(alloc, field)?,
+            node: String::from_str(alloc, node)?,
+            value,
+        }),
+        None => Err(no_set(alloc, word)),
+    }
+}
+
+/// Puts a word behind the others.
+fn put_word(sets: &mut Vec<SetWord>, word: SetWord) -> Result<(), AllocError> {
+    sets.push(word)?;
+    Ok(())
+}
+
+/// The words of `--set`, in their order.
+fn sets_in(alloc: Global, matches: &ArgMatches<'_>) -> Result<Vec<SetWord>, UsageFault> {
+    let mut sets = Vec::new(alloc);
+    for word in matches.get_strs("set").unwrap_or(&[]) {
+        put_word(&mut sets, set_word(alloc, word)?)?;
+    }
+    Ok(sets)
+}
+
+/// The phase that the words ask for, where they ask for one.
+fn phase_in(alloc: Global, matches: &ArgMatches<'_>) -> Result<Option<u8>, UsageFault> {
+    let text = match matches.get_str("phase") {
+        Some(text) => text,
+        None => return Ok(None),
+    };
+    match number(text, 0, 2) {
+        Some(phase) => Ok(Some(phase as u8)),
+        None => Err(told(
+            format!(in alloc; "--phase: expected 0, 1 or 2, found `{text}`"),
+        )),
+    }
+}
+
+/// What the words ask for, the command's name first.
+pub fn openings_of(alloc: Global, words: &[String]) -> Result<Openings, UsageFault> {
+    let matches = matches_of(alloc, open_command(alloc)?, words)?;
+    let phase = phase_in(alloc, &matches)?;
+    let sets = sets_in(alloc, &matches)?;
+    let names = text_of(alloc, &matches, "names")?;
+    let network = path_of(alloc, &matches, "network")?;
+    Ok(Openings {
+        network,
+        names,
+        sets,
+        phase,
+    })
+}

@@ -1,0 +1,9 @@
+//! Tests of the texts that `take` takes in, of names, and of openings.
+#![tactic(auto)]
+
+#[cfg(test)]
+mod edges;
+#[cfg(test)]
+mod names;
+#[cfg(test)]
+mod words;

@@ -1,0 +1,146 @@
+//! The words of `take` and `open`.
+
+use lab_words::{openings_of, taking_of};
+use std::alloc::{AllocError, Global};
+use std::test::Fail;
+use unison_words::UsageFault;
+
+/// The words as owned texts.
+fn owned(alloc: Global, words: &[&str]) -> Result<Vec<String>, AllocError> {
+    let mut all = Vec::new(alloc);
+    for word in words {
+        all.push(String::from_str(alloc, word)?)?;
+    }
+    Ok(all)
+}
+
+/// What `take` was asked for, as a text.
+fn taking(alloc: Global, words: &[&str]) -> Result<String, UsageFault> {
+    let asked = taking_of(alloc, &owned(alloc, words)?)?;
+    let path = asked.path.as_str();
+    let names = asked.names.as_ref().map_or("none", |path| path.as_str());
+    let header = asked.header;
+    Ok(format!(in alloc; "{path}; {names}; {header}")?)
+}
+
+/// Words of `take`, and what they ask for.
+const TAKES: [(&[&str], &str); 3] = [
+    (&["take", "edges", "friends.txt"], "friends.txt; none; false"),
+    (
+        &["take", "edges", "-", "--names", "n", "--header"],
+        "-; n; true",
+    ),
+    (&["take", "edges", "--names=n", "x"], "x; n; false"),
+];
+
+#[test]
+fn words_of_take(rt: HostRuntime) -> Result<(), Fail> {
+    for (words, wanted) in &TAKES {
+        match taking(rt.alloc(), words) {
+            Ok(text) => assert_eq!(rt; text.as_str(), *wanted),
+            Err(_) => return Err(Fail::new(format_args!("{wanted}"))),
+        }
+    }
+    Ok(())
+}
+
+/// What `open` was asked for, as a text.
+fn openings(alloc: Global, words: &[&str]) -> Result<String, UsageFault> {
+    let asked = openings_of(alloc, &owned(alloc, words)?)?;
+    let network = asked.network.as_str();
+    let names = asked.names.as_ref().map_or("none", |path| path.as_str());
+    let phase = asked.phase;
+    let mut text = format!(in alloc; "{network}; {names}; {phase:?}")?;
+    for set in &asked.sets {
+        let field = set.field.as_str();
+        let node = set.node.as_str();
+        let value = set.value;
+        write!(&mut text, "; {field} {node} {value}")?;
+    }
+    Ok(text)
+}
+
+/// Words of `open`, and what they ask for.
+const OPENS: [(&[&str], &str); 4] = [
+    (&["open", "n.toml"], "n.toml; none; None"),
+    (
+        &["open", "n.toml", "--set", "dist=0:0", "--phase", "2"],
+        "n.toml; none; Some(2); dist 0 0",
+    ),
+    (
+        &[
+            "open",
+            "--set=dist=*:9",
+            "n.toml",
+            "--set",
+            "dist=a:b:007",
+            "--names=f",
+        ],
+        "n.toml; f; None; dist * 9; dist a:b 7",
+    ),
+    (
+        &["open", "-", "--set", "x==:4294967295"],
+        "-; none; None; x = 4294967295",
+    ),
+];
+
+#[test]
+fn words_of_open(rt: HostRuntime) -> Result<(), Fail> {
+    for (words, wanted) in &OPENS {
+        match openings(rt.alloc(), words) {
+            Ok(text) => assert_eq!(rt; text.as_str(), *wanted),
+            Err(_) => return Err(Fail::new(format_args!("{wanted}"))),
+        }
+    }
+    Ok(())
+}
+
+/// Whether the fault is wrong words, and a part of what is told of them.
+fn tells(fault: Option<UsageFault>, wanted: &str) -> bool {
+    match fault {
+        Some(UsageFault::Usage { text }) => text.as_str().contains(wanted),
+        _ => false,
+    }
+}
+
+/// Wrong words of `open`, and a part of what is told of them.
+const WRONG: [(&[&str], &str); 6] = [
+    (&["open"], "<NETWORK>"),
+    (&["open", "n", "--set", "dist"], "--set: expected FIELD=NODE:VALUE"),
+    (&["open", "n", "--set", "dist=1"], "found `dist=1`"),
+    (&["open", "n", "--set", "dist=1:x"], "found `dist=1:x`"),
+    (
+        &["open", "n", "--set", "dist=1:4294967296"],
+        "found `dist=1:4294967296`",
+    ),
+    (
+        &["open", "n", "--phase", "3"],
+        "--phase: expected 0, 1 or 2, found `3`",
+    ),
+];
+
+#[test]
+fn wrong_words_of_open(rt: HostRuntime) -> Result<(), Fail> {
+    for (words, wanted) in &WRONG {
+        let fault = openings(rt.alloc(), words).err();
+        assert!(rt; tells(fault, wanted), "{wanted}");
+    }
+    Ok(())
+}
+
+/// Wrong words of `take`, and a part of what is told of them.
+const WRONG_TAKES: [(&[&str], &str); 4] = [
+    (&["take"], "Usage: unison take"),
+    (&["take", "graphml", "x"], "graphml"),
+    (&["take", "edges"], "<FILE>"),
+    (&["take", "edges", "x", "--scale", "2"], "--scale"),
+];
+
+#[test]
+fn wrong_words_of_take(rt: HostRuntime) -> Result<(), Fail> {
+    for (words, wanted) in &WRONG_TAKES {
+        let fault = taking(rt.alloc(), words).err();
+        assert!(rt; tells(fault, wanted), "{wanted}");
+    }
+    Ok(())
+}
