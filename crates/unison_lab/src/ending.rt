@@ -14,6 +14,8 @@ pub(crate) enum Ending {
     Usage(String),
     /// A file could not be read, as the text says.
     File(String),
+    /// A text is refused: the part, and what is told of it in lines of its own.
+    Refused(String),
     /// A network file is refused.
     Network(NetFault),
     /// Standard output refused.
@@ -27,6 +29,7 @@ impl Ending {
         match self {
             Ending::Help(_) => 0,
             Ending::Usage(_) => 2,
+            Ending::Refused(_) => 3,
             Ending::Network(fault) => ServeFault::Net(*fault).status(),
             Ending::File(_) | Ending::Output | Ending::Memory => 1,
         }

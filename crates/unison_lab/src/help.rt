@@ -20,6 +20,8 @@ const GROUPS: [(&str, &[Known]); 2] = [
                 "make",
                 "Make a network of a shape (path, ring, grid, torus, tree and more), or by lot",
             ),
+            ("take", "Take in a network from a list of edges, with names"),
+            ("open", "Give a network other opening values"),
             (
                 "show",
                 "Show what one wants to know of a network before a run",

@@ -5,8 +5,10 @@ mod ending;
 mod files;
 mod help;
 mod make;
+mod open;
 mod output;
 mod show;
+mod take;
 mod why;
 #[cfg(test)]
 mod word_tests;
@@ -14,7 +16,9 @@ mod word_tests;
 use crate::ending::{Ending, refused};
 use crate::help::help_text;
 use crate::make::make_network;
+use crate::open::open_network;
 use crate::show::show_network;
+use crate::take::take_network;
 use crate::why::why_command;
 use std::process::ExitCode;
 use std::{env, io};
@@ -47,7 +51,9 @@ fn run(rt: &HostRuntime) -> Result<u8, Ending> {
     };
     match command {
         "make" => make_network(rt, &words[1..]),
+        "open" => open_network(rt, &words[1..]),
         "show" => show_network(rt, &words[1..]),
+        "take" => take_network(rt, &words[1..]),
         "why" => why_command(rt, &words[1..]),
         "help" | "--help" | "-h" => Err(Ending::Help(help_text(rt.alloc())?)),
         word => no_command(rt, word),
@@ -63,6 +69,7 @@ fn print_ending(rt: &HostRuntime, ending: &Ending) -> io::Result<()> {
         Ending::Network(fault) => eprintln!(rt;
             "fault: network {fault}\nunison why tells where: unison why lockstep PROGRAM NETWORK --rounds 0"
         ),
+        Ending::Refused(text) => eprintln!(rt; "fault: {text}"),
         Ending::Output => eprintln!(rt; "fault: device Write"),
         Ending::Memory => eprintln!(rt; "fault: memory Memory"),
     }

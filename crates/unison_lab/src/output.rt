@@ -1,8 +1,8 @@
-//! Standard output.
+//! Standard output, and files that are written.
 
 use crate::ending::{Ending, refused};
-use std::io;
 use std::io::{BufWriter, Write};
+use std::{fs, io};
 
 /// Writes a text on standard output, whole.
 pub(crate) fn write_out(rt: &HostRuntime, text: &[u8]) -> Result<(), Ending> {
@@ -14,4 +14,15 @@ pub(crate) fn write_out(rt: &HostRuntime, text: &[u8]) -> Result<(), Ending> {
         return Err(Ending::Output);
     }
     Ok(())
+}
+
+/// Writes a file, whole.
+pub(crate) fn write_file(rt: &HostRuntime, path: &str, text: &[u8]) -> Result<(), Ending> {
+    let Err(error) = fs::write(rt, path, text) else {
+        return Ok(());
+    };
+    match format!(in rt.alloc(); "{path}: {error}") {
+        Ok(text) => Err(refused(&error, Ending::File(text))),
+        Err(_) => Err(Ending::Memory),
+    }
 }

@@ -1,0 +1,137 @@
+//! `open NETWORK --set FIELD=NODE:VALUE ..`: the network with other opening values.
+
+use crate::ending::Ending;
+use crate::files::{Text, text_at, text_where};
+use crate::output::write_out;
+use lab_words::{Openings, SetWord, openings_of};
+use link_net::{MOST_NODES, Name, NetFault, NetFile, read_network};
+use net_open::{Chosen, OpenFault, Opening, opened_text};
+use node_names::{NamesFileFault, NodeNames, read_names};
+use std::alloc::{AllocError, Global};
+use unison_words::number;
+
+/// The ending where a word names no node of the network.
+fn no_node(alloc: Global, word: &SetWord, named: bool) -> Result<Ending, AllocError> {
+    let found = word.node.as_str();
+    let field = word.field.as_str();
+    let kind = if named { "a name that stands in the file of names" } else { "a node's number" };
+    let text = format!(in alloc; "--set: {field}: expected {kind}, or *, found `{found}`")?;
+    Ok(Ending::Usage(text))
+}
+
+/// The number of the node that a word names, where it names one.
+fn node_in(names: &Option<NodeNames>, word: &str) -> Option<u32> {
+    match names {
+        Some(names) => names.number_of(word),
+        None => number(word, 0, MOST_NODES - 1),
+    }
+}
+
+/// The nodes that a word of `--set` names.
+fn nodes_of(alloc: Global, names: &Option<NodeNames>, word: &SetWord) -> Result<Chosen, Ending> {
+    if word.node.as_str() == "*" {
+        return Ok(Chosen::Every);
+    }
+    match node_in(names, word.node.as_str()) {
+        Some(node) => Ok(Chosen::One(node)),
+        None => Err(no_node(alloc, word, names.is_some())?),
+    }
+}
+
+/// The opening that a word of `--set` asks for.
+fn opening_of(
+    alloc: Global,
+    names: &Option<NodeNames>,
+    word: &SetWord,
+) -> Result<Opening, Ending> {
+    let nodes = nodes_of(alloc, names, word)?;
+    let field = Name::new(String::from_str(alloc, word.field.as_str())?);
+    Ok(Opening {
+        field,
+        nodes,
+        value: word.value,
+    })
+}
+
+/// Puts an opening behind the others.
+fn put_opening(openings: &mut Vec<Opening>, opening: Opening) -> Result<(), AllocError> {
+    openings.push(opening)?;
+    Ok(())
+}
+
+/// The openings that the words of `--set` ask for.
+fn all_openings(
+    alloc: Global,
+    names: &Option<NodeNames>,
+    words: &[SetWord],
+) -> Result<Vec<Opening>, Ending> {
+    let mut openings = Vec::with_capacity(alloc, words.len())?;
+    for word in words {
+        put_opening(&mut openings, opening_of(alloc, names, word)?)?;
+    }
+    Ok(openings)
+}
+
+/// The names that a text has.
+fn names_in(alloc: Global, text: &Text) -> Result<NodeNames, Ending> {
+    match read_names(alloc, text.bytes.as_slice()) {
+        Ok(names) => Ok(names),
+        Err(NamesFileFault::Memory) => Err(Ending::Memory),
+        Err(fault) => {
+            let name = text.name.as_str();
+            let told = format!(in alloc; "names\n{name}: {fault}")?;
+            Err(Ending::Refused(told))
+        }
+    }
+}
+
+/// The names by which nodes are called, where they are.
+fn names_at(rt: &HostRuntime, path: &Option<String>) -> Result<Option<NodeNames>, Ending> {
+    match text_where(rt, path)? {
+        Some(text) => Ok(Some(names_in(rt.alloc(), &text)?)),
+        None => Ok(None),
+    }
+}
+
+/// What a network file describes.
+fn file_at(rt: &HostRuntime, path: &str) -> Result<NetFile, Ending> {
+    let text = text_at(rt, path)?;
+    match read_network(rt.alloc(), text.bytes.as_slice()) {
+        Ok(file) => Ok(file),
+        Err(NetFault::Memory) => Err(Ending::Memory),
+        Err(fault) => Err(Ending::Network(fault)),
+    }
+}
+
+/// The ending where openings make no network file.
+fn no_opening(alloc: Global, fault: OpenFault) -> Result<Ending, AllocError> {
+    let text = match fault {
+        OpenFault::BadPhase => "--phase: expected 0, 1 or 2",
+        OpenFault::BadName =>
+            "--set: a field's name is one that a program can declare: letters, digits and _, no digit first, and no word of the language",
+        OpenFault::NoNode => "--set: the network has no node of this number",
+        OpenFault::BadSet =>
+            "--set: what the file gives this field is no opening: a number that is no node, a value above 4294967295, or a node twice",
+        OpenFault::Memory => return Ok(Ending::Memory),
+    };
+    Ok(Ending::Usage(String::from_str(alloc, text)?))
+}
+
+/// The network file that the words ask for.
+fn text_for(rt: &HostRuntime, asked: &Openings) -> Result<Vec<u8>, Ending> {
+    let file = file_at(rt, asked.network.as_str())?;
+    let names = names_at(rt, &asked.names)?;
+    let openings = all_openings(rt.alloc(), &names, asked.sets.as_slice())?;
+    match opened_text(rt.alloc(), &file, openings.as_slice(), asked.phase) {
+        Ok(text) => Ok(text),
+        Err(fault) => Err(no_opening(rt.alloc(), fault)?),
+    }
+}
+
+/// Prints the network with other opening values. The status with which the program ends.
+pub(crate) fn open_network(rt: &HostRuntime, words: &[String]) -> Result<u8, Ending> {
+    let asked = openings_of(rt.alloc(), words)?;
+    let text = text_for(rt, &asked)?;
+    write_out(rt, &text)?;
+    Ok(0)
+}
