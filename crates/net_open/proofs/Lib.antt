@@ -1,0 +1,5 @@
+mod Lookups
+mod Rebuilt
+mod PairCounts
+mod Relisted
+mod Rows
