@@ -3,3 +3,5 @@ mod Rebuilt
 mod PairCounts
 mod Relisted
 mod Rows
+mod Tables
+mod PutSets

@@ -1,1 +1,4 @@
 pub mod Ahead
+pub mod Opened
+pub mod Placed
+pub mod Texts

@@ -1,6 +1,15 @@
 //! Network files with other opening values.
 #![tactic(auto)]
 
+mod asking;
+mod fault;
+mod field_sets;
 mod network_links;
+mod opening;
+mod table;
+mod text;
 
+pub use fault::OpenFault;
 pub use network_links::listed;
+pub use opening::{Chosen, Opening};
+pub use text::opened_text;
