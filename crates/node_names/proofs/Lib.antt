@@ -1,5 +1,5 @@
 pub mod Texts
 pub mod Names
 mod FirstLines
-mod Refusals
+pub mod Refusals
 mod Whole

@@ -19,12 +19,12 @@ not_text bytes no-text =
     and_right (nat_lt 0 (length bytes) && nat_le (length bytes) most_name_bytes) (is_utf8 bytes && not (list_any is_control bytes))
     (and_left (is_utf8 bytes) (not (list_any is_control bytes)) (false_from_ne_true (is_utf8 bytes) (λ text. no-text (IsUtf8-from_is_utf8 bytes text))))
 
-bad_when : (a b : Bool) (i : ℕ) → (if not a then Err BadName else if b then Ok i else Err TooManyNames) ≡ Err BadName → a ≡ false
+pub bad_when : (a b : Bool) (i : ℕ) → (if not a then Err BadName else if b then Ok i else Err TooManyNames) ≡ Err BadName → a ≡ false
 bad_when true true i h = grind (arith, h)
 bad_when true false i h = grind (arith, h)
 bad_when false b i h = refl
 
-full_when : (a b : Bool) (i : ℕ) → (if not a then Err BadName else if b then Ok i else Err TooManyNames) ≡ Err TooManyNames → (a ≡ true) × (b ≡ false)
+pub full_when : (a b : Bool) (i : ℕ) → (if not a then Err BadName else if b then Ok i else Err TooManyNames) ≡ Err TooManyNames → (a ≡ true) × (b ≡ false)
 full_when true true i h = grind (arith, h)
 full_when true false i h = (refl, refl)
 full_when false b i h = grind (arith, h)

@@ -1,0 +1,4 @@
+mod Stable
+mod NameFaults
+mod Lists
+mod Steps

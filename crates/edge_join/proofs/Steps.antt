@@ -1,0 +1,39 @@
+-- One more edge.
+use Rattle.std.proofs.Common.{◌≡◌, ℕ, ◌+◌, ◌<◌, Bool, false, List, [], ◌∷◌, ◌++◌, length, take, drop, get_or, refl, ap, sym, ◌∙◌, append_assoc, arith}
+use Rattle.std.specs.List.{AllByRecursion}
+use Rattle.std.specs.Str.{bytes_eq}
+use Rattle.std.proofs.lemmas.List.{drop_more, take_more, take-append-drop}
+use Rattle.net_text.specs.Listing.{Link}
+use Rattle.edge_text.specs.Named.{NamedEdge}
+use Rattle.edge_join.specs.Joining.{with_ends, names_with, names_of, link_in, links_with}
+use Rattle.edge_join.specs.Refusals.{AreStraight}
+use Rattle.edge_join.proofs.Stable.{names-push}
+
+straight-push : (es : List NamedEdge) (e : NamedEdge) → AreStraight es → bytes_eq e.first e.second ≡ false → AreStraight (es ++ e ∷ [])
+straight-push [] e all here = (here, tt)
+straight-push (d ∷ es) e all here = (all.0, straight-push es e all.1 here)
+
+module _ (edges : List NamedEdge) (i : ℕ) (e : NamedEdge) (low : i < length edges) (at : e ≡ get_or edges i e) where
+  from_here : drop i edges ≡ e ∷ drop (i + 1) edges
+  from_here = drop_more edges i e low ∙ ap (λ d. d ∷ drop (i + 1) edges) (sym at)
+
+  up_to_here : take (i + 1) edges ≡ take i edges ++ e ∷ []
+  up_to_here = take_more edges i e low ∙ ap (λ d. take i edges ++ d ∷ []) (sym at)
+
+  pub parted : edges ≡ take i edges ++ e ∷ drop (i + 1) edges
+  parted = sym (take-append-drop i edges) ∙ ap (λ rest. take i edges ++ rest) from_here
+
+  pub names_next : (names now : List (List ℕ)) → names ≡ names_of (take i edges) → now ≡ with_ends names e → now ≡ names_of (take (i + 1) edges)
+  names_next names now were is = is ∙ ap (λ ns. with_ends ns e) were ∙ sym (ap names_of up_to_here ∙ names-push [] (take i edges) e)
+
+  pub rest_next : (names now : List (List ℕ)) (all : List (List ℕ)) → names_with names (drop i edges) ≡ all → now ≡ with_ends names e → names_with now (drop (i + 1) edges) ≡ all
+  rest_next names now all were is = ap (λ ns. names_with ns (drop (i + 1) edges)) is ∙ sym (ap (names_with names) from_here) ∙ were
+
+  pub links_next : (names now : List (List ℕ)) (done more all : List Link) (link : Link) → done ++ links_with names (drop i edges) ≡ all → now ≡ with_ends names e → link ≡ link_in (with_ends names e) e → more ≡ done ++ link ∷ []
+      → more ++ links_with now (drop (i + 1) edges) ≡ all
+  links_next names now done more all link were is made put =
+      ap (λ ls. ls ++ links_with now (drop (i + 1) edges)) put ∙ append_assoc done (link ∷ []) (links_with now (drop (i + 1) edges))
+      ∙ (λ j. done ++ (made j ∷ links_with (is j) (drop (i + 1) edges))) ∙ sym (ap (λ es. done ++ links_with names es) from_here) ∙ were
+
+  pub straight_next : AreStraight (take i edges) → bytes_eq e.first e.second ≡ false → AreStraight (take (i + 1) edges)
+  straight_next were here = rw up_to_here (straight-push (take i edges) e were here)
