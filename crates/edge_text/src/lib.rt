@@ -1,7 +1,6 @@
 //! Edges that stand in a text, a line for each.
 #![tactic(auto)]
 
-<<<<<<< HEAD
 mod cuts;
 mod fault;
 mod line_edge;
@@ -14,8 +13,3 @@ mod words;
 pub use fault::{EdgeFault, LineFault};
 pub use named_edge::Edge;
 pub use reader::{Reading, read_edges};
-=======
-mod named_edge;
-
-pub use named_edge::Edge;
->>>>>>> db808bf (The network that edges between named nodes make)
