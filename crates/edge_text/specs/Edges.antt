@@ -16,7 +16,7 @@ most_bytes = 65536
 
 -- a control character other than TAB and CR
 abbrev pub is_control : ℕ → Bool
-is_control b = nat_lt b 32 && not (b == 9) && not (b == 13) || b == 127
+is_control b = (nat_lt b 32 && not (b == 9) && not (b == 13)) || b == 127
 
 -- the next step, at the value of a step that succeeds
 abbrev pub and_then : {A B E : Type 0} → Result A E → (A → Result B E) → Result B E
@@ -78,6 +78,6 @@ edges_of header text = edges_in (edge_lines header text)
 abbrev pub IsGiven : {A B E : Type 0} → (B → A) → Result A E → Result B E → Type 0
 IsGiven view defined r = MatchResult r (λ x. defined ≡ Ok (view x)) (λ fault. defined ≡ Err fault)
 
--- what was returned, seen by view, is the defined result, or stands for want of memory where that is no fault
+-- what was returned, seen by view, is the defined result, or stands for want of memory
 abbrev pub IsAnswer : {A B : Type 0} → (B → A) → Result A EdgeFault → Result B EdgeFault → Type 0
 IsAnswer view defined r = MatchResult r (λ x. defined ≡ Ok (view x)) (λ fault. fault ≢ Memory → defined ≡ Err fault)
