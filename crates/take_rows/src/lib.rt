@@ -4,6 +4,10 @@
 #[cfg(test)]
 mod edges;
 #[cfg(test)]
+mod joins;
+#[cfg(test)]
 mod names;
+#[cfg(test)]
+mod opens;
 #[cfg(test)]
 mod words;
