@@ -2,6 +2,7 @@
 #![tactic(auto)]
 
 mod asking;
+mod draw;
 mod fault;
 mod field_sets;
 mod network_links;
@@ -9,6 +10,7 @@ mod opening;
 mod table;
 mod text;
 
+pub use draw::{DrawFault, drawn_nodes};
 pub use fault::OpenFault;
 pub use network_links::listed;
 pub use opening::{Chosen, Opening};
