@@ -9,7 +9,7 @@ mod take;
 mod weights;
 
 pub use make::{Asked, Making, make_command, making_of};
-pub use open::{Openings, SetWord, open_command, openings_of};
+pub use open::{LotWord, Openings, SetWord, open_command, openings_of};
 pub use show::{show_command, shown_path};
 pub use take::{Taking, take_command, taking_of};
 pub use weights::Weights;

@@ -14,6 +14,15 @@ pub struct SetWord {
     pub value: u32,
 }
 
+/// A word of `--set-random FIELD=VALUE:COUNT`.
+#[derive(Debug, Drop)]
+pub struct LotWord {
+    pub field: String,
+    pub value: u32,
+    /// How many nodes are drawn.
+    pub count: u32,
+}
+
 /// What `open` is asked for.
 #[derive(Debug, Drop)]
 pub struct Openings {
@@ -22,13 +31,16 @@ pub struct Openings {
     /// The path of the names by which nodes are called, where they are.
     pub names: Option<String>,
     pub sets: Vec<SetWord>,
+    pub lots: Vec<LotWord>,
+    /// By what nodes are drawn; where none are, 0.
+    pub seed: u32,
     /// The phase in which all nodes open; where there is none, that of the file.
     pub phase: Option<u8>,
 }
 
 /// What stands behind the help of `open`.
 const EXAMPLE: &str =
-    "Prints the network with other opening values; where several give one to the same field and node, the last one counts.\nAn example: unison open examples/path.toml --set 'dist=*:9' --set dist=0:0 > opened.toml\n";
+    "Prints the network with other opening values; where several give one to the same field and node, the last one counts, and --set counts over --set-random.\nAn example: unison open examples/path.toml --set 'dist=*:9' --set dist=0:0 > opened.toml\n";
 
 /// `--set FIELD=NODE:VALUE`, as often as one likes.
 fn set_option<'a>(alloc: Global) -> Arg<'a> {
@@ -41,6 +53,29 @@ fn set_option<'a>(alloc: Global) -> Arg<'a> {
     .action(ArgAction::Append)
 }
 
+/// `--set-random FIELD=VALUE:COUNT`, as often as one likes.
+fn lot_option<'a>(alloc: Global) -> Result<Arg<'a>, AllocError> {
+    option(
+        alloc,
+        "set-random",
+        "FIELD=VALUE:COUNT",
+        "Give a field of so many nodes, drawn by the seed, its opening value; as often as wanted",
+    )
+    .action(ArgAction::Append)
+    .requires_arg("seed")
+}
+
+/// `--seed S`.
+fn seed_option<'a>(alloc: Global) -> Result<Arg<'a>, AllocError> {
+    option(
+        alloc,
+        "seed",
+        "S",
+        "The same seed draws the same nodes on every machine",
+    )
+    .requires_arg("set-random")
+}
+
 /// `open` with its options.
 pub fn open_command<'a>(alloc: Global) -> Result<Command<'a>, AllocError> {
     Command::new(alloc, "open")
@@ -49,6 +84,8 @@ pub fn open_command<'a>(alloc: Global) -> Result<Command<'a>, AllocError> {
         .after_help(EXAMPLE)
         .arg(network_argument(alloc))?
         .arg(set_option(alloc))?
+        .arg(lot_option(alloc)?)?
+        .arg(seed_option(alloc)?)?
         .arg(option(
             alloc,
             "names",
@@ -106,6 +143,60 @@ fn sets_in(alloc: Global, matches: &ArgMatches<'_>) -> Result<Vec<SetWord>, Usag
     Ok(sets)
 }
 
+/// What is told of a word that is none of `--set-random`.
+fn no_lot(alloc: Global, word: &str) -> UsageFault {
+    told(format!(in alloc;
+        "--set-random: expected FIELD=VALUE:COUNT, two whole numbers from 0 to 4294967295 behind the first =, found `{word}`"
+    ))
+}
+
+/// The parts of a word of `--set-random`.
+fn lot_parts(word: &str) -> Option<(&str, u32, u32)> {
+    let (field, rest) = word.split_once('=')?;
+    let (value, count) = rest.split_once(':')?;
+    let value = number(value, 0, 4_294_967_295)?;
+    let count = number(count, 0, 4_294_967_295)?;
+    Some((field, value, count))
+}
+
+/// The word of `--set-random`.
+fn lot_word(alloc: Global, word: &str) -> Result<LotWord, UsageFault> {
+    match lot_parts(word) {
+        Some((field, value, count)) => Ok(LotWord {
+            field: String::from_str(alloc, field)?,
+            value,
+            count,
+        }),
+        None => Err(no_lot(alloc, word)),
+    }
+}
+
+/// Puts a word behind the others.
+fn put_lot(lots: &mut Vec<LotWord>, word: LotWord) -> Result<(), AllocError> {
+    lots.push(word)?;
+    Ok(())
+}
+
+/// The words of `--set-random`, in their order.
+fn lots_in(alloc: Global, matches: &ArgMatches<'_>) -> Result<Vec<LotWord>, UsageFault> {
+    let mut lots = Vec::new(alloc);
+    for word in matches.get_strs("set-random").unwrap_or(&[]) {
+        put_lot(&mut lots, lot_word(alloc, word)?)?;
+    }
+    Ok(lots)
+}
+
+/// The seed that the words name, and 0 where they name none.
+fn seed_in(alloc: Global, matches: &ArgMatches<'_>) -> Result<u32, UsageFault> {
+    let text = matches.get_str("seed").unwrap_or("0");
+    match number(text, 0, 4_294_967_295) {
+        Some(seed) => Ok(seed),
+        None => Err(told(format!(in alloc;
+            "--seed: expected a whole number from 0 to 4294967295, found `{text}`"
+        ))),
+    }
+}
+
 /// The phase that the words ask for, where they ask for one.
 fn phase_in(alloc: Global, matches: &ArgMatches<'_>) -> Result<Option<u8>, UsageFault> {
     let text = match matches.get_str("phase") {
@@ -124,6 +215,8 @@ fn phase_in(alloc: Global, matches: &ArgMatches<'_>) -> Result<Option<u8>, Usage
 pub fn openings_of(alloc: Global, words: &[String]) -> Result<Openings, UsageFault> {
     let matches = matches_of(alloc, open_command(alloc)?, words)?;
     let phase = phase_in(alloc, &matches)?;
+    let seed = seed_in(alloc, &matches)?;
+    let lots = lots_in(alloc, &matches)?;
     let sets = sets_in(alloc, &matches)?;
     let names = text_of(alloc, &matches, "names")?;
     let network = path_of(alloc, &matches, "network")?;
@@ -131,6 +224,8 @@ pub fn openings_of(alloc: Global, words: &[String]) -> Result<Openings, UsageFau
         network,
         names,
         sets,
+        lots,
+        seed,
         phase,
     })
 }

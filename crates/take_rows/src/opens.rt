@@ -1,7 +1,7 @@
 //! Networks with other opening values.
 
 use link_net::{Name, NetFault, read_network};
-use net_open::{Chosen, OpenFault, Opening, opened_text};
+use net_open::{Chosen, DrawFault, OpenFault, Opening, drawn_nodes, opened_text};
 use std::alloc::{AllocError, AllocFailed, Global};
 use std::process::Abort;
 use std::test::Fail;
@@ -184,5 +184,51 @@ fn opening_where_memory_is_refused(rt: HostRuntime) -> Result<(), Fail> {
         | Err(NoFile::Openings(OpenFault::Memory)) => println!(rt; "memory")?,
         Err(fault) => return Err(Fail::new(format_args!("{fault:?}"))),
     }
+    Ok(())
+}
+
+/// How many nodes there are, how many are drawn, and whether they are.
+const DRAWS: [(u32, u32, bool); 6] = [
+    (1, 0, true),
+    (1, 1, true),
+    (10, 10, true),
+    (1_000, 50, true),
+    (10, 11, false),
+    (0, 1, false),
+];
+
+/// Asserts that so many different nodes are drawn.
+fn assert_drawn(rt: &impl Abort, drawn: &mut [u32], nodes: u32, count: u32) {
+    drawn.sort_unstable();
+    assert_eq!(rt; drawn.len(), count as usize);
+    assert!(rt; drawn.windows(2).all(|pair| pair[0] < pair[1]));
+    assert!(rt; drawn.iter().all(|node| *node < nodes));
+}
+
+#[test]
+fn nodes_drawn_by_lot(rt: HostRuntime) -> Result<(), Fail> {
+    for (nodes, count, fits) in &DRAWS {
+        match drawn_nodes(rt.alloc(), *nodes, *count, 7) {
+            Ok(mut drawn) => {
+                assert!(rt; *fits);
+                assert_drawn(&rt, drawn.as_mut_slice(), *nodes, *count);
+            }
+            Err(fault) => {
+                assert!(rt; !*fits);
+                assert_eq!(rt; fault, DrawFault::TooManyNodes);
+            }
+        }
+    }
+    Ok(())
+}
+
+/// The same seed draws the same nodes; another one others, of so many.
+#[test]
+fn seeds(rt: HostRuntime) -> Result<(), Fail> {
+    let first = drawn_nodes(rt.alloc(), 60_000, 20, 1)?;
+    let again = drawn_nodes(rt.alloc(), 60_000, 20, 1)?;
+    let other = drawn_nodes(rt.alloc(), 60_000, 20, 2)?;
+    assert!(rt; first.as_slice() == again.as_slice());
+    assert!(rt; first.as_slice() != other.as_slice());
     Ok(())
 }

@@ -1,6 +1,6 @@
 //! The words of `take` and `open`.
 
-use lab_words::{openings_of, taking_of};
+use lab_words::{LotWord, SetWord, openings_of, taking_of};
 use std::alloc::{AllocError, Global};
 use std::test::Fail;
 use unison_words::UsageFault;
@@ -44,6 +44,28 @@ fn words_of_take(rt: HostRuntime) -> Result<(), Fail> {
     Ok(())
 }
 
+/// Adds the words of `--set`.
+fn put_sets(text: &mut String, sets: &[SetWord]) -> Result<(), AllocError> {
+    for set in sets {
+        let field = set.field.as_str();
+        let node = set.node.as_str();
+        let value = set.value;
+        write!(text, "; {field} {node} {value}")?;
+    }
+    Ok(())
+}
+
+/// Adds the words of `--set-random`.
+fn put_lots(text: &mut String, lots: &[LotWord], seed: u32) -> Result<(), AllocError> {
+    for lot in lots {
+        let field = lot.field.as_str();
+        let value = lot.value;
+        let count = lot.count;
+        write!(text, "; {count} of {field} {value} by {seed}")?;
+    }
+    Ok(())
+}
+
 /// What `open` was asked for, as a text.
 fn openings(alloc: Global, words: &[&str]) -> Result<String, UsageFault> {
     let asked = openings_of(alloc, &owned(alloc, words)?)?;
@@ -51,17 +73,13 @@ fn openings(alloc: Global, words: &[&str]) -> Result<String, UsageFault> {
     let names = asked.names.as_ref().map_or("none", |path| path.as_str());
     let phase = asked.phase;
     let mut text = format!(in alloc; "{network}; {names}; {phase:?}")?;
-    for set in &asked.sets {
-        let field = set.field.as_str();
-        let node = set.node.as_str();
-        let value = set.value;
-        write!(&mut text, "; {field} {node} {value}")?;
-    }
+    put_sets(&mut text, asked.sets.as_slice())?;
+    put_lots(&mut text, asked.lots.as_slice(), asked.seed)?;
     Ok(text)
 }
 
 /// Words of `open`, and what they ask for.
-const OPENS: [(&[&str], &str); 4] = [
+const OPENS: [(&[&str], &str); 5] = [
     (&["open", "n.toml"], "n.toml; none; None"),
     (
         &["open", "n.toml", "--set", "dist=0:0", "--phase", "2"],
@@ -77,6 +95,17 @@ const OPENS: [(&[&str], &str); 4] = [
             "--names=f",
         ],
         "n.toml; f; None; dist * 9; dist a:b 7",
+    ),
+    (
+        &[
+            "open",
+            "n",
+            "--set-random",
+            "x=1:20",
+            "--seed=7",
+            "--set-random=y=2:0",
+        ],
+        "n; none; None; 20 of x 1 by 7; 0 of y 2 by 7",
     ),
     (
         &["open", "-", "--set", "x==:4294967295"],
@@ -104,7 +133,7 @@ fn tells(fault: Option<UsageFault>, wanted: &str) -> bool {
 }
 
 /// Wrong words of `open`, and a part of what is told of them.
-const WRONG: [(&[&str], &str); 6] = [
+const WRONG: [(&[&str], &str); 10] = [
     (&["open"], "<NETWORK>"),
     (&["open", "n", "--set", "dist"], "--set: expected FIELD=NODE:VALUE"),
     (&["open", "n", "--set", "dist=1"], "found `dist=1`"),
@@ -112,6 +141,19 @@ const WRONG: [(&[&str], &str); 6] = [
     (
         &["open", "n", "--set", "dist=1:4294967296"],
         "found `dist=1:4294967296`",
+    ),
+    (&["open", "n", "--set-random", "x=1:2"], "--seed <S>"),
+    (
+        &["open", "n", "--seed", "2"],
+        "--set-random <FIELD=VALUE:COUNT>",
+    ),
+    (
+        &["open", "n", "--set-random", "x=1", "--seed", "2"],
+        "--set-random: expected FIELD=VALUE:COUNT",
+    ),
+    (
+        &["open", "n", "--set-random", "x=1:2", "--seed", "a"],
+        "--seed: expected a whole number from 0 to 4294967295, found `a`",
     ),
     (
         &["open", "n", "--phase", "3"],

@@ -3,9 +3,9 @@
 use crate::ending::Ending;
 use crate::files::{Text, text_at, text_where};
 use crate::output::write_out;
-use lab_words::{Openings, SetWord, openings_of};
+use lab_words::{LotWord, Openings, SetWord, openings_of};
 use link_net::{MOST_NODES, Name, NetFault, NetFile, read_network};
-use net_open::{Chosen, OpenFault, Opening, opened_text};
+use net_open::{Chosen, DrawFault, OpenFault, Opening, drawn_nodes, opened_text};
 use node_names::{NamesFileFault, NodeNames, read_names};
 use std::alloc::{AllocError, Global};
 use unison_words::number;
@@ -59,17 +59,58 @@ fn put_opening(openings: &mut Vec<Opening>, opening: Opening) -> Result<(), Allo
     Ok(())
 }
 
-/// The openings that the words of `--set` ask for.
-fn all_openings(
+/// Puts the openings that the words of `--set` ask for.
+fn put_set(
+    openings: &mut Vec<Opening>,
     alloc: Global,
     names: &Option<NodeNames>,
     words: &[SetWord],
-) -> Result<Vec<Opening>, Ending> {
-    let mut openings = Vec::with_capacity(alloc, words.len())?;
+) -> Result<(), Ending> {
     for word in words {
-        put_opening(&mut openings, opening_of(alloc, names, word)?)?;
+        put_opening(openings, opening_of(alloc, names, word)?)?;
     }
-    Ok(openings)
+    Ok(())
+}
+
+/// The ending where no nodes are drawn.
+fn no_draw(alloc: Global, fault: DrawFault) -> Result<Ending, AllocError> {
+    match fault {
+        DrawFault::TooManyNodes => Ok(Ending::Usage(String::from_str(
+            alloc,
+            "--set-random: more nodes are asked for than the network has",
+        )?)),
+        DrawFault::Memory => Ok(Ending::Memory),
+    }
+}
+
+/// The opening that a word of `--set-random` asks for. The first word draws by the generator's seed that is 2 to the power
+/// of 32 greater than the one that is named, the next one by that which is so much greater again.
+fn drawn_opening(
+    alloc: Global,
+    nodes: u32,
+    word: &LotWord,
+    seed: u64,
+) -> Result<Opening, Ending> {
+    let drawn = match drawn_nodes(alloc, nodes, word.count, seed) {
+        Ok(drawn) => drawn,
+        Err(fault) => return Err(no_draw(alloc, fault)?),
+    };
+    let field = Name::new(String::from_str(alloc, word.field.as_str())?);
+    Ok(Opening {
+        field,
+        nodes: Chosen::These(drawn),
+        value: word.value,
+    })
+}
+
+/// Puts the openings that the words of `--set-random` ask for.
+fn put_drawn(openings: &mut Vec<Opening>, alloc: Global, nodes: u32, asked: &Openings) -> Result<(), Ending> {
+    let mut seed = asked.seed as u64;
+    for word in &asked.lots {
+        seed = seed.wrapping_add(4_294_967_296);
+        put_opening(openings, drawn_opening(alloc, nodes, word, seed)?)?;
+    }
+    Ok(())
 }
 
 /// The names that a text has.
@@ -121,7 +162,9 @@ fn no_opening(alloc: Global, fault: OpenFault) -> Result<Ending, AllocError> {
 fn text_for(rt: &HostRuntime, asked: &Openings) -> Result<Vec<u8>, Ending> {
     let file = file_at(rt, asked.network.as_str())?;
     let names = names_at(rt, &asked.names)?;
-    let openings = all_openings(rt.alloc(), &names, asked.sets.as_slice())?;
+    let mut openings = Vec::new(rt.alloc());
+    put_drawn(&mut openings, rt.alloc(), file.network().nodes(), asked)?;
+    put_set(&mut openings, rt.alloc(), &names, asked.sets.as_slice())?;
     match opened_text(rt.alloc(), &file, openings.as_slice(), asked.phase) {
         Ok(text) => Ok(text),
         Err(fault) => Err(no_opening(rt.alloc(), fault)?),

@@ -7,7 +7,7 @@ use edge_join::{JoinFault, Joined, join};
 use edge_text::{Edge, EdgeFault, LineFault, Reading, read_edges};
 use lab_words::{Taking, taking_of};
 use link_net::FieldSet;
-use net_text::write_network;
+use net_text::{LinkList, write_network};
 use node_names::names_text;
 use std::alloc::{AllocError, Global};
 
@@ -66,6 +66,12 @@ fn joined_of(alloc: Global, text: &Text, header: bool) -> Result<Joined, Ending>
     }
 }
 
+/// The network file of links, in phase 0, without opening values.
+fn network_text(alloc: Global, list: &LinkList) -> Result<Vec<u8>, AllocError> {
+    let none: Vec<FieldSet> = Vec::new(alloc);
+    write_network(alloc, list, 0, &none)
+}
+
 /// Writes the names into their file, where there is one.
 fn keep_names(rt: &HostRuntime, asked: &Taking, joined: &Joined) -> Result<(), Ending> {
     let Some(path) = &asked.names else {
@@ -81,8 +87,7 @@ pub(crate) fn take_network(rt: &HostRuntime, words: &[String]) -> Result<u8, End
     let asked = taking_of(rt.alloc(), words)?;
     let text = text_at(rt, asked.path.as_str())?;
     let joined = joined_of(rt.alloc(), &text, asked.header)?;
-    let none: Vec<FieldSet> = Vec::new(rt.alloc());
-    let network = write_network(rt.alloc(), &joined.list, 0, &none)?;
+    let network = network_text(rt.alloc(), &joined.list)?;
     keep_names(rt, &asked, &joined)?;
     write_out(rt, &network)?;
     Ok(0)
