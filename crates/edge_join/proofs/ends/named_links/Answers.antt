@@ -1,4 +1,4 @@
-use Rattle.std.proofs.Common.{◌+◌, take, drop, arith}
+use Rattle.std.proofs.Common.{◌+◌, take, drop}
 use Rattle.std.proofs.lemmas.Result.{err_from_is_err_and}
 use Rattle.edge_join.specs.Refusals.{IsFirstBadEdge}
 use Rattle.edge_join.proofs.Steps.{parted, names_next, rest_next, links_next, straight_next}
