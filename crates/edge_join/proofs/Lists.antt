@@ -1,5 +1,5 @@
 -- Lists of the links of edges.
-use Rattle.std.proofs.Common.{◌≡◌, ℕ, ◌+◌, ◌<◌, ◌≤◌, Bool, true, false, not, ◌||◌, nat_lt, List, [], ◌∷◌, ◌++◌, length, Result, Ok, Err, refl, ap, sym, ◌∙◌, arith, inl, inr, if◌then◌else◌}
+use Rattle.std.proofs.Common.{◌≡◌, ℕ, ◌<◌, ◌≤◌, Bool, true, false, not, ◌||◌, nat_lt, List, [], ◌∷◌, length, Result, Ok, Err, refl, arith, inl, inr, if◌then◌else◌}
 use Rattle.std.specs.List.{list_any, list_all}
 use Rattle.std.proofs.lemmas.Bool.{or_cases, ltb-true}
 use Rattle.std.proofs.lemmas.List.{length-append}
@@ -9,11 +9,11 @@ use Rattle.link_net.specs.Limits.{most_nodes, most_links}
 use Rattle.link_net.specs.Links.{is_self_link, has_link_twice}
 use Rattle.link_net.specs.Reading.{and_then, is_crowded}
 use Rattle.net_text.specs.Listing.{Link, Listing, listing_of, is_within}
-use Rattle.node_names.specs.Naming.{AreNames, has_name, place_in, with_name}
+use Rattle.node_names.specs.Naming.{AreNames, place_in, with_name}
 use Rattle.edge_text.specs.Named.{NamedEdge}
 use Rattle.edge_join.specs.declared.fault.JoinFault.{JoinFault}
 use Rattle.edge_join.specs.declared.fault.JoinFault.TheVariants.{NoEdges, BadName, TooManyNodes, SelfLoop, Double, TooManyLinks, TooManyNeighbours, Memory}
-use Rattle.edge_join.specs.Joining.{with_ends, names_with, names_of, links_of, list_of}
+use Rattle.edge_join.specs.Joining.{with_ends, names_of, links_of, list_of}
 use Rattle.edge_join.specs.Refusals.{IsRefusal, IsListFault, IsFirstBadEdge}
 use Rattle.edge_join.proofs.Stable.{has_with, all_grown}
 

@@ -198,9 +198,7 @@ fn shape_command<'a>(alloc: Global, words: &ShapeWords) -> Result<Command<'a>, A
 /// The subcommand of a shape with `--weights` and `--seed`, neither of which stands without the other.
 fn with_weights<'a>(alloc: Global, command: Command<'a>) -> Result<Command<'a>, AllocError> {
     let weights = weights_option(alloc).requires_arg("seed")?;
-    let seed = seed_option(alloc)
-        .required(false)
-        .requires_arg("weights")?;
+    let seed = seed_option(alloc).required(false).requires_arg("weights")?;
     command.arg(weights)?.arg(seed)
 }
 
@@ -233,9 +231,7 @@ pub fn make_command<'a>(alloc: Global) -> Result<Command<'a>, AllocError> {
 /// What is told of a number of a shape that is none.
 fn no_number(alloc: Global, matches: &ArgMatches<'_>, id: &str) -> UsageFault {
     let found = matches.get_str(id).unwrap_or("");
-    told(format!(in alloc;
-        "{id}: expected a whole number from 0 to 4294967295, found `{found}`"
-    ))
+    told(format!(in alloc; "{id}: expected a whole number from 0 to 4294967295, found `{found}`"))
 }
 
 /// A number of a shape.

@@ -205,9 +205,7 @@ fn phase_in(alloc: Global, matches: &ArgMatches<'_>) -> Result<Option<u8>, Usage
     };
     match number(text, 0, 2) {
         Some(phase) => Ok(Some(phase as u8)),
-        None => Err(told(
-            format!(in alloc; "--phase: expected 0, 1 or 2, found `{text}`"),
-        )),
+        None => Err(told(format!(in alloc; "--phase: expected 0, 1 or 2, found `{text}`"))),
     }
 }
 

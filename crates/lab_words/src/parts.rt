@@ -5,12 +5,7 @@ use std::alloc::{AllocError, Global};
 use unison_words::UsageFault;
 
 /// An argument, which has to be there.
-pub(crate) fn argument<'a>(
-    alloc: Global,
-    id: &'a str,
-    name: &'a str,
-    help: &'a str,
-) -> Arg<'a> {
+pub(crate) fn argument<'a>(alloc: Global, id: &'a str, name: &'a str, help: &'a str) -> Arg<'a> {
     Arg::new(alloc, id)
         .required(true)
         .value_name(name)

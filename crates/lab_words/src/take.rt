@@ -1,6 +1,6 @@
 //! The words of `take`: a format and a file.
 
-use crate::parts::{flag, option, argument, path_of, text_of};
+use crate::parts::{argument, flag, option, path_of, text_of};
 use clap::{Arg, ArgMatches, Command};
 use std::alloc::{AllocError, Global};
 use unison_words::{UsageFault, matches_of, wrong_words};
@@ -42,7 +42,9 @@ fn header_flag<'a>(alloc: Global) -> Arg<'a> {
 /// `edges FILE`.
 fn edges_command<'a>(alloc: Global) -> Result<Command<'a>, AllocError> {
     Command::new(alloc, "edges")
-        .about("Lines of two names and a weight, which may be left out; blanks, tabs or commas between, comments behind # or %")
+        .about(
+            "Lines of two names and a weight, which may be left out; blanks, tabs or commas between, comments behind # or %",
+        )
         .arg(argument(
             alloc,
             "file",

@@ -167,3 +167,32 @@ fn seeds(rt: HostRuntime) -> Result<(), Fail> {
     assert!(rt; first.as_slice() != other.as_slice());
     Ok(())
 }
+
+/// How many neighbours node 0 has in a tree of 400 nodes by preferential attachment.
+fn first_degree(alloc: Global, seed: u64) -> Result<u32, NoNetwork> {
+    let text = drawn_text(
+        alloc,
+        &Lot::Preferential {
+            nodes: 400,
+            each: 1,
+        },
+        seed,
+    )?;
+    let file = read_network(alloc, &text)?;
+    Ok(file.network().degree(0).unwrap_or(0))
+}
+
+/// Of 400 nodes that prefer those with many links some 20 are linked with node 0, for ten seeds 200 or so; where the later
+/// end of a link is always preferred, it is one for each seed; where all nodes are alike, some 7.
+#[test]
+fn preference(rt: HostRuntime) -> Result<(), Fail> {
+    let mut sum = 0u32;
+    for seed in 0..10 {
+        match first_degree(rt.alloc(), seed) {
+            Ok(degree) => sum = sum.saturating_add(degree),
+            Err(fault) => return Err(Fail::new(format_args!("{fault:?}"))),
+        }
+    }
+    assert!(rt; 120 <= sum && sum <= 400, "{sum}");
+    Ok(())
+}

@@ -78,7 +78,10 @@ fn assert_row(rt: &impl Abort, alloc: Global, row: &Row) -> Result<(), NoNetwork
     assert_eq!(rt; file.network().nodes(), *nodes, "{shape:?}");
     for node in 0..*nodes {
         let (least, most) = range_at(file.network(), node).unwrap_or((0, 0));
-        assert!(rt; *low <= least && most <= *high, "{shape:?}: {node} has {least} to {most}");
+        assert!(rt;
+            *low <= least && most <= *high,
+            "{shape:?}: {node} has {least} to {most}"
+        );
     }
     Ok(())
 }
@@ -127,5 +130,26 @@ fn one_weight(rt: HostRuntime) -> Result<(), Fail> {
 fn no_weight_lies_between(rt: HostRuntime) -> Result<(), Fail> {
     let fault = text_of(rt.alloc(), &Shape::Ring { nodes: 3 }, 9, 8).err();
     assert_eq!(rt; fault, Some(NoNetwork::Weight(WeightFault::NoWeight)));
+    Ok(())
+}
+
+/// The text of 780 links with weights of any size, by a seed.
+fn drawn_by(alloc: Global, seed: u64) -> Result<Vec<u8>, NoNetwork> {
+    let links = links_of(alloc, &Shape::Complete { nodes: 40 })?;
+    Ok(weighted_text(alloc, &links, 0, 4_294_967_295, seed)?)
+}
+
+/// Whether two seeds draw the same weights.
+fn draw_alike(alloc: Global, seed: u64, other: u64) -> Result<bool, NoNetwork> {
+    let first = drawn_by(alloc, seed)?;
+    let second = drawn_by(alloc, other)?;
+    Ok(first.as_slice() == second.as_slice())
+}
+
+/// The same seed draws the same weights; another one others, of so many.
+#[test]
+fn seeds_of_weights(rt: HostRuntime) -> Result<(), Fail> {
+    assert_eq!(rt; draw_alike(rt.alloc(), 7, 7), Ok(true));
+    assert_eq!(rt; draw_alike(rt.alloc(), 7, 8), Ok(false));
     Ok(())
 }

@@ -165,7 +165,15 @@ const WEIGHTS: [(&[&str], Weights, u32); 3] = [
         0,
     ),
     (
-        &["make", "random-tree", "20", "--seed", "3", "--weights", "4..4"],
+        &[
+            "make",
+            "random-tree",
+            "20",
+            "--seed",
+            "3",
+            "--weights",
+            "4..4",
+        ],
         Weights { low: 4, high: 4 },
         3,
     ),
@@ -175,7 +183,10 @@ const WEIGHTS: [(&[&str], Weights, u32); 3] = [
 fn words_of_weights(rt: HostRuntime) -> Result<(), Fail> {
     for (words, weights, seed) in &WEIGHTS {
         let asked = asked_in(rt.alloc(), words)?;
-        assert_eq!(rt; asked.map(|a| (a.weights, a.seed)), Some((Some(*weights), *seed)));
+        assert_eq!(rt;
+            asked.map(|a| (a.weights, a.seed)),
+            Some((Some(*weights), *seed))
+        );
     }
     Ok(())
 }

@@ -1,5 +1,5 @@
 -- What a network asks of links does not look at their weights.
-use Rattle.std.proofs.Common.{◌≡◌, ◌<◌, ◌≤◌, ℕ, ◌+◌, Bool, true, false, ◌||◌, nat_lt, List, [], ◌∷◌, ◌++◌, map, length, take, Ok, Err, refl, ap, sym, ◌∙◌, if◌then◌else◌, arith}
+use Rattle.std.proofs.Common.{◌≡◌, ◌≤◌, ℕ, Bool, true, false, ◌||◌, nat_lt, List, [], ◌∷◌, ◌++◌, map, length, Ok, Err, refl, ap, sym, ◌∙◌, if◌then◌else◌}
 use Rattle.std.specs.List.{list_any}
 use Rattle.std.proofs.lemmas.List.{length-map}
 use Rattle.std.proofs.lemmas.List.Elements.{filter_agree}
@@ -8,7 +8,7 @@ use Rattle.link_net.specs.Limits.{most_links, most_neighbours}
 use Rattle.link_net.specs.Neighbours.{numbers_below}
 use Rattle.link_net.specs.Links.{AllWithin, is_self_link, has_link_twice, joins, are_linked, linked_with}
 use Rattle.link_net.specs.Reading.{sound, is_crowded}
-use Rattle.net_text.specs.Listing.{Link, Listing, IsListing}
+use Rattle.net_text.specs.Listing.{Link, IsListing}
 use Rattle.net_weights.specs.Weights.{ends, AllBetween}
 
 -- a link with weight 0

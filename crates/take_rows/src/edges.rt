@@ -33,14 +33,22 @@ const READ: [Row; 12] = [
         &[("a", "b", 1, 3)],
     ),
     ("from to\n", true, &[]),
-    ("a a 0\na a 0\n", false, &[("a", "a", 0, 1), ("a", "a", 0, 2)]),
+    (
+        "a a 0\na a 0\n",
+        false,
+        &[("a", "a", 0, 1), ("a", "a", 0, 2)],
+    ),
     (
         "Zoë 東京 4294967295\n",
         false,
         &[("Zoë", "東京", 4_294_967_295, 1)],
     ),
     (",,a ,\t b,,007,\n", false, &[("a", "b", 7, 1)]),
-    ("1 2 3\n\"x\" #y\n", false, &[("1", "2", 3, 1), ("\"x\"", "#y", 1, 2)]),
+    (
+        "1 2 3\n\"x\" #y\n",
+        false,
+        &[("1", "2", 3, 1), ("\"x\"", "#y", 1, 2)],
+    ),
 ];
 
 /// Asserts that an edge is the wanted one.
@@ -119,21 +127,24 @@ fn texts_that_are_refused(rt: HostRuntime) -> Result<(), Fail> {
     Ok(())
 }
 
-/// A text, and so many bytes `b` behind it.
-fn long_text(alloc: Global, begin: &str, count: usize) -> Result<Vec<u8>, AllocError> {
-    let mut text = Vec::with_capacity(alloc, begin.len() + count)?;
+/// A text of so many bytes, bytes `b` behind what it begins with.
+fn long_text(alloc: Global, begin: &str, length: usize) -> Result<Vec<u8>, AllocError> {
+    let mut text = Vec::new(alloc);
     text.extend_from_slice(begin.as_bytes())?;
-    text.resize(begin.len() + count, b'b')?;
+    text.resize(length, b'b')?;
     Ok(text)
 }
 
 /// A line has 65,536 bytes at most, a comment as many as it likes.
 #[test]
 fn long_lines(rt: HostRuntime) -> Result<(), Fail> {
-    let fits = long_text(rt.alloc(), "a ", 65_534)?;
+    let fits = long_text(rt.alloc(), "a ", 65_536)?;
     assert_eq!(rt; bad_line(rt.alloc(), fits.as_slice()), None);
-    let long = long_text(rt.alloc(), "a ", 65_535)?;
-    assert_eq!(rt; bad_line(rt.alloc(), long.as_slice()), Some((1, LineFault::LongLine)));
+    let long = long_text(rt.alloc(), "a ", 65_537)?;
+    assert_eq!(rt;
+        bad_line(rt.alloc(), long.as_slice()),
+        Some((1, LineFault::LongLine))
+    );
     let comment = long_text(rt.alloc(), "# ", 1_000_000)?;
     assert_eq!(rt; bad_line(rt.alloc(), comment.as_slice()), None);
     Ok(())

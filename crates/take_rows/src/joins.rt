@@ -3,7 +3,7 @@
 use edge_join::{JoinFault, Joined, join};
 use edge_text::{EdgeFault, Reading, read_edges};
 use link_net::FieldSet;
-use net_text::write_network;
+use net_text::{LinkList, write_network};
 use node_names::names_text;
 use std::alloc::{AllocError, Global};
 use std::process::Abort;
@@ -68,6 +68,12 @@ const ROWS: [Row; 4] = [
     ),
 ];
 
+/// The network file of links, in phase 0, without opening values.
+fn network_text(alloc: Global, list: &LinkList) -> Result<Vec<u8>, AllocError> {
+    let none: Vec<FieldSet> = Vec::new(alloc);
+    write_network(alloc, list, 0, &none)
+}
+
 /// Asserts that a network has the names and the links of a row.
 fn assert_joined(
     rt: &impl Abort,
@@ -76,8 +82,7 @@ fn assert_joined(
     row: &Row,
 ) -> Result<(), NoNetwork> {
     let (text, names, network) = row;
-    let none: Vec<FieldSet> = Vec::new(alloc);
-    let written = write_network(alloc, &joined.list, 0, &none)?;
+    let written = network_text(alloc, &joined.list)?;
     assert!(rt; written.as_slice() == network.as_bytes(), "{text}");
     let written = names_text(alloc, &joined.names)?;
     assert!(rt; written.as_slice() == names.as_bytes(), "{text}");
@@ -108,6 +113,25 @@ fn network_of_edges_where_memory_is_refused(rt: HostRuntime) -> Result<(), Fail>
         | Err(NoNetwork::Text(EdgeFault::Memory))
         | Err(NoNetwork::Edges(JoinFault::Memory)) => println!(rt; "memory")?,
         Err(fault) => return Err(Fail::new(format_args!("{fault:?}"))),
+    }
+    Ok(())
+}
+
+/// Texts whose edges make no network, and why.
+const REFUSED: [(&str, JoinFault); 6] = [
+    ("", JoinFault::NoEdges),
+    ("# nothing\n", JoinFault::NoEdges),
+    ("a b\nc c\nd d\n", JoinFault::SelfLoop { line: 2 }),
+    ("a b\n\nb a\n", JoinFault::Double),
+    ("a b 1\nb c\na b 2\n", JoinFault::Double),
+    ("a b\na b\nc c\n", JoinFault::SelfLoop { line: 3 }),
+];
+
+#[test]
+fn edges_that_make_no_network(rt: HostRuntime) -> Result<(), Fail> {
+    for (text, fault) in &REFUSED {
+        let found = joined(rt.alloc(), text.as_bytes()).err();
+        assert_eq!(rt; found, Some(NoNetwork::Edges(*fault)), "{text}");
     }
     Ok(())
 }

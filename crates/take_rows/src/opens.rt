@@ -78,7 +78,8 @@ fn opened(
 }
 
 /// A network file of three nodes in a row, with opening values.
-const FILE: &str = "nodes = 3\nlinks = [[2, 1, 7], [0, 1]]\nphase = 1\n[set]\nb = [[2, 5], [0, 6]]\na = [[1, 1]]\n";
+const FILE: &str =
+    "nodes = 3\nlinks = [[2, 1, 7], [0, 1]]\nphase = 1\n[set]\nb = [[2, 5], [0, 6]]\na = [[1, 1]]\n";
 
 /// What is written before the opening values, but for the phase.
 const LINKS: &str = "links = [\n    [0, 1],\n    [1, 2, 7],\n]\nnodes = 3\n";
@@ -140,7 +141,8 @@ fn networks_with_other_openings(rt: HostRuntime) -> Result<(), Fail> {
 }
 
 /// A file whose entries are none: a node twice, a node that is not there, a value that is none.
-const BAD: &str = "nodes = 3\nlinks = []\n[set]\na = [[1, 1], [1, 1]]\nb = [[3, 0]]\nc = [[0, -1]]\nd = [[0, 0]]\n";
+const BAD: &str =
+    "nodes = 3\nlinks = []\n[set]\na = [[1, 1], [1, 1]]\nb = [[3, 0]]\nc = [[0, -1]]\nd = [[0, 0]]\n";
 
 /// What is refused of that file, the phase, and why.
 const REFUSED: [(&[Asked], Option<u8>, OpenFault); 8] = [
@@ -170,7 +172,8 @@ fn other_fields_stay(rt: HostRuntime) -> Result<(), Fail> {
         Ok(text) => text,
         Err(fault) => return Err(Fail::new(format_args!("{fault:?}"))),
     };
-    let wanted = "links = [\n]\nnodes = 3\nphase = 0\n\n[set]\na = [[1, 1], [1, 1]]\nb = [[3, 0]]\nc = [[0, -1]]\nd = [[0, 0], [2, 8]]\n";
+    let wanted =
+        "links = [\n]\nnodes = 3\nphase = 0\n\n[set]\na = [[1, 1], [1, 1]]\nb = [[3, 0]]\nc = [[0, -1]]\nd = [[0, 0], [2, 8]]\n";
     assert!(rt; text.as_slice() == wanted.as_bytes());
     Ok(())
 }

@@ -25,7 +25,10 @@ fn taking(alloc: Global, words: &[&str]) -> Result<String, UsageFault> {
 
 /// Words of `take`, and what they ask for.
 const TAKES: [(&[&str], &str); 3] = [
-    (&["take", "edges", "friends.txt"], "friends.txt; none; false"),
+    (
+        &["take", "edges", "friends.txt"],
+        "friends.txt; none; false",
+    ),
     (
         &["take", "edges", "-", "--names", "n", "--header"],
         "-; n; true",
@@ -135,7 +138,10 @@ fn tells(fault: Option<UsageFault>, wanted: &str) -> bool {
 /// Wrong words of `open`, and a part of what is told of them.
 const WRONG: [(&[&str], &str); 10] = [
     (&["open"], "<NETWORK>"),
-    (&["open", "n", "--set", "dist"], "--set: expected FIELD=NODE:VALUE"),
+    (
+        &["open", "n", "--set", "dist"],
+        "--set: expected FIELD=NODE:VALUE",
+    ),
     (&["open", "n", "--set", "dist=1"], "found `dist=1`"),
     (&["open", "n", "--set", "dist=1:x"], "found `dist=1:x`"),
     (

@@ -14,7 +14,11 @@ use unison_words::number;
 fn no_node(alloc: Global, word: &SetWord, named: bool) -> Result<Ending, AllocError> {
     let found = word.node.as_str();
     let field = word.field.as_str();
-    let kind = if named { "a name that stands in the file of names" } else { "a node's number" };
+    let kind = if named {
+        "a name that stands in the file of names"
+    } else {
+        "a node's number"
+    };
     let text = format!(in alloc; "--set: {field}: expected {kind}, or *, found `{found}`")?;
     Ok(Ending::Usage(text))
 }
@@ -39,11 +43,7 @@ fn nodes_of(alloc: Global, names: &Option<NodeNames>, word: &SetWord) -> Result<
 }
 
 /// The opening that a word of `--set` asks for.
-fn opening_of(
-    alloc: Global,
-    names: &Option<NodeNames>,
-    word: &SetWord,
-) -> Result<Opening, Ending> {
+fn opening_of(alloc: Global, names: &Option<NodeNames>, word: &SetWord) -> Result<Opening, Ending> {
     let nodes = nodes_of(alloc, names, word)?;
     let field = Name::new(String::from_str(alloc, word.field.as_str())?);
     Ok(Opening {
@@ -85,12 +85,7 @@ fn no_draw(alloc: Global, fault: DrawFault) -> Result<Ending, AllocError> {
 
 /// The opening that a word of `--set-random` asks for. The first word draws by the generator's seed that is 2 to the power
 /// of 32 greater than the one that is named, the next one by that which is so much greater again.
-fn drawn_opening(
-    alloc: Global,
-    nodes: u32,
-    word: &LotWord,
-    seed: u64,
-) -> Result<Opening, Ending> {
+fn drawn_opening(alloc: Global, nodes: u32, word: &LotWord, seed: u64) -> Result<Opening, Ending> {
     let drawn = match drawn_nodes(alloc, nodes, word.count, seed) {
         Ok(drawn) => drawn,
         Err(fault) => return Err(no_draw(alloc, fault)?),
@@ -104,7 +99,12 @@ fn drawn_opening(
 }
 
 /// Puts the openings that the words of `--set-random` ask for.
-fn put_drawn(openings: &mut Vec<Opening>, alloc: Global, nodes: u32, asked: &Openings) -> Result<(), Ending> {
+fn put_drawn(
+    openings: &mut Vec<Opening>,
+    alloc: Global,
+    nodes: u32,
+    asked: &Openings,
+) -> Result<(), Ending> {
     let mut seed = asked.seed as u64;
     for word in &asked.lots {
         seed = seed.wrapping_add(4_294_967_296);
@@ -149,7 +149,7 @@ fn no_opening(alloc: Global, fault: OpenFault) -> Result<Ending, AllocError> {
     let text = match fault {
         OpenFault::BadPhase => "--phase: expected 0, 1 or 2",
         OpenFault::BadName =>
-            "--set: a field's name is one that a program can declare: letters, digits and _, no digit first, and no word of the language",
+            "--set: a field's name is one that a program can declare: a letter, then letters, digits and _, and no word of the language",
         OpenFault::NoNode => "--set: the network has no node of this number",
         OpenFault::BadSet =>
             "--set: what the file gives this field is no opening: a number that is no node, a value above 4294967295, or a node twice",
