@@ -68,7 +68,7 @@ const SHAPES: [ShapeWords; 9] = [
     (
         "hypercube",
         "Nodes are linked whose numbers differ in one of D binary digits",
-        &[("D", "The number of digits, 16 at most")],
+        &[("D", "The number of digits, 15 at most")],
     ),
     (
         "grid",
