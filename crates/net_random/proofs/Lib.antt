@@ -4,3 +4,4 @@ mod Counting
 mod Walks
 mod Growing
 mod Choices
+mod TrialLinks

@@ -3,8 +3,8 @@ use Rattle.std.proofs.Common.{◌≡◌, ◌≤◌, Bool, true, false, ◌||◌,
 use Rattle.std.proofs.lemmas.Bool.Decides.{nat_tests}
 use Rattle.link_net.specs.Limits.{most_nodes, most_links}
 use Rattle.net_random.specs.declared.lot.Lot.{Lot}
-use Rattle.net_random.specs.declared.fault.LotFault.TheVariants.{NodeCount, TooManyLinks}
-use Rattle.net_random.specs.Lots.{node_count, pair_count, link_count}
+use Rattle.net_random.specs.declared.fault.LotFault.TheVariants.{NodeCount, TooManyLinks, OddEnds}
+use Rattle.net_random.specs.Lots.{node_count, pair_count, link_count, has_odd_ends}
 use Rattle.net_random.specs.Sizes.{refusal_of}
 
 pub record IsSized (lot : Lot) : Type 0 where
@@ -13,14 +13,14 @@ pub record IsSized (lot : Lot) : Type 0 where
   pub few : link_count lot ≤ most_links
   pub room : link_count lot ≤ pair_count (node_count lot)
 
-passed : (a b : Bool) → (if a then Some NodeCount else if b then Some TooManyLinks else None) ≡ None → (a ≡ false) × (b ≡ false)
-passed true b h = cc
-passed false true h = cc
-passed false false h = (refl, refl)
+passed : (a b c : Bool) → (if a then Some NodeCount else if b then Some TooManyLinks else if c then Some OddEnds else None) ≡ None → (a ≡ false) × (b ≡ false)
+passed true b c h = cc
+passed false true c h = cc
+passed false false c h = (refl, refl)
 
 pub sized : (lot : Lot) → refusal_of lot ≡ None → IsSized lot
 sized lot h =
-    let p = passed (nat_lt (node_count lot) 1 || nat_lt most_nodes (node_count lot)) (nat_lt most_links (link_count lot) || nat_lt (pair_count (node_count lot)) (link_count lot)) h in
+    let p = passed (nat_lt (node_count lot) 1 || nat_lt most_nodes (node_count lot)) (nat_lt most_links (link_count lot) || nat_lt (pair_count (node_count lot)) (link_count lot)) (has_odd_ends lot) h in
     let none = p.0 in
     let all = p.1 in
     record {

@@ -1,8 +1,8 @@
 -- Lots: what is drawn.
-use Rattle.std.specs.Prelude.{◌≡◌, ◌<◌, ◌≤◌, ◌-◌, ◌*◌, ◌/◌, ◌==◌, min, ℕ, ⊤, Bool, true, false, ◌&&◌, List, [], ◌∷◌, length}
+use Rattle.std.specs.Prelude.{◌≡◌, ◌<◌, ◌≤◌, ◌-◌, ◌*◌, ◌/◌, ◌%◌, ◌==◌, min, ℕ, ⊤, Bool, true, false, ◌&&◌, List, [], ◌∷◌, length}
 use Rattle.std.specs.List.{list_any, sum_by, AllByRecursion}
-use Rattle.link_net.specs.Links.{AllWithin, is_self_link, has_link_twice, are_linked, linked_with}
-use Rattle.link_net.specs.Neighbours.{numbers_below}
+use Rattle.link_net.specs.Links.{AllWithin, is_self_link, has_link_twice, are_linked, linked_with, network_of}
+use Rattle.link_net.specs.Neighbours.{numbers_below, degree}
 use Rattle.net_text.specs.Listing.{Link}
 use Rattle.net_random.specs.declared.lot.Lot.{Lot}
 
@@ -11,6 +11,8 @@ abbrev pub node_count : Lot → ℕ
 node_count (Lot.Random n k) = n
 node_count (Lot.Tree n) = n
 node_count (Lot.Preferential n e) = n
+node_count (Lot.Regular n d) = n
+node_count (Lot.SmallWorld n k p) = n
 
 -- how many pairs of different nodes there are among n
 abbrev pub pair_count : ℕ → ℕ
@@ -25,6 +27,19 @@ abbrev pub link_count : Lot → ℕ
 link_count (Lot.Random n k) = k
 link_count (Lot.Tree n) = n - 1
 link_count (Lot.Preferential n e) = grown_count e n
+link_count (Lot.Regular n d) = n * d / 2
+link_count (Lot.SmallWorld n k p) = n * k
+
+-- the lot asks for an odd number of ends of links
+abbrev pub has_odd_ends : Lot → Bool
+has_odd_ends (Lot.Regular n d) = n % 2 == 1 && d % 2 == 1
+has_odd_ends lot = false
+
+-- the lot's links are drawn by trial: they are changed one by one
+abbrev pub is_by_trial : Lot → Bool
+is_by_trial (Lot.Regular n d) = true
+is_by_trial (Lot.SmallWorld n k p) = true
+is_by_trial lot = false
 
 -- each link has weight 1 and joins two different nodes below n, and no two links join the same nodes
 pub record AreSimpleLinks (n : ℕ) (links : List Link) : Type 0 where
@@ -42,6 +57,17 @@ abbrev pub HasBack : Lot → List Link → Type 0
 HasBack (Lot.Random n k) links = ⊤
 HasBack (Lot.Tree n) links = AreLinkedBack 1 n links
 HasBack (Lot.Preferential n e) links = AreLinkedBack e n links
+HasBack lot links = ⊤
+
+-- how many neighbours a node of the lot may have
+abbrev pub IsDegree : Lot → ℕ → Type 0
+IsDegree (Lot.Regular n d) k = k ≡ d
+IsDegree (Lot.SmallWorld n near p) k = near ≤ k
+IsDegree lot k = ⊤
+
+-- each node below n has as many neighbours as the lot says
+abbrev pub HasDegrees : Lot → List Link → Type 0
+HasDegrees lot links = (u : ℕ) → u < node_count lot → IsDegree lot (degree (network_of (node_count lot) links) u)
 
 -- each node of the walk is linked with the one before it, the first with u, and the last node is 0
 abbrev pub is_walk : List Link → ℕ → List ℕ → Bool
@@ -57,10 +83,12 @@ abbrev pub IsConnected : Lot → List Link → Type 0
 IsConnected (Lot.Random n k) links = ⊤
 IsConnected (Lot.Tree n) links = AllReach n links
 IsConnected (Lot.Preferential n e) links = 1 ≤ e → AllReach n links
+IsConnected lot links = ⊤
 
 -- the links may be drawn by the lot
 pub record HasLot (lot : Lot) (links : List Link) : Type 0 where
   pub count : length links ≡ link_count lot
   pub simple : AreSimpleLinks (node_count lot) links
   pub back : HasBack lot links
+  pub degrees : HasDegrees lot links
   pub connected : IsConnected lot links

@@ -14,9 +14,15 @@ pub enum LotFault {
     /// There are to be more than 262,144 links, or more than there are pairs of nodes.
     #[error("TooManyLinks")]
     TooManyLinks,
+    /// A regular network of an odd number of nodes, each with an odd number of neighbours: links have two ends.
+    #[error("OddEnds")]
+    OddEnds,
     /// A node of the links that were drawn has more than 4,096 neighbours.
     #[error("TooManyNeighbours")]
     TooManyNeighbours,
+    /// Links that were drawn by trial are not the lot's; another seed may draw such ones.
+    #[error("Undrawn")]
+    Undrawn,
     /// Memory ran out.
     #[error("Memory")]
     Memory,

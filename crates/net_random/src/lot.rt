@@ -11,4 +11,11 @@ pub enum Lot {
     /// linked with so many different ones before it, or with all of them while they are fewer, each drawn in proportion to
     /// the links that it has.
     Preferential { nodes: u32, each: u32 },
+    /// A regular network, each node with so many neighbours: links round a ring, whose ends are exchanged ten times for each
+    /// link, where that makes no loop and no double.
+    Regular { nodes: u32, degree: u32 },
+    /// A small world, as Watts and Strogatz described it in 1998: nodes round a ring, each linked with so many that follow it;
+    /// then each link's second end is led, `rewire` times in a hundred, to a node that is drawn, where one is found that makes
+    /// no loop and no double.
+    SmallWorld { nodes: u32, near: u32, rewire: u32 },
 }

@@ -1,7 +1,7 @@
 //! How large lots are.
 ghost use Rattle.std.specs.Prelude.{◌≡◌, ◌≤◌};
 ghost use Rattle.link_net.specs.Limits.{most_nodes};
-ghost use Rattle.net_random.specs.Lots.{node_count, pair_count, grown_count, link_count};
+ghost use Rattle.net_random.specs.Lots.{node_count, pair_count, grown_count, link_count, has_odd_ends, is_by_trial};
 ghost use Rattle.net_random.specs.Sizes.{refusal_of};
 
 use crate::{Lot, LotFault};
@@ -24,6 +24,8 @@ pub(crate) fn node_count(lot: &Lot) -> u32
         Lot::Random { nodes, .. } => nodes,
         Lot::Tree { nodes } => nodes,
         Lot::Preferential { nodes, .. } => nodes,
+        Lot::Regular { nodes, .. } => nodes,
+        Lot::SmallWorld { nodes, .. } => nodes,
     }
 }
 
@@ -40,7 +42,7 @@ pub(crate) fn grown_count(nodes: u32, each: u32) -> u64
 }
 
 /// How many links the lot has.
-fn link_count(lot: &Lot) -> u64
+pub(crate) fn link_count(lot: &Lot) -> u64
     requires some { 1 ≤ node_count lot.now }
     requires small { node_count lot.now ≤ most_nodes }
     ensures { result ≡ link_count lot.now }
@@ -49,6 +51,25 @@ fn link_count(lot: &Lot) -> u64
         Lot::Random { links, .. } => links as u64,
         Lot::Tree { nodes } => nodes as u64 - 1,
         Lot::Preferential { nodes, each } => grown_count(nodes, each),
+        Lot::Regular { nodes, degree } => nodes as u64 * degree as u64 / 2,
+        Lot::SmallWorld { nodes, near, .. } => nodes as u64 * near as u64,
+    }
+}
+
+/// Whether the lot's links are drawn by trial.
+pub(crate) fn is_by_trial(lot: &Lot) -> bool
+    ensures { result ≡ is_by_trial lot.now }
+{
+    matches!(*lot, Lot::Regular { .. } | Lot::SmallWorld { .. })
+}
+
+/// Whether the lot asks for an odd number of ends of links.
+fn has_odd_ends(lot: &Lot) -> bool
+    ensures { result ≡ has_odd_ends lot.now }
+{
+    match *lot {
+        Lot::Regular { nodes, degree } => nodes % 2 == 1 && degree % 2 == 1,
+        _ => false,
     }
 }
 
@@ -63,6 +84,9 @@ pub(crate) fn refusal(lot: &Lot) -> Option<LotFault>
     let links = link_count(lot);
     if links > MOST_LINKS as u64 || links > pair_count(nodes) {
         return Some(LotFault::TooManyLinks);
+    }
+    if has_odd_ends(lot) {
+        return Some(LotFault::OddEnds);
     }
     None
 }

@@ -10,9 +10,9 @@ random_links-requires-clause-room c = (sized (Lot.Random c.in-Random.nodes c.in-
 pub returns-in-Tree : goal.returns-in-Tree
 returns-in-Tree c =
     let size = sized (Lot.Tree c.in-Tree.nodes) (rw c.in-Tree.is at c.requires) in
-    rw c.in-Tree.is (IfOk-weaker c.tree_links.result _ _ (λ v e. tree_has c.in-Tree.nodes v.items size.some e) c.tree_links.ensures)
+    rw c.in-Tree.is (IfOk-weaker c.tree_links.result _ _ (λ v e trial. tree_has c.in-Tree.nodes v.items size.some e) c.tree_links.ensures)
 
 pub returns-in-Preferential : goal.returns-in-Preferential
 returns-in-Preferential c =
     rw c.in-Preferential.is
-    (IfOk-weaker c.preferential_links.result _ _ (λ v e. preferential_has c.in-Preferential.nodes c.in-Preferential.each v.items e) c.preferential_links.ensures)
+    (IfOk-weaker c.preferential_links.result _ _ (λ v e trial. preferential_has c.in-Preferential.nodes c.in-Preferential.each v.items e) c.preferential_links.ensures)

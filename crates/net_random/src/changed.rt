@@ -1,0 +1,98 @@
+//! Links that are changed one by one, none of them twice.
+
+use indexmap::IndexSet;
+use link_net::Link;
+use std::alloc::{AllocError, Global};
+
+/// Links, and the pairs of nodes that they join, the lower node first.
+#[derive(Drop)]
+pub(crate) struct Changed {
+    links: Vec<Link>,
+    pairs: IndexSet<(u32, u32)>,
+}
+
+/// The two ends, the lower one first.
+fn pair(link: Link) -> (u32, u32) {
+    (link.0.min(link.1), link.0.max(link.1))
+}
+
+/// The pairs that links join.
+fn pairs_of(alloc: Global, links: &[Link]) -> Result<IndexSet<(u32, u32)>, AllocError> {
+    let mut pairs = IndexSet::new(alloc);
+    for link in links {
+        pairs.insert(pair(*link))?;
+    }
+    Ok(pairs)
+}
+
+impl Changed {
+    /// These links, unchanged.
+    pub(crate) fn new(alloc: Global, links: Vec<Link>) -> Result<Changed, AllocError> {
+        let pairs = pairs_of(alloc, links.as_slice())?;
+        Ok(Changed { links, pairs })
+    }
+
+    /// How many links there are.
+    pub(crate) fn len(&self) -> usize {
+        self.links.len()
+    }
+
+    /// The links.
+    pub(crate) fn into_links(self) -> Vec<Link> {
+        self.links
+    }
+
+    /// Whether a link may be put: it joins two different nodes that none joins.
+    fn is_free(&self, link: Link) -> bool {
+        link.0 != link.1 && !self.pairs.contains(&pair(link))
+    }
+
+    /// Puts a link in place of another.
+    fn put(&mut self, place: usize, link: Link) -> Result<(), AllocError> {
+        let Some(here) = self.links.get_mut(place) else {
+            return Ok(());
+        };
+        self.pairs.swap_remove(&pair(*here));
+        *here = link;
+        self.pairs.insert(pair(link))?;
+        Ok(())
+    }
+
+    /// Leads a link's second end to another node, where that makes no loop and no double. Whether it did.
+    pub(crate) fn lead(&mut self, place: usize, node: u32) -> Result<bool, AllocError> {
+        let Some(here) = self.links.get(place) else {
+            return Ok(false);
+        };
+        let link = (here.0, node, 1);
+        if !self.is_free(link) {
+            return Ok(false);
+        }
+        self.put(place, link)?;
+        Ok(true)
+    }
+
+    /// Exchanges the second ends of two links, the other one turned round first where that is said, where that makes no loop
+    /// and no double.
+    pub(crate) fn exchange(
+        &mut self,
+        place: usize,
+        other: usize,
+        turned: bool,
+    ) -> Result<(), AllocError> {
+        let (Some(one), Some(two)) = (self.links.get(place), self.links.get(other)) else {
+            return Ok(());
+        };
+        let (start, end) = if turned {
+            (two.1, two.0)
+        } else {
+            (two.0, two.1)
+        };
+        let first = (one.0, end, 1);
+        let second = (start, one.1, 1);
+        if self.is_free(first) && self.is_free(second) {
+            self.put(place, first)?;
+            self.put(other, second)?;
+        }
+        Ok(())
+    }
+}
