@@ -1,0 +1,4 @@
+mod BoardSteps
+mod LineSteps
+mod LongNumbers
+mod RowCells

@@ -1,0 +1,5 @@
+pub mod Cells
+pub mod Placing
+pub mod Rle
+pub mod Steps
+pub mod Texts
