@@ -1,0 +1,5 @@
+pub mod RowLines
+pub mod RowFronts
+pub mod FirstNames
+pub mod Tables
+pub mod Reports

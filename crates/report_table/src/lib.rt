@@ -1,0 +1,16 @@
+//! Reports and replay reports that are read without their program, and shown with the names of nodes.
+#![tactic(auto)]
+
+mod fault;
+mod first_line;
+mod laws;
+mod reader;
+mod row;
+mod row_reader;
+mod table;
+
+pub use fault::TableFault;
+pub use laws::reports_are_tables;
+pub use reader::read_table;
+pub use row::Row;
+pub use table::Table;
