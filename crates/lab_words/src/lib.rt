@@ -2,6 +2,7 @@
 #![tactic(auto)]
 
 mod make;
+mod names;
 mod open;
 mod parts;
 mod show;
@@ -9,7 +10,8 @@ mod take;
 mod weights;
 
 pub use make::{Asked, Making, make_command, making_of};
-pub use open::{LotWord, Openings, SetWord, open_command, openings_of};
+pub use names::{Naming, names_command, naming_of};
+pub use open::{CellsWord, LotWord, Openings, SetWord, open_command, openings_of};
 pub use show::{show_command, shown_path};
 pub use take::{Taking, take_command, taking_of};
 pub use weights::Weights;

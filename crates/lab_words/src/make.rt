@@ -6,7 +6,7 @@ use clap::{Arg, ArgAction, ArgMatches, Command};
 use net_random::Lot;
 use net_shapes::Shape;
 use std::alloc::{AllocError, Global};
-use unison_words::{UsageFault, matches_of, number_in, wrong_words};
+use unison_words::{UsageFault, matches_of, number, number_in, wrong_words};
 
 /// What network is asked for.
 #[derive(Clone, Copy, Debug, PartialEq, Eq)]
@@ -89,7 +89,7 @@ const SHAPES: [ShapeWords; 9] = [
 ];
 
 /// The words of each lot. Each has a seed, too.
-const LOTS: [ShapeWords; 3] = [
+const LOTS: [ShapeWords; 5] = [
     (
         "random",
         "M links, all sets of so many links alike",
@@ -103,6 +103,16 @@ const LOTS: [ShapeWords; 3] = [
     (
         "preferential",
         "Each node is linked with K before it, rather with those that have many links",
+        &[("N", "The number of nodes")],
+    ),
+    (
+        "regular",
+        "Each node has D neighbours",
+        &[("N", "The number of nodes")],
+    ),
+    (
+        "small-world",
+        "A ring whose nodes are linked with the K that follow them; then some links are led elsewhere",
         &[("N", "The number of nodes")],
     ),
 ];
@@ -151,6 +161,31 @@ fn links_each_option<'a>(alloc: Global) -> Arg<'a> {
     )
 }
 
+/// `--degree D`.
+fn degree_option<'a>(alloc: Global) -> Arg<'a> {
+    number_option(alloc, "degree", "D", "The number of neighbours of each node")
+}
+
+/// `--near K`.
+fn near_option<'a>(alloc: Global) -> Arg<'a> {
+    number_option(
+        alloc,
+        "near",
+        "K",
+        "The number of nodes that follow it round the ring with which a node is linked at first",
+    )
+}
+
+/// `--rewire PERCENT`.
+fn rewire_option<'a>(alloc: Global) -> Arg<'a> {
+    number_option(
+        alloc,
+        "rewire",
+        "PERCENT",
+        "How many of a hundred links are led to another node, 0 to 100",
+    )
+}
+
 /// `--seed S`.
 fn seed_option<'a>(alloc: Global) -> Arg<'a> {
     number_option(
@@ -180,6 +215,10 @@ fn with_options<'a>(
         "tree" => command.arg(arity_option(alloc)),
         "torus" => command.arg(diagonals_flag(alloc)),
         "random" => command.arg(links_option(alloc)),
+        "regular" => command.arg(degree_option(alloc)),
+        "small-world" => command
+            .arg(near_option(alloc))?
+            .arg(rewire_option(alloc)),
         "preferential" => command.arg(links_each_option(alloc)),
         _ => Ok(command),
     }
@@ -292,6 +331,28 @@ fn shape_in(alloc: Global, name: &str, matches: &ArgMatches<'_>) -> Result<Shape
     }
 }
 
+/// A part of a hundred.
+fn percent(alloc: Global, matches: &ArgMatches<'_>, id: &str) -> Result<u32, UsageFault> {
+    let found = matches.get_str(id).unwrap_or("");
+    match number(found, 0, 100) {
+        Some(percent) => Ok(percent),
+        None => Err(told(format!(in alloc;
+            "--{id}: expected a whole number from 0 to 100, found `{found}`"
+        ))),
+    }
+}
+
+/// A small world of so many nodes.
+fn small_world_in(alloc: Global, nodes: u32, matches: &ArgMatches<'_>) -> Result<Lot, UsageFault> {
+    let near = size(alloc, matches, "near")?;
+    let rewire = percent(alloc, matches, "rewire")?;
+    Ok(Lot::SmallWorld {
+        nodes,
+        near,
+        rewire,
+    })
+}
+
 /// The lot of this name, with the numbers of its words.
 fn lot_in(alloc: Global, name: &str, matches: &ArgMatches<'_>) -> Result<Lot, UsageFault> {
     let nodes = size(alloc, matches, "N")?;
@@ -304,13 +365,18 @@ fn lot_in(alloc: Global, name: &str, matches: &ArgMatches<'_>) -> Result<Lot, Us
             let each = size(alloc, matches, "links-each")?;
             Ok(Lot::Preferential { nodes, each })
         }
+        "regular" => {
+            let degree = size(alloc, matches, "degree")?;
+            Ok(Lot::Regular { nodes, degree })
+        }
+        "small-world" => small_world_in(alloc, nodes, matches),
         _ => Ok(Lot::Tree { nodes }),
     }
 }
 
 /// The network of this name, with the numbers of its words.
 fn making_in(alloc: Global, name: &str, matches: &ArgMatches<'_>) -> Result<Making, UsageFault> {
-    if let "random" | "random-tree" | "preferential" = name {
+    if let "random" | "random-tree" | "preferential" | "regular" | "small-world" = name {
         let lot = lot_in(alloc, name, matches)?;
         return Ok(Making::Lot(lot));
     }

@@ -2,6 +2,7 @@
 
 use crate::parts::{network_argument, option, path_of, text_of, told};
 use clap::{Arg, ArgAction, ArgMatches, Command};
+use link_net::MOST_NODES;
 use std::alloc::{AllocError, Global};
 use unison_words::{UsageFault, matches_of, number};
 
@@ -23,6 +24,18 @@ pub struct LotWord {
     pub count: u32,
 }
 
+/// A word of `--cells FIELD=FILE@X,Y`.
+#[derive(Debug, Drop)]
+pub struct CellsWord {
+    pub field: String,
+    /// The path of the pattern.
+    pub path: String,
+    /// The column of the grid where the pattern's first column stands, counted from 0.
+    pub column: u32,
+    /// The row of the grid where the pattern's first row stands, counted from 0.
+    pub row: u32,
+}
+
 /// What `open` is asked for.
 #[derive(Debug, Drop)]
 pub struct Openings {
@@ -32,6 +45,9 @@ pub struct Openings {
     pub names: Option<String>,
     pub sets: Vec<SetWord>,
     pub lots: Vec<LotWord>,
+    pub cells: Vec<CellsWord>,
+    /// How many columns the grid has in which patterns are put; where there are none, 1.
+    pub width: u32,
     /// By what nodes are drawn; where none are, 0.
     pub seed: u32,
     /// The phase in which all nodes open; where there is none, that of the file.
@@ -40,7 +56,7 @@ pub struct Openings {
 
 /// What stands behind the help of `open`.
 const EXAMPLE: &str =
-    "Prints the network with other opening values; where several give one to the same field and node, the last one counts, and --set counts over --set-random.\nAn example: unison open examples/path.toml --set 'dist=*:9' --set dist=0:0 > opened.toml\n";
+    "Prints the network with other opening values; where several give one to the same field and node, the last one counts; --set counts over --cells, and that over --set-random.\nAn example: unison open examples/path.toml --set 'dist=*:9' --set dist=0:0 > opened.toml\n";
 
 /// `--set FIELD=NODE:VALUE`, as often as one likes.
 fn set_option<'a>(alloc: Global) -> Arg<'a> {
@@ -76,6 +92,29 @@ fn seed_option<'a>(alloc: Global) -> Result<Arg<'a>, AllocError> {
     .requires_arg("set-random")
 }
 
+/// `--cells FIELD=FILE@X,Y`, as often as one likes.
+fn cells_option<'a>(alloc: Global) -> Result<Arg<'a>, AllocError> {
+    option(
+        alloc,
+        "cells",
+        "FIELD=FILE@X,Y",
+        "Give a field the opening value 1 where a pattern of cells, RLE or plain text, has a live one; its top left corner stands at column X and row Y of the grid; as often as wanted",
+    )
+    .action(ArgAction::Append)
+    .requires_arg("width")
+}
+
+/// `--width W`.
+fn width_option<'a>(alloc: Global) -> Result<Arg<'a>, AllocError> {
+    option(
+        alloc,
+        "width",
+        "W",
+        "How many columns the grid or torus has: node W * row + column stands at a column and a row",
+    )
+    .requires_arg("cells")
+}
+
 /// `open` with its options.
 pub fn open_command<'a>(alloc: Global) -> Result<Command<'a>, AllocError> {
     Command::new(alloc, "open")
@@ -86,6 +125,8 @@ pub fn open_command<'a>(alloc: Global) -> Result<Command<'a>, AllocError> {
         .arg(set_option(alloc))?
         .arg(lot_option(alloc)?)?
         .arg(seed_option(alloc)?)?
+        .arg(cells_option(alloc)?)?
+        .arg(width_option(alloc)?)?
         .arg(option(
             alloc,
             "names",
@@ -186,6 +227,63 @@ fn lots_in(alloc: Global, matches: &ArgMatches<'_>) -> Result<Vec<LotWord>, Usag
     Ok(lots)
 }
 
+/// What is told of a word that is none of `--cells`.
+fn no_cells(alloc: Global, word: &str) -> UsageFault {
+    told(format!(in alloc;
+        "--cells: expected FIELD=FILE@X,Y, with a column and a row from 0 to 65535 behind the last @, found `{word}`"
+    ))
+}
+
+/// The parts of a word of `--cells`: what stands before the first `=`, what follows up to the last `@`, and the two numbers
+/// behind it.
+fn cells_parts(word: &str) -> Option<(&str, &str, u32, u32)> {
+    let (field, rest) = word.split_once('=')?;
+    let (path, place) = rest.rsplit_once('@')?;
+    let (column, row) = place.split_once(',')?;
+    let column = number(column, 0, MOST_NODES - 1)?;
+    let row = number(row, 0, MOST_NODES - 1)?;
+    Some((field, path, column, row))
+}
+
+/// The word of `--cells`.
+fn cells_word(alloc: Global, word: &str) -> Result<CellsWord, UsageFault> {
+    match cells_parts(word) {
+        Some((field, path, column, row)) => Ok(CellsWord {
+            field: String::from_str(alloc, field)?,
+            path: String::from_str(alloc, path)?,
+            column,
+            row,
+        }),
+        None => Err(no_cells(alloc, word)),
+    }
+}
+
+/// Puts a word behind the others.
+fn put_cells(cells: &mut Vec<CellsWord>, word: CellsWord) -> Result<(), AllocError> {
+    cells.push(word)?;
+    Ok(())
+}
+
+/// The words of `--cells`, in their order.
+fn cells_in(alloc: Global, matches: &ArgMatches<'_>) -> Result<Vec<CellsWord>, UsageFault> {
+    let mut cells = Vec::new(alloc);
+    for word in matches.get_strs("cells").unwrap_or(&[]) {
+        put_cells(&mut cells, cells_word(alloc, word)?)?;
+    }
+    Ok(cells)
+}
+
+/// The width of the grid that the words name, and 1 where they name none.
+fn width_in(alloc: Global, matches: &ArgMatches<'_>) -> Result<u32, UsageFault> {
+    let text = matches.get_str("width").unwrap_or("1");
+    match number(text, 1, MOST_NODES) {
+        Some(width) => Ok(width),
+        None => Err(told(format!(in alloc;
+            "--width: expected a whole number from 1 to 65536, found `{text}`"
+        ))),
+    }
+}
+
 /// The seed that the words name, and 0 where they name none.
 fn seed_in(alloc: Global, matches: &ArgMatches<'_>) -> Result<u32, UsageFault> {
     let text = matches.get_str("seed").unwrap_or("0");
@@ -215,6 +313,8 @@ pub fn openings_of(alloc: Global, words: &[String]) -> Result<Openings, UsageFau
     let phase = phase_in(alloc, &matches)?;
     let seed = seed_in(alloc, &matches)?;
     let lots = lots_in(alloc, &matches)?;
+    let width = width_in(alloc, &matches)?;
+    let cells = cells_in(alloc, &matches)?;
     let sets = sets_in(alloc, &matches)?;
     let names = text_of(alloc, &matches, "names")?;
     let network = path_of(alloc, &matches, "network")?;
@@ -223,6 +323,8 @@ pub fn openings_of(alloc: Global, words: &[String]) -> Result<Openings, UsageFau
         names,
         sets,
         lots,
+        cells,
+        width,
         seed,
         phase,
     })
