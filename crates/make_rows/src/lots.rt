@@ -10,7 +10,7 @@ use std::test::Fail;
 type Row = (Lot, u32, Option<u32>);
 
 /// Lots of each kind.
-const LOTS: [Row; 7] = [
+const LOTS: [Row; 17] = [
     (Lot::Random { nodes: 1, links: 0 }, 0, None),
     (
         Lot::Random {
@@ -39,10 +39,94 @@ const LOTS: [Row; 7] = [
         294,
         Some(3),
     ),
+    (
+        Lot::Regular {
+            nodes: 1,
+            degree: 0,
+        },
+        0,
+        None,
+    ),
+    (
+        Lot::Regular {
+            nodes: 7,
+            degree: 0,
+        },
+        0,
+        None,
+    ),
+    (
+        Lot::Regular {
+            nodes: 2,
+            degree: 1,
+        },
+        1,
+        None,
+    ),
+    (
+        Lot::Regular {
+            nodes: 10,
+            degree: 3,
+        },
+        15,
+        None,
+    ),
+    (
+        Lot::Regular {
+            nodes: 20,
+            degree: 19,
+        },
+        190,
+        None,
+    ),
+    (
+        Lot::Regular {
+            nodes: 101,
+            degree: 4,
+        },
+        202,
+        None,
+    ),
+    (
+        Lot::SmallWorld {
+            nodes: 5,
+            near: 0,
+            rewire: 100,
+        },
+        0,
+        None,
+    ),
+    (
+        Lot::SmallWorld {
+            nodes: 9,
+            near: 4,
+            rewire: 100,
+        },
+        36,
+        None,
+    ),
+    (
+        Lot::SmallWorld {
+            nodes: 200,
+            near: 3,
+            rewire: 20,
+        },
+        600,
+        None,
+    ),
+    (
+        Lot::SmallWorld {
+            nodes: 50,
+            near: 2,
+            rewire: 100,
+        },
+        100,
+        None,
+    ),
 ];
 
 /// Sizes that no network has, and why.
-const REFUSED: [(Lot, LotFault); 6] = [
+const REFUSED: [(Lot, LotFault); 12] = [
     (Lot::Random { nodes: 0, links: 0 }, LotFault::NodeCount),
     (
         Lot::Random {
@@ -70,6 +154,51 @@ const REFUSED: [(Lot, LotFault); 6] = [
         Lot::Preferential {
             nodes: 65_536,
             each: 5,
+        },
+        LotFault::TooManyLinks,
+    ),
+    (
+        Lot::Regular {
+            nodes: 0,
+            degree: 0,
+        },
+        LotFault::NodeCount,
+    ),
+    (
+        Lot::Regular {
+            nodes: 20,
+            degree: 20,
+        },
+        LotFault::TooManyLinks,
+    ),
+    (
+        Lot::Regular {
+            nodes: 21,
+            degree: 3,
+        },
+        LotFault::OddEnds,
+    ),
+    (
+        Lot::SmallWorld {
+            nodes: 0,
+            near: 0,
+            rewire: 0,
+        },
+        LotFault::NodeCount,
+    ),
+    (
+        Lot::SmallWorld {
+            nodes: 8,
+            near: 4,
+            rewire: 10,
+        },
+        LotFault::TooManyLinks,
+    ),
+    (
+        Lot::SmallWorld {
+            nodes: 65_536,
+            near: 5,
+            rewire: 10,
         },
         LotFault::TooManyLinks,
     ),
@@ -114,12 +243,31 @@ fn assert_before(rt: &impl Abort, network: &Network, each: u32) {
     }
 }
 
+/// The least and the greatest number of neighbours that a node of the lot may have.
+fn degrees(lot: &Lot) -> (u32, u32) {
+    match *lot {
+        Lot::Regular { degree, .. } => (degree, degree),
+        Lot::SmallWorld { near, .. } => (near, 65_535),
+        _ => (0, 65_535),
+    }
+}
+
+/// Asserts that each node has as many neighbours as the lot says.
+fn assert_degrees(rt: &impl Abort, lot: &Lot, network: &Network) {
+    let (least, most) = degrees(lot);
+    for node in 0..network.nodes() {
+        let degree = network.degree(node).unwrap_or(65_536);
+        assert!(rt; least <= degree && degree <= most, "{lot:?}: node {node} has {degree}");
+    }
+}
+
 /// Asserts that the text of a lot, by this seed, reads to a network with the links that the row says.
 fn assert_row(rt: &impl Abort, alloc: Global, row: &Row, seed: u64) -> Result<(), NoNetwork> {
     let (lot, links, each) = row;
     let text = drawn_text(alloc, lot, seed)?;
     let file = read_network(alloc, &text)?;
     assert_eq!(rt; file.network().links(), *links, "{lot:?} by {seed}");
+    assert_degrees(rt, lot, file.network());
     if let Some(each) = each {
         assert_before(rt, file.network(), *each);
     }
@@ -194,5 +342,63 @@ fn preference(rt: HostRuntime) -> Result<(), Fail> {
         }
     }
     assert!(rt; 120 <= sum && sum <= 400, "{sum}");
+    Ok(())
+}
+
+/// How many of the links of a ring of 1,000 nodes, each linked with the two that follow it, are still there by this seed.
+fn kept(alloc: Global, rewire: u32, seed: u64) -> Result<u32, NoNetwork> {
+    let lot = Lot::SmallWorld {
+        nodes: 1_000,
+        near: 2,
+        rewire,
+    };
+    let text = drawn_text(alloc, &lot, seed)?;
+    let file = read_network(alloc, &text)?;
+    let mut kept = 0u32;
+    for node in 0..1_000u32 {
+        let neighbours = file.network().neighbours(node).unwrap_or(&[]);
+        let after = [(node + 1) % 1_000, (node + 2) % 1_000];
+        kept = kept.saturating_add(after.iter().filter(|next| neighbours.contains(*next)).count() as u32);
+    }
+    Ok(kept)
+}
+
+/// Of 2,000 links some 200 are led elsewhere by ten in a hundred, all but a few by a hundred, none by none.
+#[test]
+fn small_worlds(rt: HostRuntime) -> Result<(), Fail> {
+    let rows = [(0, 2_000, 2_000), (10, 1_740, 1_860), (100, 0, 20)];
+    for (rewire, least, most) in rows {
+        match kept(rt.alloc(), rewire, 7) {
+            Ok(kept) => assert!(rt; least <= kept && kept <= most, "{rewire}: {kept}"),
+            Err(fault) => return Err(Fail::new(format_args!("{fault:?}"))),
+        }
+    }
+    Ok(())
+}
+
+/// How many links of a ring are left in a regular network of 1,000 nodes with two neighbours each.
+fn ring_links(alloc: Global) -> Result<u32, NoNetwork> {
+    let lot = Lot::Regular {
+        nodes: 1_000,
+        degree: 2,
+    };
+    let text = drawn_text(alloc, &lot, 7)?;
+    let file = read_network(alloc, &text)?;
+    let mut left = 0u32;
+    for node in 0..999u32 {
+        let neighbours = file.network().neighbours(node).unwrap_or(&[]);
+        left = left.saturating_add(neighbours.contains(&(node + 1)) as u32);
+    }
+    Ok(left)
+}
+
+/// A regular network does not stay the ring that it is drawn from: where all are alike, a link of the ring is there two times
+/// in a thousand, two of them in all.
+#[test]
+fn regular_networks_are_mixed(rt: HostRuntime) -> Result<(), Fail> {
+    match ring_links(rt.alloc()) {
+        Ok(left) => assert!(rt; left <= 12, "{left}"),
+        Err(fault) => return Err(Fail::new(format_args!("{fault:?}"))),
+    }
     Ok(())
 }

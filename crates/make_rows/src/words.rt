@@ -99,7 +99,7 @@ fn right_words(rt: HostRuntime) -> Result<(), Fail> {
 }
 
 /// Words, and the lot and the seed that they ask for.
-const LOTS: [(&[&str], Lot, u32); 4] = [
+const LOTS: [(&[&str], Lot, u32); 6] = [
     (
         &["make", "random", "9", "--links", "12", "--seed", "7"],
         Lot::Random {
@@ -130,6 +130,32 @@ const LOTS: [(&[&str], Lot, u32); 4] = [
         ],
         Lot::Preferential { nodes: 50, each: 3 },
         5,
+    ),
+    (
+        &["make", "regular", "50", "--degree", "4", "--seed", "6"],
+        Lot::Regular {
+            nodes: 50,
+            degree: 4,
+        },
+        6,
+    ),
+    (
+        &[
+            "make",
+            "small-world",
+            "--near=2",
+            "60",
+            "--rewire",
+            "100",
+            "--seed",
+            "8",
+        ],
+        Lot::SmallWorld {
+            nodes: 60,
+            near: 2,
+            rewire: 100,
+        },
+        8,
     ),
 ];
 
@@ -201,7 +227,7 @@ fn is_told(alloc: Global, words: &[&str], wanted: &str) -> Result<bool, AllocErr
 }
 
 /// Wrong words, and a part of what is told of them.
-const WRONG: [(&[&str], &str); 15] = [
+const WRONG: [(&[&str], &str); 18] = [
     (&["make"], "Usage: unison make"),
     (&["make", "wheel", "5"], "wheel"),
     (&["make", "ring"], "<N>"),
@@ -237,6 +263,25 @@ const WRONG: [(&[&str], &str); 15] = [
     (
         &["make", "ring", "5", "--seed", "7", "--weights", "1-9"],
         "--weights: expected LOW..HIGH",
+    ),
+    (&["make", "regular", "5", "--seed", "7"], "--degree <D>"),
+    (
+        &["make", "small-world", "5", "--near", "1", "--seed", "7"],
+        "--rewire <PERCENT>",
+    ),
+    (
+        &[
+            "make",
+            "small-world",
+            "5",
+            "--near",
+            "1",
+            "--rewire",
+            "101",
+            "--seed",
+            "7",
+        ],
+        "--rewire: expected a whole number from 0 to 100, found `101`",
     ),
 ];
 

@@ -1,6 +1,8 @@
-//! Tests of the texts that `take` takes in, of names, and of openings.
+//! Tests of the texts that `take` takes in, of names, of openings, of patterns of cells, and of reports with names.
 #![tactic(auto)]
 
+#[cfg(test)]
+mod cells;
 #[cfg(test)]
 mod edges;
 #[cfg(test)]
@@ -9,5 +11,7 @@ mod joins;
 mod names;
 #[cfg(test)]
 mod opens;
+#[cfg(test)]
+mod reports;
 #[cfg(test)]
 mod words;

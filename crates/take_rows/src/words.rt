@@ -1,6 +1,6 @@
 //! The words of `take` and `open`.
 
-use lab_words::{LotWord, SetWord, openings_of, taking_of};
+use lab_words::{CellsWord, LotWord, SetWord, naming_of, openings_of, taking_of};
 use std::alloc::{AllocError, Global};
 use std::test::Fail;
 use unison_words::UsageFault;
@@ -69,6 +69,18 @@ fn put_lots(text: &mut String, lots: &[LotWord], seed: u32) -> Result<(), AllocE
     Ok(())
 }
 
+/// Adds the words of `--cells`.
+fn put_cells(text: &mut String, cells: &[CellsWord], width: u32) -> Result<(), AllocError> {
+    for word in cells {
+        let field = word.field.as_str();
+        let path = word.path.as_str();
+        let column = word.column;
+        let row = word.row;
+        write!(text, "; {field} {path} at {column} {row} of {width}")?;
+    }
+    Ok(())
+}
+
 /// What `open` was asked for, as a text.
 fn openings(alloc: Global, words: &[&str]) -> Result<String, UsageFault> {
     let asked = openings_of(alloc, &owned(alloc, words)?)?;
@@ -78,11 +90,12 @@ fn openings(alloc: Global, words: &[&str]) -> Result<String, UsageFault> {
     let mut text = format!(in alloc; "{network}; {names}; {phase:?}")?;
     put_sets(&mut text, asked.sets.as_slice())?;
     put_lots(&mut text, asked.lots.as_slice(), asked.seed)?;
+    put_cells(&mut text, asked.cells.as_slice(), asked.width)?;
     Ok(text)
 }
 
 /// Words of `open`, and what they ask for.
-const OPENS: [(&[&str], &str); 5] = [
+const OPENS: [(&[&str], &str); 7] = [
     (&["open", "n.toml"], "n.toml; none; None"),
     (
         &["open", "n.toml", "--set", "dist=0:0", "--phase", "2"],
@@ -114,6 +127,21 @@ const OPENS: [(&[&str], &str); 5] = [
         &["open", "-", "--set", "x==:4294967295"],
         "-; none; None; x = 4294967295",
     ),
+    (
+        &["open", "n", "--cells", "live=glider.rle@3,0", "--width", "64"],
+        "n; none; None; live glider.rle at 3 0 of 64",
+    ),
+    (
+        &[
+            "open",
+            "n",
+            "--width=1",
+            "--cells=a=b=c@d@65535,007",
+            "--cells",
+            "x=-@0,0",
+        ],
+        "n; none; None; a b=c@d at 65535 7 of 1; x - at 0 0 of 1",
+    ),
 ];
 
 #[test]
@@ -136,7 +164,7 @@ fn tells(fault: Option<UsageFault>, wanted: &str) -> bool {
 }
 
 /// Wrong words of `open`, and a part of what is told of them.
-const WRONG: [(&[&str], &str); 10] = [
+const WRONG: [(&[&str], &str); 17] = [
     (&["open"], "<NETWORK>"),
     (
         &["open", "n", "--set", "dist"],
@@ -165,6 +193,28 @@ const WRONG: [(&[&str], &str); 10] = [
         &["open", "n", "--phase", "3"],
         "--phase: expected 0, 1 or 2, found `3`",
     ),
+    (&["open", "n", "--cells", "x=f@0,0"], "--width <W>"),
+    (&["open", "n", "--width", "2"], "--cells <FIELD=FILE@X,Y>"),
+    (
+        &["open", "n", "--cells", "x=f", "--width", "2"],
+        "--cells: expected FIELD=FILE@X,Y, with a column and a row from 0 to 65535 behind the last @, found `x=f`",
+    ),
+    (
+        &["open", "n", "--cells", "x=f@1", "--width", "2"],
+        "found `x=f@1`",
+    ),
+    (
+        &["open", "n", "--cells", "x=f@65536,0", "--width", "2"],
+        "found `x=f@65536,0`",
+    ),
+    (
+        &["open", "n", "--cells", "x=f@0,0", "--width", "0"],
+        "--width: expected a whole number from 1 to 65536, found `0`",
+    ),
+    (
+        &["open", "n", "--cells", "x=f@0,0", "--width", "65537"],
+        "found `65537`",
+    ),
 ];
 
 #[test]
@@ -188,6 +238,54 @@ const WRONG_TAKES: [(&[&str], &str); 4] = [
 fn wrong_words_of_take(rt: HostRuntime) -> Result<(), Fail> {
     for (words, wanted) in &WRONG_TAKES {
         let fault = taking(rt.alloc(), words).err();
+        assert!(rt; tells(fault, wanted), "{wanted}");
+    }
+    Ok(())
+}
+
+/// What `names` was asked for, as a text.
+fn naming(alloc: Global, words: &[&str]) -> Result<String, UsageFault> {
+    let asked = naming_of(alloc, &owned(alloc, words)?)?;
+    let report = asked.report.as_str();
+    let names = asked.names.as_str();
+    let mut text = format!(in alloc; "{report}; {names}")?;
+    for field in &asked.node_fields {
+        write!(text, "; {}", field.as_str())?;
+    }
+    Ok(text)
+}
+
+/// Words of `names`, and what they ask for.
+const NAMINGS: [(&[&str], &str); 2] = [
+    (&["names", "r.txt", "--names", "n"], "r.txt; n"),
+    (
+        &["names", "--node-field", "via", "--names=n", "-", "--node-field=up"],
+        "-; n; via; up",
+    ),
+];
+
+#[test]
+fn words_of_names(rt: HostRuntime) -> Result<(), Fail> {
+    for (words, wanted) in &NAMINGS {
+        match naming(rt.alloc(), words) {
+            Ok(text) => assert_eq!(rt; text.as_str(), *wanted),
+            Err(_) => return Err(Fail::new(format_args!("{wanted}"))),
+        }
+    }
+    Ok(())
+}
+
+/// Wrong words of `names`, and a part of what is told of them.
+const WRONG_NAMINGS: [(&[&str], &str); 3] = [
+    (&["names"], "<REPORT>"),
+    (&["names", "r"], "--names <FILE>"),
+    (&["names", "r", "--names"], "--names"),
+];
+
+#[test]
+fn wrong_words_of_names(rt: HostRuntime) -> Result<(), Fail> {
+    for (words, wanted) in &WRONG_NAMINGS {
+        let fault = naming(rt.alloc(), words).err();
         assert!(rt; tells(fault, wanted), "{wanted}");
     }
     Ok(())

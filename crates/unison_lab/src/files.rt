@@ -1,6 +1,7 @@
 //! Files that are read, and standard input where the path is `-`.
 
 use crate::ending::{Ending, refused};
+use std::alloc::Global;
 use std::io::{Input, Read};
 use std::{fs, io};
 
@@ -11,8 +12,8 @@ pub(crate) struct Text {
     pub(crate) bytes: Vec<u8>,
 }
 
-/// The ending where a path could not be read: the path and the system's reason.
-fn unread(rt: &HostRuntime, path: &str, error: &io::Error) -> Ending {
+/// The ending where a path could not be read or written: the path and the system's reason.
+pub(crate) fn unserved(rt: &HostRuntime, path: &str, error: &io::Error) -> Ending {
     match format!(in rt.alloc(); "{path}: {error}") {
         Ok(text) => refused(error, Ending::File(text)),
         Err(_) => Ending::Memory,
@@ -38,7 +39,7 @@ pub(crate) fn text_at(rt: &HostRuntime, path: &str) -> Result<Text, Ending> {
             name: String::from_str(rt.alloc(), name)?,
             bytes,
         }),
-        Err(error) => Err(unread(rt, name, &error)),
+        Err(error) => Err(unserved(rt, name, &error)),
     }
 }
 
@@ -48,4 +49,18 @@ pub(crate) fn text_where(rt: &HostRuntime, path: &Option<String>) -> Result<Opti
         Some(path) => Ok(Some(text_at(rt, path.as_str())?)),
         None => Ok(None),
     }
+}
+
+/// Refuses standard input, `-`, where more than one of the paths is it.
+pub(crate) fn read_once(alloc: Global, paths: &[&str]) -> Result<(), Ending> {
+    if paths.iter().filter(|path| **path == "-").count() > 1 {
+        let text = String::from_str(alloc, "standard input, -, can be read once")?;
+        return Err(Ending::Usage(text));
+    }
+    Ok(())
+}
+
+/// The path, and where there is none the empty text.
+pub(crate) fn path_in(path: &Option<String>) -> &str {
+    path.as_ref().map_or("", |path| path.as_str())
 }

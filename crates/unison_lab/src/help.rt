@@ -21,10 +21,17 @@ const GROUPS: [(&str, &[Known]); 2] = [
                 "Make a network of a shape (path, ring, grid, torus, tree and more), or by lot",
             ),
             ("take", "Take in a network from a list of edges, with names"),
-            ("open", "Give a network other opening values"),
+            (
+                "open",
+                "Give a network other opening values, by numbers, names, lot, or patterns of cells",
+            ),
             (
                 "show",
                 "Show what one wants to know of a network before a run",
+            ),
+            (
+                "names",
+                "Print a report as CSV, with names in place of numbers",
             ),
         ],
     ),

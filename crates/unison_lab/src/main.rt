@@ -1,10 +1,12 @@
 //! Unison for people at work: what the five commands have beside them.
 #![tactic(auto)]
 
+mod cells;
 mod ending;
 mod files;
 mod help;
 mod make;
+mod names;
 mod open;
 mod output;
 mod show;
@@ -16,6 +18,7 @@ mod word_tests;
 use crate::ending::{Ending, refused};
 use crate::help::help_text;
 use crate::make::make_network;
+use crate::names::name_report;
 use crate::open::open_network;
 use crate::show::show_network;
 use crate::take::take_network;
@@ -51,6 +54,7 @@ fn run(rt: &HostRuntime) -> Result<u8, Ending> {
     };
     match command {
         "make" => make_network(rt, &words[1..]),
+        "names" => name_report(rt, &words[1..]),
         "open" => open_network(rt, &words[1..]),
         "show" => show_network(rt, &words[1..]),
         "take" => take_network(rt, &words[1..]),

@@ -43,6 +43,9 @@ fn no_lot(alloc: Global, fault: LotFault) -> Result<Ending, AllocError> {
             "a network has 262144 links at most, and no more than there are pairs of nodes",
         LotFault::TooManyNeighbours =>
             "a node came out with more than 4096 neighbours: take another seed, or fewer links",
+        LotFault::OddEnds =>
+            "--degree: an odd number of nodes cannot have an odd number of neighbours each: take one node or neighbour more",
+        LotFault::Undrawn => "by this seed no such network came out: take another one",
         LotFault::Memory => return Ok(Ending::Memory),
     };
     Ok(Ending::Usage(String::from_str(alloc, text)?))

@@ -1,12 +1,14 @@
 //! `open NETWORK --set FIELD=NODE:VALUE ..`: the network with other opening values.
 
+use crate::cells::put_cells;
 use crate::ending::Ending;
-use crate::files::{Text, text_at, text_where};
+use crate::files::{path_in, read_once, text_at};
+use crate::names::names_at;
 use crate::output::write_out;
 use lab_words::{LotWord, Openings, SetWord, openings_of};
 use link_net::{MOST_NODES, Name, NetFault, NetFile, read_network};
 use net_open::{Chosen, DrawFault, OpenFault, Opening, drawn_nodes, opened_text};
-use node_names::{NamesFileFault, NodeNames, read_names};
+use node_names::NodeNames;
 use std::alloc::{AllocError, Global};
 use unison_words::number;
 
@@ -54,7 +56,7 @@ fn opening_of(alloc: Global, names: &Option<NodeNames>, word: &SetWord) -> Resul
 }
 
 /// Puts an opening behind the others.
-fn put_opening(openings: &mut Vec<Opening>, opening: Opening) -> Result<(), AllocError> {
+pub(crate) fn put_opening(openings: &mut Vec<Opening>, opening: Opening) -> Result<(), AllocError> {
     openings.push(opening)?;
     Ok(())
 }
@@ -113,27 +115,6 @@ fn put_drawn(
     Ok(())
 }
 
-/// The names that a text has.
-fn names_in(alloc: Global, text: &Text) -> Result<NodeNames, Ending> {
-    match read_names(alloc, text.bytes.as_slice()) {
-        Ok(names) => Ok(names),
-        Err(NamesFileFault::Memory) => Err(Ending::Memory),
-        Err(fault) => {
-            let name = text.name.as_str();
-            let told = format!(in alloc; "names\n{name}: {fault}")?;
-            Err(Ending::Refused(told))
-        }
-    }
-}
-
-/// The names by which nodes are called, where they are.
-fn names_at(rt: &HostRuntime, path: &Option<String>) -> Result<Option<NodeNames>, Ending> {
-    match text_where(rt, path)? {
-        Some(text) => Ok(Some(names_in(rt.alloc(), &text)?)),
-        None => Ok(None),
-    }
-}
-
 /// What a network file describes.
 fn file_at(rt: &HostRuntime, path: &str) -> Result<NetFile, Ending> {
     let text = text_at(rt, path)?;
@@ -158,12 +139,26 @@ fn no_opening(alloc: Global, fault: OpenFault) -> Result<Ending, AllocError> {
     Ok(Ending::Usage(String::from_str(alloc, text)?))
 }
 
+/// The paths of the files that the words name.
+fn paths_of<'a>(alloc: Global, asked: &'a Openings) -> Result<Vec<&'a str>, AllocError> {
+    let mut paths = Vec::new(alloc);
+    paths.push(asked.network.as_str())?;
+    paths.push(path_in(&asked.names))?;
+    for word in &asked.cells {
+        paths.push(word.path.as_str())?;
+    }
+    Ok(paths)
+}
+
 /// The network file that the words ask for.
 fn text_for(rt: &HostRuntime, asked: &Openings) -> Result<Vec<u8>, Ending> {
+    read_once(rt.alloc(), paths_of(rt.alloc(), asked)?.as_slice())?;
     let file = file_at(rt, asked.network.as_str())?;
     let names = names_at(rt, &asked.names)?;
     let mut openings = Vec::new(rt.alloc());
-    put_drawn(&mut openings, rt.alloc(), file.network().nodes(), asked)?;
+    let nodes = file.network().nodes();
+    put_drawn(&mut openings, rt.alloc(), nodes, asked)?;
+    put_cells(&mut openings, rt, nodes, asked)?;
     put_set(&mut openings, rt.alloc(), &names, asked.sets.as_slice())?;
     match opened_text(rt.alloc(), &file, openings.as_slice(), asked.phase) {
         Ok(text) => Ok(text),

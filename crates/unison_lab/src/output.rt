@@ -1,6 +1,7 @@
 //! Standard output, and files that are written.
 
 use crate::ending::{Ending, refused};
+use crate::files::unserved;
 use std::io::{BufWriter, Write};
 use std::{fs, io};
 
@@ -21,8 +22,5 @@ pub(crate) fn write_file(rt: &HostRuntime, path: &str, text: &[u8]) -> Result<()
     let Err(error) = fs::write(rt, path, text) else {
         return Ok(());
     };
-    match format!(in rt.alloc(); "{path}: {error}") {
-        Ok(text) => Err(refused(&error, Ending::File(text))),
-        Err(_) => Err(Ending::Memory),
-    }
+    Err(unserved(rt, path, &error))
 }

@@ -1,7 +1,7 @@
 //! `why COMMAND WORDS..`: why a command refuses its texts.
 
 use crate::ending::Ending;
-use crate::files::{Text, text_at, text_where};
+use crate::files::{Text, path_in, read_once, text_at, text_where};
 use crate::output::write_out;
 use std::alloc::{AllocError, Global};
 use std::io;
@@ -72,22 +72,20 @@ struct Given {
     schedule: Option<Text>,
 }
 
-/// How many of the paths of a request are `-`.
-fn inputs(request: &Request) -> usize {
-    let paths = [&request.network, &request.from, &request.schedule];
-    let others = paths
-        .iter()
-        .filter(|path| path.as_ref().map(|path| path.as_str()) == Some("-"))
-        .count();
-    others.saturating_add((request.program.as_str() == "-") as usize)
+/// Refuses standard input, `-`, for more than one of the texts of a request.
+fn check_paths(alloc: Global, request: &Request) -> Result<(), Ending> {
+    let paths = [
+        request.program.as_str(),
+        path_in(&request.network),
+        path_in(&request.from),
+        path_in(&request.schedule),
+    ];
+    read_once(alloc, &paths)
 }
 
 /// The texts of a request.
 fn read(rt: &HostRuntime, request: &Request) -> Result<Given, Ending> {
-    if inputs(request) > 1 {
-        let text = String::from_str(rt.alloc(), "standard input, -, can be read once")?;
-        return Err(Ending::Usage(text));
-    }
+    check_paths(rt.alloc(), request)?;
     let program = text_at(rt, request.program.as_str())?;
     let network = text_where(rt, &request.network)?;
     let report = text_where(rt, &request.from)?;
