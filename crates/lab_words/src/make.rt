@@ -163,7 +163,12 @@ fn links_each_option<'a>(alloc: Global) -> Arg<'a> {
 
 /// `--degree D`.
 fn degree_option<'a>(alloc: Global) -> Arg<'a> {
-    number_option(alloc, "degree", "D", "The number of neighbours of each node")
+    number_option(
+        alloc,
+        "degree",
+        "D",
+        "The number of neighbours of each node",
+    )
 }
 
 /// `--near K`.
@@ -216,9 +221,7 @@ fn with_options<'a>(
         "torus" => command.arg(diagonals_flag(alloc)),
         "random" => command.arg(links_option(alloc)),
         "regular" => command.arg(degree_option(alloc)),
-        "small-world" => command
-            .arg(near_option(alloc))?
-            .arg(rewire_option(alloc)),
+        "small-world" => command.arg(near_option(alloc))?.arg(rewire_option(alloc)),
         "preferential" => command.arg(links_each_option(alloc)),
         _ => Ok(command),
     }

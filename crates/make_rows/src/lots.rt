@@ -257,7 +257,10 @@ fn assert_degrees(rt: &impl Abort, lot: &Lot, network: &Network) {
     let (least, most) = degrees(lot);
     for node in 0..network.nodes() {
         let degree = network.degree(node).unwrap_or(65_536);
-        assert!(rt; least <= degree && degree <= most, "{lot:?}: node {node} has {degree}");
+        assert!(rt;
+            least <= degree && degree <= most,
+            "{lot:?}: node {node} has {degree}"
+        );
     }
 }
 
@@ -358,7 +361,12 @@ fn kept(alloc: Global, rewire: u32, seed: u64) -> Result<u32, NoNetwork> {
     for node in 0..1_000u32 {
         let neighbours = file.network().neighbours(node).unwrap_or(&[]);
         let after = [(node + 1) % 1_000, (node + 2) % 1_000];
-        kept = kept.saturating_add(after.iter().filter(|next| neighbours.contains(*next)).count() as u32);
+        kept = kept.saturating_add(
+            after
+                .iter()
+                .filter(|next| neighbours.contains(*next))
+                .count() as u32,
+        );
     }
     Ok(kept)
 }

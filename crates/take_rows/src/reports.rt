@@ -97,7 +97,10 @@ const ROWS: [(Asked, &str); 6] = [
         ),
         "node,a,b,c,d,e,f,g,h\nn,1,2,3,4,5,6,7,8\n",
     ),
-    (("0 moves 4294967295 s=0\n", "n\n", &["s"]), "node,moves,s\nn,4294967295,n\n"),
+    (
+        ("0 moves 4294967295 s=0\n", "n\n", &["s"]),
+        "node,moves,s\nn,4294967295,n\n",
+    ),
 ];
 
 #[test]

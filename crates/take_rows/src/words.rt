@@ -128,7 +128,14 @@ const OPENS: [(&[&str], &str); 7] = [
         "-; none; None; x = 4294967295",
     ),
     (
-        &["open", "n", "--cells", "live=glider.rle@3,0", "--width", "64"],
+        &[
+            "open",
+            "n",
+            "--cells",
+            "live=glider.rle@3,0",
+            "--width",
+            "64",
+        ],
         "n; none; None; live glider.rle at 3 0 of 64",
     ),
     (
@@ -259,7 +266,14 @@ fn naming(alloc: Global, words: &[&str]) -> Result<String, UsageFault> {
 const NAMINGS: [(&[&str], &str); 2] = [
     (&["names", "r.txt", "--names", "n"], "r.txt; n"),
     (
-        &["names", "--node-field", "via", "--names=n", "-", "--node-field=up"],
+        &[
+            "names",
+            "--node-field",
+            "via",
+            "--names=n",
+            "-",
+            "--node-field=up",
+        ],
         "-; n; via; up",
     ),
 ];

@@ -48,7 +48,12 @@ fn cells_of(alloc: Global, text: &Text) -> Result<Vec<Cell>, Ending> {
 }
 
 /// The ending where a pattern has no place on the grid.
-fn no_place(alloc: Global, grid: &Grid, name: &str, fault: PlaceFault) -> Result<Ending, AllocError> {
+fn no_place(
+    alloc: Global,
+    grid: &Grid,
+    name: &str,
+    fault: PlaceFault,
+) -> Result<Ending, AllocError> {
     let PlaceFault::Outside { cell } = fault else {
         return Ok(Ending::Memory);
     };

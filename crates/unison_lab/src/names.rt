@@ -67,7 +67,10 @@ fn no_csv(
             "--names: the file has {names} names, and the report {nodes} nodes"
         )?,
         CsvFault::UnknownField { place } => {
-            let field = asked.node_fields.get(place).map_or("", |field| field.as_str());
+            let field = asked
+                .node_fields
+                .get(place)
+                .map_or("", |field| field.as_str());
             format!(in alloc; "--node-field: the report has no field `{field}`")?
         }
         CsvFault::NoNode { node, field, value } => {
