@@ -360,13 +360,9 @@ fn kept(alloc: Global, rewire: u32, seed: u64) -> Result<u32, NoNetwork> {
     let mut kept = 0u32;
     for node in 0..1_000u32 {
         let neighbours = file.network().neighbours(node).unwrap_or(&[]);
-        let after = [(node + 1) % 1_000, (node + 2) % 1_000];
-        kept = kept.saturating_add(
-            after
-                .iter()
-                .filter(|next| neighbours.contains(*next))
-                .count() as u32,
-        );
+        let next = neighbours.contains(&((node + 1) % 1_000)) as u32;
+        let second = neighbours.contains(&((node + 2) % 1_000)) as u32;
+        kept = kept.saturating_add(next).saturating_add(second);
     }
     Ok(kept)
 }

@@ -85,30 +85,37 @@ fn nodes(alloc: Global, cells: &[Cell], grid: &Grid, corner: &Cell) -> Result<St
 }
 
 /// A cell at a column and a row.
-const fn at(column: u32, row: u32) -> Cell {
+fn at((column, row): (u32, u32)) -> Cell {
     Cell { column, row }
 }
 
+/// A grid of so many columns and nodes.
+fn grid_of((width, nodes): (u32, u32)) -> Grid {
+    Grid { width, nodes }
+}
+
 /// The width and the nodes of a grid, the corner, and the nodes of the glider's cells.
-const PLACES: [((u32, u32), Cell, &str); 4] = [
-    ((8, 64), at(1, 1), "10 19 25 26 27 "),
-    ((3, 9), at(0, 0), "1 5 6 7 8 "),
-    ((8, 64), at(5, 5), "46 55 61 62 63 "),
-    ((65_536, 65_536), at(0, 0), ""),
+const PLACES: [((u32, u32), (u32, u32), &str); 4] = [
+    ((8, 64), (1, 1), "10 19 25 26 27 "),
+    ((3, 9), (0, 0), "1 5 6 7 8 "),
+    ((8, 64), (5, 5), "46 55 61 62 63 "),
+    ((65_536, 65_536), (0, 0), ""),
 ];
 
 /// The cells of a glider.
-const GLIDER: [Cell; 5] = [at(1, 0), at(2, 1), at(0, 2), at(1, 2), at(2, 2)];
+const GLIDER: [Cell; 5] = [
+    Cell { column: 1, row: 0 },
+    Cell { column: 2, row: 1 },
+    Cell { column: 0, row: 2 },
+    Cell { column: 1, row: 2 },
+    Cell { column: 2, row: 2 },
+];
 
 #[test]
 fn places_of_cells(rt: HostRuntime) -> Result<(), Fail> {
-    for ((width, nodes_in_all), corner, wanted) in &PLACES {
-        let grid = Grid {
-            width: *width,
-            nodes: *nodes_in_all,
-        };
+    for (grid, corner, wanted) in &PLACES {
         let cells: &[Cell] = if wanted.is_empty() { &[] } else { &GLIDER };
-        match nodes(rt.alloc(), cells, &grid, corner) {
+        match nodes(rt.alloc(), cells, &grid_of(*grid), &at(*corner)) {
             Ok(found) => assert_eq!(rt; found.as_str(), *wanted),
             Err(fault) => return Err(Fail::new(format_args!("{wanted}: {fault:?}"))),
         }
@@ -117,22 +124,18 @@ fn places_of_cells(rt: HostRuntime) -> Result<(), Fail> {
 }
 
 /// The width and the nodes of a grid, the corner, and the first of the glider's cells that stands outside.
-const OUTSIDE: [((u32, u32), Cell, Cell); 4] = [
-    ((8, 64), at(6, 0), at(2, 1)),
-    ((8, 64), at(0, 6), at(0, 2)),
-    ((8, 64), at(4_294_967_295, 4_294_967_295), at(1, 0)),
-    ((2, 64), at(0, 0), at(2, 1)),
+const OUTSIDE: [((u32, u32), (u32, u32), (u32, u32)); 4] = [
+    ((8, 64), (6, 0), (2, 1)),
+    ((8, 64), (0, 6), (0, 2)),
+    ((8, 64), (4_294_967_295, 4_294_967_295), (1, 0)),
+    ((2, 64), (0, 0), (2, 1)),
 ];
 
 #[test]
 fn cells_outside(rt: HostRuntime) -> Result<(), Fail> {
-    for ((width, nodes_in_all), corner, cell) in &OUTSIDE {
-        let grid = Grid {
-            width: *width,
-            nodes: *nodes_in_all,
-        };
-        let fault = placed(rt.alloc(), &GLIDER, &grid, corner).err();
-        assert_eq!(rt; fault, Some(PlaceFault::Outside { cell: *cell }));
+    for (grid, corner, cell) in &OUTSIDE {
+        let fault = placed(rt.alloc(), &GLIDER, &grid_of(*grid), &at(*corner)).err();
+        assert_eq!(rt; fault, Some(PlaceFault::Outside { cell: at(*cell) }));
     }
     Ok(())
 }
@@ -158,19 +161,15 @@ impl From<PlaceFault> for NoNodes {
 
 /// The nodes of the first pattern's cells.
 fn glider_nodes(alloc: Global) -> Result<Vec<u32>, NoNodes> {
-    let grid = Grid {
-        width: 8,
-        nodes: 64,
-    };
     let cells = read_pattern(alloc, PATTERNS[0].0.as_bytes())?;
-    Ok(placed(alloc, cells.as_slice(), &grid, &at(1, 1))?)
+    Ok(placed(alloc, cells.as_slice(), &grid_of((8, 64)), &at((1, 1)))?)
 }
 
 #[test]
 fn cells_where_memory_is_refused(rt: HostRuntime) -> Result<(), Fail> {
     match glider_nodes(rt.alloc()) {
         Ok(nodes) => {
-            assert!(rt; nodes.as_slice() == &[10, 19, 25, 26, 27]);
+            assert!(rt; nodes.as_slice() == [10, 19, 25, 26, 27].as_slice());
             println!(rt; "answer")?
         }
         Err(NoNodes::Pattern(PatternFault::Memory)) | Err(NoNodes::Place(PlaceFault::Memory)) =>

@@ -59,7 +59,7 @@ fn no_place(
     };
     let Cell { column, row } = cell;
     let Grid { width, nodes } = *grid;
-    let rows = nodes / width;
+    let rows = nodes.checked_div(width).unwrap_or(0);
     let text = format!(in alloc;
         "--cells: {name}: the live cell at column {column} and row {row} of the pattern would stand outside the grid of {width} columns and {rows} rows"
     )?;
