@@ -1,8 +1,10 @@
-//! Tests of the texts that `take` takes in, of names, of openings, of patterns of cells, and of reports with names.
+//! Tests of the texts that `take` takes in, of links between the same nodes, of names, of openings, of patterns of cells, and of reports with names.
 #![tactic(auto)]
 
 #[cfg(test)]
 mod cells;
+#[cfg(test)]
+mod doubles;
 #[cfg(test)]
 mod edges;
 #[cfg(test)]

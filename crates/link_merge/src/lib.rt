@@ -1,0 +1,8 @@
+//! Links of which several may join the same two nodes, made into one each.
+#![tactic(auto)]
+
+mod kept;
+mod merging;
+
+pub use kept::Kept;
+pub use merging::merged;
