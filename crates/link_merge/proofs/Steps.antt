@@ -9,9 +9,14 @@ use Rattle.std.specs.Map.{lookup, values_of}
 use Rattle.indexmap.specs.IndexMap.{insert_entry}
 use Rattle.net_text.specs.Listing.{Link}
 use Rattle.link_merge.specs.declared.kept.Kept.{Kept}
-use Rattle.link_merge.specs.Merging.{kept_of, are_double, with_kept}
-use Rattle.link_merge.specs.Puts.{ends, are_same, put, absorbed}
+use Rattle.link_merge.specs.Merging.{kept_of, are_double, with_kept, merged}
+use Rattle.link_merge.specs.Puts.{ends, are_same, put}
 use Rattle.link_merge.proofs.Doubles.{double_same, others_merged}
+
+-- the links of the entries with what is kept of later links, and behind them what the others of those make
+abbrev pub absorbed : Kept → List ((ℕ × ℕ) × Link) → List Link → List Link
+absorbed k [] ls = merged k ls
+absorbed k (e ∷ es) ls = with_kept k e.1 (filter (λ m. are_same (ends m) e.0) ls) ∷ absorbed k es (filter (λ m. not (are_same (ends m) e.0)) ls)
 
 -- the link that is put, where this one stands under its ends, or none
 abbrev pub chosen : Kept → Link → Option Link → Link

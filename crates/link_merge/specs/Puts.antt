@@ -1,8 +1,8 @@
 -- Links that are put one by one behind those that were made, each entry under the two ends of its link.
-use Rattle.std.specs.Prelude.{ℕ, ◌==◌, Bool, ◌&&◌, List, [], ◌∷◌, filter, not, min, max, if◌then◌else◌}
+use Rattle.std.specs.Prelude.{ℕ, ◌==◌, Bool, ◌&&◌, List, [], ◌∷◌, min, max, if◌then◌else◌}
 use Rattle.net_text.specs.Listing.{Link}
 use Rattle.link_merge.specs.declared.kept.Kept.{Kept}
-use Rattle.link_merge.specs.Merging.{kept_of, with_kept, merged}
+use Rattle.link_merge.specs.Merging.{kept_of}
 
 -- the two ends of a link, the lesser one first
 abbrev pub ends : Link → ℕ × ℕ
@@ -16,8 +16,3 @@ are_same p q = p.0 == q.0 && p.1 == q.1
 abbrev pub put : Kept → Link → List ((ℕ × ℕ) × Link) → List ((ℕ × ℕ) × Link)
 put k l [] = (ends l, l) ∷ []
 put k l (e ∷ es) = if are_same (ends l) e.0 then (e.0, (e.1.0, e.1.1, kept_of k e.1.2 l.2)) ∷ es else e ∷ put k l es
-
--- the links of the entries with what is kept of later links, and behind them what the others of those make
-abbrev pub absorbed : Kept → List ((ℕ × ℕ) × Link) → List Link → List Link
-absorbed k [] ls = merged k ls
-absorbed k (e ∷ es) ls = with_kept k e.1 (filter (λ m. are_same (ends m) e.0) ls) ∷ absorbed k es (filter (λ m. not (are_same (ends m) e.0)) ls)

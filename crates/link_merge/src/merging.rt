@@ -1,7 +1,7 @@
 //! One link in place of several that join the same two nodes.
-ghost use Rattle.std.specs.Prelude.{◌≡◌, [], OnOk, IfOk};
+ghost use Rattle.std.specs.Prelude.{◌≡◌, OnOk, IfOk};
 ghost use Rattle.link_merge.specs.Merging.{merged};
-ghost use Rattle.link_merge.specs.Puts.{ends, put, absorbed};
+ghost use Rattle.link_merge.specs.Puts.{ends, put};
 
 use crate::kept::Kept;
 use indexmap::IndexMap;

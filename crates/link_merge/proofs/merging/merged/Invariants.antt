@@ -1,6 +1,6 @@
 use Rattle.std.proofs.Common.{◌≡◌, drop}
 use Rattle.link_merge.specs.Merging.{merged}
-use Rattle.link_merge.specs.Puts.{absorbed}
+use Rattle.link_merge.proofs.Steps.{absorbed}
 use Rattle.link_merge.proofs.merging.merged.Given as goal
 
 abbrev pub invariant-loop-link : goal.invariant-loop-link
