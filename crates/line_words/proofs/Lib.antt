@@ -1,0 +1,2 @@
+mod LineFaults
+pub mod LinesCut
