@@ -1,5 +1,5 @@
 -- Numbers as words.
-use Rattle.std.proofs.Common.{◌≡◌, inl, inr, ◌<◌, ◌≤◌, ◌^◌, ℕ, suc, Bool, true, false, not, ◌&&◌, ◌||◌, ◌==◌, nat_le, List, [], ◌∷◌, ◌++◌, length, refl, sym, ap, ◌∙◌, arith, Result, Err}
+use Rattle.std.proofs.Common.{◌≡◌, None, inl, inr, ◌<◌, ◌≤◌, ◌^◌, ℕ, suc, Bool, true, false, not, ◌&&◌, ◌||◌, ◌==◌, nat_le, List, [], ◌∷◌, ◌++◌, length, refl, sym, ap, ◌∙◌, arith, Result, Err}
 use Rattle.std.specs.List.{list_any, position_or_len, before_first, after_first}
 use Rattle.std.specs.Result.{OkIff}
 use Rattle.std.specs.Str.{all_ascii_digits}
@@ -8,9 +8,9 @@ use Rattle.std.specs.Str.Parse.{digits_value, ParsesUnsigned}
 use Rattle.std.proofs.lemmas.Bool.{cases_Bool, ne_eqb, eq-eqb}
 use Rattle.std.proofs.lemmas.Bool.Decides.{nat_tests}
 use Rattle.std.proofs.lemmas.Str.Parse.{IsNumeralModel, numerals_by_value, tells_all_ascii_digits, parse_digits}
-use Rattle.edge_text.specs.declared.fault.LineFault.TheVariants.{WeightTooLarge}
-use Rattle.edge_text.specs.Weights.{most_weight, is_exponent_mark, is_whole, is_mantissa, is_exponent, is_number, weight_of}
-use Rattle.edge_text.proofs.LinesCut.{none_passes}
+use Rattle.weight_text.specs.declared.fault.WeightFault.TheVariants.{WeightTooLarge}
+use Rattle.weight_text.specs.Weights.{most_weight, is_exponent_mark, is_whole, is_mantissa, is_exponent, is_number, weight_of}
+use Rattle.line_words.proofs.LinesCut.{none_passes}
 
 -- ---- digits
 
@@ -93,7 +93,7 @@ most_from : (n m : ℕ) → nat_le n m ≡ true → n ≤ m
 most_from n m h = grind (arith, nat_tests)
 
 -- a whole number that does not fit is too large
-pub too_large : {E : Type 0} (word bytes : List ℕ) (e : E) (whole : Bool) → ParsesUnsigned 32 10 word (err_of e) → bytes ≡ word → whole ≡ is_whole bytes → whole ≡ true → Err WeightTooLarge ≡ weight_of word
+pub too_large : {E : Type 0} (word bytes : List ℕ) (e : E) (whole : Bool) → ParsesUnsigned 32 10 word (err_of e) → bytes ≡ word → whole ≡ is_whole bytes → whole ≡ true → Err WeightTooLarge ≡ weight_of None word
 too_large word bytes e whole h same tells holds =
     let is : is_whole word ≡ true = ap is_whole (sym same) ∙ sym tells ∙ holds in
     elim (cases_Bool (nat_le (digits_value 10 word) most_weight)) [

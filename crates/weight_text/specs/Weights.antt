@@ -1,10 +1,11 @@
 -- Weights as words: whole numbers, or decimal ones times a factor.
-use Rattle.std.specs.Prelude.{ℕ, ◌==◌, Bool, false, ◌||◌, ◌&&◌, not, List, [], ◌∷◌, ◌++◌, nat_le, length, Result, Ok, Err, if◌then◌else◌}
+use Rattle.std.specs.Prelude.{ℕ, ◌+◌, ◌*◌, ◌/◌, ◌%◌, ◌^◌, ◌==◌, Bool, true, false, ◌||◌, ◌&&◌, not, List, [], ◌∷◌, ◌++◌, nat_le, length, slice_index, Option, Some, None, Result, Ok, Err, if◌then◌else◌}
 use Rattle.std.specs.List.{list_any, before_first, after_first}
 use Rattle.std.specs.Str.{all_ascii_digits}
 use Rattle.std.specs.Str.Parse.{digits_value}
 use Rattle.weight_text.specs.declared.fault.WeightFault.{WeightFault}
-use Rattle.weight_text.specs.declared.fault.WeightFault.TheVariants.{Negative, Decimal, BadWeight, WeightTooLarge}
+use Rattle.weight_text.specs.declared.fault.WeightFault.TheVariants.{Negative, Decimal, BadWeight, TooManyDigits, WeightTooLarge}
+use Rattle.weight_text.specs.declared.weight.Weight.{Weight}
 
 -- the greatest weight
 abbrev pub most_weight : ℕ

@@ -1,11 +1,11 @@
 //! The weight that a word says.
-ghost use Rattle.std.specs.Prelude.{◌≡◌, ◌++◌};
+ghost use Rattle.std.specs.Prelude.{◌≡◌, ◌++◌, None};
 ghost use Rattle.std.specs.List.{position_or_len};
 ghost use Rattle.std.specs.Str.{all_ascii_digits};
-ghost use Rattle.edge_text.specs.Weights.{is_point, is_exponent_mark, is_whole, is_mantissa, is_exponent, is_number, bad_weight, weight_of};
+ghost use Rattle.weight_text.specs.Weights.{is_point, is_exponent_mark, is_whole, is_mantissa, is_exponent, is_number, bad_weight, weight_of};
 
-use crate::LineFault;
-use crate::cuts::cut_at;
+use crate::fault::WeightFault;
+use line_words::cut_at;
 
 /// Whether all bytes are digits.
 fn all_digits(bytes: &[u8]) -> bool
@@ -88,25 +88,42 @@ fn is_number(bytes: &[u8]) -> bool
 }
 
 /// What is wrong with a weight that is no whole number.
-fn bad_weight(word: &[u8]) -> LineFault
+fn bad_weight(word: &[u8]) -> WeightFault
     ensures { result ≡ bad_weight word.now }
 {
     match word {
-        [b'-', number @ ..] if is_number(number) => LineFault::Negative,
-        _ if is_number(word) => LineFault::Decimal,
-        _ => LineFault::BadWeight,
+        [b'-', number @ ..] if is_number(number) => WeightFault::Negative,
+        _ if is_number(word) => WeightFault::Decimal,
+        _ => WeightFault::BadWeight,
     }
 }
 
-/// The weight that a word says.
-pub(crate) fn read_weight(word: &str) -> Result<u32, LineFault>
-    ensures { result ≡ weight_of word.now }
+/// A weight, and whether it is the number that was said, times the factor, or the nearest whole number to that.
+#[derive(Clone, Copy, Debug, PartialEq, Eq)]
+pub struct Weight {
+    pub value: u32,
+    pub exact: bool,
+}
+
+/// The weight that a word says without a factor.
+fn whole_weight(word: &str) -> Result<Weight, WeightFault>
+    ensures { result ≡ weight_of None word.now }
 {
     if !is_whole(word.as_bytes()) {
         return Err(bad_weight(word.as_bytes()));
     }
     match word.parse::<u32>() {
-        Ok(weight) => Ok(weight),
-        Err(_) => Err(LineFault::WeightTooLarge),
+        Ok(value) => Ok(Weight { value, exact: true }),
+        Err(_) => Err(WeightFault::WeightTooLarge),
+    }
+}
+
+/// The weight that a word says.
+pub fn read_weight(word: &str, factor: Option<u32>) -> Result<Weight, WeightFault>
+    ensures weight { result ≡ weight_of factor word.now }
+{
+    match factor {
+        Some(factor) => Err(WeightFault::Decimal),
+        None => whole_weight(word),
     }
 }

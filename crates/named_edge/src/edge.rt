@@ -2,28 +2,29 @@
 ghost use Rattle.std.specs.Prelude.{◌≡◌};
 
 use std::marker::Model;
+use weight_text::Weight;
 
 /// An edge of a text: the names of its two ends, its weight, and the line where it stands, counted from 1.
-#[derive(Debug, Drop)]
+#[derive(Clone, Copy, Debug)]
 pub struct Edge<'a> {
     first: &'a str,
     second: &'a str,
-    weight: u32,
+    weight: Weight,
     line: u64,
 }
 
 impl<'a> Model for Edge<'a> {
-    ghost use Rattle.edge_text.specs.Named.{NamedEdge};
+    ghost use Rattle.named_edge.specs.Named.{NamedEdge};
 
     ghost Value = { NamedEdge };
 
-    ghost view = { λ a. record { first = a.first.now; second = a.second.now; weight = a.weight; line = a.line } };
+    ghost view = { λ a. record { first = a.first.now; second = a.second.now; weight = a.weight.value; exact = a.weight.exact; line = a.line } };
 }
 
 impl<'a> Edge<'a> {
     /// The edge between two ends with these names, of this weight, that stands in this line.
-    pub fn new(first: &'a str, second: &'a str, weight: u32, line: u64) -> Edge<'a>
-        ensures edge { result ≡ record { first = first.now; second = second.now; weight = weight; line = line } }
+    pub fn new(first: &'a str, second: &'a str, weight: Weight, line: u64) -> Edge<'a>
+        ensures edge { result ≡ record { first = first.now; second = second.now; weight = weight.value; exact = weight.exact; line = line } }
     {
         Edge {
             first,
@@ -51,7 +52,14 @@ impl<'a> Edge<'a> {
     pub fn weight(&self) -> u32
         ensures weight { result ≡ self.now.weight }
     {
-        self.weight
+        self.weight.value
+    }
+
+    /// Whether the weight is the one that stands there, and not the nearest whole number to it.
+    pub fn is_exact(&self) -> bool
+        ensures exact { result ≡ self.now.exact }
+    {
+        self.weight.exact
     }
 
     /// The line where the edge stands, counted from 1.
