@@ -5,7 +5,7 @@ use std::marker::Model;
 use weight_text::Weight;
 
 /// An edge of a text: the names of its two ends, its weight, and the line where it stands, counted from 1.
-#[derive(Clone, Copy, Debug)]
+#[derive(Debug, Drop)]
 pub struct Edge<'a> {
     first: &'a str,
     second: &'a str,
