@@ -3,6 +3,8 @@
 
 mod kept;
 mod merging;
+mod placed;
 
 pub use kept::Kept;
 pub use merging::merged;
+pub use placed::PlacedLink;
