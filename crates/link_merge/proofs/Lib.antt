@@ -1,2 +1,4 @@
-mod Doubles
+mod Fewer
+mod Firsts
 mod Steps
+mod Twins

@@ -11,7 +11,7 @@ use Rattle.net_text.specs.Listing.{Link}
 use Rattle.link_merge.specs.declared.kept.Kept.{Kept}
 use Rattle.link_merge.specs.Merging.{kept_of, are_double, with_kept, merged}
 use Rattle.link_merge.specs.Puts.{ends, are_same, put}
-use Rattle.link_merge.proofs.Doubles.{double_same, others_merged}
+use Rattle.link_merge.proofs.Twins.{double_same, others_merged}
 
 -- the links of the entries with what is kept of later links, and behind them what the others of those make
 abbrev pub absorbed : Kept → List ((ℕ × ℕ) × Link) → List Link → List Link

@@ -9,7 +9,7 @@ use link_net::Link;
 use std::alloc::{AllocError, Global};
 
 /// The two ends of a link, the lesser one first.
-fn ends(link: &Link) -> (u32, u32)
+pub(crate) fn ends(link: &Link) -> (u32, u32)
     ensures { result ≡ ends link.now }
 {
     (link.0.min(link.1), link.0.max(link.1))

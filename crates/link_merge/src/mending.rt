@@ -1,0 +1,27 @@
+//! What becomes of links that no network has.
+use crate::kept::Kept;
+
+/// What becomes of links of a node with itself.
+#[derive(Clone, Copy, Debug, PartialEq, Eq)]
+pub enum Loops {
+    /// They are refused.
+    Refused,
+    /// They are dropped.
+    Dropped,
+}
+
+/// What becomes of links that join the same two nodes.
+#[derive(Clone, Copy, Debug, PartialEq, Eq)]
+pub enum Doubles {
+    /// They are refused.
+    Refused,
+    /// One link stands in their place.
+    Merged(Kept),
+}
+
+/// What becomes of links that no network has.
+#[derive(Clone, Copy, Debug, PartialEq, Eq)]
+pub struct Mending {
+    pub loops: Loops,
+    pub doubles: Doubles,
+}
