@@ -1,4 +1,4 @@
 mod Stable
 mod NameFaults
-mod Lists
+mod Refused
 mod Steps

@@ -7,7 +7,7 @@ use Rattle.std.proofs.lemmas.List.Folds.{prefix_len-append, position_or_len_push
 use Rattle.std.proofs.lemmas.Slice.Eq.{bytes_eq-Decides}
 use Rattle.node_names.specs.Naming.{place_in, has_name, with_name}
 use Rattle.node_names.proofs.Names.{place_of_new}
-use Rattle.edge_text.specs.Named.{NamedEdge}
+use Rattle.named_edge.specs.Named.{NamedEdge}
 use Rattle.edge_join.specs.Joining.{with_ends, names_with, link_in, links_with}
 
 module _ (names : List (List ℕ)) (x : List ℕ) where
@@ -67,19 +67,19 @@ module _ (names : List (List ℕ)) (e : NamedEdge) where
       rw (two.1) (has_kept (with_name names e.first) e.first two.0 (has_with names e.first))
 
   -- the places of the ends once the first has its number, and once both have
-  pub ends_placed : link_in (with_ends names e) e ≡ (place_in names e.first, place_in (with_name names e.first) e.second, e.weight)
+  pub ends_placed : link_in (with_ends names e) e ≡ record { link = (place_in names e.first, place_in (with_name names e.first) e.second, e.weight); line = e.line; exact = e.exact }
   ends_placed =
       let two = grown (with_name names e.first) e.second in
       let first : place_in (with_ends names e) e.first ≡ place_in names e.first =
       ap (λ ns. place_in ns e.first) two.1 ∙ place_kept (with_name names e.first) e.first two.0 (has_with names e.first) ∙ place_with names e.first in
       let second : place_in (with_ends names e) e.second ≡ place_in (with_name names e.first) e.second = place_with (with_name names e.first) e.second in
-      λ j. (first j, second j, e.weight)
+      λ j. record { link = (first j, second j, e.weight); line = e.line; exact = e.exact }
 
   link_kept : (more : List (List ℕ)) → link_in (with_ends names e ++ more) e ≡ link_in (with_ends names e) e
   link_kept more =
       let first = place_kept (with_ends names e) e.first more first_there in
       let second = place_kept (with_ends names e) e.second more (has_with (with_name names e.first) e.second) in
-      λ j. (first j, second j, e.weight)
+      λ j. record { link = (first j, second j, e.weight); line = e.line; exact = e.exact }
 
 -- links made one after another are those between the places of all names
 pub links_all : (names : List (List ℕ)) (es : List NamedEdge) → links_with names es ≡ map (link_in (names_with names es)) es

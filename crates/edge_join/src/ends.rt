@@ -2,18 +2,17 @@
 ghost use Rattle.std.specs.Prelude.{◌≡◌, ◌≢◌, ◌<◌, ◌++◌, ◌∷◌, [], false, Ok, Err, length, map, IfOk, IfErr, OnOk};
 ghost use Rattle.link_net.specs.Limits.{most_nodes};
 ghost use Rattle.node_names.specs.Naming.{AreNames, with_name, place_in};
-ghost use Rattle.std.specs.Str.{bytes_eq};
-ghost use Rattle.edge_join.specs.Joining.{with_ends, names_of, link_in, links_with};
-ghost use Rattle.edge_join.specs.Refusals.{AreStraight, IsRefusal, IsEdgeFault, IsNameFault, at_line};
+ghost use Rattle.edge_join.specs.Joining.{with_ends, names_with, link_in, links_of};
+ghost use Rattle.edge_join.specs.Refusals.{IsRefusal, IsEdgeFault, IsNameFault, at_line};
 
 use crate::JoinFault;
-use edge_text::Edge;
-use link_net::Link;
+use link_merge::PlacedLink;
+use named_edge::Edge;
 use node_names::{NamesFault, NodeNames};
 use std::alloc::Global;
 
 /// The fault of a name that stands in a line.
-fn at_line(fault: NamesFault, line: u64) -> JoinFault
+pub(crate) fn at_line(fault: NamesFault, line: u64) -> JoinFault
     ensures { result ≡ at_line line fault }
 {
     match fault {
@@ -24,7 +23,7 @@ fn at_line(fault: NamesFault, line: u64) -> JoinFault
 }
 
 /// The number of a name that stands in a line.
-fn number(names: &mut NodeNames, name: &str, line: u64) -> Result<u32, JoinFault>
+pub(crate) fn number(names: &mut NodeNames, name: &str, line: u64) -> Result<u32, JoinFault>
     requires { AreNames names.old }
     ensures names { OnOk result (names.new ≡ with_name names.old name.now) }
     ensures are_names { OnOk result (AreNames names.new) }
@@ -38,39 +37,46 @@ fn number(names: &mut NodeNames, name: &str, line: u64) -> Result<u32, JoinFault
 }
 
 /// The link that an edge is.
-fn link(names: &mut NodeNames, edge: &Edge) -> Result<Link, JoinFault>
+fn link(names: &mut NodeNames, edge: &Edge) -> Result<PlacedLink, JoinFault>
     requires { AreNames names.old }
     ensures names { OnOk result (names.new ≡ with_ends names.old edge.now) }
     ensures are_names { OnOk result (AreNames names.new) }
     ensures link { IfOk result (λ link. link ≡ link_in (with_ends names.old edge.now) edge.now) }
-    ensures straight { OnOk result (bytes_eq edge.now.first edge.now.second ≡ false) }
     ensures refused { IfErr result (IsEdgeFault names.old edge.now) }
 {
     let line = edge.line();
-    if edge.first() == edge.second() {
-        return Err(JoinFault::SelfLoop { line });
-    }
     let first = number(names, edge.first(), line)?;
     let second = number(names, edge.second(), line)?;
-    Ok((first, second, edge.weight()))
+    Ok(PlacedLink {
+        link: (first, second, edge.weight()),
+        line,
+        exact: edge.is_exact(),
+    })
 }
 
-/// The links of edges, with the names of their ends.
-pub(crate) fn named_links(
-    alloc: Global,
-    edges: &[Edge],
-) -> Result<(NodeNames, Vec<Link>), JoinFault>
-    ensures names { IfOk result (λ made. made.0 ≡ names_of edges.now) }
-    ensures are_names { IfOk result (λ made. AreNames made.0) }
-    ensures links { IfOk result (λ made. made.1.items ≡ links_with [] edges.now) }
-    ensures straight { OnOk result (AreStraight edges.now) }
-    ensures refused { IfErr result (IsRefusal edges.now) }
+/// The nodes and the links of edges: node k has name k, and the links stand in the order of the edges.
+#[derive(Drop)]
+pub struct Joined {
+    /// The names of the nodes.
+    pub names: NodeNames,
+    /// The links between the numbers of these names.
+    pub links: Vec<PlacedLink>,
+}
+
+/// The links of edges, each between the numbers of its ends. The nodes have the names that are given; the ends of the
+/// edges that are not among them are numbered behind them, in the order of their first appearance, the first end of an
+/// edge before the second. Else the fault of the first end that has no number; `Memory` comes for want of memory alone.
+pub fn join(alloc: Global, names: NodeNames, edges: &[Edge]) -> Result<Joined, JoinFault>
+    ensures named { IfOk result (λ joined. joined.names ≡ names_with names edges.now) }
+    ensures links { IfOk result (λ joined. joined.links.items ≡ links_of names edges.now) }
+    ensures are_names { IfOk result (λ joined. AreNames joined.names) }
+    ensures refused { IfErr result (IsRefusal names edges.now) }
 {
-    let mut names = NodeNames::new(alloc);
+    let mut names = names;
     let mut links = Vec::with_capacity(alloc, edges.len())?;
     for edge in edges {
         let link = link(&mut names, edge)?;
         links.push(link)?;
     }
-    Ok((names, links))
+    Ok(Joined { names, links })
 }

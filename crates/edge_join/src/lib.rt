@@ -1,10 +1,8 @@
-//! The network that edges between named nodes make.
+//! The nodes and links that edges between named nodes make.
 #![tactic(auto)]
 
 mod ends;
 mod fault;
-mod joining;
-mod listed;
 
+pub use ends::{Joined, join};
 pub use fault::JoinFault;
-pub use joining::{Joined, join};

@@ -1,25 +1,24 @@
 use Rattle.std.proofs.Common.{◌+◌, take, drop}
 use Rattle.std.proofs.lemmas.Result.{err_from_is_err_and}
 use Rattle.edge_join.specs.Refusals.{IsFirstBadEdge}
-use Rattle.edge_join.proofs.Steps.{parted, names_next, rest_next, links_next, straight_next}
-use Rattle.edge_join.proofs.Lists.{refused_edge}
-use Rattle.edge_join.proofs.ends.named_links.Goals as goal
+use Rattle.edge_join.proofs.Steps.{parted, names_next, rest_next, links_next, all_linked}
+use Rattle.edge_join.proofs.Refused.{refused_edge}
+use Rattle.edge_join.proofs.ends.join.Goals as goal
 
 pub returns-in_err-link-clause-refused : goal.returns-in_err-link-clause-refused
 returns-in_err-link-clause-refused c =
     let edges = c.args.edges.now in
     let i = c.loop-edge.edge-index in
     let p = err_from_is_err_and c.from_residual-in_err-link.result c.from_residual-in_err-link.ensures.1 in
-    let bad : IsFirstBadEdge edges c.in_err-link.field-0.0 = record {
+    let bad : IsFirstBadEdge c.args.names edges c.in_err-link.field-0.0 = record {
       earlier = take i edges;
       here = c.edge-item.result;
       later = drop (i + 1) edges;
       all = parted edges i c.edge-item.result c.loop-edge-test.true c.edge-item.is;
       are_names = rw c.loop-edge.invariant.names at c.loop-edge.invariant.are;
-      straight = c.loop-edge.invariant.straight;
       why = rw c.loop-edge.invariant.names at c.in_err-link.ensures.refused;
     } in
-    rw (p.1, p.2) (refused_edge edges c.in_err-link.field-0.0 bad)
+    rw (p.1, p.2) (refused_edge c.args.names edges c.in_err-link.field-0.0 bad)
 
 pub loop-edge-preserved : goal.loop-edge-preserved
 loop-edge-preserved c =
@@ -32,9 +31,11 @@ loop-edge-preserved c =
     let new = c.link.new.names in
     let is = c.in_ok-link.ensures.names in
     record {
-      names = names_next edges i e low at names new c.loop-edge.invariant.names is;
+      names = names_next edges i e low at c.args.names names new c.loop-edge.invariant.names is;
       rest = rest_next edges i e low at names new _ c.loop-edge.invariant.rest is;
       links = links_next edges i e low at names new c.loop-edge.links.items c.push.new.self.items _ c.in_ok-link.link c.loop-edge.invariant.links is c.in_ok-link.ensures.link c.in_ok-push.ensures.items;
       are = c.in_ok-link.ensures.are_names;
-      straight = straight_next edges i e low at c.loop-edge.invariant.straight c.in_ok-link.ensures.straight;
     }
+
+pub returns-clause-links : goal.returns-clause-links
+returns-clause-links c = all_linked c.args.names c.loop-edge.names c.args.edges.now c.loop-edge.edge-index c.loop-edge.links.items c.loop-edge-test.false c.loop-edge.invariant.links
