@@ -1,4 +1,5 @@
-mod Stable
 mod NameFaults
+mod NumberSteps
 mod Refused
+mod Stable
 mod Steps

@@ -1,9 +1,11 @@
 -- One more edge.
-use Rattle.std.proofs.Common.{◌≡◌, ℕ, ◌+◌, ◌<◌, ◌≤◌, List, [], ◌∷◌, ◌++◌, length, take, drop, get_or, ap, sym, ◌∙◌, append_assoc}
-use Rattle.std.proofs.lemmas.List.{append-nil, drop_all, drop_more, take_more, take-append-drop}
+use Rattle.std.proofs.Common.{◌≡◌, ℕ, ◌+◌, ◌<◌, ◌≤◌, List, [], ◌∷◌, ◌++◌, length, take, drop, get_or, refl, ap, sym, ◌∙◌, append_assoc}
+use Rattle.std.proofs.lemmas.List.{append-nil, drop_all, map-append, drop_more, take_more, take-append-drop}
 use Rattle.link_merge.specs.declared.placed.PlacedLink.{PlacedLink}
+use Rattle.node_names.specs.Naming.{with_name}
+use Rattle.named_edge.specs.declared.mention.Mention.{Mention}
 use Rattle.named_edge.specs.Named.{NamedEdge}
-use Rattle.edge_join.specs.Joining.{with_ends, names_with, link_in, links_with, links_of}
+use Rattle.edge_join.specs.Joining.{names_of, names_in, with_ends, names_with, link_in, links_with, links_of}
 use Rattle.edge_join.proofs.Stable.{links_all, names-push}
 
 module _ (edges : List NamedEdge) (i : ℕ) (e : NamedEdge) (low : i < length edges) (at : e ≡ get_or edges i e) where
@@ -32,3 +34,27 @@ module _ (edges : List NamedEdge) (i : ℕ) (e : NamedEdge) (low : i < length ed
 pub all_linked : (given names : List (List ℕ)) (edges : List NamedEdge) (i : ℕ) (done : List PlacedLink) → length edges ≤ i → done ++ links_with names (drop i edges) ≡ links_with given edges → done ≡ links_of given edges
 all_linked given names edges i done end were =
     sym (append-nil done) ∙ sym (ap (λ es. done ++ links_with names es) (drop_all i edges end)) ∙ were ∙ links_all given edges
+
+-- one name more
+names_push : (names ms : List (List ℕ)) (m : List ℕ) → names_in names (ms ++ m ∷ []) ≡ with_name (names_in names ms) m
+names_push names [] m = refl
+names_push names (x ∷ ms) m = names_push (with_name names x) ms m
+
+module _ (mentions : List Mention) (i : ℕ) (m d : Mention) (low : i < length mentions) (at : m ≡ get_or mentions i d) where
+  from_mention : drop i mentions ≡ m ∷ drop (i + 1) mentions
+  from_mention = drop_more mentions i d low ∙ ap (λ x. x ∷ drop (i + 1) mentions) (sym at)
+
+  up_to_mention : take (i + 1) mentions ≡ take i mentions ++ m ∷ []
+  up_to_mention = take_more mentions i d low ∙ ap (λ x. take i mentions ++ x ∷ []) (sym at)
+
+  pub mentions_parted : mentions ≡ take i mentions ++ m ∷ drop (i + 1) mentions
+  mentions_parted = sym (take-append-drop i mentions) ∙ ap (λ rest. take i mentions ++ rest) from_mention
+
+  pub mention_named : (names now : List (List ℕ)) → names ≡ names_in [] (names_of (take i mentions)) → now ≡ with_name names m.name.now → now ≡ names_in [] (names_of (take (i + 1) mentions))
+  mention_named names now were is =
+      is ∙ ap (λ ns. with_name ns m.name.now) were
+      ∙ sym (ap (names_in []) (ap names_of up_to_mention ∙ map-append (λ x. x.name.now) (take i mentions) (m ∷ [])) ∙ names_push [] (names_of (take i mentions)) m.name.now)
+
+  pub mention_left : (names now all : List (List ℕ)) → names_in names (names_of (drop i mentions)) ≡ all → now ≡ with_name names m.name.now → names_in now (names_of (drop (i + 1) mentions)) ≡ all
+  mention_left names now all were is =
+      ap (λ ns. names_in ns (names_of (drop (i + 1) mentions))) is ∙ sym (ap (λ ms. names_in names (names_of ms)) from_mention) ∙ were

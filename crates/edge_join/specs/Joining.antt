@@ -2,7 +2,12 @@
 use Rattle.std.specs.Prelude.{ℕ, List, [], ◌∷◌, map}
 use Rattle.node_names.specs.Naming.{place_in, with_name}
 use Rattle.named_edge.specs.Named.{NamedEdge}
+use Rattle.named_edge.specs.declared.mention.Mention.{Mention}
 use Rattle.link_merge.specs.declared.placed.PlacedLink.{PlacedLink}
+
+-- the names that a text names, in its order
+abbrev pub names_of : List Mention → List (List ℕ)
+names_of mentions = map (λ m. m.name.now) mentions
 
 -- the names with those that are mentioned, each once, in the order of their first appearance
 abbrev pub names_in : List (List ℕ) → List (List ℕ) → List (List ℕ)

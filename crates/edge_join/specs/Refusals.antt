@@ -1,13 +1,14 @@
 -- Why named nodes and edges have no numbers.
-use Rattle.std.specs.Prelude.{◌≡◌, ◌⊎◌, ◌<◌, ℕ, false, List, [], ◌∷◌, ◌++◌, length, map}
+use Rattle.std.specs.Prelude.{◌≡◌, ◌⊎◌, ◌<◌, ℕ, false, List, [], ◌∷◌, ◌++◌, length}
 use Rattle.link_net.specs.Limits.{most_nodes}
 use Rattle.node_names.specs.declared.fault.NamesFault.{NamesFault}
 use Rattle.node_names.specs.declared.fault.NamesFault.TheVariants as name
 use Rattle.node_names.specs.Naming.{AreNames, is_name, with_name}
 use Rattle.named_edge.specs.Named.{NamedEdge}
+use Rattle.named_edge.specs.declared.mention.Mention.{Mention}
 use Rattle.edge_join.specs.declared.fault.JoinFault.{JoinFault}
 use Rattle.edge_join.specs.declared.fault.JoinFault.TheVariants.{BadName, TooManyNodes, Memory}
-use Rattle.edge_join.specs.Joining.{names_in, with_ends, names_with}
+use Rattle.edge_join.specs.Joining.{names_of, names_in, with_ends, names_with}
 
 -- the fault of a name that stands in a line
 abbrev pub at_line : ℕ → NamesFault → JoinFault
@@ -40,3 +41,17 @@ pub record IsFirstBadEdge (names : List (List ℕ)) (edges : List NamedEdge) (fa
 abbrev pub IsRefusal : List (List ℕ) → List NamedEdge → JoinFault → Type 0
 IsRefusal names edges Memory = Unit {0}
 IsRefusal names edges fault = IsFirstBadEdge names edges fault
+
+-- what the fault says is so of a name that a text names, and the earlier ones are names, and not too many
+pub record IsFirstBadMention (mentions : List Mention) (fault : JoinFault) : Type 0 where
+  pub earlier : List Mention
+  pub here : Mention
+  pub later : List Mention
+  pub all : mentions ≡ earlier ++ here ∷ later
+  pub are_names : AreNames (names_in [] (names_of earlier))
+  pub why : IsNameFault (names_in [] (names_of earlier)) here.name.now here.line fault
+
+-- why names that a text names have no numbers: the first that has none, or want of memory
+abbrev pub IsMentionRefusal : List Mention → JoinFault → Type 0
+IsMentionRefusal mentions Memory = Unit {0}
+IsMentionRefusal mentions fault = IsFirstBadMention mentions fault
