@@ -13,5 +13,5 @@ pub use make::{Asked, Making, make_command, making_of};
 pub use names::{Naming, names_command, naming_of};
 pub use open::{CellsWord, LotWord, Openings, SetWord, open_command, openings_of};
 pub use show::{show_command, shown_path};
-pub use take::{Taking, take_command, taking_of};
+pub use take::{Format, Taking, take_command, taking_of};
 pub use weights::Weights;
