@@ -1,0 +1,46 @@
+-- What the first line says of the others.
+use Rattle.std.specs.Prelude.{ℕ, Bool, true, false, not, ◌&&◌, ◌||◌, List, [], ◌∷◌, codes, Result, Ok, Err, if◌then◌else◌}
+use Rattle.std.specs.Str.{str_eq_ignore_ascii_case}
+use Rattle.line_words.specs.Texts.{words_of}
+use Rattle.line_words.specs.Parts.{shown}
+use Rattle.matrix_text.specs.declared.fault.MatrixLineFault.{MatrixLineFault}
+use Rattle.matrix_text.specs.declared.fault.MatrixLineFault.TheVariants.{Words, NoHeader, ArrayFormat, UnknownField, UnknownSymmetry, Directed}
+use Rattle.matrix_text.specs.declared.header.Header.{Header}
+use Rattle.matrix_text.specs.Steps.{and_then, told_as}
+
+-- whether entries of this field have values
+abbrev pub values_in : List ℕ → Result Bool MatrixLineFault
+values_in field =
+    if str_eq_ignore_ascii_case field (codes "pattern") then Ok false
+    else if str_eq_ignore_ascii_case field (codes "integer") || str_eq_ignore_ascii_case field (codes "real") then Ok true
+    else Err UnknownField
+
+-- whether edges of this symmetry have a direction
+abbrev pub direction_in : List ℕ → Result Bool MatrixLineFault
+direction_in symmetry =
+    if str_eq_ignore_ascii_case symmetry (codes "symmetric") then Ok false
+    else if str_eq_ignore_ascii_case symmetry (codes "general") then Ok true
+    else Err UnknownSymmetry
+
+-- what the words of a header say: five, in letters of any case
+abbrev pub header_of : List (List ℕ) → Result Header MatrixLineFault
+header_of (banner ∷ object ∷ format ∷ field ∷ symmetry ∷ []) =
+    if not (str_eq_ignore_ascii_case banner (codes "%%MatrixMarket") && str_eq_ignore_ascii_case object (codes "matrix")) then Err NoHeader
+    else if str_eq_ignore_ascii_case format (codes "array") then Err ArrayFormat
+    else if not (str_eq_ignore_ascii_case format (codes "coordinate")) then Err NoHeader
+    else
+        and_then (values_in field) (λ values.
+        and_then (direction_in symmetry) (λ directed.
+        Ok (record { has_values = values; is_directed = directed })))
+header_of words = Err NoHeader
+
+-- whether the entries have values; edges with a direction only where that is left aside
+abbrev pub allowed : Bool → Header → Result Bool MatrixLineFault
+allowed undirected header = if header.is_directed && not undirected then Err Directed else Ok header.has_values
+
+-- whether the entries below this line have values
+abbrev pub header_in : Bool → List ℕ → Result Bool MatrixLineFault
+header_in undirected line =
+    and_then (told_as Words (shown line)) (λ text.
+    and_then (header_of (words_of text)) (λ header.
+    allowed undirected header))
