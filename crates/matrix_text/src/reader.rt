@@ -1,12 +1,14 @@
 //! Networks that are read.
-ghost use Rattle.std.specs.Prelude.{◌≡◌, ◌+◌, ◌<◌, ◌^◌, length, IfOk, IfErr, MatchResult, Ok, Err};
+ghost use Rattle.std.specs.Prelude.{◌≡◌, ◌==◌, if◌then◌else◌, ◌+◌, ◌<◌, ◌^◌, length, IfOk, IfErr, MatchResult, Ok, Err};
 ghost use Rattle.std.specs.Option.{unwrap_or};
 ghost use Rattle.std.specs.List.{position_or_len, before_first, after_first};
 ghost use Rattle.std.specs.Result.{result_err};
 ghost use Rattle.line_words.specs.Texts.{is_line_feed, told_from};
-ghost use Rattle.matrix_text.specs.declared.fault.MatrixFault.TheVariants.{Memory};
-ghost use Rattle.matrix_text.specs.Steps.{and_then};
-ghost use Rattle.matrix_text.specs.Matrices.{IsAnswer, links_in, matrix_of};
+ghost use Rattle.matrix_text.specs.declared.fault.MatrixFault.TheVariants.{TooManyEntries, Memory};
+ghost use Rattle.matrix_text.specs.Steps.{and_then, at_line};
+ghost use Rattle.matrix_text.specs.Headers.{header_in};
+ghost use Rattle.matrix_text.specs.Sizes.{size_in};
+ghost use Rattle.matrix_text.specs.Matrices.{IsAnswer, link_of, links_in, matrix_of};
 
 use crate::entry::{EntryForm, read_entry};
 use crate::fault::{MatrixFault, MatrixLineFault};
@@ -66,4 +68,69 @@ fn first_line(text: &[u8]) -> (&[u8], Lines<'_>)
 {
     let (line, bytes) = cut_at(text, line_length(text));
     (line, Lines { passed: 1, bytes })
+}
+
+/// Whether the entries below the header, which is the first line, have values.
+fn told_header(line: &[u8], undirected: bool) -> Result<bool, MatrixFault>
+    ensures { result ≡ at_line 1 (header_in undirected line.now) }
+{
+    match read_header(line, undirected) {
+        Ok(has_values) => Ok(has_values),
+        Err(fault) => Err(MatrixFault::BadLine { line: 1, fault }),
+    }
+}
+
+/// The size that a line says, or its fault with its number.
+fn told_size(number: u64, line: &[u8]) -> Result<Size, MatrixFault>
+    ensures { result ≡ at_line number (size_in line.now) }
+{
+    match read_size(line) {
+        Ok(size) => Ok(size),
+        Err(fault) => Err(MatrixFault::BadLine {
+            line: number,
+            fault,
+        }),
+    }
+}
+
+/// The link of a line, before which so many were found.
+fn read_next(from: &Entries<'_>, found: u64, number: u64, line: &[u8]) -> Result<PlacedLink, MatrixFault>
+    ensures { result ≡ (if found == from.now.said then Err (TooManyEntries number from.now.said) else link_of from.now.form (number, line.now)) }
+{
+    if found == from.said {
+        return Err(MatrixFault::TooManyEntries {
+            line: number,
+            said: from.said,
+        });
+    }
+    match read_entry(from.form, number, line) {
+        Ok(link) => Ok(link),
+        Err(fault) => Err(MatrixFault::BadLine {
+            line: number,
+            fault,
+        }),
+    }
+}
+
+/// The entries of a text, or what is wrong before them.
+fn find_entries<'a>(text: &'a [u8], reading: &Reading) -> Result<Entries<'a>, MatrixFault>
+    ensures room { IfOk result (λ from. from.lines.passed + length from.lines.bytes.now < 2 ^ 64) }
+    ensures rest { MatchResult result (λ from. matrix_of reading.now.undirected reading.now.factor text.now ≡ and_then (links_in from.form from.said (told_from (from.lines.passed + 1) from.lines.bytes.now)) (λ links. Ok (from.form.nodes, links))) (λ fault. matrix_of reading.now.undirected reading.now.factor text.now ≡ Err fault) }
+{
+    let (header, mut lines) = first_line(text);
+    let has_values = told_header(header, reading.undirected)?;
+    let Some((number, line)) = lines.next_told() else {
+        return Err(MatrixFault::NoSize);
+    };
+    let size = told_size(number, line)?;
+    let form = EntryForm {
+        nodes: size.nodes,
+        has_values,
+        factor: reading.factor,
+    };
+    Ok(Entries {
+        form,
+        said: size.entries,
+        lines,
+    })
 }
