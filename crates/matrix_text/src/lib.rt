@@ -9,4 +9,4 @@ mod reader;
 mod size;
 
 pub use fault::{MatrixFault, MatrixLineFault};
-pub use reader::{Matrix, Reading};
+pub use reader::{Matrix, Reading, read_matrix};
