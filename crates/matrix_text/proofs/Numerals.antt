@@ -1,5 +1,5 @@
 -- Whole numbers as words.
-use Rattle.std.proofs.Common.{◌≡◌, None, inl, inr, ◌<◌, ◌^◌, ℕ, suc, Bool, true, false, ◌&&◌, nat_lt, List, [], ◌∷◌, length, refl, sym, ap, ◌∙◌, arith, Result, Err}
+use Rattle.std.proofs.Common.{◌≡◌, None, inl, inr, ◌<◌, ◌^◌, ℕ, Bool, true, false, ◌&&◌, nat_lt, List, [], ◌∷◌, length, refl, sym, ap, ◌∙◌, arith, Result, Err}
 use Rattle.std.specs.Result.{OkIff}
 use Rattle.std.specs.Str.{all_ascii_digits}
 use Rattle.std.specs.Str.Parse.{digits_value, ParsesUnsigned}

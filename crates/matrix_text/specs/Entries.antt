@@ -1,5 +1,5 @@
 -- The links that lines say.
-use Rattle.std.specs.Prelude.{ℕ, ◌-◌, Bool, true, ◌&&◌, List, nat_le, unwrap_or, Option, Some, None, Result, Ok, Err, if◌then◌else◌}
+use Rattle.std.specs.Prelude.{ℕ, ◌-◌, true, ◌&&◌, List, nat_le, unwrap_or, Option, Some, None, Result, Ok, Err, if◌then◌else◌}
 use Rattle.line_words.specs.Texts.{words_of}
 use Rattle.line_words.specs.Parts.{shown, parts_of}
 use Rattle.link_merge.specs.declared.placed.PlacedLink.{PlacedLink}

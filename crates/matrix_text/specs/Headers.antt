@@ -8,30 +8,34 @@ use Rattle.matrix_text.specs.declared.fault.MatrixLineFault.TheVariants.{Words, 
 use Rattle.matrix_text.specs.declared.header.Header.{Header}
 use Rattle.matrix_text.specs.Steps.{and_then, told_as}
 
+-- the word is this one, in letters of any case
+abbrev pub says : List ℕ → List ℕ → Bool
+says word name = str_eq_ignore_ascii_case word name
+
 -- whether entries of this field have values
 abbrev pub values_in : List ℕ → Result Bool MatrixLineFault
 values_in field =
-    if str_eq_ignore_ascii_case field (codes "pattern") then Ok false
-    else if str_eq_ignore_ascii_case field (codes "integer") || str_eq_ignore_ascii_case field (codes "real") then Ok true
+    if says field (codes "pattern") then Ok false
+    else if says field (codes "integer") || says field (codes "real") then Ok true
     else Err UnknownField
 
 -- whether edges of this symmetry have a direction
 abbrev pub direction_in : List ℕ → Result Bool MatrixLineFault
 direction_in symmetry =
-    if str_eq_ignore_ascii_case symmetry (codes "symmetric") then Ok false
-    else if str_eq_ignore_ascii_case symmetry (codes "general") then Ok true
+    if says symmetry (codes "symmetric") then Ok false
+    else if says symmetry (codes "general") then Ok true
     else Err UnknownSymmetry
 
 -- what the words of a header say: five, in letters of any case
 abbrev pub header_of : List (List ℕ) → Result Header MatrixLineFault
 header_of (banner ∷ object ∷ format ∷ field ∷ symmetry ∷ []) =
-    if not (str_eq_ignore_ascii_case banner (codes "%%MatrixMarket") && str_eq_ignore_ascii_case object (codes "matrix")) then Err NoHeader
-    else if str_eq_ignore_ascii_case format (codes "array") then Err ArrayFormat
-    else if not (str_eq_ignore_ascii_case format (codes "coordinate")) then Err NoHeader
+    if not (says banner (codes "%%MatrixMarket") && says object (codes "matrix")) then Err NoHeader
+    else if says format (codes "array") then Err ArrayFormat
+    else if not (says format (codes "coordinate")) then Err NoHeader
     else
-        and_then (values_in field) (λ values.
-        and_then (direction_in symmetry) (λ directed.
-        Ok (record { has_values = values; is_directed = directed })))
+    and_then (values_in field) (λ values.
+    and_then (direction_in symmetry) (λ directed.
+    Ok (record { has_values = values; is_directed = directed })))
 header_of words = Err NoHeader
 
 -- whether the entries have values; edges with a direction only where that is left aside

@@ -1,5 +1,5 @@
 -- How many nodes and entries there are.
-use Rattle.std.specs.Prelude.{ℕ, ◌==◌, Bool, not, List, [], ◌∷◌, nat_lt, Result, Ok, Err, if◌then◌else◌}
+use Rattle.std.specs.Prelude.{ℕ, ◌==◌, not, List, [], ◌∷◌, nat_lt, Result, Ok, Err, if◌then◌else◌}
 use Rattle.std.specs.Option.{ok_or}
 use Rattle.line_words.specs.Texts.{words_of}
 use Rattle.line_words.specs.Parts.{shown}

@@ -40,13 +40,19 @@ fn read_value(form: EntryForm, word: Option<&str>) -> Result<Weight, MatrixLineF
             value: form.factor.unwrap_or(1),
             exact: true,
         }),
-        Some(word) if form.has_values => read_weight(word, form.factor).map_err(MatrixLineFault::Value),
+        Some(word) if form.has_values => read_weight(word, form.factor).map_err(
+            MatrixLineFault::Value,
+        ),
         Some(_) => Err(MatrixLineFault::ValueInPattern),
     }
 }
 
 /// The link that a line says.
-pub(crate) fn read_entry(form: EntryForm, number: u64, line: &[u8]) -> Result<PlacedLink, MatrixLineFault>
+pub(crate) fn read_entry(
+    form: EntryForm,
+    number: u64,
+    line: &[u8],
+) -> Result<PlacedLink, MatrixLineFault>
     ensures { result ≡ entry_in form number line.now }
 {
     let text = line_text(line)?;

@@ -1,8 +1,7 @@
 //! The first line, which says what stands in the others.
 ghost use Rattle.std.specs.Prelude.{◌≡◌, ◌∷◌, [], MatchOption, Ok, Err};
-ghost use Rattle.std.specs.Str.{str_eq_ignore_ascii_case};
 ghost use Rattle.line_words.specs.Texts.{words_of};
-ghost use Rattle.matrix_text.specs.Headers.{values_in, direction_in, header_of, header_in};
+ghost use Rattle.matrix_text.specs.Headers.{says, values_in, direction_in, header_of, header_in};
 ghost use Rattle.matrix_text.specs.declared.fault.MatrixLineFault.TheVariants.{NoHeader};
 
 use crate::fault::MatrixLineFault;
@@ -29,7 +28,7 @@ struct HeaderWords<'a> {
 
 /// Whether a word is this one, in letters of any case.
 fn says(word: &str, name: &str) -> bool
-    ensures { result ≡ str_eq_ignore_ascii_case word.now name.now }
+    ensures { result ≡ says word.now name.now }
 {
     word.eq_ignore_ascii_case(name)
 }

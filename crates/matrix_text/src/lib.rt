@@ -4,9 +4,12 @@
 mod entry;
 mod fault;
 mod header;
+mod matrix;
 mod number;
+mod opening;
 mod reader;
 mod size;
 
 pub use fault::{MatrixFault, MatrixLineFault};
-pub use reader::{Matrix, Reading, read_matrix};
+pub use matrix::{Matrix, Reading};
+pub use reader::read_matrix;
