@@ -1,0 +1,2 @@
+mod Numerals
+pub mod EntrySteps

@@ -1,0 +1,98 @@
+//! What stands before the entries.
+ghost use Rattle.std.specs.Prelude.{◌≡◌, ◌+◌, ◌<◌, ◌^◌, length, IfOk, MatchResult, Ok, Err};
+ghost use Rattle.std.specs.List.{position_or_len, before_first, after_first};
+ghost use Rattle.line_words.specs.Texts.{is_line_feed, told_from};
+ghost use Rattle.matrix_text.specs.Steps.{and_then, at_line};
+ghost use Rattle.matrix_text.specs.Headers.{header_in};
+ghost use Rattle.matrix_text.specs.Sizes.{size_in};
+ghost use Rattle.matrix_text.specs.Matrices.{links_in, matrix_of};
+
+use crate::entry::EntryForm;
+use crate::fault::MatrixFault;
+use crate::header::read_header;
+use crate::matrix::Reading;
+use crate::size::{Size, read_size};
+use line_words::{Lines, cut_at};
+
+/// The entries of a text that are not read yet.
+#[derive(Clone, Copy)]
+pub(crate) struct Entries<'a> {
+    /// What they are like.
+    pub(crate) form: EntryForm,
+    /// How many there are said to be.
+    pub(crate) said: u64,
+    /// Where they stand.
+    pub(crate) lines: Lines<'a>,
+}
+
+/// How many bytes stand before the first LF.
+fn line_length(bytes: &[u8]) -> usize
+    ensures { result ≡ position_or_len is_line_feed bytes.now }
+{
+    for (place, byte) in bytes.iter().enumerate() {
+        if *byte == b'\n' {
+            return place;
+        }
+    }
+    bytes.len()
+}
+
+/// The first line, and the lines behind it.
+fn first_line(text: &[u8]) -> (&[u8], Lines<'_>)
+    ensures line { result.0.now ≡ before_first is_line_feed text.now }
+    ensures passed { result.1.passed ≡ 1 }
+    ensures bytes { result.1.bytes.now ≡ after_first is_line_feed text.now }
+    ensures room { result.1.passed + length result.1.bytes.now < 2 ^ 64 }
+{
+    let (line, bytes) = cut_at(text, line_length(text));
+    (line, Lines { passed: 1, bytes })
+}
+
+/// Whether the entries below the header, which is the first line, have values.
+fn told_header(line: &[u8], undirected: bool) -> Result<bool, MatrixFault>
+    ensures { result ≡ at_line 1 (header_in undirected line.now) }
+{
+    match read_header(line, undirected) {
+        Ok(has_values) => Ok(has_values),
+        Err(fault) => Err(MatrixFault::BadLine { line: 1, fault }),
+    }
+}
+
+/// The size that a line says, or its fault with its number.
+fn told_size(number: u64, line: &[u8]) -> Result<Size, MatrixFault>
+    ensures { result ≡ at_line number (size_in line.now) }
+{
+    match read_size(line) {
+        Ok(size) => Ok(size),
+        Err(fault) => Err(MatrixFault::BadLine {
+            line: number,
+            fault,
+        }),
+    }
+}
+
+/// The entries of a text, or what is wrong before them.
+pub(crate) fn find_entries<'a>(
+    text: &'a [u8],
+    reading: &Reading,
+) -> Result<Entries<'a>, MatrixFault>
+    ensures room { IfOk result (λ from. from.lines.passed + length from.lines.bytes.now < 2 ^ 64) }
+    ensures rest { MatchResult result (λ from. matrix_of reading.now.undirected reading.now.factor text.now ≡ and_then (links_in from.form from.said (told_from (from.lines.passed + 1) from.lines.bytes.now)) (λ links. Ok (from.form.nodes, links))) (λ fault. matrix_of reading.now.undirected reading.now.factor text.now ≡ Err fault) }
+{
+    let (header, mut lines) = first_line(text);
+    let has_values = told_header(header, reading.undirected)?;
+    let Some((number, line)) = lines.next_told() else {
+        return Err(MatrixFault::NoSize);
+    };
+    let size = told_size(number, line)?;
+    let form = EntryForm {
+        nodes: size.nodes,
+        has_values,
+        factor: reading.factor,
+    };
+    Ok(Entries {
+        form,
+        said: size.entries,
+        lines,
+    })
+}
