@@ -9,6 +9,6 @@ mod words;
 
 pub use cuts::cut_at;
 pub use fault::WordsFault;
-pub use lines::Lines;
+pub use lines::{Lines, split_line};
 pub use parts::{Parts, line_parts, line_text};
 pub use words::next_word;

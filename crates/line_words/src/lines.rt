@@ -28,7 +28,7 @@ fn line_length(bytes: &[u8]) -> usize
 }
 
 /// The first line without its LF, and what stands behind it.
-fn split_line(bytes: &[u8]) -> (&[u8], &[u8])
+pub fn split_line(bytes: &[u8]) -> (&[u8], &[u8])
     ensures line { result.0.now ≡ before_first is_line_feed bytes.now }
     ensures rest { result.1.now ≡ after_first is_line_feed bytes.now }
 {

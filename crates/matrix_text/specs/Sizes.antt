@@ -1,6 +1,7 @@
 -- How many nodes and entries there are.
 use Rattle.std.specs.Prelude.{ℕ, ◌==◌, not, List, [], ◌∷◌, nat_lt, Result, Ok, Err, if◌then◌else◌}
 use Rattle.std.specs.Option.{ok_or}
+use Rattle.link_net.specs.Limits.{most_nodes}
 use Rattle.line_words.specs.Texts.{words_of}
 use Rattle.line_words.specs.Parts.{shown}
 use Rattle.matrix_text.specs.declared.fault.MatrixLineFault.{MatrixLineFault}
@@ -8,10 +9,6 @@ use Rattle.matrix_text.specs.declared.fault.MatrixLineFault.TheVariants.{Words, 
 use Rattle.matrix_text.specs.declared.size.Size.{Size}
 use Rattle.matrix_text.specs.Numbers.{number_of}
 use Rattle.matrix_text.specs.Steps.{and_then, told_as}
-
--- the most nodes
-abbrev pub most_nodes : ℕ
-most_nodes = 65536
 
 -- the number that a word of a size line says
 abbrev pub number_in : List ℕ → Result ℕ MatrixLineFault

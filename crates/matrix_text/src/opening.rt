@@ -1,6 +1,6 @@
 //! What stands before the entries.
 ghost use Rattle.std.specs.Prelude.{◌≡◌, ◌+◌, ◌<◌, ◌^◌, length, IfOk, MatchResult, Ok, Err};
-ghost use Rattle.std.specs.List.{position_or_len, before_first, after_first};
+ghost use Rattle.std.specs.List.{before_first, after_first};
 ghost use Rattle.line_words.specs.Texts.{is_line_feed, told_from};
 ghost use Rattle.matrix_text.specs.Steps.{and_then, at_line};
 ghost use Rattle.matrix_text.specs.Headers.{header_in};
@@ -12,7 +12,7 @@ use crate::fault::MatrixFault;
 use crate::header::read_header;
 use crate::matrix::Reading;
 use crate::size::{Size, read_size};
-use line_words::{Lines, cut_at};
+use line_words::{Lines, split_line};
 
 /// The entries of a text that are not read yet.
 #[derive(Clone, Copy)]
@@ -25,18 +25,6 @@ pub(crate) struct Entries<'a> {
     pub(crate) lines: Lines<'a>,
 }
 
-/// How many bytes stand before the first LF.
-fn line_length(bytes: &[u8]) -> usize
-    ensures { result ≡ position_or_len is_line_feed bytes.now }
-{
-    for (place, byte) in bytes.iter().enumerate() {
-        if *byte == b'\n' {
-            return place;
-        }
-    }
-    bytes.len()
-}
-
 /// The first line, and the lines behind it.
 fn first_line(text: &[u8]) -> (&[u8], Lines<'_>)
     ensures line { result.0.now ≡ before_first is_line_feed text.now }
@@ -44,7 +32,7 @@ fn first_line(text: &[u8]) -> (&[u8], Lines<'_>)
     ensures bytes { result.1.bytes.now ≡ after_first is_line_feed text.now }
     ensures room { result.1.passed + length result.1.bytes.now < 2 ^ 64 }
 {
-    let (line, bytes) = cut_at(text, line_length(text));
+    let (line, bytes) = split_line(text);
     (line, Lines { passed: 1, bytes })
 }
 

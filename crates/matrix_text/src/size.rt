@@ -6,9 +6,7 @@ ghost use Rattle.matrix_text.specs.Sizes.{number_in, sized, size_of, size_in};
 use crate::fault::MatrixLineFault;
 use crate::number::read_number;
 use line_words::{line_parts, line_text};
-
-/// The most nodes of a network.
-const MOST_NODES: u64 = 65536;
+use link_net::MOST_NODES;
 
 /// How many nodes and entries a text says that it has.
 #[derive(Clone, Copy, Debug)]
@@ -37,7 +35,7 @@ fn checked_size(rows: u64, columns: u64, entries: u64) -> Result<Size, MatrixLin
     if rows == 0 {
         return Err(MatrixLineFault::NoNodes);
     }
-    if rows > MOST_NODES {
+    if rows > MOST_NODES as u64 {
         return Err(MatrixLineFault::TooManyNodes);
     }
     Ok(Size {

@@ -9,6 +9,7 @@ mod make;
 mod names;
 mod open;
 mod output;
+mod refusals;
 mod show;
 mod take;
 mod why;

@@ -3,82 +3,87 @@
 use crate::ending::Ending;
 use crate::files::{Text, text_at};
 use crate::output::{write_file, write_out};
-use edge_join::{JoinFault, Joined, join};
-use edge_text::{Edge, EdgeFault, LineFault, Reading, read_edges};
-use lab_words::{Taking, taking_of};
-use link_net::FieldSet;
-use net_text::{LinkList, write_network};
-use node_names::names_text;
+use crate::refusals::refusal;
+use lab_words::{Format, Taking, taking_of};
+use net_take::{TakeFault, Taken, take_dot, take_edges, take_matrix, take_numbers};
 use std::alloc::{AllocError, Global};
+use std::io;
 
-/// What is wrong with a line, and what to do.
-fn line_text(fault: LineFault) -> &'static str {
-    match fault {
-        LineFault::NotUtf8 => "the line is not UTF-8",
-        LineFault::ControlCharacter => "a control character stands in the line",
-        LineFault::LongLine => "the line has more than 65536 bytes",
-        LineFault::OneWord => "expected two names and, where it has one, a weight; found one word",
-        LineFault::TooManyWords =>
-            "expected two names and, where it has one, a weight; found more than three words",
-        LineFault::Negative => "a weight is 0 or more",
-        LineFault::Decimal => "a weight is a whole number, and this is a decimal one",
-        LineFault::BadWeight =>
-            "the third word is no weight, which is a whole number (a line of headings is passed over with --header)",
-        LineFault::WeightTooLarge => "a weight is 4294967295 at most",
+/// The network of a list of edges.
+fn take_lines(alloc: Global, text: &[u8], asked: &Taking) -> Result<Taken, TakeFault> {
+    let reading = edge_text::Reading {
+        header: asked.header,
+        factor: asked.factor,
+    };
+    if asked.numbers {
+        take_numbers(alloc, text, &reading, asked.mending)
+    } else {
+        take_edges(alloc, text, &reading, asked.mending)
     }
 }
 
-/// The ending where a text has no list of edges.
-fn no_edges(alloc: Global, name: &str, fault: EdgeFault) -> Result<Ending, AllocError> {
-    match fault {
-        EdgeFault::BadLine { line, fault } => {
-            let why = line_text(fault);
-            let text = format!(in alloc; "edges {fault}\n{name}:{line}: {why}")?;
-            Ok(Ending::Refused(text))
+/// The network of a text.
+fn take_text(alloc: Global, text: &[u8], asked: &Taking) -> Result<Taken, TakeFault> {
+    let factor = asked.factor;
+    let undirected = asked.undirected;
+    match asked.format {
+        Format::Edges => take_lines(alloc, text, asked),
+        Format::MatrixMarket => {
+            let reading = matrix_text::Reading { factor, undirected };
+            take_matrix(alloc, text, &reading, asked.mending)
         }
-        EdgeFault::Memory => Ok(Ending::Memory),
+        Format::Dot => {
+            let reading = dot_text::Reading { factor, undirected };
+            take_dot(alloc, text, &reading, asked.mending)
+        }
     }
 }
 
-/// The ending where edges make no network.
-fn no_network(alloc: Global, name: &str, fault: JoinFault) -> Result<Ending, AllocError> {
-    if fault == JoinFault::Memory {
-        return Ok(Ending::Memory);
+/// The network of a text, or what is told where it has none.
+fn taken_from(alloc: Global, text: &Text, asked: &Taking) -> Result<Taken, Ending> {
+    match take_text(alloc, text.bytes.as_slice(), asked) {
+        Ok(taken) => Ok(taken),
+        Err(fault) => Err(refusal(alloc, asked.format, text.name.as_str(), fault)?),
     }
-    let text = format!(in alloc; "edges\n{name}: {fault}")?;
-    Ok(Ending::Refused(text))
-}
-
-/// The edges of a text.
-fn edges_of<'a>(alloc: Global, text: &'a Text, header: bool) -> Result<Vec<Edge<'a>>, Ending> {
-    match read_edges(alloc, text.bytes.as_slice(), &Reading { header }) {
-        Ok(edges) => Ok(edges),
-        Err(fault) => Err(no_edges(alloc, text.name.as_str(), fault)?),
-    }
-}
-
-/// The network of the edges of a text.
-fn joined_of(alloc: Global, text: &Text, header: bool) -> Result<Joined, Ending> {
-    let edges = edges_of(alloc, text, header)?;
-    match join(alloc, edges.as_slice()) {
-        Ok(joined) => Ok(joined),
-        Err(fault) => Err(no_network(alloc, text.name.as_str(), fault)?),
-    }
-}
-
-/// The network file of links, in phase 0, without opening values.
-fn network_text(alloc: Global, list: &LinkList) -> Result<Vec<u8>, AllocError> {
-    let none: Vec<FieldSet> = Vec::new(alloc);
-    write_network(alloc, list, 0, &none)
 }
 
 /// Writes the names into their file, where there is one.
-fn keep_names(rt: &HostRuntime, asked: &Taking, joined: &Joined) -> Result<(), Ending> {
-    let Some(path) = &asked.names else {
+fn keep_names(rt: &HostRuntime, asked: &Taking, taken: &Taken) -> Result<(), Ending> {
+    match &asked.names {
+        Some(path) => write_file(rt, path.as_str(), taken.names.as_slice()),
+        None => Ok(()),
+    }
+}
+
+/// Adds what was done to so many edges or weights, behind what was done to others.
+fn put_count(out: &mut String, count: usize, before: &str, after: &str) -> Result<(), AllocError> {
+    if count == 0 {
         return Ok(());
-    };
-    let text = names_text(rt.alloc(), &joined.names)?;
-    write_file(rt, path.as_str(), text.as_slice())
+    }
+    let comma = if out.is_empty() { "" } else { ", " };
+    let plural = if count == 1 { "" } else { "s" };
+    write!(out, "{comma}{before}{plural}{after}")
+}
+
+/// How many edges were dropped or merged, and how many weights rounded; nothing where none were.
+fn notes_text(alloc: Global, taken: &Taken) -> Result<String, AllocError> {
+    let (dropped, merged, rounded) = (taken.dropped, taken.merged, taken.rounded);
+    let drops = format!(in alloc; "dropped {dropped} edge")?;
+    let merges = format!(in alloc; "merged {merged} edge")?;
+    let rounds = format!(in alloc; "rounded {rounded} weight")?;
+    let mut out = String::new(alloc);
+    put_count(&mut out, dropped, drops.as_str(), " of a node with itself")?;
+    put_count(&mut out, merged, merges.as_str(), " into an earlier one")?;
+    put_count(&mut out, rounded, rounds.as_str(), "")?;
+    Ok(out)
+}
+
+/// Tells on standard error what was dropped, merged or rounded.
+fn tell_notes(rt: &HostRuntime, notes: &str) -> io::Result<()> {
+    if !notes.is_empty() {
+        eprintln!(rt; "{notes}")?;
+    }
+    Ok(())
 }
 
 /// Prints the network of a text in another format, and writes the names of its nodes before. The status with which the
@@ -86,9 +91,10 @@ fn keep_names(rt: &HostRuntime, asked: &Taking, joined: &Joined) -> Result<(), E
 pub(crate) fn take_network(rt: &HostRuntime, words: &[String]) -> Result<u8, Ending> {
     let asked = taking_of(rt.alloc(), words)?;
     let text = text_at(rt, asked.path.as_str())?;
-    let joined = joined_of(rt.alloc(), &text, asked.header)?;
-    let network = network_text(rt.alloc(), &joined.list)?;
-    keep_names(rt, &asked, &joined)?;
-    write_out(rt, &network)?;
+    let taken = taken_from(rt.alloc(), &text, &asked)?;
+    let notes = notes_text(rt.alloc(), &taken)?;
+    keep_names(rt, &asked, &taken)?;
+    write_out(rt, taken.network.as_slice())?;
+    let _ = tell_notes(rt, notes.as_str());
     Ok(0)
 }

@@ -1,0 +1,309 @@
+//! What is told of a text of another format that has no network.
+
+use crate::ending::Ending;
+use dot_text::{DotFault, DotLineFault};
+use edge_join::{JoinFault, NumberFault};
+use edge_text::{EdgeFault, LineFault};
+use lab_words::Format;
+use line_words::WordsFault;
+use link_merge::SettleFault;
+use link_net::NetFault;
+use matrix_text::{MatrixFault, MatrixLineFault};
+use net_take::TakeFault;
+use std::alloc::{AllocError, Global};
+use weight_text::WeightFault;
+
+/// The line of a fault where it has one, the fault's name, and what is wrong and what to do.
+type Told = (Option<u64>, &'static str, &'static str);
+
+/// The name of a format in a refusal.
+fn format_name(format: Format) -> &'static str {
+    match format {
+        Format::Edges => "edges",
+        Format::MatrixMarket => "matrix-market",
+        Format::Dot => "dot",
+    }
+}
+
+/// What is wrong with a line that is no text of words.
+fn words_told(fault: WordsFault) -> (&'static str, &'static str) {
+    match fault {
+        WordsFault::NotUtf8 => ("NotUtf8", "the line is not UTF-8"),
+        WordsFault::ControlCharacter => (
+            "ControlCharacter",
+            "a control character stands in the line",
+        ),
+        WordsFault::LongLine => ("LongLine", "the line has more than 65536 bytes"),
+        WordsFault::OneWord => (
+            "OneWord",
+            "expected two names and, where it has one, a weight; found one word",
+        ),
+        WordsFault::TooManyWords => (
+            "TooManyWords",
+            "expected two names and, where it has one, a weight; found more than three words",
+        ),
+    }
+}
+
+/// What is wrong with a weight.
+fn weight_told(fault: WeightFault) -> (&'static str, &'static str) {
+    match fault {
+        WeightFault::Negative => ("Negative", "a weight is 0 or more"),
+        WeightFault::Decimal => (
+            "Decimal",
+            "a weight is a whole number, and this is a decimal one (--scale FACTOR multiplies and rounds)",
+        ),
+        WeightFault::BadWeight => (
+            "BadWeight",
+            "the weight is no number (of a list of edges, --header passes over a line of headings)",
+        ),
+        WeightFault::TooManyDigits => (
+            "TooManyDigits",
+            "the digits of a weight say less than 2 to the power of 64, whatever its point and its exponent",
+        ),
+        WeightFault::WeightTooLarge => ("WeightTooLarge", "a weight is 4294967295 at most"),
+    }
+}
+
+/// A fault of a line.
+fn on_line(line: u64, told: (&'static str, &'static str)) -> Told {
+    (Some(line), told.0, told.1)
+}
+
+/// What is wrong with a list of edges.
+fn edges_told(fault: EdgeFault) -> Told {
+    match fault {
+        EdgeFault::BadLine {
+            line,
+            fault: LineFault::Words(fault),
+        } => on_line(line, words_told(fault)),
+        EdgeFault::BadLine {
+            line,
+            fault: LineFault::Weight(fault),
+        } => on_line(line, weight_told(fault)),
+        EdgeFault::Memory => (None, "Memory", ""),
+    }
+}
+
+/// What is wrong with the header of a Matrix Market file.
+fn header_told(fault: MatrixLineFault) -> (&'static str, &'static str) {
+    match fault {
+        MatrixLineFault::ArrayFormat => (
+            "ArrayFormat",
+            "expected the format `coordinate`; `array` has a value for each two nodes, and is not taken",
+        ),
+        MatrixLineFault::UnknownField => (
+            "UnknownField",
+            "expected the field `pattern`, `integer` or `real`",
+        ),
+        MatrixLineFault::UnknownSymmetry => (
+            "UnknownSymmetry",
+            "expected the symmetry `symmetric` or `general`",
+        ),
+        MatrixLineFault::Directed => (
+            "Directed",
+            "the edges of a general matrix have a direction (--undirected leaves it aside, and --merge-doubles takes both directions as one)",
+        ),
+        _ => (
+            "NoHeader",
+            "expected `%%MatrixMarket matrix coordinate FIELD SYMMETRY`",
+        ),
+    }
+}
+
+/// What is wrong with the size line of a Matrix Market file.
+fn size_told(fault: MatrixLineFault) -> (&'static str, &'static str) {
+    match fault {
+        MatrixLineFault::NotSquare => (
+            "NotSquare",
+            "the matrix of a network has as many columns as rows",
+        ),
+        MatrixLineFault::NoNodes => ("NoNodes", "a network has a node or more"),
+        MatrixLineFault::TooManyNodes => ("TooManyNodes", "a network has 65536 nodes at most"),
+        _ => (
+            "BadSize",
+            "expected the numbers of rows, columns and entries",
+        ),
+    }
+}
+
+/// What is wrong with an entry of a Matrix Market file.
+fn entry_told(fault: MatrixLineFault) -> (&'static str, &'static str) {
+    match fault {
+        MatrixLineFault::Words(WordsFault::OneWord) => (
+            "OneWord",
+            "expected a row and a column; found one word",
+        ),
+        MatrixLineFault::Words(WordsFault::TooManyWords) => (
+            "TooManyWords",
+            "expected a row, a column and a value; found more than three words",
+        ),
+        MatrixLineFault::Words(fault) => words_told(fault),
+        MatrixLineFault::Value(fault) => weight_told(fault),
+        MatrixLineFault::NoValue => ("NoValue", "expected a value behind the row and the column"),
+        MatrixLineFault::ValueInPattern => (
+            "ValueInPattern",
+            "the entries of a pattern are a row and a column; found a value",
+        ),
+        _ => (
+            "BadIndex",
+            "a row or a column is a number from 1 to the number of rows",
+        ),
+    }
+}
+
+/// What is wrong with a line of a Matrix Market file.
+fn matrix_line_told(fault: MatrixLineFault) -> (&'static str, &'static str) {
+    match fault {
+        MatrixLineFault::NoHeader
+        | MatrixLineFault::ArrayFormat
+        | MatrixLineFault::UnknownField
+        | MatrixLineFault::UnknownSymmetry
+        | MatrixLineFault::Directed => header_told(fault),
+        MatrixLineFault::BadSize
+        | MatrixLineFault::NotSquare
+        | MatrixLineFault::NoNodes
+        | MatrixLineFault::TooManyNodes => size_told(fault),
+        _ => entry_told(fault),
+    }
+}
+
+/// What is wrong with a Matrix Market file.
+fn matrix_told(fault: MatrixFault) -> Told {
+    match fault {
+        MatrixFault::BadLine { line, fault } => on_line(line, matrix_line_told(fault)),
+        MatrixFault::NoSize => (
+            None,
+            "NoSize",
+            "expected a line with the numbers of rows, columns and entries behind the header",
+        ),
+        MatrixFault::TooManyEntries { line, .. } => (
+            Some(line),
+            "TooManyEntries",
+            "there are more entries than the size line says",
+        ),
+        MatrixFault::TooFewEntries { .. } => (
+            None,
+            "TooFewEntries",
+            "there are fewer entries than the size line says",
+        ),
+        MatrixFault::Memory => (None, "Memory", ""),
+    }
+}
+
+/// What is wrong with the names of nodes.
+fn join_told(fault: JoinFault) -> Told {
+    match fault {
+        JoinFault::BadName { line } => (
+            Some(line),
+            "BadName",
+            "a name has 1 to 65536 bytes, and no control character",
+        ),
+        JoinFault::TooManyNodes { line } => (
+            Some(line),
+            "TooManyNodes",
+            "with this name there are more than 65536 nodes",
+        ),
+        JoinFault::Memory => (None, "Memory", ""),
+    }
+}
+
+/// What is wrong with names that are to be numbers.
+fn numbers_told(fault: NumberFault) -> Told {
+    match fault {
+        NumberFault::NoNumber { line } => (
+            Some(line),
+            "NoNumber",
+            "with --numbers a name is a whole number, the number of a node",
+        ),
+        NumberFault::NumberTooLarge { line } => (
+            Some(line),
+            "NumberTooLarge",
+            "the number of a node is 65535 at most",
+        ),
+        NumberFault::Memory => (None, "Memory", ""),
+    }
+}
+
+/// What is wrong with the links of a network.
+fn net_told(fault: NetFault) -> Told {
+    match fault {
+        NetFault::NodeCount => (None, "NoNodes", "there are no nodes"),
+        NetFault::TooManyLinks => (
+            None,
+            "TooManyLinks",
+            "a network has 262144 links at most",
+        ),
+        NetFault::TooManyNeighbours => (
+            None,
+            "TooManyNeighbours",
+            "a node has 4096 neighbours at most",
+        ),
+        _ => (None, "BadLink", "a link is none of the network"),
+    }
+}
+
+/// What is wrong with loops, doubles and links.
+fn settle_told(fault: SettleFault) -> Told {
+    match fault {
+        SettleFault::SelfLoop { line } => (
+            Some(line),
+            "SelfLoop",
+            "a node is joined with itself (--drop-loops drops such edges)",
+        ),
+        SettleFault::Double { line, .. } => (
+            Some(line),
+            "Double",
+            "an earlier edge joins these two nodes (--merge-doubles least, most or first keeps one)",
+        ),
+        SettleFault::Net(fault) => net_told(fault),
+        SettleFault::Memory => (None, "Memory", ""),
+    }
+}
+
+/// What is wrong with a text.
+fn told_of(fault: TakeFault) -> Told {
+    match fault {
+        TakeFault::Edges(fault) => edges_told(fault),
+        TakeFault::Matrix(fault) => matrix_told(fault),
+        TakeFault::Dot(fault) => dot_told(fault),
+        TakeFault::Join(fault) => join_told(fault),
+        TakeFault::Numbers(fault) => numbers_told(fault),
+        TakeFault::Settle(fault) => settle_told(fault),
+        TakeFault::Memory => (None, "Memory", ""),
+    }
+}
+
+/// What is told beside: the earlier edge of two, and how many entries there are.
+fn detail_of(alloc: Global, fault: TakeFault) -> Result<String, AllocError> {
+    match fault {
+        TakeFault::Settle(SettleFault::Double { first, .. }) =>
+            format!(in alloc; "; it stands on line {first}"),
+        TakeFault::Matrix(MatrixFault::TooManyEntries { said, .. }) =>
+            format!(in alloc; ": {said}"),
+        TakeFault::Matrix(MatrixFault::TooFewEntries { said, found }) =>
+            format!(in alloc; ": {found}, and {said} were said"),
+        _ => Ok(String::new(alloc)),
+    }
+}
+
+/// The ending where a text of this format has no network.
+pub(crate) fn refusal(
+    alloc: Global,
+    format: Format,
+    name: &str,
+    fault: TakeFault,
+) -> Result<Ending, AllocError> {
+    let (line, kind, why) = told_of(fault);
+    if kind == "Memory" {
+        return Ok(Ending::Memory);
+    }
+    let part = format_name(format);
+    let detail = detail_of(alloc, fault)?;
+    let detail = detail.as_str();
+    let text = match line {
+        Some(line) => format!(in alloc; "{part} {kind}\n{name}:{line}: {why}{detail}"),
+        None => format!(in alloc; "{part} {kind}\n{name}: {why}{detail}"),
+    }?;
+    Ok(Ending::Refused(text))
+}
