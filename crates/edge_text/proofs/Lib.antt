@@ -1,4 +1,1 @@
 mod EdgeSteps
-mod LinesCut
-mod LineFaults
-mod Numerals

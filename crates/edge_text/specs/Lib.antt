@@ -1,4 +1,1 @@
 pub mod Edges
-pub mod Named
-pub mod Texts
-pub mod Weights

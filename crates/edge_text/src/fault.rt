@@ -2,39 +2,20 @@
 ghost use Rattle.std.specs.Prelude.{◌≡◌};
 ghost use Rattle.edge_text.specs.declared.fault.EdgeFault.TheVariants.{Memory};
 
+use line_words::WordsFault;
 use std::alloc::{AllocError, AllocFailed};
 use thiserror::Error;
+use weight_text::WeightFault;
 
 /// What is wrong with a line. Where several things are, the first in this order.
 #[derive(Clone, Copy, Debug, PartialEq, Eq, Error)]
 pub enum LineFault {
-    /// The line is not UTF-8.
-    #[error("NotUtf8")]
-    NotUtf8,
-    /// A control character stands in the line: a byte below 32 other than TAB and CR, or the byte 127.
-    #[error("ControlCharacter")]
-    ControlCharacter,
-    /// The line has more than 65,536 bytes, its LF not counted.
-    #[error("LongLine")]
-    LongLine,
-    /// The line has one word alone.
-    #[error("OneWord")]
-    OneWord,
-    /// The line has more than three words.
-    #[error("TooManyWords")]
-    TooManyWords,
-    /// The weight is a minus sign before a number, whole or decimal.
-    #[error("Negative")]
-    Negative,
-    /// The weight is a decimal number: digits with a point among them, or with an exponent behind them.
-    #[error("Decimal")]
-    Decimal,
-    /// The weight is no number.
-    #[error("BadWeight")]
-    BadWeight,
-    /// The weight is a whole number greater than 4,294,967,295.
-    #[error("WeightTooLarge")]
-    WeightTooLarge,
+    /// The line is not two or three words that may be shown.
+    #[error("{0}")]
+    Words(WordsFault),
+    /// The third word says no weight.
+    #[error("{0}")]
+    Weight(WeightFault),
 }
 
 /// Why a text has no list of edges.

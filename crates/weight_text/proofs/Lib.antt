@@ -1,1 +1,4 @@
+mod Digits
 mod Numerals
+mod Quotients
+mod Scaling

@@ -18,7 +18,7 @@ and_assoc : (x y z : Bool) → (x && (y && z)) ≡ ((x && y) && z)
 and_assoc true y z = refl
 and_assoc false y z = refl
 
-all_append : (front back : List ℕ) → all_ascii_digits (front ++ back) ≡ (all_ascii_digits front && all_ascii_digits back)
+pub all_append : (front back : List ℕ) → all_ascii_digits (front ++ back) ≡ (all_ascii_digits front && all_ascii_digits back)
 all_append [] back = refl
 all_append (c ∷ cs) back = ap (λ t. is_ascii_digit c && t) (all_append cs back) ∙ and_assoc (is_ascii_digit c) (all_ascii_digits cs) (all_ascii_digits back)
 
@@ -76,7 +76,7 @@ own = numerals_by_value _ tells_all_ascii_digits
 abbrev err_of : {E : Type 0} → E → Result ℕ E
 err_of e = Err e
 
-whole_digits : (word : List ℕ) → is_whole word ≡ true → all_ascii_digits word ≡ true
+pub whole_digits : (word : List ℕ) → is_whole word ≡ true → all_ascii_digits word ≡ true
 whole_digits [] whole = refl
 whole_digits (c ∷ cs) whole = sym (ap (λ t. not t && all_ascii_digits (c ∷ cs)) (ne_eqb (length (c ∷ cs)) 0 (λ (e : suc (length cs) ≡ 0). omega arith))) ∙ whole
 

@@ -63,43 +63,56 @@ digits_of word = digits_value 10 (before_first is_point (mantissa_of word) ++ af
 abbrev pub places_of : List ℕ → ℕ
 places_of word = length (after_first is_point (mantissa_of word))
 
+-- its exponent, nothing where it has none
+abbrev pub exponent_of : List ℕ → List ℕ
+exponent_of word = after_first is_exponent_mark word
+
 -- what stands behind a sign, where there is one
 abbrev pub behind_sign : List ℕ → List ℕ
 behind_sign [] = []
 behind_sign (b ∷ bytes) = if is_sign b then bytes else b ∷ bytes
 
--- the exponent without its sign, 0 where there is none
-abbrev pub exponent_of : List ℕ → ℕ
-exponent_of word = digits_value 10 (behind_sign (after_first is_exponent_mark word))
+-- an exponent without its sign as a number, 0 where there is none
+abbrev pub power_of : List ℕ → ℕ
+power_of exponent = digits_value 10 (behind_sign exponent)
 
--- the exponent has a minus sign
-abbrev pub is_lowered : List ℕ → Bool
-is_lowered word = slice_index (after_first is_exponent_mark word) 0 == 45
+-- an exponent with a minus sign
+abbrev pub is_lowering : List ℕ → Bool
+is_lowering exponent = slice_index exponent 0 == 45
+
+-- the power of ten that an exponent multiplies by, and the one that it divides by
+abbrev pub raise_of : List ℕ → ℕ
+raise_of exponent = if is_lowering exponent then 0 else power_of exponent
+
+abbrev pub lower_of : List ℕ → ℕ
+lower_of exponent = if is_lowering exponent then power_of exponent else 0
 
 -- a number is raised_of divided by lowered_of
 abbrev pub raised_of : List ℕ → ℕ
-raised_of word = digits_of word * 10 ^ (if is_lowered word then 0 else exponent_of word)
+raised_of word = digits_of word * 10 ^ raise_of (exponent_of word)
 
 abbrev pub lowered_of : List ℕ → ℕ
-lowered_of word = 10 ^ (places_of word + (if is_lowered word then exponent_of word else 0))
+lowered_of word = 10 ^ (places_of word + lower_of (exponent_of word))
 
 -- the whole number nearest to a / b, the greater one where two are
 abbrev pub nearest : ℕ → ℕ → ℕ
 nearest a b = (2 * a + b) / (2 * b)
 
--- the whole number nearest to a number times a factor, and whether it is that product
-abbrev pub scaled : ℕ → List ℕ → Weight
-scaled f word = record { value = nearest (f * raised_of word) (lowered_of word); exact = (f * raised_of word) % lowered_of word == 0 }
+-- a weight, where it is not too large
+abbrev pub fitting : ℕ → Bool → Result Weight WeightFault
+fitting value exact = if nat_le value most_weight then Ok (record { value = value; exact = exact }) else Err WeightTooLarge
+
+-- the weight nearest to a / b, and whether it is that
+abbrev pub weight_near : ℕ → ℕ → Result Weight WeightFault
+weight_near a b = fitting (nearest a b) (a % b == 0)
 
 -- the weight that a word says: a whole number, or where a factor is given any number times that
 abbrev pub weight_of : Option ℕ → List ℕ → Result Weight WeightFault
 weight_of None word =
     if not (is_whole word) then Err (bad_weight word)
-    else if nat_le (digits_value 10 word) most_weight then Ok (record { value = digits_value 10 word; exact = true })
-    else Err WeightTooLarge
+    else fitting (digits_value 10 word) true
 weight_of (Some f) word =
     if is_negative word then Err Negative
     else if not (is_number word) then Err BadWeight
     else if nat_le (2 ^ 64) (digits_of word) then Err TooManyDigits
-    else if nat_le (nearest (f * raised_of word) (lowered_of word)) most_weight then Ok (scaled f word)
-    else Err WeightTooLarge
+    else weight_near (f * raised_of word) (lowered_of word)

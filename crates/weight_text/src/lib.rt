@@ -2,6 +2,9 @@
 #![tactic(auto)]
 
 mod fault;
+mod number;
+mod quotient;
+mod scaled;
 mod weight;
 
 pub use fault::WeightFault;

@@ -1,100 +1,21 @@
 //! The weight that a word says.
-ghost use Rattle.std.specs.Prelude.{◌≡◌, ◌++◌, None};
-ghost use Rattle.std.specs.List.{position_or_len};
-ghost use Rattle.std.specs.Str.{all_ascii_digits};
-ghost use Rattle.weight_text.specs.Weights.{is_point, is_exponent_mark, is_whole, is_mantissa, is_exponent, is_number, bad_weight, weight_of};
+ghost use Rattle.std.specs.Prelude.{◌≡◌, None};
+ghost use Rattle.weight_text.specs.Weights.{bad_weight, weight_of};
 
 use crate::fault::WeightFault;
-use line_words::cut_at;
-
-/// Whether all bytes are digits.
-fn all_digits(bytes: &[u8]) -> bool
-    ensures { result ≡ all_ascii_digits bytes.now }
-{
-    for byte in bytes {
-        if !byte.is_ascii_digit() {
-            return false;
-        }
-    }
-    true
-}
-
-/// Whether the bytes are a whole number: digits alone, one or more.
-fn is_whole(bytes: &[u8]) -> bool
-    ensures { result ≡ is_whole bytes.now }
-{
-    !bytes.is_empty() && all_digits(bytes)
-}
-
-/// How many bytes stand before the first point.
-fn point_place(bytes: &[u8]) -> usize
-    ensures { result ≡ position_or_len is_point bytes.now }
-{
-    for (place, byte) in bytes.iter().enumerate() {
-        if *byte == b'.' {
-            return place;
-        }
-    }
-    bytes.len()
-}
-
-/// How many bytes stand before the first `e` or `E`.
-fn mark_place(bytes: &[u8]) -> usize
-    ensures { result ≡ position_or_len is_exponent_mark bytes.now }
-{
-    for (place, byte) in bytes.iter().enumerate() {
-        if *byte == b'e' || *byte == b'E' {
-            return place;
-        }
-    }
-    bytes.len()
-}
-
-/// Whether two runs of bytes together are a whole number.
-fn is_whole_together(front: &[u8], back: &[u8]) -> bool
-    ensures { result ≡ is_whole (front.now ++ back.now) }
-{
-    if front.is_empty() {
-        return is_whole(back);
-    }
-    all_digits(front) && all_digits(back)
-}
-
-/// Whether the bytes are digits with a point among them or without, one digit at least.
-fn is_mantissa(bytes: &[u8]) -> bool
-    ensures { result ≡ is_mantissa bytes.now }
-{
-    let (whole, fraction) = cut_at(bytes, point_place(bytes));
-    is_whole_together(whole, fraction)
-}
-
-/// Whether the bytes are a whole number with a sign before it or without.
-fn is_exponent(bytes: &[u8]) -> bool
-    ensures { result ≡ is_exponent bytes.now }
-{
-    match bytes {
-        [b'+' | b'-', digits @ ..] => is_whole(digits),
-        _ => is_whole(bytes),
-    }
-}
-
-/// Whether the bytes are a number, whole or decimal.
-fn is_number(bytes: &[u8]) -> bool
-    ensures { result ≡ is_number bytes.now }
-{
-    let place = mark_place(bytes);
-    let (mantissa, exponent) = cut_at(bytes, place);
-    is_mantissa(mantissa) && (place == bytes.len() || is_exponent(exponent))
-}
+use crate::number::{is_negative, is_number, is_whole};
+use crate::scaled::scaled_weight;
 
 /// What is wrong with a weight that is no whole number.
 fn bad_weight(word: &[u8]) -> WeightFault
     ensures { result ≡ bad_weight word.now }
 {
-    match word {
-        [b'-', number @ ..] if is_number(number) => WeightFault::Negative,
-        _ if is_number(word) => WeightFault::Decimal,
-        _ => WeightFault::BadWeight,
+    if is_negative(word) {
+        WeightFault::Negative
+    } else if is_number(word) {
+        WeightFault::Decimal
+    } else {
+        WeightFault::BadWeight
     }
 }
 
@@ -118,12 +39,18 @@ fn whole_weight(word: &str) -> Result<Weight, WeightFault>
     }
 }
 
-/// The weight that a word says.
+/// The weight that a word says. Without a factor the word is a whole number, and the weight is that number, exactly.
+///
+/// With a factor it is any number, whole or decimal, and the weight is the whole number nearest to that number times
+/// the factor, the greater one where two are as near. It is exact where it is that product itself.
+///
+/// `Negative`, `Decimal`, `BadWeight`, `TooManyDigits` and `WeightTooLarge` come as `WeightFault` says, the first in
+/// this order; `Decimal` without a factor alone, `TooManyDigits` with one alone.
 pub fn read_weight(word: &str, factor: Option<u32>) -> Result<Weight, WeightFault>
     ensures weight { result ≡ weight_of factor word.now }
 {
     match factor {
-        Some(factor) => Err(WeightFault::Decimal),
+        Some(factor) => scaled_weight(word, factor),
         None => whole_weight(word),
     }
 }

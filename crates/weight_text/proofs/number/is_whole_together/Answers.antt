@@ -1,5 +1,5 @@
 use Rattle.weight_text.proofs.Numerals.{whole_back, whole_front}
-use Rattle.weight_text.proofs.weight.is_whole_together.Goals as goal
+use Rattle.weight_text.proofs.number.is_whole_together.Goals as goal
 
 pub returns-then-all_digits : goal.returns-then-all_digits
 returns-then-all_digits c =

@@ -1,6 +1,6 @@
 use Rattle.std.proofs.Common.{ap, ◌∙◌, take, drop, ◌+◌}
 use Rattle.weight_text.proofs.Numerals.{number_plain, number_marked}
-use Rattle.weight_text.proofs.weight.is_number.Goals as goal
+use Rattle.weight_text.proofs.number.is_number.Goals as goal
 
 pub returns-then-place-bytes : goal.returns-then-place-bytes
 returns-then-place-bytes c =
