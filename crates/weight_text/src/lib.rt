@@ -8,4 +8,5 @@ mod scaled;
 mod weight;
 
 pub use fault::WeightFault;
+pub use number::all_digits;
 pub use weight::{Weight, read_weight};

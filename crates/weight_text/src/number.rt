@@ -7,7 +7,7 @@ ghost use Rattle.weight_text.specs.Weights.{is_point, is_exponent_mark, is_whole
 use line_words::cut_at;
 
 /// Whether all bytes are digits.
-fn all_digits(bytes: &[u8]) -> bool
+pub fn all_digits(bytes: &[u8]) -> bool
     ensures { result ≡ all_ascii_digits bytes.now }
 {
     for byte in bytes {
