@@ -105,3 +105,8 @@ piece_at fresh b bytes =
     else if begins_numeral b then numeral_at 0 (b ∷ bytes)
     else if is_word_byte b then word_at (b ∷ bytes)
     else sign_at b
+
+-- what stands at the front of bytes
+abbrev pub first_piece : Bool → List ℕ → Result Piece DotLineFault
+first_piece fresh [] = gap 1
+first_piece fresh (b ∷ bytes) = piece_at fresh b bytes

@@ -2,6 +2,7 @@
 #![tactic(auto)]
 
 mod fault;
+mod pieces;
 mod runs;
 mod token_kind;
 

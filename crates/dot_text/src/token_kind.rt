@@ -48,20 +48,20 @@ pub enum TokenKind {
 }
 
 /// The kind of a word: a keyword, in any case, or a name.
-pub(crate) fn word_kind(word: &str) -> TokenKind
+pub(crate) fn word_kind(word: &[u8]) -> TokenKind
     ensures { result ≡ word_kind word.now }
 {
-    if word.eq_ignore_ascii_case("strict") {
+    if word.eq_ignore_ascii_case(b"strict") {
         TokenKind::Strict
-    } else if word.eq_ignore_ascii_case("graph") {
+    } else if word.eq_ignore_ascii_case(b"graph") {
         TokenKind::Graph
-    } else if word.eq_ignore_ascii_case("digraph") {
+    } else if word.eq_ignore_ascii_case(b"digraph") {
         TokenKind::Digraph
-    } else if word.eq_ignore_ascii_case("node") {
+    } else if word.eq_ignore_ascii_case(b"node") {
         TokenKind::Node
-    } else if word.eq_ignore_ascii_case("edge") {
+    } else if word.eq_ignore_ascii_case(b"edge") {
         TokenKind::Edge
-    } else if word.eq_ignore_ascii_case("subgraph") {
+    } else if word.eq_ignore_ascii_case(b"subgraph") {
         TokenKind::Subgraph
     } else {
         TokenKind::Name
