@@ -1,1 +1,2 @@
 mod TextedPieces
+mod TokenSteps

@@ -1,3 +1,4 @@
+pub mod Grammar
 pub mod Runs
 pub mod Tokens
 pub mod View

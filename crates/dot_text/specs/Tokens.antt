@@ -1,5 +1,5 @@
 -- Tokens of a DOT text.
-use Rattle.std.specs.Prelude.{ℕ, ◌+◌, ◌-◌, ◌==◌, Bool, true, false, ◌||◌, ◌&&◌, not, List, [], ◌∷◌, nat_lt, nat_le, length, take, drop, slice_index, codes, MatchResult, Option, Some, None, Result, Ok, Err, if◌then◌else◌, ◌≡◌}
+use Rattle.std.specs.Prelude.{ℕ, zero, suc, ◌+◌, ◌-◌, ◌==◌, Bool, true, false, ◌||◌, ◌&&◌, not, List, [], ◌∷◌, nat_lt, nat_le, length, take, drop, slice_index, codes, MatchResult, Option, Some, None, Result, Ok, Err, if◌then◌else◌, ◌≡◌}
 use Rattle.std.specs.List.{prefix_len, position_or_len}
 use Rattle.std.specs.Str.{is_utf8, str_eq_ignore_ascii_case}
 use Rattle.std.specs.Char.{is_ascii_digit}
@@ -110,3 +110,34 @@ piece_at fresh b bytes =
 abbrev pub first_piece : Bool → List ℕ → Result Piece DotLineFault
 first_piece fresh [] = gap 1
 first_piece fresh (b ∷ bytes) = piece_at fresh b bytes
+
+-- a token: the line where it begins, its kind, and its text; or what is wrong where none begins
+pub record DotToken : Type 0 where
+  pub line : ℕ
+  pub kind : Result TokenKind DotLineFault
+  pub text : List ℕ
+
+-- the line of the byte behind this one
+abbrev pub line_behind : ℕ → ℕ → ℕ
+line_behind line b = if is_line_feed b then line + 1 else line
+
+-- a token before others, where one stands there
+abbrev pub with_token : ℕ → Option TokenKind → List ℕ → List DotToken → List DotToken
+with_token line None text tokens = tokens
+with_token line (Some kind) text tokens = record { line = line; kind = Ok kind; text = text } ∷ tokens
+
+-- what stands in a line, and the tokens behind as many bytes as it takes; a fault is the last
+abbrev pub tokens_with : ℕ → Result Piece DotLineFault → (ℕ → List DotToken) → List DotToken
+tokens_with line (Ok piece) behind = with_token line piece.kind piece.text (behind piece.size)
+tokens_with line (Err fault) behind = record { line = line; kind = Err fault; text = [] } ∷ []
+
+-- the tokens of bytes behind so many of them. The first byte stands in this line; fresh: it is the first of its line.
+-- The last token is End, or a fault
+abbrev pub tokens_at : ℕ → Bool → ℕ → List ℕ → List DotToken
+tokens_at passed fresh line [] = record { line = line; kind = Ok End; text = [] } ∷ []
+tokens_at zero fresh line (b ∷ bytes) = tokens_with line (piece_at fresh b bytes) (λ size. tokens_at (size - 1) (is_line_feed b) (line_behind line b) bytes)
+tokens_at (suc passed) fresh line (b ∷ bytes) = tokens_at passed (is_line_feed b) (line_behind line b) bytes
+
+-- the tokens of a text
+abbrev pub tokens_of : List ℕ → List DotToken
+tokens_of text = tokens_at 0 true 1 text
