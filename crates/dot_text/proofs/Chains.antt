@@ -1,0 +1,16 @@
+-- Chains of nodes.
+use Rattle.std.proofs.Common.{◌≡◌, ℕ, ◌<◌, List, [], ◌∷◌, ◌++◌, map, length, refl, sym, ◌∙◌, append-nil, arith}
+use Rattle.weight_text.specs.declared.weight.Weight.{Weight}
+use Rattle.named_edge.specs.Named.{NamedEdge}
+use Rattle.dot_text.specs.declared.mention.Mention.{Mention}
+use Rattle.dot_text.specs.Graphs.{chain}
+use Rattle.dot_text.specs.View.{mention_of}
+
+chain_short : (w : Weight) (ends : List Mention) → length ends < 2 → chain w (map mention_of ends) ≡ []
+chain_short w [] short = refl
+chain_short w (a ∷ []) short = refl
+chain_short w (a ∷ b ∷ ms) short = absurd (omega arith)
+
+-- a chain of one node or none has no edge more
+pub chain_ends : (edges all : List NamedEdge) (w : Weight) (ends : List Mention) → length ends < 2 → edges ++ chain w (map mention_of ends) ≡ all → edges ≡ all
+chain_ends edges all w ends short is = sym (append-nil edges) ∙ rw (chain_short w ends short) at is

@@ -1,0 +1,4 @@
+mod Chains
+mod EventSteps
+mod TextedPieces
+mod TokenSteps

@@ -1,0 +1,20 @@
+//! Undirected graphs in Graphviz's DOT language.
+#![tactic(auto)]
+
+mod builder;
+mod events;
+mod fault;
+mod grammar;
+mod mention;
+mod pieces;
+mod reader;
+mod runs;
+mod state;
+mod token_kind;
+mod tokens;
+
+pub use builder::Graph;
+pub use fault::{DotFault, DotLineFault};
+pub use mention::Mention;
+pub use reader::{Reading, read_dot};
+pub use token_kind::TokenKind;
