@@ -2,7 +2,7 @@
 use Rattle.std.proofs.Common.{◌≡◌, ℕ, ◌<◌, List, [], ◌∷◌, ◌++◌, map, length, refl, sym, ◌∙◌, append-nil, arith}
 use Rattle.weight_text.specs.declared.weight.Weight.{Weight}
 use Rattle.named_edge.specs.Named.{NamedEdge}
-use Rattle.dot_text.specs.declared.mention.Mention.{Mention}
+use Rattle.named_edge.specs.declared.mention.Mention.{Mention}
 use Rattle.dot_text.specs.Graphs.{chain}
 use Rattle.dot_text.specs.View.{mention_of}
 

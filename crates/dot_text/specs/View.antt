@@ -1,6 +1,6 @@
 -- What functions return, as the definitions speak of it.
 use Rattle.std.specs.Prelude.{◌≡◌, List, [], ◌++◌, map, drop, MatchResult, Result, Ok, Err, if◌then◌else◌}
-use Rattle.dot_text.specs.declared.mention.Mention.{Mention}
+use Rattle.named_edge.specs.declared.mention.Mention.{Mention}
 use Rattle.dot_text.specs.declared.events.Event.{Event}
 use Rattle.dot_text.specs.declared.events.Event.TheVariants.{Nothing, Begins, Joins, Weighs}
 use Rattle.dot_text.specs.declared.builder.Graph.{Graph}

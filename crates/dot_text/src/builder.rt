@@ -4,8 +4,7 @@ ghost use Rattle.dot_text.specs.Graphs.{DotEvent, chain, unsaid_weight, graph_in
 ghost use Rattle.dot_text.specs.View.{mention_of, event_of, finished, graph_view};
 
 use crate::events::Event;
-use crate::mention::Mention;
-use named_edge::Edge;
+use named_edge::{Edge, Mention};
 use std::alloc::{AllocError, Global};
 use weight_text::Weight;
 
@@ -90,7 +89,11 @@ impl<'a> Builder<'a> {
         ensures weight { OnOk result (self.new.weight ≡ self.old.unsaid) }
         ensures unsaid { OnOk result (self.new.unsaid ≡ self.old.unsaid) }
     {
-        push_chain(&mut self.edges, &self.nodes.as_slice()[self.passed..], self.weight)?;
+        push_chain(
+            &mut self.edges,
+            &self.nodes.as_slice()[self.passed..],
+            self.weight,
+        )?;
         self.passed = self.nodes.len();
         self.weight = self.unsaid;
         Ok(())

@@ -6,10 +6,10 @@ ghost use Rattle.dot_text.specs.View.{IsGiven, token_of, tokens_left, mention_of
 
 use crate::fault::{DotFault, DotLineFault};
 use crate::grammar::turn_at;
-use crate::mention::Mention;
 use crate::state::{Act, State};
 use crate::token_kind::TokenKind;
 use crate::tokens::{Token, Tokens};
+use named_edge::Mention;
 use weight_text::{Weight, read_weight};
 
 /// What a token says.
@@ -73,7 +73,13 @@ fn mention(kind: TokenKind, text: &str, line: u64) -> Result<Mention<'_>, DotLin
 }
 
 /// What a token says by what it does.
-fn said(factor: Option<u32>, act: Act, kind: TokenKind, text: &str, line: u64) -> Result<Event<'_>, DotLineFault>
+fn said(
+    factor: Option<u32>,
+    act: Act,
+    kind: TokenKind,
+    text: &str,
+    line: u64,
+) -> Result<Event<'_>, DotLineFault>
     ensures { IsGiven event_of (said factor act kind text.now line) result }
 {
     match act {

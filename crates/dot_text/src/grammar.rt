@@ -184,7 +184,11 @@ fn at_any(state: State, place: Place, kind: TokenKind) -> Result<(State, Act), D
 }
 
 /// A statement, or a closing brace.
-fn at_statement(state: State, ahead: Tokens<'_>, kind: TokenKind) -> Result<(State, Act), DotLineFault>
+fn at_statement(
+    state: State,
+    ahead: Tokens<'_>,
+    kind: TokenKind,
+) -> Result<(State, Act), DotLineFault>
     requires { ahead.line + length ahead.bytes.now < 2 ^ 64 }
     ensures { result ≡ at_statement state (tokens_left ahead.entry) kind }
 {

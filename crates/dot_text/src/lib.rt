@@ -5,7 +5,6 @@ mod builder;
 mod events;
 mod fault;
 mod grammar;
-mod mention;
 mod pieces;
 mod reader;
 mod runs;
@@ -15,6 +14,5 @@ mod tokens;
 
 pub use builder::Graph;
 pub use fault::{DotFault, DotLineFault};
-pub use mention::Mention;
 pub use reader::{Reading, read_dot};
 pub use token_kind::TokenKind;

@@ -1,8 +1,0 @@
-//! Nodes that a text names.
-
-/// A node that a text names: its name, and the line where that stands, counted from 1.
-#[derive(Clone, Copy, Debug, PartialEq, Eq)]
-pub struct Mention<'a> {
-    pub name: &'a str,
-    pub line: u64,
-}
