@@ -38,7 +38,7 @@ together_none front back long fits =
 
 -- ---- a number that is cut at a greatest one
 
-tail_true : (x y : Bool) → (x && y) ≡ true → y ≡ true
+pub tail_true : (x y : Bool) → (x && y) ≡ true → y ≡ true
 tail_true true y h = h
 tail_true false y h = cc
 

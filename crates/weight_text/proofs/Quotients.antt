@@ -1,9 +1,8 @@
 -- Quotients, and the weights nearest to them.
-use Rattle.std.proofs.Common.{◌≡◌, ◌⊎◌, ◌≢◌, inl, inr, ◌<◌, ◌≤◌, ◌^◌, ◌+◌, ◌-◌, ◌*◌, ◌/◌, ◌%◌, ℕ, zero, suc, min, Bool, true, false, ◌==◌, nat_le, refl, sym, ap, ◌∙◌, arith, Err, eq-eqb}
+use Rattle.std.proofs.Common.{◌≡◌, ◌⊎◌, ◌≢◌, inl, inr, ◌<◌, ◌≤◌, ◌^◌, ◌+◌, ◌-◌, ◌*◌, ◌/◌, ◌%◌, ℕ, zero, suc, min, Bool, true, ◌==◌, nat_le, refl, sym, ap, ◌∙◌, arith, Err, eq-eqb}
 use Rattle.std.proofs.Math.Nat.{div-eq_of_lt, zero-mod, mod-eq_of_lt, mod-eq-sub-mul-div, mul-sub, mul_comm, mul_assoc, mul_left_comm, mul-add, mul-suc, suc-mul, mul-div-mul_left, pow-le-pow_right, one-le-pow, eq-zero-or-pos}
 use Rattle.std.proofs.lemmas.Nat.{div-mul-add, mod-mul-add, pow-add}
-use Rattle.std.proofs.lemmas.Bool.{cases_Bool, ne_eqb}
-use Rattle.std.proofs.lemmas.Bool.Decides.{nat_tests}
+use Rattle.std.proofs.lemmas.Bool.{cases_Bool, ne_eqb, leb-true, leb-false, lt-leb}
 use Rattle.weight_text.specs.declared.fault.WeightFault.TheVariants.{WeightTooLarge}
 use Rattle.weight_text.specs.Weights.{most_weight, fitting, weight_near}
 
@@ -40,11 +39,8 @@ near_one a =
     let once : a ≡ a * 1 + 0 = omega arith in
     fits_same ((2 * a + 1) / 2) a (a % 1 == 0) true (ap (λ t. t / 2) twice ∙ half) (eq-eqb (a % 1) 0 (ap (λ t. t % 1) once ∙ whole))
 
-over : (v : ℕ) → most_weight < v → nat_le v most_weight ≡ false
-over v h = grind (arith, nat_tests)
-
 fits_not : (v : ℕ) (e : Bool) → most_weight < v → fitting v e ≡ Err WeightTooLarge
-fits_not v e high = rw (over v high) refl
+fits_not v e high = rw (lt-leb v most_weight high) refl
 
 times_more : (a p m : ℕ) → 1 ≤ a → m ≤ p → m ≤ a * p
 times_more zero p m some least = absurd (omega arith)
@@ -105,14 +101,8 @@ shift_down number up down le =
 raised_far : (number up down : ℕ) → number ≢ 0 → down + 10 ≤ up → weight_near (number * 10 ^ up) (10 ^ down) ≡ Err WeightTooLarge
 raised_far number up down some far = shift_up number up down (omega arith) ∙ sym (raised_large number (up - down) some (omega arith))
 
-below_from : (n m : ℕ) → nat_le n m ≡ true → n ≤ m
-below_from n m h = grind (arith, nat_tests)
-
-above_from : (n m : ℕ) → nat_le n m ≡ false → m < n
-above_from n m h = grind (arith, nat_tests)
-
 pub low_or_high : (n m : ℕ) → (n ≤ m) ⊎ (m < n)
-low_or_high n m = elim (cases_Bool (nat_le n m)) [ inl low ↦ inl (below_from n m low) | inr high ↦ inr (above_from n m high) ]
+low_or_high n m = elim (cases_Bool (nat_le n m)) [ inl low ↦ inl (leb-true n m low) | inr high ↦ inr (leb-false n m high) ]
 
 pub min_low : (most power : ℕ) → power ≤ most → min most power ≡ power
 min_low most power low = omega arith

@@ -11,6 +11,7 @@ use Rattle.weight_text.specs.declared.fault.WeightFault.TheVariants.{TooManyDigi
 use Rattle.weight_text.specs.declared.weight.Weight.{Weight}
 use Rattle.weight_text.specs.Weights.{is_point, is_exponent_mark, is_sign, is_mantissa, is_exponent, is_number, mantissa_of, digits_of, places_of, exponent_of, behind_sign, power_of, is_lowering, raise_of, lower_of, raised_of, lowered_of, weight_near}
 use Rattle.line_words.proofs.LinesCut.{none_passes}
+use Rattle.weight_text.proofs.Digits.{tail_true}
 use Rattle.weight_text.proofs.Numerals.{all_append, whole_digits}
 use Rattle.weight_text.proofs.Quotients.{near_same, cap_up, cap_down}
 
@@ -45,10 +46,6 @@ module _ (most number places power : ℕ) (exponent digits : List ℕ) (lowering
 head_true : (x y : Bool) → (x && y) ≡ true → x ≡ true
 head_true true y h = refl
 head_true false y h = cc
-
-tail_true : (x y : Bool) → (x && y) ≡ true → y ≡ true
-tail_true true y h = h
-tail_true false y h = cc
 
 or_left : (x y : Bool) → (not x || y) ≡ true → x ≡ true → y ≡ true
 or_left true y h is = h
