@@ -1,9 +1,12 @@
 //! Lists of edges.
 
-use edge_text::{Edge, EdgeFault, LineFault, Reading, read_edges};
+use edge_text::{EdgeFault, LineFault, Reading, read_edges};
+use line_words::WordsFault;
+use named_edge::Edge;
 use std::alloc::{AllocError, Global};
 use std::process::Abort;
 use std::test::Fail;
+use weight_text::WeightFault;
 
 /// The two ends of an edge, its weight and its line.
 type Wanted = (&'static str, &'static str, u32, u64);
@@ -71,7 +74,11 @@ fn assert_edges(rt: &impl Abort, edges: &[Edge<'_>], wanted: &[Wanted]) {
 /// Asserts that the text of a row has its edges.
 fn assert_row(rt: &impl Abort, alloc: Global, row: &Row) -> Result<(), EdgeFault> {
     let (text, header, wanted) = row;
-    let edges = read_edges(alloc, text.as_bytes(), &Reading { header: *header })?;
+    let reading = Reading {
+        header: *header,
+        factor: None,
+    };
+    let edges = read_edges(alloc, text.as_bytes(), &reading)?;
     assert_edges(rt, edges.as_slice(), wanted);
     Ok(())
 }
@@ -88,31 +95,27 @@ fn texts_that_are_read(rt: HostRuntime) -> Result<(), Fail> {
 
 /// Texts that are refused, the line, and why.
 const REFUSED: [(&[u8], u64, LineFault); 16] = [
-    (b"a b\n\na\n", 3, LineFault::OneWord),
-    (b"a b 1 2\n", 1, LineFault::TooManyWords),
-    (b"a b\nb c\nc d e f\na", 3, LineFault::TooManyWords),
-    (b"a b -1\n", 1, LineFault::Negative),
-    (b"a b -0.5\n", 1, LineFault::Negative),
-    (b"a b 1.5\n", 1, LineFault::Decimal),
-    (b"a b 2e3\n", 1, LineFault::Decimal),
-    (b"a b .5\n", 1, LineFault::Decimal),
-    (b"a b x\n", 1, LineFault::BadWeight),
-    (b"a b +1\n", 1, LineFault::BadWeight),
-    (b"a b 0x1\n", 1, LineFault::BadWeight),
-    (b"a b 4294967296\n", 1, LineFault::WeightTooLarge),
-    (
-        b"a b 99999999999999999999999999\n",
-        1,
-        LineFault::WeightTooLarge,
-    ),
-    (b"a b\na \xff\n", 2, LineFault::NotUtf8),
-    (b"a\0 b\n", 1, LineFault::ControlCharacter),
-    (b"a b\x7f\n", 1, LineFault::ControlCharacter),
+    (b"a b\n\na\n", 3, LineFault::Words(WordsFault::OneWord)),
+    (b"a b 1 2\n", 1, LineFault::Words(WordsFault::TooManyWords)),
+    (b"a b\nb c\nc d e f\na", 3, LineFault::Words(WordsFault::TooManyWords)),
+    (b"a b -1\n", 1, LineFault::Weight(WeightFault::Negative)),
+    (b"a b -0.5\n", 1, LineFault::Weight(WeightFault::Negative)),
+    (b"a b 1.5\n", 1, LineFault::Weight(WeightFault::Decimal)),
+    (b"a b 2e3\n", 1, LineFault::Weight(WeightFault::Decimal)),
+    (b"a b .5\n", 1, LineFault::Weight(WeightFault::Decimal)),
+    (b"a b x\n", 1, LineFault::Weight(WeightFault::BadWeight)),
+    (b"a b +1\n", 1, LineFault::Weight(WeightFault::BadWeight)),
+    (b"a b 0x1\n", 1, LineFault::Weight(WeightFault::BadWeight)),
+    (b"a b 4294967296\n", 1, LineFault::Weight(WeightFault::WeightTooLarge)),
+    (b"a b 99999999999999999999999999\n", 1, LineFault::Weight(WeightFault::WeightTooLarge)),
+    (b"a b\na \xff\n", 2, LineFault::Words(WordsFault::NotUtf8)),
+    (b"a\0 b\n", 1, LineFault::Words(WordsFault::ControlCharacter)),
+    (b"a b\x7f\n", 1, LineFault::Words(WordsFault::ControlCharacter)),
 ];
 
 /// The first bad line of a text, and why.
 fn bad_line(alloc: Global, text: &[u8]) -> Option<(u64, LineFault)> {
-    match read_edges(alloc, text, &Reading { header: false }) {
+    match read_edges(alloc, text, &Reading::default()) {
         Err(EdgeFault::BadLine { line, fault }) => Some((line, fault)),
         _ => None,
     }
@@ -143,7 +146,7 @@ fn long_lines(rt: HostRuntime) -> Result<(), Fail> {
     let long = long_text(rt.alloc(), "a ", 65_537)?;
     assert_eq!(rt;
         bad_line(rt.alloc(), long.as_slice()),
-        Some((1, LineFault::LongLine))
+        Some((1, LineFault::Words(WordsFault::LongLine)))
     );
     let comment = long_text(rt.alloc(), "# ", 1_000_000)?;
     assert_eq!(rt; bad_line(rt.alloc(), comment.as_slice()), None);
@@ -154,7 +157,7 @@ fn long_lines(rt: HostRuntime) -> Result<(), Fail> {
 #[test]
 fn edges_where_memory_is_refused(rt: HostRuntime) -> Result<(), Fail> {
     let bad = bad_line(rt.alloc(), b"a b\nb\n");
-    assert_eq!(rt; bad, Some((2, LineFault::OneWord)));
+    assert_eq!(rt; bad, Some((2, LineFault::Words(WordsFault::OneWord))));
     match assert_row(&rt, rt.alloc(), &READ[3]) {
         Ok(()) => println!(rt; "answer")?,
         Err(EdgeFault::Memory) => println!(rt; "memory")?,
