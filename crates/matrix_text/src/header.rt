@@ -1,5 +1,5 @@
 //! The first line, which says what stands in the others.
-ghost use Rattle.std.specs.Prelude.{◌≡◌, ◌∷◌, [], MatchOption, Ok, Err};
+ghost use Rattle.std.specs.Prelude.{◌≡◌, ◌∷◌, [], MatchOption, Err};
 ghost use Rattle.line_words.specs.Texts.{words_of};
 ghost use Rattle.matrix_text.specs.Headers.{says, values_in, direction_in, header_of, header_in};
 ghost use Rattle.matrix_text.specs.declared.fault.MatrixLineFault.TheVariants.{NoHeader};

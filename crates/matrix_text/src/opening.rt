@@ -65,7 +65,10 @@ pub(crate) fn find_entries<'a>(
     reading: &Reading,
 ) -> Result<Entries<'a>, MatrixFault>
     ensures room { IfOk result (λ from. from.lines.passed + length from.lines.bytes.now < 2 ^ 64) }
-    ensures rest { MatchResult result (λ from. matrix_of reading.now.undirected reading.now.factor text.now ≡ and_then (links_in from.form from.said (told_from (from.lines.passed + 1) from.lines.bytes.now)) (λ links. Ok (from.form.nodes, links))) (λ fault. matrix_of reading.now.undirected reading.now.factor text.now ≡ Err fault) }
+    ensures rest { let said = matrix_of reading.now.undirected reading.now.factor text.now in
+        MatchResult result
+        (λ from. said ≡ and_then (links_in from.form from.said (told_from (from.lines.passed + 1) from.lines.bytes.now)) (λ links. Ok (from.form.nodes, links)))
+        (λ fault. said ≡ Err fault) }
 {
     let (header, mut lines) = first_line(text);
     let has_values = told_header(header, reading.undirected)?;
