@@ -11,14 +11,29 @@ use weight_text::WeightFault;
 type Wanted = (&'static str, &'static str, u32, u64);
 
 /// A text, whether it is read undirected, its mentions, and its edges.
-type Row = (&'static str, bool, &'static [(&'static str, u64)], &'static [Wanted]);
+type Row = (
+    &'static str,
+    bool,
+    &'static [(&'static str, u64)],
+    &'static [Wanted],
+);
 
 /// Texts that are read.
 const READ: [Row; 22] = [
     ("graph{}", false, &[], &[]),
     ("strict GRAPH \"a b\" { }\n// end\n", false, &[], &[]),
-    ("graph g { a; b\nc }", false, &[("a", 1), ("b", 1), ("c", 2)], &[]),
-    ("graph { a -- b }", false, &[("a", 1), ("b", 1)], &[("a", "b", 1, 1)]),
+    (
+        "graph g { a; b\nc }",
+        false,
+        &[("a", 1), ("b", 1), ("c", 2)],
+        &[],
+    ),
+    (
+        "graph { a -- b }",
+        false,
+        &[("a", 1), ("b", 1)],
+        &[("a", "b", 1, 1)],
+    ),
     (
         "graph {\n a -- b -- c [weight=7];\n c -- a\n}\n",
         false,
@@ -31,7 +46,12 @@ const READ: [Row; 22] = [
         &[("a", 1), ("b", 1)],
         &[("a", "b", 3, 1)],
     ),
-    ("graph { a [weight=x]; node [weight=y]; weight=z; graph [weight=z] }", false, &[("a", 1)], &[]),
+    (
+        "graph { a [weight=x]; node [weight=y]; weight=z; graph [weight=z] }",
+        false,
+        &[("a", 1)],
+        &[],
+    ),
     (
         "digraph { a -> b -> a }",
         true,
@@ -44,19 +64,84 @@ const READ: [Row; 22] = [
         &[("a", 1), ("b", 1), ("c", 1), ("d", 1), ("e", 1), ("f", 1)],
         &[("a", "b", 1, 1)],
     ),
-    ("graph { a:p -- b:p:n -- c:\"x\" [weight=5] }", false, &[("a", 1), ("b", 1), ("c", 1)], &[("a", "b", 5, 1), ("b", "c", 5, 1)]),
-    ("# head\n#graph\ngraph /* a\nb */ {\n# no\n }", false, &[], &[]),
-    ("graph {\n#x\n a // b\n -- b }", false, &[("a", 3), ("b", 4)], &[("a", "b", 1, 3)]),
-    ("graph { 1--2 -- -3.5 -- .5 -- 6. }", false, &[("1", 1), ("2", 1), ("-3.5", 1), (".5", 1), ("6.", 1)], &[("1", "2", 1, 1), ("2", "-3.5", 1, 1), ("-3.5", ".5", 1, 1), (".5", "6.", 1, 1)]),
-    ("graph { \"node\" -- \"a b\" ; \"\" }", false, &[("node", 1), ("a b", 1), ("", 1)], &[("node", "a b", 1, 1)]),
-    ("graph { Zoë -- 東京 }", false, &[("Zoë", 1), ("東京", 1)], &[("Zoë", "東京", 1, 1)]),
-    ("graph { a [label=<<b>x</b> y>] b }", false, &[("a", 1), ("b", 1)], &[]),
-    ("graph { a [label=\"x\ny\"]\n b }", false, &[("a", 1), ("b", 3)], &[]),
-    ("graph { rankdir=LR; a; size = \"1,2\" b -- c }", false, &[("a", 1), ("b", 1), ("c", 1)], &[("b", "c", 1, 1)]),
-    ("graph { edge [color=red] a--b node[] graph[a=b c=d,e=f;] }", false, &[("a", 1), ("b", 1)], &[("a", "b", 1, 1)]),
+    (
+        "graph { a:p -- b:p:n -- c:\"x\" [weight=5] }",
+        false,
+        &[("a", 1), ("b", 1), ("c", 1)],
+        &[("a", "b", 5, 1), ("b", "c", 5, 1)],
+    ),
+    (
+        "# head\n#graph\ngraph /* a\nb */ {\n# no\n }",
+        false,
+        &[],
+        &[],
+    ),
+    (
+        "graph {\n#x\n a // b\n -- b }",
+        false,
+        &[("a", 3), ("b", 4)],
+        &[("a", "b", 1, 3)],
+    ),
+    (
+        "graph { 1--2 -- -3.5 -- .5 -- 6. }",
+        false,
+        &[("1", 1), ("2", 1), ("-3.5", 1), (".5", 1), ("6.", 1)],
+        &[
+            ("1", "2", 1, 1),
+            ("2", "-3.5", 1, 1),
+            ("-3.5", ".5", 1, 1),
+            (".5", "6.", 1, 1),
+        ],
+    ),
+    (
+        "graph { \"node\" -- \"a b\" ; \"\" }",
+        false,
+        &[("node", 1), ("a b", 1), ("", 1)],
+        &[("node", "a b", 1, 1)],
+    ),
+    (
+        "graph { Zoë -- 東京 }",
+        false,
+        &[("Zoë", 1), ("東京", 1)],
+        &[("Zoë", "東京", 1, 1)],
+    ),
+    (
+        "graph { a [label=<<b>x</b> y>] b }",
+        false,
+        &[("a", 1), ("b", 1)],
+        &[],
+    ),
+    (
+        "graph { a [label=\"x\ny\"]\n b }",
+        false,
+        &[("a", 1), ("b", 3)],
+        &[],
+    ),
+    (
+        "graph { rankdir=LR; a; size = \"1,2\" b -- c }",
+        false,
+        &[("a", 1), ("b", 1), ("c", 1)],
+        &[("b", "c", 1, 1)],
+    ),
+    (
+        "graph { edge [color=red] a--b node[] graph[a=b c=d,e=f;] }",
+        false,
+        &[("a", 1), ("b", 1)],
+        &[("a", "b", 1, 1)],
+    ),
     ("graph <t> { a [x=\"\\\\\"] }", false, &[("a", 1)], &[]),
-    ("graph { a -- a -- b [weight=0] a -- a }", false, &[("a", 1), ("a", 1), ("b", 1), ("a", 1), ("a", 1)], &[("a", "a", 0, 1), ("a", "b", 0, 1), ("a", "a", 1, 1)]),
-    ("graph { a \"=\" = b c }\r\n#", false, &[("a", 1), ("c", 1)], &[]),
+    (
+        "graph { a -- a -- b [weight=0] a -- a }",
+        false,
+        &[("a", 1), ("a", 1), ("b", 1), ("a", 1), ("a", 1)],
+        &[("a", "a", 0, 1), ("a", "b", 0, 1), ("a", "a", 1, 1)],
+    ),
+    (
+        "graph { a \"=\" = b c }\r\n#",
+        false,
+        &[("a", 1), ("c", 1)],
+        &[],
+    ),
 ];
 
 /// Asserts that an edge is the wanted one.
@@ -70,7 +155,12 @@ fn assert_edge(rt: &impl Abort, edge: &Edge<'_>, wanted: &Wanted) {
 }
 
 /// Asserts that a graph is the wanted one.
-fn assert_graph(rt: &impl Abort, graph: &Graph<'_>, nodes: &[(&'static str, u64)], edges: &[Wanted]) {
+fn assert_graph(
+    rt: &impl Abort,
+    graph: &Graph<'_>,
+    nodes: &[(&'static str, u64)],
+    edges: &[Wanted],
+) {
     assert_eq!(rt; graph.nodes.len(), nodes.len());
     for (mention, wanted) in graph.nodes.as_slice().iter().zip(nodes.iter()) {
         assert_eq!(rt; mention.name, wanted.0);
@@ -111,27 +201,111 @@ const REFUSED: [(&[u8], u64, DotLineFault); 40] = [
     (b"graph {\n a\n", 3, DotLineFault::UnclosedGraph),
     (b"graph { a [x=y", 1, DotLineFault::UnclosedGraph),
     (b"graph { { a }", 1, DotLineFault::UnclosedGraph),
-    (b"graph {} x", 1, DotLineFault::Syntax { found: TokenKind::Name }),
-    (b"graph {} }", 1, DotLineFault::Syntax { found: TokenKind::BraceClose }),
-    (b"a -- b", 1, DotLineFault::Syntax { found: TokenKind::Name }),
-    (b"graph { ; }", 1, DotLineFault::Syntax { found: TokenKind::Semicolon }),
-    (b"graph { a;; }", 1, DotLineFault::Syntax { found: TokenKind::Semicolon }),
-    (b"graph { a -- }", 1, DotLineFault::Syntax { found: TokenKind::BraceClose }),
-    (b"graph { a -- node }", 1, DotLineFault::Syntax { found: TokenKind::Node }),
-    (b"graph { a -- b = c }", 1, DotLineFault::Syntax { found: TokenKind::Assign }),
-    (b"graph { [a=b] }", 1, DotLineFault::Syntax { found: TokenKind::BracketOpen }),
-    (b"graph { a [x=] }", 1, DotLineFault::Syntax { found: TokenKind::BracketClose }),
-    (b"graph { a [x=y,,z=w] }", 1, DotLineFault::Syntax { found: TokenKind::Comma }),
-    (b"strict strict graph {}", 1, DotLineFault::Syntax { found: TokenKind::Strict }),
-    (b"graph { \"a\" + \"b\" }", 1, DotLineFault::BadByte { byte: b'+' }),
+    (
+        b"graph {} x",
+        1,
+        DotLineFault::Syntax {
+            found: TokenKind::Name,
+        },
+    ),
+    (
+        b"graph {} }",
+        1,
+        DotLineFault::Syntax {
+            found: TokenKind::BraceClose,
+        },
+    ),
+    (
+        b"a -- b",
+        1,
+        DotLineFault::Syntax {
+            found: TokenKind::Name,
+        },
+    ),
+    (
+        b"graph { ; }",
+        1,
+        DotLineFault::Syntax {
+            found: TokenKind::Semicolon,
+        },
+    ),
+    (
+        b"graph { a;; }",
+        1,
+        DotLineFault::Syntax {
+            found: TokenKind::Semicolon,
+        },
+    ),
+    (
+        b"graph { a -- }",
+        1,
+        DotLineFault::Syntax {
+            found: TokenKind::BraceClose,
+        },
+    ),
+    (
+        b"graph { a -- node }",
+        1,
+        DotLineFault::Syntax {
+            found: TokenKind::Node,
+        },
+    ),
+    (
+        b"graph { a -- b = c }",
+        1,
+        DotLineFault::Syntax {
+            found: TokenKind::Assign,
+        },
+    ),
+    (
+        b"graph { [a=b] }",
+        1,
+        DotLineFault::Syntax {
+            found: TokenKind::BracketOpen,
+        },
+    ),
+    (
+        b"graph { a [x=] }",
+        1,
+        DotLineFault::Syntax {
+            found: TokenKind::BracketClose,
+        },
+    ),
+    (
+        b"graph { a [x=y,,z=w] }",
+        1,
+        DotLineFault::Syntax {
+            found: TokenKind::Comma,
+        },
+    ),
+    (
+        b"strict strict graph {}",
+        1,
+        DotLineFault::Syntax {
+            found: TokenKind::Strict,
+        },
+    ),
+    (
+        b"graph { \"a\" + \"b\" }",
+        1,
+        DotLineFault::BadByte { byte: b'+' },
+    ),
     (b"graph { a / b }", 1, DotLineFault::BadByte { byte: b'/' }),
-    (b"graph {\n a # b\n }", 2, DotLineFault::BadByte { byte: b'#' }),
+    (
+        b"graph {\n a # b\n }",
+        2,
+        DotLineFault::BadByte { byte: b'#' },
+    ),
     (b"graph { 1a }", 1, DotLineFault::BadNumeral),
     (b"graph { 1.2.3 }", 1, DotLineFault::BadNumeral),
     (b"graph { a - b }", 1, DotLineFault::BadNumeral),
     (b"graph { a.b }", 1, DotLineFault::BadNumeral),
     (b"graph {\n a [x=\"y]\n}\n", 2, DotLineFault::UnclosedString),
-    (b"graph {\n a [x=\"y\\\"]\n}\n", 2, DotLineFault::UnclosedString),
+    (
+        b"graph {\n a [x=\"y\\\"]\n}\n",
+        2,
+        DotLineFault::UnclosedString,
+    ),
     (b"graph {\n\n a /*/\n}\n", 3, DotLineFault::UnclosedComment),
     (b"graph {\n a [x=<<b>]\n}\n", 2, DotLineFault::UnclosedHtml),
     (b"graph { a\xff }", 1, DotLineFault::NotUtf8),
@@ -140,12 +314,20 @@ const REFUSED: [(&[u8], u64, DotLineFault); 40] = [
     (b"graph { <a> }", 1, DotLineFault::HtmlName),
     (b"graph { a -- {b c} }", 1, DotLineFault::SubgraphEnd),
     (b"graph { {a b} -- c }", 1, DotLineFault::SubgraphEnd),
-    (b"graph { a -- subgraph s {b c} }", 1, DotLineFault::SubgraphEnd),
+    (
+        b"graph { a -- subgraph s {b c} }",
+        1,
+        DotLineFault::SubgraphEnd,
+    ),
     (b"graph { edge [weight=2] }", 1, DotLineFault::DefaultWeight),
     (b"graph { a [x] }", 1, DotLineFault::NoValue),
     (b"digraph { a -> b }", 1, DotLineFault::Directed),
     (b"graph { a -> b }", 1, DotLineFault::WrongEdge),
-    (b"graph {\n a -- b [weight=-1] }", 2, DotLineFault::Weight(WeightFault::Negative)),
+    (
+        b"graph {\n a -- b [weight=-1] }",
+        2,
+        DotLineFault::Weight(WeightFault::Negative),
+    ),
 ];
 
 /// The first fault of a text.
@@ -183,9 +365,18 @@ fn deep(alloc: Global, depth: usize) -> Result<Vec<u8>, AllocError> {
 /// Subgraphs are nested 64 deep at most.
 #[test]
 fn deep_subgraphs(rt: HostRuntime) -> Result<(), Fail> {
-    assert_eq!(rt; bad_line(rt.alloc(), deep(rt.alloc(), 64)?.as_slice()), None);
-    assert_eq!(rt; bad_line(rt.alloc(), deep(rt.alloc(), 65)?.as_slice()), Some((1, DotLineFault::TooDeep)));
-    assert_eq!(rt; bad_line(rt.alloc(), deep(rt.alloc(), 3_000_000)?.as_slice()), Some((1, DotLineFault::TooDeep)));
+    assert_eq!(rt;
+        bad_line(rt.alloc(), deep(rt.alloc(), 64)?.as_slice()),
+        None
+    );
+    assert_eq!(rt;
+        bad_line(rt.alloc(), deep(rt.alloc(), 65)?.as_slice()),
+        Some((1, DotLineFault::TooDeep))
+    );
+    assert_eq!(rt;
+        bad_line(rt.alloc(), deep(rt.alloc(), 3_000_000)?.as_slice()),
+        Some((1, DotLineFault::TooDeep))
+    );
     Ok(())
 }
 

@@ -1,8 +1,6 @@
 //! Links of a text, made into those of a network.
 
-use link_merge::{
-    Doubles, Kept, Loops, Mending, PlacedLink, SettleFault, Settled, merged, settle,
-};
+use link_merge::{Doubles, Kept, Loops, Mending, PlacedLink, SettleFault, Settled, merged, settle};
 use link_net::{Link, NetFault};
 use std::alloc::{AllocError, Global};
 use std::process::Abort;
@@ -97,24 +95,38 @@ fn settled(
 }
 
 /// Nodes, links, what becomes of loops and doubles, the links that are left, how many were dropped, and how many merged.
-type Row = (
-    u32,
-    &'static [Link],
-    Mending,
-    &'static [Link],
-    usize,
-    usize,
-);
+type Row = (u32, &'static [Link], Mending, &'static [Link], usize, usize);
 
 /// Links that make a network.
 const SETTLED: [Row; 6] = [
     (1, &[], STRICT, &[], 0, 0),
-    (3, &[(0, 1, 4), (2, 1, 0)], STRICT, &[(0, 1, 4), (2, 1, 0)], 0, 0),
-    (2, &[(1, 1, 4), (0, 1, 3), (0, 0, 1)], DROPPED, &[(0, 1, 3)], 2, 0),
+    (
+        3,
+        &[(0, 1, 4), (2, 1, 0)],
+        STRICT,
+        &[(0, 1, 4), (2, 1, 0)],
+        0,
+        0,
+    ),
+    (
+        2,
+        &[(1, 1, 4), (0, 1, 3), (0, 0, 1)],
+        DROPPED,
+        &[(0, 1, 3)],
+        2,
+        0,
+    ),
     (4, &LINKS, MOST, &[(2, 0, 9), (1, 2, 7), (3, 1, 1)], 0, 3),
     (
         4,
-        &[(2, 2, 0), (1, 2, 7), (2, 2, 0), (2, 1, 5), (1, 2, 6), (3, 3, 1)],
+        &[
+            (2, 2, 0),
+            (1, 2, 7),
+            (2, 2, 0),
+            (2, 1, 5),
+            (1, 2, 6),
+            (3, 3, 1),
+        ],
         LEAST,
         &[(1, 2, 5)],
         3,
@@ -149,9 +161,24 @@ const REFUSED: [(u32, &[Link], Mending, SettleFault); 8] = [
     (0, &[], LEAST, SettleFault::Net(NetFault::NodeCount)),
     (65537, &[], LEAST, SettleFault::Net(NetFault::NodeCount)),
     (2, &[(0, 2, 1)], LEAST, SettleFault::Net(NetFault::BadLink)),
-    (3, &[(0, 1, 1), (2, 2, 1), (1, 1, 1)], STRICT, SettleFault::SelfLoop { line: 4 }),
-    (3, &[(0, 1, 1), (1, 0, 1), (1, 1, 1)], MOST, SettleFault::SelfLoop { line: 5 }),
-    (3, &[(0, 1, 1), (0, 1, 1), (1, 1, 1)], STRICT, SettleFault::SelfLoop { line: 5 }),
+    (
+        3,
+        &[(0, 1, 1), (2, 2, 1), (1, 1, 1)],
+        STRICT,
+        SettleFault::SelfLoop { line: 4 },
+    ),
+    (
+        3,
+        &[(0, 1, 1), (1, 0, 1), (1, 1, 1)],
+        MOST,
+        SettleFault::SelfLoop { line: 5 },
+    ),
+    (
+        3,
+        &[(0, 1, 1), (0, 1, 1), (1, 1, 1)],
+        STRICT,
+        SettleFault::SelfLoop { line: 5 },
+    ),
     (
         3,
         &[(0, 1, 1), (1, 2, 1), (2, 1, 1), (1, 0, 3), (1, 2, 5)],

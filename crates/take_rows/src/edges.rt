@@ -97,7 +97,11 @@ fn texts_that_are_read(rt: HostRuntime) -> Result<(), Fail> {
 const REFUSED: [(&[u8], u64, LineFault); 16] = [
     (b"a b\n\na\n", 3, LineFault::Words(WordsFault::OneWord)),
     (b"a b 1 2\n", 1, LineFault::Words(WordsFault::TooManyWords)),
-    (b"a b\nb c\nc d e f\na", 3, LineFault::Words(WordsFault::TooManyWords)),
+    (
+        b"a b\nb c\nc d e f\na",
+        3,
+        LineFault::Words(WordsFault::TooManyWords),
+    ),
     (b"a b -1\n", 1, LineFault::Weight(WeightFault::Negative)),
     (b"a b -0.5\n", 1, LineFault::Weight(WeightFault::Negative)),
     (b"a b 1.5\n", 1, LineFault::Weight(WeightFault::Decimal)),
@@ -106,11 +110,27 @@ const REFUSED: [(&[u8], u64, LineFault); 16] = [
     (b"a b x\n", 1, LineFault::Weight(WeightFault::BadWeight)),
     (b"a b +1\n", 1, LineFault::Weight(WeightFault::BadWeight)),
     (b"a b 0x1\n", 1, LineFault::Weight(WeightFault::BadWeight)),
-    (b"a b 4294967296\n", 1, LineFault::Weight(WeightFault::WeightTooLarge)),
-    (b"a b 99999999999999999999999999\n", 1, LineFault::Weight(WeightFault::WeightTooLarge)),
+    (
+        b"a b 4294967296\n",
+        1,
+        LineFault::Weight(WeightFault::WeightTooLarge),
+    ),
+    (
+        b"a b 99999999999999999999999999\n",
+        1,
+        LineFault::Weight(WeightFault::WeightTooLarge),
+    ),
     (b"a b\na \xff\n", 2, LineFault::Words(WordsFault::NotUtf8)),
-    (b"a\0 b\n", 1, LineFault::Words(WordsFault::ControlCharacter)),
-    (b"a b\x7f\n", 1, LineFault::Words(WordsFault::ControlCharacter)),
+    (
+        b"a\0 b\n",
+        1,
+        LineFault::Words(WordsFault::ControlCharacter),
+    ),
+    (
+        b"a b\x7f\n",
+        1,
+        LineFault::Words(WordsFault::ControlCharacter),
+    ),
 ];
 
 /// The first bad line of a text, and why.

@@ -73,10 +73,7 @@ fn assert_links(rt: &impl Abort, links: &[PlacedLink], wanted: &[Wanted]) {
 }
 
 /// Mentions of these names, each in the line after the one before.
-fn mentions_of(
-    alloc: Global,
-    names: &[&'static str],
-) -> Result<Vec<Mention<'static>>, AllocError> {
+fn mentions_of(alloc: Global, names: &[&'static str]) -> Result<Vec<Mention<'static>>, AllocError> {
     let mut mentions = Vec::new(alloc);
     let mut line = 0u64;
     for name in names {
@@ -157,7 +154,11 @@ const NUMBERED: [NumberRow; 3] = [
         6,
         &[(0, 2, 1, 1, true), (2, 5, 7, 2, true)],
     ),
-    (&[("65535", "65535", 0)], 65536, &[(65535, 65535, 0, 1, false)]),
+    (
+        &[("65535", "65535", 0)],
+        65536,
+        &[(65535, 65535, 0, 1, false)],
+    ),
 ];
 
 /// Asserts that the edges of a row have its nodes and its links.
@@ -181,10 +182,16 @@ fn edges_between_numbers(rt: HostRuntime) -> Result<(), Fail> {
 
 /// Edges of which an end is no number, and why.
 const NO_NUMBERS: [(&[Ends], NumberFault); 5] = [
-    (&[("0", "1", 1), ("1", "x", 1)], NumberFault::NoNumber { line: 2 }),
+    (
+        &[("0", "1", 1), ("1", "x", 1)],
+        NumberFault::NoNumber { line: 2 },
+    ),
     (&[("-1", "1", 1)], NumberFault::NoNumber { line: 1 }),
     (&[("+1", "65536", 1)], NumberFault::NoNumber { line: 1 }),
-    (&[("1", "65536", 1)], NumberFault::NumberTooLarge { line: 1 }),
+    (
+        &[("1", "65536", 1)],
+        NumberFault::NumberTooLarge { line: 1 },
+    ),
     (
         &[("99999999999999999999", "1", 1)],
         NumberFault::NumberTooLarge { line: 1 },

@@ -39,7 +39,12 @@ const READ: [Row; 8] = [
         2,
         &[(0, 1, 3, 3), (1, 0, 4, 4)],
     ),
-    ("%%MatrixMarket matrix coordinate real symmetric\n65536 65536 0\n", false, 65536, &[]),
+    (
+        "%%MatrixMarket matrix coordinate real symmetric\n65536 65536 0\n",
+        false,
+        65536,
+        &[],
+    ),
     (
         "%%MatrixMarket matrix coordinate pattern symmetric\n65536 65536 1\n65536 65536\n",
         false,
@@ -96,40 +101,235 @@ fn matrices_that_are_read(rt: HostRuntime) -> Result<(), Fail> {
 
 /// Texts that are refused, and why.
 const REFUSED: [(&str, MatrixFault); 34] = [
-        ("", MatrixFault::BadLine { line: 1, fault: MatrixLineFault::NoHeader }),
-        ("1 1 0\n", MatrixFault::BadLine { line: 1, fault: MatrixLineFault::NoHeader }),
-        ("\n%%MatrixMarket matrix coordinate real symmetric\n", MatrixFault::BadLine { line: 1, fault: MatrixLineFault::NoHeader }),
-        ("%%MatrixMarket matrix coordinate real\n", MatrixFault::BadLine { line: 1, fault: MatrixLineFault::NoHeader }),
-        ("%%MatrixMarket matrix coordinate real symmetric x\n", MatrixFault::BadLine { line: 1, fault: MatrixLineFault::NoHeader }),
-        ("%MatrixMarket matrix coordinate real symmetric\n", MatrixFault::BadLine { line: 1, fault: MatrixLineFault::NoHeader }),
-        ("%%MatrixMarket vector coordinate real symmetric\n", MatrixFault::BadLine { line: 1, fault: MatrixLineFault::NoHeader }),
-        ("%%MatrixMarket matrix sparse real symmetric\n", MatrixFault::BadLine { line: 1, fault: MatrixLineFault::NoHeader }),
-        ("%%MatrixMarket matrix array real symmetric\n", MatrixFault::BadLine { line: 1, fault: MatrixLineFault::ArrayFormat }),
-        ("%%MatrixMarket matrix coordinate complex symmetric\n", MatrixFault::BadLine { line: 1, fault: MatrixLineFault::UnknownField }),
-        ("%%MatrixMarket matrix coordinate real hermitian\n", MatrixFault::BadLine { line: 1, fault: MatrixLineFault::UnknownSymmetry }),
-        ("%%MatrixMarket matrix coordinate real skew-symmetric\n", MatrixFault::BadLine { line: 1, fault: MatrixLineFault::UnknownSymmetry }),
-        ("%%MatrixMarket matrix coordinate real general\n", MatrixFault::BadLine { line: 1, fault: MatrixLineFault::Directed }),
-        ("%%MatrixMarket matrix coordinate real symmetric\n% c\n", MatrixFault::NoSize),
-        ("%%MatrixMarket matrix coordinate real symmetric\n1 1\n", MatrixFault::BadLine { line: 2, fault: MatrixLineFault::BadSize }),
-        ("%%MatrixMarket matrix coordinate real symmetric\n1 1 -1\n", MatrixFault::BadLine { line: 2, fault: MatrixLineFault::BadSize }),
-        ("%%MatrixMarket matrix coordinate real symmetric\n1 1 1 1\n", MatrixFault::BadLine { line: 2, fault: MatrixLineFault::BadSize }),
-        ("%%MatrixMarket matrix coordinate real symmetric\n1 1 18446744073709551616\n", MatrixFault::BadLine { line: 2, fault: MatrixLineFault::BadSize }),
-        ("%%MatrixMarket matrix coordinate real symmetric\n2 3 1\n", MatrixFault::BadLine { line: 2, fault: MatrixLineFault::NotSquare }),
-        ("%%MatrixMarket matrix coordinate real symmetric\n0 0 0\n", MatrixFault::BadLine { line: 2, fault: MatrixLineFault::NoNodes }),
-        ("%%MatrixMarket matrix coordinate real symmetric\n65537 65537 0\n", MatrixFault::BadLine { line: 2, fault: MatrixLineFault::TooManyNodes }),
-        ("%%MatrixMarket matrix coordinate real symmetric\n2 2 1\n2\n", MatrixFault::BadLine { line: 3, fault: MatrixLineFault::Words(WordsFault::OneWord) }),
-        ("%%MatrixMarket matrix coordinate pattern symmetric\n2 2 1\n1 2 3 4\n", MatrixFault::BadLine { line: 3, fault: MatrixLineFault::Words(WordsFault::TooManyWords) }),
-        ("%%MatrixMarket matrix coordinate real symmetric\n2 2 1\n0 1 1\n", MatrixFault::BadLine { line: 3, fault: MatrixLineFault::BadIndex { nodes: 2 } }),
-        ("%%MatrixMarket matrix coordinate real symmetric\n2 2 1\n1 3 1\n", MatrixFault::BadLine { line: 3, fault: MatrixLineFault::BadIndex { nodes: 2 } }),
-        ("%%MatrixMarket matrix coordinate real symmetric\n2 2 1\n1 +2 1\n", MatrixFault::BadLine { line: 3, fault: MatrixLineFault::BadIndex { nodes: 2 } }),
-        ("%%MatrixMarket matrix coordinate real symmetric\n2 2 1\n1 99999999999999999999999 1\n", MatrixFault::BadLine { line: 3, fault: MatrixLineFault::BadIndex { nodes: 2 } }),
-        ("%%MatrixMarket matrix coordinate real symmetric\n2 2 1\n1 2\n", MatrixFault::BadLine { line: 3, fault: MatrixLineFault::NoValue }),
-        ("%%MatrixMarket matrix coordinate pattern symmetric\n2 2 1\n1 2 1\n", MatrixFault::BadLine { line: 3, fault: MatrixLineFault::ValueInPattern }),
-        ("%%MatrixMarket matrix coordinate real symmetric\n2 2 1\n1 2 1.5\n", MatrixFault::BadLine { line: 3, fault: MatrixLineFault::Value(WeightFault::Decimal) }),
-        ("%%MatrixMarket matrix coordinate real symmetric\n2 2 1\n1 2 -1\n", MatrixFault::BadLine { line: 3, fault: MatrixLineFault::Value(WeightFault::Negative) }),
-        ("%%MatrixMarket matrix coordinate real symmetric\n2 2 1\n1 2 1\n% c\n1 x\n", MatrixFault::TooManyEntries { line: 5, said: 1 }),
-        ("%%MatrixMarket matrix coordinate real symmetric\n2 2 3\n1 2 1\n\n1 1 1\n", MatrixFault::TooFewEntries { said: 3, found: 2 }),
-        ("%%MatrixMarket matrix coordinate real symmetric\n2 2 3\n1 2 1\n1 x 1\n", MatrixFault::BadLine { line: 4, fault: MatrixLineFault::BadIndex { nodes: 2 } }),
+    (
+        "",
+        MatrixFault::BadLine {
+            line: 1,
+            fault: MatrixLineFault::NoHeader,
+        },
+    ),
+    (
+        "1 1 0\n",
+        MatrixFault::BadLine {
+            line: 1,
+            fault: MatrixLineFault::NoHeader,
+        },
+    ),
+    (
+        "\n%%MatrixMarket matrix coordinate real symmetric\n",
+        MatrixFault::BadLine {
+            line: 1,
+            fault: MatrixLineFault::NoHeader,
+        },
+    ),
+    (
+        "%%MatrixMarket matrix coordinate real\n",
+        MatrixFault::BadLine {
+            line: 1,
+            fault: MatrixLineFault::NoHeader,
+        },
+    ),
+    (
+        "%%MatrixMarket matrix coordinate real symmetric x\n",
+        MatrixFault::BadLine {
+            line: 1,
+            fault: MatrixLineFault::NoHeader,
+        },
+    ),
+    (
+        "%MatrixMarket matrix coordinate real symmetric\n",
+        MatrixFault::BadLine {
+            line: 1,
+            fault: MatrixLineFault::NoHeader,
+        },
+    ),
+    (
+        "%%MatrixMarket vector coordinate real symmetric\n",
+        MatrixFault::BadLine {
+            line: 1,
+            fault: MatrixLineFault::NoHeader,
+        },
+    ),
+    (
+        "%%MatrixMarket matrix sparse real symmetric\n",
+        MatrixFault::BadLine {
+            line: 1,
+            fault: MatrixLineFault::NoHeader,
+        },
+    ),
+    (
+        "%%MatrixMarket matrix array real symmetric\n",
+        MatrixFault::BadLine {
+            line: 1,
+            fault: MatrixLineFault::ArrayFormat,
+        },
+    ),
+    (
+        "%%MatrixMarket matrix coordinate complex symmetric\n",
+        MatrixFault::BadLine {
+            line: 1,
+            fault: MatrixLineFault::UnknownField,
+        },
+    ),
+    (
+        "%%MatrixMarket matrix coordinate real hermitian\n",
+        MatrixFault::BadLine {
+            line: 1,
+            fault: MatrixLineFault::UnknownSymmetry,
+        },
+    ),
+    (
+        "%%MatrixMarket matrix coordinate real skew-symmetric\n",
+        MatrixFault::BadLine {
+            line: 1,
+            fault: MatrixLineFault::UnknownSymmetry,
+        },
+    ),
+    (
+        "%%MatrixMarket matrix coordinate real general\n",
+        MatrixFault::BadLine {
+            line: 1,
+            fault: MatrixLineFault::Directed,
+        },
+    ),
+    (
+        "%%MatrixMarket matrix coordinate real symmetric\n% c\n",
+        MatrixFault::NoSize,
+    ),
+    (
+        "%%MatrixMarket matrix coordinate real symmetric\n1 1\n",
+        MatrixFault::BadLine {
+            line: 2,
+            fault: MatrixLineFault::BadSize,
+        },
+    ),
+    (
+        "%%MatrixMarket matrix coordinate real symmetric\n1 1 -1\n",
+        MatrixFault::BadLine {
+            line: 2,
+            fault: MatrixLineFault::BadSize,
+        },
+    ),
+    (
+        "%%MatrixMarket matrix coordinate real symmetric\n1 1 1 1\n",
+        MatrixFault::BadLine {
+            line: 2,
+            fault: MatrixLineFault::BadSize,
+        },
+    ),
+    (
+        "%%MatrixMarket matrix coordinate real symmetric\n1 1 18446744073709551616\n",
+        MatrixFault::BadLine {
+            line: 2,
+            fault: MatrixLineFault::BadSize,
+        },
+    ),
+    (
+        "%%MatrixMarket matrix coordinate real symmetric\n2 3 1\n",
+        MatrixFault::BadLine {
+            line: 2,
+            fault: MatrixLineFault::NotSquare,
+        },
+    ),
+    (
+        "%%MatrixMarket matrix coordinate real symmetric\n0 0 0\n",
+        MatrixFault::BadLine {
+            line: 2,
+            fault: MatrixLineFault::NoNodes,
+        },
+    ),
+    (
+        "%%MatrixMarket matrix coordinate real symmetric\n65537 65537 0\n",
+        MatrixFault::BadLine {
+            line: 2,
+            fault: MatrixLineFault::TooManyNodes,
+        },
+    ),
+    (
+        "%%MatrixMarket matrix coordinate real symmetric\n2 2 1\n2\n",
+        MatrixFault::BadLine {
+            line: 3,
+            fault: MatrixLineFault::Words(WordsFault::OneWord),
+        },
+    ),
+    (
+        "%%MatrixMarket matrix coordinate pattern symmetric\n2 2 1\n1 2 3 4\n",
+        MatrixFault::BadLine {
+            line: 3,
+            fault: MatrixLineFault::Words(WordsFault::TooManyWords),
+        },
+    ),
+    (
+        "%%MatrixMarket matrix coordinate real symmetric\n2 2 1\n0 1 1\n",
+        MatrixFault::BadLine {
+            line: 3,
+            fault: MatrixLineFault::BadIndex { nodes: 2 },
+        },
+    ),
+    (
+        "%%MatrixMarket matrix coordinate real symmetric\n2 2 1\n1 3 1\n",
+        MatrixFault::BadLine {
+            line: 3,
+            fault: MatrixLineFault::BadIndex { nodes: 2 },
+        },
+    ),
+    (
+        "%%MatrixMarket matrix coordinate real symmetric\n2 2 1\n1 +2 1\n",
+        MatrixFault::BadLine {
+            line: 3,
+            fault: MatrixLineFault::BadIndex { nodes: 2 },
+        },
+    ),
+    (
+        "%%MatrixMarket matrix coordinate real symmetric\n2 2 1\n1 99999999999999999999999 1\n",
+        MatrixFault::BadLine {
+            line: 3,
+            fault: MatrixLineFault::BadIndex { nodes: 2 },
+        },
+    ),
+    (
+        "%%MatrixMarket matrix coordinate real symmetric\n2 2 1\n1 2\n",
+        MatrixFault::BadLine {
+            line: 3,
+            fault: MatrixLineFault::NoValue,
+        },
+    ),
+    (
+        "%%MatrixMarket matrix coordinate pattern symmetric\n2 2 1\n1 2 1\n",
+        MatrixFault::BadLine {
+            line: 3,
+            fault: MatrixLineFault::ValueInPattern,
+        },
+    ),
+    (
+        "%%MatrixMarket matrix coordinate real symmetric\n2 2 1\n1 2 1.5\n",
+        MatrixFault::BadLine {
+            line: 3,
+            fault: MatrixLineFault::Value(WeightFault::Decimal),
+        },
+    ),
+    (
+        "%%MatrixMarket matrix coordinate real symmetric\n2 2 1\n1 2 -1\n",
+        MatrixFault::BadLine {
+            line: 3,
+            fault: MatrixLineFault::Value(WeightFault::Negative),
+        },
+    ),
+    (
+        "%%MatrixMarket matrix coordinate real symmetric\n2 2 1\n1 2 1\n% c\n1 x\n",
+        MatrixFault::TooManyEntries { line: 5, said: 1 },
+    ),
+    (
+        "%%MatrixMarket matrix coordinate real symmetric\n2 2 3\n1 2 1\n\n1 1 1\n",
+        MatrixFault::TooFewEntries { said: 3, found: 2 },
+    ),
+    (
+        "%%MatrixMarket matrix coordinate real symmetric\n2 2 3\n1 2 1\n1 x 1\n",
+        MatrixFault::BadLine {
+            line: 4,
+            fault: MatrixLineFault::BadIndex { nodes: 2 },
+        },
+    ),
 ];
 
 #[test]

@@ -29,7 +29,12 @@ const SAID: [Row; 24] = [
     ("1e-99999999999999999999999", Some(4_294_967_295), 0, false),
     ("0.00000000000000000000000000001", Some(1), 0, false),
     ("18446744073709551615e-11", Some(1), 184_467_441, false),
-    ("18446744073709551615e-20", Some(4_294_967_295), 792_281_625, false),
+    (
+        "18446744073709551615e-20",
+        Some(4_294_967_295),
+        792_281_625,
+        false,
+    ),
     ("10000000000000000000e-19", Some(3), 3, true),
     ("1e0000000000000000000000000000002", Some(1), 100, true),
 ];
@@ -66,9 +71,17 @@ const REFUSED: [(&str, Option<u32>, WeightFault); 20] = [
     ("inf", Some(1), WeightFault::BadWeight),
     ("4294967295.5", Some(1), WeightFault::WeightTooLarge),
     ("4294967295", Some(2), WeightFault::WeightTooLarge),
-    ("1e99999999999999999999999", Some(1), WeightFault::WeightTooLarge),
+    (
+        "1e99999999999999999999999",
+        Some(1),
+        WeightFault::WeightTooLarge,
+    ),
     ("18446744073709551615", Some(1), WeightFault::WeightTooLarge),
-    ("18446744073709551616e-30", Some(1), WeightFault::TooManyDigits),
+    (
+        "18446744073709551616e-30",
+        Some(1),
+        WeightFault::TooManyDigits,
+    ),
 ];
 
 #[test]

@@ -1,6 +1,7 @@
 //! The words of `take` and `open`.
 
 use lab_words::{CellsWord, LotWord, SetWord, naming_of, openings_of, taking_of};
+use link_merge::Mending;
 use std::alloc::{AllocError, Global};
 use std::test::Fail;
 use unison_words::UsageFault;
@@ -20,20 +21,76 @@ fn taking(alloc: Global, words: &[&str]) -> Result<String, UsageFault> {
     let path = asked.path.as_str();
     let names = asked.names.as_ref().map_or("none", |path| path.as_str());
     let header = asked.header;
-    Ok(format!(in alloc; "{path}; {names}; {header}")?)
+    let numbers = asked.numbers;
+    let undirected = asked.undirected;
+    let factor = asked.factor;
+    let format = asked.format;
+    let Mending { loops, doubles } = asked.mending;
+    Ok(format!(in alloc;
+        "{format:?} {path}; {names}; {header} {numbers} {undirected} {factor:?}; {loops:?} {doubles:?}"
+    )?)
 }
 
 /// Words of `take`, and what they ask for.
-const TAKES: [(&[&str], &str); 3] = [
+const TAKES: [(&[&str], &str); 9] = [
     (
         &["take", "edges", "friends.txt"],
-        "friends.txt; none; false",
+        "Edges friends.txt; none; false false false None; Refused Refused",
     ),
     (
         &["take", "edges", "-", "--names", "n", "--header"],
-        "-; n; true",
+        "Edges -; n; true false false None; Refused Refused",
     ),
-    (&["take", "edges", "--names=n", "x"], "x; n; false"),
+    (
+        &["take", "edges", "--names=n", "x"],
+        "Edges x; n; false false false None; Refused Refused",
+    ),
+    (
+        &["take", "edges", "x", "--numbers", "--scale", "100"],
+        "Edges x; none; false true false Some(100); Refused Refused",
+    ),
+    (
+        &[
+            "take",
+            "edges",
+            "x",
+            "--drop-loops",
+            "--merge-doubles",
+            "first",
+        ],
+        "Edges x; none; false false false None; Dropped Merged(First)",
+    ),
+    (
+        &[
+            "take",
+            "matrix-market",
+            "m.mtx",
+            "--undirected",
+            "--merge-doubles=least",
+        ],
+        "MatrixMarket m.mtx; none; false false true None; Refused Merged(Least)",
+    ),
+    (
+        &["take", "matrix-market", "m.mtx", "--scale=4294967295"],
+        "MatrixMarket m.mtx; none; false false false Some(4294967295); Refused Refused",
+    ),
+    (
+        &[
+            "take",
+            "dot",
+            "--undirected",
+            "g.dot",
+            "--names",
+            "n",
+            "--merge-doubles",
+            "most",
+        ],
+        "Dot g.dot; n; false false true None; Refused Merged(Most)",
+    ),
+    (
+        &["take", "dot", "g.dot", "--drop-loops"],
+        "Dot g.dot; none; false false false None; Dropped Refused",
+    ),
 ];
 
 #[test]
