@@ -1,5 +1,5 @@
 -- What texts in other formats say, and the network files that are made of it.
-use Rattle.std.specs.Prelude.{◌≡◌, ◌+◌, ℕ, Bool, not, List, [], length, count_by, Option, Result, Ok, Err}
+use Rattle.std.specs.Prelude.{◌≡◌, ◌+◌, ℕ, Bool, not, List, [], length, count_by, Option, Result, Ok}
 use Rattle.link_net.specs.Reading.{reading_of}
 use Rattle.net_text.specs.Listing.{Listing, described}
 use Rattle.named_edge.specs.Named.{NamedEdge}
