@@ -1,0 +1,48 @@
+//! Network files of edges whose ends are names.
+ghost use Rattle.std.specs.Prelude.{◌≡◌, [], IfOk, IfErr, Ok, Err};
+ghost use Rattle.edge_text.specs.Edges.{edges_of};
+ghost use Rattle.edge_join.specs.Joining.{names_with};
+ghost use Rattle.net_take.specs.Faults.{edge_fault};
+ghost use Rattle.net_take.specs.Taking.{IsTaken, IsMadeOf, named_draft, edges_draft};
+ghost use Rattle.net_take.specs.Naming.{IsNameFile, IsJoinFault, IsNamesOf, IsEdgesFault};
+
+use crate::fault::TakeFault;
+use crate::finish::finished;
+use crate::taken::Taken;
+use edge_join::join;
+use edge_text::{Edge, Reading, read_edges};
+use link_merge::Mending;
+use node_names::{NodeNames, names_text};
+use std::alloc::Global;
+
+/// The network file of edges whose ends are names, and the file of these names.
+fn join_and_finish(alloc: Global, edges: &[Edge], mending: Mending) -> Result<Taken, TakeFault>
+    ensures network { IfOk result (IsMadeOf mending (named_draft edges.now)) }
+    ensures names { IfOk result (λ taken. IsNameFile (names_with [] edges.now) taken.names.items) }
+    ensures fault { IfErr result (IsJoinFault mending edges.now) }
+{
+    let joined = join(alloc, NodeNames::new(alloc), edges)?;
+    let names = names_text(alloc, &joined.names)?;
+    let nodes = joined.names.count();
+    finished(alloc, nodes, joined.links.as_slice(), mending, names)
+}
+
+/// The network file of a list of edges, as [`read_edges`] reads it, whose ends are names, and the file of these names. The
+/// nodes are numbered in the order in which their names appear first. The links are settled as `mending` says.
+///
+/// `Edges` comes where a line is bad, also where memory runs out; `Join` where an end has no number; `Settle` where the
+/// links make no network; `Memory` for want of memory alone.
+pub fn take_edges(
+    alloc: Global,
+    text: &[u8],
+    reading: &Reading,
+    mending: Mending,
+) -> Result<Taken, TakeFault>
+    ensures network { IfOk result (IsTaken mending (edges_draft reading.now.header reading.now.factor text.now)) }
+    ensures names { IfOk result (λ taken. IsNamesOf (edges_of reading.now.header reading.now.factor text.now) taken.names.items) }
+    ensures fault { IfErr result (IsEdgesFault mending (edges_of reading.now.header reading.now.factor text.now)) }
+    ensures refused { IfErr (edges_of reading.now.header reading.now.factor text.now) (λ fault. result ≡ Err (edge_fault fault)) }
+{
+    let edges = read_edges(alloc, text, reading)?;
+    join_and_finish(alloc, edges.as_slice(), mending)
+}

@@ -1,0 +1,15 @@
+//! Network files that are made from texts in other formats.
+#![tactic(auto)]
+
+mod edges;
+mod fault;
+mod finish;
+mod matrix;
+mod numbers;
+mod taken;
+
+pub use edges::take_edges;
+pub use fault::TakeFault;
+pub use matrix::take_matrix;
+pub use numbers::take_numbers;
+pub use taken::Taken;
