@@ -90,7 +90,11 @@ impl<'a> Builder<'a> {
         ensures weight { OnOk result (self.new.weight ≡ self.old.unsaid) }
         ensures unsaid { OnOk result (self.new.unsaid ≡ self.old.unsaid) }
     {
-        push_chain(&mut self.edges, &self.nodes.as_slice()[self.passed..], self.weight)?;
+        push_chain(
+            &mut self.edges,
+            &self.nodes.as_slice()[self.passed..],
+            self.weight,
+        )?;
         self.passed = self.nodes.len();
         self.weight = self.unsaid;
         Ok(())

@@ -73,7 +73,13 @@ fn mention(kind: TokenKind, text: &str, line: u64) -> Result<Mention<'_>, DotLin
 }
 
 /// What a token says by what it does.
-fn said(factor: Option<u32>, act: Act, kind: TokenKind, text: &str, line: u64) -> Result<Event<'_>, DotLineFault>
+fn said(
+    factor: Option<u32>,
+    act: Act,
+    kind: TokenKind,
+    text: &str,
+    line: u64,
+) -> Result<Event<'_>, DotLineFault>
     ensures { IsGiven event_of (said factor act kind text.now line) result }
 {
     match act {

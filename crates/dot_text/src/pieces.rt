@@ -174,7 +174,12 @@ fn short_sign<'a>(byte: u8) -> Result<Cut<'a>, DotLineFault>
 }
 
 /// What begins with a byte that is no blank, the first of `bytes`; `rest` are those behind it.
-fn piece<'a>(fresh: bool, byte: u8, bytes: &'a [u8], rest: &'a [u8]) -> Result<Cut<'a>, DotLineFault>
+fn piece<'a>(
+    fresh: bool,
+    byte: u8,
+    bytes: &'a [u8],
+    rest: &'a [u8],
+) -> Result<Cut<'a>, DotLineFault>
     requires { bytes.now ≡ byte ∷ rest.now }
     ensures piece { IsGiven piece_of (piece_at fresh byte rest.now) result }
     ensures size { IfOk result (λ c. (1 ≤ c.size) × (c.size ≤ length bytes.now)) }
