@@ -3,7 +3,7 @@ ghost use Rattle.std.specs.Prelude.{◌≡◌, IfOk, IfErr, Ok, Err};
 ghost use Rattle.std.specs.Option.{unwrap_or};
 ghost use Rattle.std.specs.Result.{result_err};
 ghost use Rattle.dot_text.specs.declared.fault.DotFault.TheVariants.{Memory};
-ghost use Rattle.dot_text.specs.Graphs.{IsAnswer, graph_of, start};
+ghost use Rattle.dot_text.specs.Graphs.{AreNamed, IsAnswer, graph_of, start};
 ghost use Rattle.dot_text.specs.View.{graph_view};
 
 use crate::builder::{Builder, Graph};
@@ -85,7 +85,8 @@ fn first_fault(text: &[u8], reading: Reading) -> DotFault
 /// LF, and a CR is a blank. Comments may hold any bytes; words and strings are UTF-8.
 ///
 /// `nodes` has each name of a node that stands in the text, also those of edges, as often as it does; `edges` has the edges
-/// as they stand, each with the line of its first end. Edges that stand twice are kept, also in a `strict` graph.
+/// as they stand, each with the line of its first end, and join nodes of `nodes`. Edges that stand twice are kept, also in a
+/// `strict` graph.
 ///
 /// Refused are also, each by a fault of its own: a directed graph, unless `undirected` is set, which reads `a -> b` as
 /// `a -- b`; a subgraph as an end of an edge; a weight for all edges, as `edge [weight=2]`; an attribute without a value; a
@@ -96,6 +97,7 @@ fn first_fault(text: &[u8], reading: Reading) -> DotFault
 pub fn read_dot<'a>(alloc: Global, text: &'a [u8], reading: &Reading) -> Result<Graph<'a>, DotFault>
     ensures answer { IsAnswer graph_view (graph_of reading.now.undirected reading.now.factor text.now) result }
     ensures refused { IfErr (graph_of reading.now.undirected reading.now.factor text.now) (λ fault. result ≡ Err fault) }
+    ensures ends { IfOk result (λ g. AreNamed (graph_view g)) }
 {
     match collect(alloc, text, *reading) {
         Ok(graph) => Ok(graph),
