@@ -1,5 +1,5 @@
 -- Chains of nodes.
-use Rattle.std.proofs.Common.{◌≡◌, ℕ, ◌<◌, List, [], ◌∷◌, ◌++◌, map, length, refl, sym, ◌∙◌, append-nil, arith}
+use Rattle.std.proofs.Common.{◌≡◌, ◌<◌, List, [], ◌∷◌, ◌++◌, map, length, refl, sym, ◌∙◌, append-nil, arith}
 use Rattle.weight_text.specs.declared.weight.Weight.{Weight}
 use Rattle.named_edge.specs.Named.{NamedEdge}
 use Rattle.named_edge.specs.declared.mention.Mention.{Mention}

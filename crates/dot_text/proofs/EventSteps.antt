@@ -5,7 +5,7 @@ use Rattle.dot_text.specs.declared.fault.DotFault.{DotFault}
 use Rattle.dot_text.specs.declared.state.State.{State}
 use Rattle.dot_text.specs.declared.builder.Builder.{Builder}
 use Rattle.dot_text.specs.Tokens.{DotToken}
-use Rattle.dot_text.specs.Graphs.{DotEvent, DotGraph, and_then, at_line, token_turn, events_from, graph_in, graph_of}
+use Rattle.dot_text.specs.Graphs.{DotEvent, DotGraph, and_then, at_line, token_turn, events_from, graph_in}
 use Rattle.dot_text.specs.View.{finished}
 
 -- what is said so far, with what is read

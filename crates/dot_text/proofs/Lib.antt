@@ -1,4 +1,5 @@
 mod Chains
+mod EndsNamed
 mod EventSteps
 mod TextedPieces
 mod TokenSteps

@@ -1,5 +1,5 @@
 -- Tokens with a text.
-use Rattle.std.proofs.Common.{◌≡◌, inl, inr, ℕ, Bool, true, false, List, refl, sym, Ok, Err, Some, IsUtf8}
+use Rattle.std.proofs.Common.{◌≡◌, inl, inr, ℕ, false, List, refl, Ok, Err, Some, IsUtf8}
 use Rattle.std.specs.Str.{is_utf8}
 use Rattle.std.proofs.lemmas.Bool.{cases_Bool}
 use Rattle.std.proofs.lemmas.Str.{IsUtf8-from_is_utf8, is_utf8-from_IsUtf8}

@@ -1,8 +1,8 @@
 -- One token, and those behind it.
-use Rattle.std.proofs.Common.{◌≡◌, ℕ, zero, suc, ◌+◌, ◌-◌, ◌≤◌, ◌<◌, ◌==◌, Bool, true, false, List, [], ◌∷◌, length, refl, sym, ap, ◌∙◌, arith, Result, Ok, Err, Option, Some, None, if◌then◌else◌}
+use Rattle.std.proofs.Common.{◌≡◌, ℕ, zero, suc, ◌-◌, ◌≤◌, ◌<◌, ◌==◌, Bool, false, List, [], ◌∷◌, length, refl, sym, ap, ◌∙◌, arith, Ok, Err, Option, Some, None, if◌then◌else◌}
 use Rattle.dot_text.specs.declared.token_kind.TokenKind.{TokenKind}
 use Rattle.dot_text.specs.declared.fault.DotLineFault.{DotLineFault}
-use Rattle.dot_text.specs.Tokens.{Piece, DotToken, piece_at, first_piece, line_behind, with_token, tokens_with, tokens_at}
+use Rattle.dot_text.specs.Tokens.{DotToken, first_piece, line_behind, with_token, tokens_at}
 
 behind_first : (size : ℕ) (fresh : Bool) (line b : ℕ) (bytes : List ℕ) → 1 ≤ size → tokens_at (size - 1) (b == 10) (line_behind line b) bytes ≡ tokens_at size fresh line (b ∷ bytes)
 behind_first zero fresh line b bytes some = absurd (omega arith)

@@ -211,11 +211,15 @@ at_value s Quoted = valued s
 at_value s Html = valued s
 at_value s kind = refused kind
 
+-- a semicolon or a comma
+abbrev pub is_separator : TokenKind → Bool
+is_separator Semicolon = true
+is_separator Comma = true
+is_separator kind = false
+
 -- behind an attribute's value
 abbrev pub at_valued : State → List ℕ → TokenKind → Turn
-at_valued s text Semicolon = to s stands.List
-at_valued s text Comma = to s stands.List
-at_valued s text kind = at_list s text kind
+at_valued s text kind = if is_separator kind then to s stands.List else at_list s text kind
 
 -- behind the closing bracket
 abbrev pub at_listed : State → List DotToken → TokenKind → Turn

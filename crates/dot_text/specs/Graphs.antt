@@ -1,6 +1,6 @@
 -- The graph that the tokens of a text say.
-use Rattle.std.specs.Prelude.{◌≡◌, ◌≢◌, ℕ, ◌==◌, Bool, true, false, ◌||◌, List, [], ◌∷◌, ◌++◌, nat_lt, MatchResult, Option, Some, None, Result, Ok, Err, if◌then◌else◌}
-use Rattle.std.specs.List.{list_any}
+use Rattle.std.specs.Prelude.{◌≡◌, ◌≢◌, ℕ, ◌==◌, Bool, true, false, ◌||◌, List, [], ◌∷◌, ◌++◌, map, nat_lt, MatchResult, Option, Some, None, Result, Ok, Err, if◌then◌else◌}
+use Rattle.std.specs.List.{All, Contains, list_any}
 use Rattle.weight_text.specs.declared.fault.WeightFault.{WeightFault}
 use Rattle.weight_text.specs.declared.weight.Weight.{Weight}
 use Rattle.weight_text.specs.Weights.{weight_of}
@@ -138,6 +138,18 @@ graph_in factor es = record { nodes = mentions es; edges = edges_in (unsaid_weig
 -- the graph of a text, or the text's first fault
 abbrev pub graph_of : Bool → Option ℕ → List ℕ → Result DotGraph DotFault
 graph_of undirected factor text = and_then (events_from undirected factor start (tokens_of text)) (λ es. Ok (graph_in factor es))
+
+-- the names of nodes
+abbrev pub names : List DotMention → List (List ℕ)
+names ms = map (λ m. m.name) ms
+
+-- both ends of an edge have one of these names
+abbrev pub HasEnds : List (List ℕ) → NamedEdge → Type 0
+HasEnds ns e = Contains ns e.first × Contains ns e.second
+
+-- each edge of a graph joins nodes of the graph
+abbrev pub AreNamed : DotGraph → Type 0
+AreNamed g = All (HasEnds (names g.nodes)) g.edges
 
 -- what was returned, seen by view, is the defined result, or stands for want of memory
 abbrev pub IsAnswer : {A B : Type 0} → (B → A) → Result A DotFault → Result B DotFault → Type 0

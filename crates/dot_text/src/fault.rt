@@ -7,7 +7,7 @@ use std::alloc::{AllocError, AllocFailed};
 use thiserror::Error;
 use weight_text::WeightFault;
 
-/// What is wrong in a line: at the token, the string or the comment that begins there.
+/// What is wrong in a line: with the token, the string or the comment that begins there.
 #[derive(Clone, Copy, Debug, PartialEq, Eq, Error)]
 pub enum DotLineFault {
     /// A byte with which no token begins, as `+` or a lone `/`.
@@ -46,7 +46,7 @@ pub enum DotLineFault {
     /// Subgraphs are nested more than 64 deep.
     #[error("TooDeep")]
     TooDeep,
-    /// An attribute without a value.
+    /// No `=` stands behind an attribute's name.
     #[error("NoValue")]
     NoValue,
     /// A weight for all edges behind it.

@@ -1,6 +1,6 @@
 //! What may stand where in a graph.
 ghost use Rattle.std.specs.Prelude.{◌≡◌, ◌+◌, ◌<◌, ◌^◌, length};
-ghost use Rattle.dot_text.specs.Grammar.{refused, to, is_assign, assigns, opened, closed, joined, named, defaults, begun, at_start, at_strict, at_title, at_titled, at_statement, at_done, at_closed, at_subgraph, at_subgraph_titled, at_sided, at_ported, at_node, at_any, at_edge_end, at_key, at_brackets, is_weight, keyed, at_list, at_list_key, valued, at_value, at_valued, at_listed, at_over, turn_at};
+ghost use Rattle.dot_text.specs.Grammar.{refused, to, is_assign, assigns, opened, closed, joined, named, defaults, begun, at_start, at_strict, at_title, at_titled, at_statement, at_done, at_closed, at_subgraph, at_subgraph_titled, at_sided, at_ported, at_node, at_any, at_edge_end, at_key, at_brackets, is_weight, keyed, at_list, at_list_key, valued, at_value, is_separator, at_valued, at_listed, at_over, turn_at};
 ghost use Rattle.dot_text.specs.View.{tokens_left};
 
 use crate::fault::DotLineFault;
@@ -381,13 +381,21 @@ fn at_value(state: State, kind: TokenKind) -> Result<(State, Act), DotLineFault>
     }
 }
 
+/// Whether a token is a semicolon or a comma.
+fn is_separator(kind: TokenKind) -> bool
+    ensures { result ≡ is_separator kind }
+{
+    matches!(kind, TokenKind::Semicolon | TokenKind::Comma)
+}
+
 /// Behind an attribute.
 fn at_valued(state: State, text: &str, kind: TokenKind) -> Result<(State, Act), DotLineFault>
     ensures { result ≡ at_valued state text.now kind }
 {
-    match kind {
-        TokenKind::Semicolon | TokenKind::Comma => to(state, Place::List),
-        _ => at_list(state, text, kind),
+    if is_separator(kind) {
+        to(state, Place::List)
+    } else {
+        at_list(state, text, kind)
     }
 }
 
