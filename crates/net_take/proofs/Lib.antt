@@ -1,1 +1,2 @@
+mod DotSteps
 mod JoinFaults

@@ -4,16 +4,17 @@ use Rattle.link_net.specs.Reading.{reading_of}
 use Rattle.net_text.specs.Listing.{Listing, described}
 use Rattle.named_edge.specs.Named.{NamedEdge}
 use Rattle.edge_text.specs.Edges.{edges_of}
-use Rattle.edge_join.specs.Joining.{names_with, links_of}
+use Rattle.edge_join.specs.Joining.{names_in, names_with, links_of}
 use Rattle.edge_join.specs.Numbering.{links_in, nodes_of}
 use Rattle.link_merge.specs.declared.placed.PlacedLink.{PlacedLink}
 use Rattle.link_merge.specs.declared.mending.Mending.{Mending}
 use Rattle.link_merge.specs.Settling.{left_by, settled}
 use Rattle.matrix_text.specs.Matrices.{matrix_of}
+use Rattle.dot_text.specs.Graphs.{DotGraph, names, graph_of}
 use Rattle.matrix_text.specs.Steps.{and_then, told_as}
 use Rattle.net_take.specs.declared.fault.TakeFault.{TakeFault}
 use Rattle.net_take.specs.declared.taken.Taken.{Taken}
-use Rattle.net_take.specs.Faults.{edge_fault, matrix_fault, number_fault, settle_fault}
+use Rattle.net_take.specs.Faults.{edge_fault, matrix_fault, dot_fault, number_fault, settle_fault}
 
 -- what a text says: how many nodes there are, and the links in its order
 pub record Draft : Type 0 where
@@ -32,13 +33,25 @@ numbered_draft edges = and_then (told_as number_fault (links_in edges)) (λ link
 abbrev pub numbers_draft : Bool → Option ℕ → List ℕ → Result Draft TakeFault
 numbers_draft header factor text = and_then (told_as edge_fault (edges_of header factor text)) numbered_draft
 
--- what edges say whose ends are names, which are numbered in the order of their first appearance
-abbrev pub named_draft : List NamedEdge → Draft
-named_draft edges = record { nodes = length (names_with [] edges); links = links_of [] edges }
+-- what edges say whose ends are names: nodes have the names that are given, and others are numbered behind them, in the order of their first appearance
+abbrev pub named_draft : List (List ℕ) → List NamedEdge → Draft
+named_draft names edges = record { nodes = length (names_with names edges); links = links_of names edges }
 
 -- what a text says, a list of edges whose ends are names
 abbrev pub edges_draft : Bool → Option ℕ → List ℕ → Result Draft TakeFault
-edges_draft header factor text = and_then (told_as edge_fault (edges_of header factor text)) (λ edges. Ok (named_draft edges))
+edges_draft header factor text = and_then (told_as edge_fault (edges_of header factor text)) (λ edges. Ok (named_draft [] edges))
+
+-- the names of a graph's nodes, each once, in the order of their first appearance
+abbrev pub graph_names : DotGraph → List (List ℕ)
+graph_names g = names_in [] (names g.nodes)
+
+-- what a graph says
+abbrev pub graph_draft : DotGraph → Draft
+graph_draft g = named_draft (graph_names g) g.edges
+
+-- what a text says, a graph in Graphviz's language
+abbrev pub dot_draft : Bool → Option ℕ → List ℕ → Result Draft TakeFault
+dot_draft undirected factor text = and_then (told_as dot_fault (graph_of undirected factor text)) (λ g. Ok (graph_draft g))
 
 -- the network's links, loops and doubles mended, or why there are none
 abbrev pub made : Mending → Draft → Result Listing TakeFault

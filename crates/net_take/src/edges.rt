@@ -15,13 +15,18 @@ use link_merge::Mending;
 use node_names::{NodeNames, names_text};
 use std::alloc::Global;
 
-/// The network file of edges whose ends are names, and the file of these names.
-fn join_and_finish(alloc: Global, edges: &[Edge], mending: Mending) -> Result<Taken, TakeFault>
-    ensures network { IfOk result (IsMadeOf mending (named_draft edges.now)) }
-    ensures names { IfOk result (λ taken. IsNameFile (names_with [] edges.now) taken.names.items) }
-    ensures fault { IfErr result (IsJoinFault mending edges.now) }
+/// The network file of edges whose ends are names, and the file of these names, those that are given before the others.
+pub(crate) fn join_and_finish(
+    alloc: Global,
+    names: NodeNames,
+    edges: &[Edge],
+    mending: Mending,
+) -> Result<Taken, TakeFault>
+    ensures network { IfOk result (IsMadeOf mending (named_draft names edges.now)) }
+    ensures names { IfOk result (λ taken. IsNameFile (names_with names edges.now) taken.names.items) }
+    ensures fault { IfErr result (IsJoinFault mending names edges.now) }
 {
-    let joined = join(alloc, NodeNames::new(alloc), edges)?;
+    let joined = join(alloc, names, edges)?;
     let names = names_text(alloc, &joined.names)?;
     let nodes = joined.names.count();
     finished(alloc, nodes, joined.links.as_slice(), mending, names)
@@ -44,5 +49,5 @@ pub fn take_edges(
     ensures refused { IfErr (edges_of reading.now.header reading.now.factor text.now) (λ fault. result ≡ Err (edge_fault fault)) }
 {
     let edges = read_edges(alloc, text, reading)?;
-    join_and_finish(alloc, edges.as_slice(), mending)
+    join_and_finish(alloc, NodeNames::new(alloc), edges.as_slice(), mending)
 }

@@ -1,8 +1,9 @@
 //! Why a text makes no network file.
 ghost use Rattle.std.specs.Prelude.{◌≡◌};
 ghost use Rattle.net_take.specs.declared.fault.TakeFault.TheVariants.{Memory};
-ghost use Rattle.net_take.specs.Faults.{edge_fault, matrix_fault, join_fault, number_fault, settle_fault};
+ghost use Rattle.net_take.specs.Faults.{edge_fault, matrix_fault, dot_fault, join_fault, number_fault, settle_fault};
 
+use dot_text::DotFault;
 use edge_join::{JoinFault, NumberFault};
 use edge_text::EdgeFault;
 use link_merge::SettleFault;
@@ -20,6 +21,9 @@ pub enum TakeFault {
     /// The text is no matrix.
     #[error("{0}")]
     Matrix(MatrixFault),
+    /// The text is no graph in Graphviz's language.
+    #[error("{0}")]
+    Dot(DotFault),
     /// The end of an edge is no name, or there are too many names.
     #[error("{0}")]
     Join(JoinFault),
@@ -60,6 +64,17 @@ impl From<MatrixFault> for TakeFault {
         match fault {
             MatrixFault::Memory => TakeFault::Memory,
             _ => TakeFault::Matrix(fault),
+        }
+    }
+}
+
+impl From<DotFault> for TakeFault {
+    ghost from_gives = { λ fault e. e ≡ dot_fault fault };
+
+    fn from(fault: DotFault) -> TakeFault {
+        match fault {
+            DotFault::Memory => TakeFault::Memory,
+            _ => TakeFault::Dot(fault),
         }
     }
 }

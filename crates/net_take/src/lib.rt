@@ -1,6 +1,7 @@
 //! Network files that are made from texts in other formats.
 #![tactic(auto)]
 
+mod dot;
 mod edges;
 mod fault;
 mod finish;
@@ -8,6 +9,7 @@ mod matrix;
 mod numbers;
 mod taken;
 
+pub use dot::take_dot;
 pub use edges::take_edges;
 pub use fault::TakeFault;
 pub use matrix::take_matrix;

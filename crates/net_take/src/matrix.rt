@@ -29,5 +29,11 @@ pub fn take_matrix(
     ensures refused { IfErr (matrix_of reading.now.undirected reading.now.factor text.now) (λ fault. result ≡ Err (matrix_fault fault)) }
 {
     let matrix = read_matrix(alloc, text, reading)?;
-    finished(alloc, matrix.nodes, matrix.links.as_slice(), mending, Vec::new(alloc))
+    finished(
+        alloc,
+        matrix.nodes,
+        matrix.links.as_slice(),
+        mending,
+        Vec::new(alloc),
+    )
 }

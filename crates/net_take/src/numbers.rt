@@ -20,7 +20,13 @@ fn join_and_finish(alloc: Global, edges: &[Edge], mending: Mending) -> Result<Ta
     ensures fault { IfErr result (λ fault. fault ≢ Memory → listing_in mending (numbered_draft edges.now) ≡ Err fault) }
 {
     let joined = join_numbers(alloc, edges)?;
-    finished(alloc, joined.nodes, joined.links.as_slice(), mending, Vec::new(alloc))
+    finished(
+        alloc,
+        joined.nodes,
+        joined.links.as_slice(),
+        mending,
+        Vec::new(alloc),
+    )
 }
 
 /// The network file of a list of edges, as [`read_edges`] reads it, whose ends are the numbers of nodes. There are as many
