@@ -20,6 +20,8 @@ mod opens;
 #[cfg(test)]
 mod reports;
 #[cfg(test)]
+mod takes;
+#[cfg(test)]
 mod weights;
 #[cfg(test)]
 mod words;

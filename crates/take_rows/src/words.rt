@@ -291,11 +291,36 @@ fn wrong_words_of_open(rt: HostRuntime) -> Result<(), Fail> {
 }
 
 /// Wrong words of `take`, and a part of what is told of them.
-const WRONG_TAKES: [(&[&str], &str); 4] = [
+const WRONG_TAKES: [(&[&str], &str); 14] = [
     (&["take"], "Usage: unison take"),
     (&["take", "graphml", "x"], "graphml"),
     (&["take", "edges"], "<FILE>"),
-    (&["take", "edges", "x", "--scale", "2"], "--scale"),
+    (
+        &["take", "edges", "x", "--scale", "0"],
+        "--scale: expected a whole number from 1 to 4294967295, found `0`",
+    ),
+    (
+        &["take", "edges", "x", "--scale", "1.5"],
+        "--scale: expected a whole number from 1 to 4294967295, found `1.5`",
+    ),
+    (
+        &["take", "edges", "x", "--merge-doubles", "sum"],
+        "--merge-doubles: expected `least`, `most` or `first`, found `sum`",
+    ),
+    (
+        &["take", "edges", "x", "--numbers", "--names", "n"],
+        "--names cannot stand beside --numbers",
+    ),
+    (&["take", "edges", "x", "--undirected"], "--undirected"),
+    (&["take", "matrix-market"], "<FILE>"),
+    (&["take", "matrix-market", "x", "--names", "n"], "--names"),
+    (&["take", "matrix-market", "x", "--header"], "--header"),
+    (&["take", "dot", "x", "--numbers"], "--numbers"),
+    (&["take", "dot", "x", "y"], "y"),
+    (
+        &["take", "edges", "x", "--merge-doubles"],
+        "--merge-doubles",
+    ),
 ];
 
 #[test]

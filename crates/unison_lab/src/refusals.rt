@@ -1,7 +1,7 @@
 //! What is told of a text of another format that has no network.
 
 use crate::ending::Ending;
-use dot_text::{DotFault, DotLineFault};
+use dot_text::{DotFault, DotLineFault, TokenKind};
 use edge_join::{JoinFault, NumberFault};
 use edge_text::{EdgeFault, LineFault};
 use lab_words::Format;
@@ -191,6 +191,78 @@ fn matrix_told(fault: MatrixFault) -> Told {
     }
 }
 
+/// What is wrong with the bytes of a text in Graphviz's language.
+fn bytes_told(fault: DotLineFault) -> (&'static str, &'static str) {
+    match fault {
+        DotLineFault::BadByte { .. } => (
+            "BadByte",
+            "no part of a graph begins with this byte; a name with such bytes stands in quotes",
+        ),
+        DotLineFault::BadNumeral => (
+            "BadNumeral",
+            "this begins as a number and is none; a name like this stands in quotes",
+        ),
+        DotLineFault::NotUtf8 => ("NotUtf8", "a name or a string is not UTF-8"),
+        DotLineFault::UnclosedString => (
+            "UnclosedString",
+            "the string that begins here has no closing quote",
+        ),
+        DotLineFault::UnclosedComment => (
+            "UnclosedComment",
+            "the comment that begins here has no `*/`",
+        ),
+        DotLineFault::UnclosedHtml => (
+            "UnclosedHtml",
+            "the string that begins here has no closing `>`",
+        ),
+        DotLineFault::HtmlName => ("HtmlName", "a name in angle brackets is not taken"),
+        DotLineFault::Escape => ("Escape", "a name with a backslash is not taken"),
+        _ => ("ControlCharacter", "a control character stands in the name"),
+    }
+}
+
+/// What is wrong with the statements of a text in Graphviz's language.
+fn statements_told(fault: DotLineFault) -> (&'static str, &'static str) {
+    match fault {
+        DotLineFault::UnclosedGraph => (
+            "UnclosedGraph",
+            "the text ends before the graph does: expected `}`",
+        ),
+        DotLineFault::Directed => (
+            "Directed",
+            "the edges of a digraph have a direction (--undirected leaves it aside, and --merge-doubles takes both directions as one)",
+        ),
+        DotLineFault::WrongEdge => (
+            "WrongEdge",
+            "an edge is `--` in a graph, and `->` in a digraph",
+        ),
+        DotLineFault::SubgraphEnd => (
+            "SubgraphEnd",
+            "a subgraph as an end of an edge is not taken: write an edge for each node",
+        ),
+        DotLineFault::TooDeep => ("TooDeep", "subgraphs stand in one another 64 deep at most"),
+        DotLineFault::NoValue => (
+            "NoValue",
+            "expected `=` and a value behind an attribute's name",
+        ),
+        DotLineFault::DefaultWeight => (
+            "DefaultWeight",
+            "a weight for all edges is not taken: write it behind each edge",
+        ),
+        DotLineFault::Syntax { .. } => ("Syntax", "this may not stand here: found "),
+        DotLineFault::Weight(fault) => weight_told(fault),
+        _ => bytes_told(fault),
+    }
+}
+
+/// What is wrong with a text in Graphviz's language.
+fn dot_told(fault: DotFault) -> Told {
+    match fault {
+        DotFault::BadLine { line, fault } => on_line(line, statements_told(fault)),
+        DotFault::Memory => (None, "Memory", ""),
+    }
+}
+
 /// What is wrong with the names of nodes.
 fn join_told(fault: JoinFault) -> Told {
     match fault {
@@ -229,11 +301,7 @@ fn numbers_told(fault: NumberFault) -> Told {
 fn net_told(fault: NetFault) -> Told {
     match fault {
         NetFault::NodeCount => (None, "NoNodes", "there are no nodes"),
-        NetFault::TooManyLinks => (
-            None,
-            "TooManyLinks",
-            "a network has 262144 links at most",
-        ),
+        NetFault::TooManyLinks => (None, "TooManyLinks", "a network has 262144 links at most"),
         NetFault::TooManyNeighbours => (
             None,
             "TooManyNeighbours",
@@ -274,15 +342,50 @@ fn told_of(fault: TakeFault) -> Told {
     }
 }
 
-/// What is told beside: the earlier edge of two, and how many entries there are.
+/// What a part of a graph is for people.
+fn token_text(kind: TokenKind) -> &'static str {
+    match kind {
+        TokenKind::Name => "a name",
+        TokenKind::Quoted => "a string in quotes",
+        TokenKind::Html => "a string in angle brackets",
+        TokenKind::Strict => "`strict`",
+        TokenKind::Graph => "`graph`",
+        TokenKind::Digraph => "`digraph`",
+        TokenKind::Node => "`node`",
+        TokenKind::Edge => "`edge`",
+        TokenKind::Subgraph => "`subgraph`",
+        TokenKind::BraceOpen => "`{`",
+        TokenKind::BraceClose => "`}`",
+        TokenKind::BracketOpen => "`[`",
+        TokenKind::BracketClose => "`]`",
+        TokenKind::Semicolon => "`;`",
+        TokenKind::Comma => "`,`",
+        TokenKind::Assign => "`=`",
+        TokenKind::Colon => "`:`",
+        TokenKind::Dashes => "`--`",
+        TokenKind::Arrow => "`->`",
+        TokenKind::End => "the end",
+    }
+}
+
+/// What is told beside: the earlier edge of two, how many entries there are, and what was found.
 fn detail_of(alloc: Global, fault: TakeFault) -> Result<String, AllocError> {
     match fault {
-        TakeFault::Settle(SettleFault::Double { first, .. }) =>
-            format!(in alloc; "; it stands on line {first}"),
-        TakeFault::Matrix(MatrixFault::TooManyEntries { said, .. }) =>
-            format!(in alloc; ": {said}"),
-        TakeFault::Matrix(MatrixFault::TooFewEntries { said, found }) =>
-            format!(in alloc; ": {found}, and {said} were said"),
+        TakeFault::Settle(SettleFault::Double { first, .. }) => format!(in alloc;
+            "; it stands on line {first}"
+        ),
+        TakeFault::Matrix(MatrixFault::TooManyEntries { said, .. }) => format!(in alloc;
+            ": {said}"
+        ),
+        TakeFault::Matrix(MatrixFault::TooFewEntries { said, found }) => format!(in alloc;
+            ": {found}, and {said} were said"
+        ),
+        TakeFault::Dot(
+            DotFault::BadLine {
+                fault: DotLineFault::Syntax { found },
+                ..
+            },
+        ) => String::from_str(alloc, token_text(found)),
         _ => Ok(String::new(alloc)),
     }
 }
