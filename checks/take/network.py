@@ -14,11 +14,12 @@ Item = collections.namedtuple("Item", "lines ends weight rounded", defaults=(1, 
 
 
 class Fault(Exception):
-    """A refusal: the kinds that it may have, `?WHAT` where docs/lab.md names none, and the lines that may be told, 0 for none."""
+    """A refusal: the kinds that it may have, `?WHAT` where docs/lab.md names none, and the lines that may be told, 0 for none; of a double also the lines of
+    the earlier edge."""
 
-    def __init__(self, kinds, *lines):
+    def __init__(self, kinds, *lines, earlier=()):
         super().__init__()
-        self.kinds, self.lines = set(kinds.split("|")), set(lines)
+        self.kinds, self.lines, self.earlier = set(kinds.split("|")), set(lines), earlier
 
     def __str__(self):
         return "|".join(sorted(self.kinds)) + " " + "|".join(map(str, sorted(self.lines)))
@@ -35,7 +36,7 @@ class Taken:
     """A text that is taken: its network, the names of its nodes, and how many edges were dropped, merged and rounded."""
 
     def __init__(self, count, names, links, counts):
-        self.links = [(one, other) if weight == 1 else (one, other, weight) for one, other, weight in links]
+        self.links = [(one, other) if weight == 1 else (one, other, weight) for one, other, weight, _ in links]
         rows = "".join(f"    {list(link)},\n" for link in self.links)
         self.network = f"links = [\n{rows}]\nnodes = {count}\nphase = 0\n".encode()
         self.count, self.called, self.counts = count, names, +counts
@@ -133,9 +134,9 @@ class Join:
             link = self.pairs[pair]
             link[2] = MERGED[self.options.merge or "first"](link[2], item.weight)
             if not self.options.merge:
-                self.settling.setdefault("double", Fault("?double", *item.lines))
+                self.settling.setdefault("double", Fault("?double", *item.lines, earlier=link[3]))
         else:
-            self.pairs[pair] = [*ends, item.weight]
+            self.pairs[pair] = [*ends, item.weight, item.lines]
 
     def limits(self):
         """The faults that are told without a line."""
