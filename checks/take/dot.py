@@ -145,7 +145,12 @@ class Reader:
         if self.word(b"node", b"edge", b"graph"):
             return self.defaults()
         first = self.name()
-        if self.at(b"="):
+        try:
+            is_key = self.at(b"=")
+        except (Fault, Unsaid):
+            self.plain(first)  # what is wrong with it stands before
+            raise
+        if is_key:
             self.take()
             if not self.is_name():
                 self.refuse("?syntax")
@@ -174,8 +179,8 @@ class Reader:
         self.attributes(keyword.line, keyword.text.lower() == b"edge")
         return ()
 
-    def node(self, token):
-        """The name of a node, behind which a port may stand."""
+    def plain(self, token):
+        """The name of a node."""
         lines = range(token.line, token.last + 1)
         if token.kind == "html":
             raise Fault("HtmlName", *lines)
@@ -186,6 +191,11 @@ class Reader:
             raise Unsaid("a control character, or a line's end, in a name")
         if not text:
             raise Unsaid("a name without a letter")
+        return text
+
+    def node(self, token):
+        """The name of a node, behind which a port may stand."""
+        text = self.plain(token)
         for _ in range(2):
             if self.at(b":"):
                 self.take()
@@ -204,23 +214,24 @@ class Reader:
                 raise Fault("WrongEdge", begin.line)
             lasts.append(self.peek().last)
             ends.append(self.node(self.name()))
-        weight = self.attributes(first.line, False) if self.at(b"[") else None
-        scale = self.options.scale
+        value = self.attributes(first.line, False, len(ends) > 1) if self.at(b"[") else None
         if len(ends) == 1:
             yield Item({first.line}, ends)
             return
-        value = (scale or 1, False)
-        if weight:
-            lines = range(first.line, weight.last + 1)
-            word = weight.text[1:-1] if weight.kind == "string" else weight.text
-            if weight.kind == "html" or not word or b"\\" in word:
-                raise Fault("?weight", *lines)
-            value = weighed(word, scale, *lines)
+        value = value or (self.options.scale or 1, False)
         for one, other, last in zip(ends, ends[1:], lasts[1:]):
             yield Item(set(range(first.line, last + 1)), [one, other], *value)
 
-    def attributes(self, begin, default):
-        """Some lists of attributes; answers the value of the last weight."""
+    def weight(self, begin, value):
+        """The weight that the value of an attribute says."""
+        lines = range(begin, value.last + 1)
+        word = value.text[1:-1] if value.kind == "string" else value.text
+        if value.kind == "html" or not word or b"\\" in word:
+            raise Fault("?weight", *lines)
+        return weighed(word, self.options.scale, *lines)
+
+    def attributes(self, begin, default, weighs=False):
+        """Some lists of attributes, of an edge or not; answers the last of an edge's weights, each of which has to be one."""
         weight = None
         while self.at(b"["):
             self.take()
@@ -239,7 +250,8 @@ class Reader:
                 value = self.take()
                 if refused:
                     raise Fault("DefaultWeight", *range(begin, value.last + 1))
-                weight = value if is_weight else weight
+                if weighs and is_weight:
+                    weight = self.weight(begin, value)
                 if self.at(b",", b";"):
                     self.take()
             self.take()
