@@ -11,7 +11,7 @@ pub enum Lot {
     /// linked with so many different ones before it, or with all of them while they are fewer, each drawn in proportion to
     /// the links that it has.
     Preferential { nodes: u32, each: u32 },
-    /// A regular network, each node with so many neighbours: links round a ring, whose ends are exchanged ten times for each
+    /// A regular network, each node with so many neighbours: links round a ring, whose ends are exchanged five times for each
     /// link, where that makes no loop and no double.
     Regular { nodes: u32, degree: u32 },
     /// A small world, as Watts and Strogatz described it in 1998: nodes round a ring, each linked with so many that follow it;

@@ -9,7 +9,7 @@ use rand_pcg::Pcg64;
 use std::alloc::{AllocError, Global};
 
 /// How often each link is exchanged with another one.
-const EXCHANGES: u32 = 10;
+const EXCHANGES: u32 = 5;
 
 /// How often a node is drawn at most for a link that is led elsewhere.
 const MOST_LEADS: u32 = 64;
