@@ -3,7 +3,8 @@
 import collections
 import re
 
-from network import Fault, Item, Unsaid, weighed
+from edges import is_utf8
+from network import Fault, Item, weighed
 
 Token = collections.namedtuple("Token", "kind text line last")
 KEYWORDS = (b"strict", b"graph", b"digraph", b"node", b"edge", b"subgraph")
@@ -27,37 +28,32 @@ def html_end(text, at):
     return None
 
 
-def refuse_at(text, at, line, ends, before):
+def refuse_at(text, at, line, ends):
     """Refuses a text where no token begins."""
     kinds = {b'"': "UnclosedString", b"/*": "UnclosedComment", b"<": "UnclosedHtml"}
     for start, kind in kinds.items():
         if text.startswith(start, at):
             raise Fault(kind, line, *ends)
-    if text[at : at + 1] in b"\v\f":
-        raise Unsaid("a vertical tab or a form feed between words")
-    if text[at : at + 1] == b"#" and not text[text.rfind(b"\n", 0, at) + 1 : at].strip(b" \t\r"):
-        raise Unsaid("a `#` behind blanks at the beginning of a line")
-    if text[at : at + 1] == b"+" and before == "string":
-        raise Unsaid("a `+` behind a string")
     raise Fault("?syntax", line)
 
 
 def tokens(text):
     """The tokens of a text, and one that says its end."""
-    at, line, before = 0, 1, None
+    at, line = 0, 1
     ends = {text.count(b"\n"), text.count(b"\n") + 1} - {0}
     while at < len(text):
         found = TOKEN.match(text, at)
         kind = found.lastgroup if found else None
         end = html_end(text, at) if kind == "html" else found.end() if found else None
         if end is None:
-            refuse_at(text, at, line, ends, before)
+            refuse_at(text, at, line, ends)
         last = line + text.count(b"\n", at, end)
         if kind == "number" and re.compile(rb"[A-Za-z_0-9.\x80-\xff]").match(text, end):
-            raise Unsaid("a number that runs into a word or another number")
+            raise Fault("BadNumeral", line)
+        if kind in ("word", "string", "html") and not is_utf8(text[at:end]):
+            raise Fault("NotUtf8", *range(line, last + 1))
         if kind != "blank":
             yield Token(kind, text[at:end], line, last)
-            before = kind
         at, line = end, last
     yield Token("end", b"", min(ends), max(ends))
 
@@ -132,8 +128,6 @@ class Reader:
         if deep > 64:
             raise Fault("TooDeep", brace.line)
         while not self.at(b"}"):
-            if self.at(b";"):
-                raise Unsaid("a statement that is empty")
             yield from self.statement(deep)
             if self.at(b";"):
                 self.take()
@@ -147,7 +141,7 @@ class Reader:
         first = self.name()
         try:
             is_key = self.at(b"=")
-        except (Fault, Unsaid):
+        except Fault:
             self.plain(first)  # what is wrong with it stands before
             raise
         if is_key:
@@ -168,8 +162,6 @@ class Reader:
         if self.at(b"--", b"->"):
             lines = range(begin, self.peek().line + 1)
             raise Fault("SubgraphEnd" if self.at(self.joins) else "SubgraphEnd|WrongEdge", *lines)
-        if self.at(b"["):
-            raise Unsaid("attributes behind a subgraph")
 
     def defaults(self):
         """`node`, `edge` or `graph` with attributes."""
@@ -185,12 +177,9 @@ class Reader:
         if token.kind == "html":
             raise Fault("HtmlName", *lines)
         text = token.text[1:-1] if token.kind == "string" else token.text
-        if token.kind == "string" and b"\\" in text:
-            raise Fault("Escape", *lines)
-        if re.search(rb"[\x00-\x1f\x7f]", text):
-            raise Unsaid("a control character, or a line's end, in a name")
-        if not text:
-            raise Unsaid("a name without a letter")
+        kinds = {"Escape": b"\\" in text, "ControlCharacter": re.search(rb"[\x00-\x1f\x7f]", text)}
+        if any(kinds.values()):
+            raise Fault("|".join(kind for kind, holds in kinds.items() if holds), *lines)
         return text
 
     def node(self, token):
@@ -260,8 +249,4 @@ class Reader:
 
 def read(text, options):
     """The nodes and edges of a text."""
-    try:
-        text.decode()
-    except UnicodeDecodeError:
-        raise Unsaid("a text that is no UTF-8") from None
     yield from Reader(text, options).graph()

@@ -13,11 +13,17 @@ def rows(text, first=1):
             yield number, line, words
 
 
+def is_utf8(text):
+    try:
+        text.decode()
+    except UnicodeDecodeError:
+        return False
+    return True
+
+
 def line_fault(line):
     """The kind of fault that a line has as a whole, or None."""
-    try:
-        line.decode()
-    except UnicodeDecodeError:
+    if not is_utf8(line):
         return "NotUtf8"
     if re.search(rb"[\x00-\x08\x0a-\x0c\x0e-\x1f\x7f]", line):
         return "ControlCharacter"

@@ -25,13 +25,6 @@ class Fault(Exception):
         return "|".join(sorted(self.kinds)) + " " + "|".join(map(str, sorted(self.lines)))
 
 
-class Unsaid(Exception):
-    """A text of which docs/lab.md does not say whether it is taken."""
-
-    def __str__(self):
-        return "unsaid"
-
-
 class Taken:
     """A text that is taken: its network, the names of its nodes, and how many edges were dropped, merged and rounded."""
 
@@ -96,25 +89,27 @@ def weighed(word, scale, *lines):
 
 
 class Join:
-    """Numbers the nodes, and settles loops and doubles. Of each sort of fault the first is kept, in the text's order."""
+    """Numbers the nodes, and settles loops and doubles. Of each sort of fault the first is kept."""
 
     def __init__(self, options):
         self.options, self.count, self.names, self.pairs = options, 0, {}, {}
-        self.counts, self.naming, self.settling = collections.Counter(), {}, {}
+        self.counts, self.faults = collections.Counter(), {}
 
     def number(self, end, lines):
         """The number of the node that an end names."""
         if isinstance(end, bytes) and self.options.numbers:
             large = number_of(end) > 65535 if end.isdigit() else None
             if large is not False:
-                self.naming.setdefault("first", Fault("NumberTooLarge" if large else "NoNumber", *lines))
+                self.faults.setdefault("name", Fault("NumberTooLarge" if large else "NoNumber", *lines))
                 return end
             end = number_of(end)
+        if end == b"":
+            self.faults.setdefault("name", Fault("BadName", *lines))
         if isinstance(end, int):
             self.count = max(self.count, end + 1)
             return end
         if end not in self.names and self.count == 65536:
-            self.naming.setdefault("first", Fault("TooManyNodes", *lines))
+            self.faults.setdefault("name", Fault("TooManyNodes", *lines))
         number = self.names.setdefault(end, len(self.names))
         self.count = len(self.names)
         return number
@@ -128,34 +123,32 @@ class Join:
         if len(pair) == 1:
             self.counts["dropped"] += 1
             if not self.options.drop:
-                self.settling.setdefault("loop", Fault("?loop", *item.lines))
+                self.faults.setdefault("loop", Fault("?loop", *item.lines))
         elif pair in self.pairs:
             self.counts["merged"] += 1
             link = self.pairs[pair]
             link[2] = MERGED[self.options.merge or "first"](link[2], item.weight)
             if not self.options.merge:
-                self.settling.setdefault("double", Fault("?double", *item.lines, earlier=link[3]))
+                self.faults.setdefault("double", Fault("?double", *item.lines, earlier=link[3]))
         else:
             self.pairs[pair] = [*ends, item.weight, item.lines]
 
-    def limits(self):
-        """The faults that are told without a line."""
+    def bounds(self):
+        """The fault of a network that is beyond the bounds, which is told without a line, or None."""
         near = collections.Counter(end for pair in self.pairs for end in pair)
         broken = {"?no-nodes": self.count == 0, "?links": len(self.pairs) > 262144, "?neighbours": max(near.values(), default=0) > 4096}
-        return [Fault(kind, 0) for kind, holds in broken.items() if holds]
+        kinds = [kind for kind, holds in broken.items() if holds]
+        return Fault("|".join(kinds), 0) if kinds else None
 
 
-def outcomes(items, options, named):
-    """What may become of the items that a reader yields. Where a text has faults of several sorts, docs/lab.md does not say which is told: first stands that
-    of the reading, then those of names, of loops and doubles, and of the limits."""
-    join, faults = Join(options), []
+def outcome_of(items, options, named):
+    """What becomes of the items that a reader yields: a fault of the text comes first, then one of names, of loops, of doubles, of the bounds."""
+    join = Join(options)
     try:
         for item in items:
             join.add(item)
     except Fault as fault:
-        faults = [fault]
-    except Unsaid as unsaid:
-        return [unsaid]
-    faults += [*join.naming.values(), *join.settling.values()]
+        return fault
+    fault = next((join.faults[sort] for sort in ("name", "loop", "double") if sort in join.faults), None) or join.bounds()
     names = list(join.names) if named and not options.numbers else None
-    return faults or join.limits() or [Taken(join.count, names, join.pairs.values(), join.counts)]
+    return fault or Taken(join.count, names, join.pairs.values(), join.counts)

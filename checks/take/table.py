@@ -1,7 +1,7 @@
 """Texts by hand with their outcome, written without the readers: (words, text, outcome).
 
 An outcome is `NAMES: LINKS` or `#NODES: LINKS`, with `; dropped 1` and the like; or `KINDS LINES`, of which any may be told: `?WHAT` where docs/lab.md names no
-kind, 0 where no line is told; or `usage`; or `unsaid`, where docs/lab.md does not say whether the text is taken."""
+kind, 0 where no line is told; or `usage`."""
 
 MERGE = "edges --merge-doubles "
 MATRIX, LARGE = "matrix-market", "0 1 4294967295"
@@ -38,7 +38,7 @@ EDGES = [
     ("edges", b"a b -1\n", "Negative 1"), ("edges", b"a b 1.0\n", "Decimal 1"), ("edges", b"a b 1e3\n", "Decimal 1"),
     ("edges", b"a b 4294967296\n", "WeightTooLarge 1"), ("edges", b"a b 1x", "BadWeight 1"), ("edges", b"a b +1", "BadWeight 1"),
     ("edges", b"a b\nc c 2\n", "?loop 2"), ("edges --drop-loops", b"a b\nc c 2\n", "a|b|c: 0 1; dropped 1"),
-    ("edges --drop-loops", b"a a", "a: ; dropped 1"), ("edges", b"a b\nc d\nb a 2\n", "?double 3"),
+    ("edges --drop-loops", b"a a", "a: ; dropped 1"), ("edges", b"a b\nc d\nb a 2\n", "?double 3"), ("edges", b"a b\nb a\nc c\nd", "OneWord 4"),
     (MERGE + "least", b"a b 5\nc d\nb a 2\na b 9", "a|b|c|d: 0 1 2, 2 3; merged 2"),
     (MERGE + "most", b"a b 5\nb a 2\na b 9", "a|b: 0 1 9; merged 2"), (MERGE + "first", b"b a 5\na b 2\na b 9", "b|a: 0 1 5; merged 2"),
     ("edges --scale 10 --drop-loops --merge-doubles least", b"a b 1.26\nb a 0.5\na a\n", "a|b: 0 1 5; dropped 1; merged 1; rounded 1"),
@@ -66,7 +66,8 @@ MATRICES = [
     (MATRIX, b"", "NoHeader 1"), (MATRIX, b"2 2 1\n1 2\n", "NoHeader 1"), (MATRIX, b"\n" + SYMMETRIC, "NoHeader 1"),
     (MATRIX, SYMMETRIC.replace(b"coordinate", b"array"), "ArrayFormat 1"), (MATRIX, SYMMETRIC.replace(b"real", b"complex"), "UnknownField 1"),
     (MATRIX, SYMMETRIC.replace(b"symm", b"skew-symm"), "UnknownSymmetry 1"), (MATRIX, SYMMETRIC + b"% 2 2 1\n", "NoSize 0|2|3"),
-    (MATRIX, SYMMETRIC + b"2 2\n", "BadSize 2"), (MATRIX, SYMMETRIC + b"2 2 -1\n", "BadSize 2"), (MATRIX, SYMMETRIC + b"2 3 0\n", "NotSquare 2"),
+    (MATRIX, SYMMETRIC + b"2 2\n", "BadSize 2"), (MATRIX, SYMMETRIC + b"2 2 -1\n", "BadSize 2"), (MATRIX, SYMMETRIC + b"2 2 %d" % 2**64, "BadSize|TooFewEntries 0|1|2"),
+    (MATRIX, SYMMETRIC.replace(b" ", b",\t") + b"1 1 0", "#1: "), (MATRIX, SYMMETRIC + b"2 3 0\n", "NotSquare 2"),
     (MATRIX, SYMMETRIC + b"0 0 0\n", "NoNodes 0|2"), (MATRIX, SYMMETRIC + b"65536 65536 1\n65536 1 1", "#65536: 65535 0"), (MATRIX, SYMMETRIC + b"65537 65537 0", "TooManyNodes 2"),
     (MATRIX, SYMMETRIC + b"2 2 1\n0 1 1", "BadIndex 3"), (MATRIX, SYMMETRIC + b"2 2 1\n3 1 1", "BadIndex 3"), (MATRIX, SYMMETRIC + b"2 2 1\n2 1\n", "NoValue 3"),
     (MATRIX + " --undirected", GENERAL + b"2 2 1\n2 1 1\n", "ValueInPattern 3"), (MATRIX, SYMMETRIC + b"2 2 0\n\n2 1 1\n", "TooManyEntries 4"),
@@ -88,7 +89,9 @@ GRAPHS = [
     ("dot", b"graph{a--b[weight=0.5]}", "Decimal 1"), ("dot", b"graph{\na--a}", "?loop 2"), ("dot", b"graph{a--b\nb--a}", "?double 2"),
     ("dot --drop-loops --merge-doubles most", b"graph{a--a--b--a[weight=7]b--a}", "a|b: 0 1 7; dropped 1; merged 2"),
     ("dot", b"", "?syntax 0|1"), ("dot", b"graph{a--}", "?syntax 1"), ("dot", b"graph{}\n{}", "?syntax 2"), ("dot", b"graph{a\n--node}", "?syntax 2"), ("dot", b"graph{a\0}", "?syntax 1"),
-    ("dot", b"\xef\xbb\xbfgraph{}", "?syntax 1"), ("dot", b"graph{\xff}", "unsaid"), ("dot", b'graph{"a\nb"}', "unsaid"), ("dot", b"graph{a;;}", "unsaid"), ("dot", b"graph{1a}", "unsaid"),
+    ("dot", b"\xef\xbb\xbfgraph{}", "?syntax 1"), ("dot", b"graph{\xff}", "NotUtf8 1"), ("dot", b'graph{"a\nb"}', "ControlCharacter 1|2"), ("dot", b"graph{a;;}", "?syntax 1"), ("dot", b"graph{1a}", "BadNumeral 1"),
+    ("dot", b'graph{\n""--""--""}', "BadName 2"), ("dot", b'graph{""\n"\n"}', "ControlCharacter 2|3"), ("dot", b"graph{a\n #\n}", "?syntax 2"), ("dot", b'graph{"a"+"b"}', "?syntax 1"), ("dot", b"graph{a\f}", "?syntax 1"), ("dot", b"graph{/*\xff*/a}", "a: "),
+    ("dot", b"graph{a--b[weight=x weight=2]}", "BadWeight 1"), ("dot", b"graph{a--b\nb--a\nc--c}", "?loop 3"), ("dot", b"graph{a[l=<\xff>]}", "NotUtf8 1"), ("dot", b"graph{{a}[x=1]}", "?syntax 1"),
     ("dot", b"graph{a//" + b"x" * 10_000_000 + b"\n}", "a: "), ("dot", b"graph{" + b" -- ".join(b"%d" % at for at in range(65_537)) + b"}", "TooManyNodes 1"),
     ("dot --numbers", b"graph{a}", "usage"), ("dot --header", b"graph{a}", "usage"),
 ]
