@@ -20,7 +20,10 @@ const GROUPS: [(&str, &[Known]); 2] = [
                 "make",
                 "Make a network of a shape (path, ring, grid, torus, tree and more), or by lot",
             ),
-            ("take", "Take in a network from a list of edges, with names"),
+            (
+                "take",
+                "Take in a network from a list of edges, a Matrix Market file or a graph of Graphviz",
+            ),
             (
                 "open",
                 "Give a network other opening values, by numbers, names, lot, or patterns of cells",
