@@ -1,25 +1,10 @@
 -- Words that are copied from columns to columns.
-use Rattle.std.proofs.Common.{◌≡◌, ◌<◌, ℕ, zero, suc, List, [], ◌∷◌, ◌++◌, length, map, All, refl, sym, ap, ◌∙◌, arith, subst, slice_index, slice_index_or, length-append}
+use Rattle.std.proofs.Common.{◌≡◌, ◌<◌, ℕ, List, length, map, All, sym, ap, ◌∙◌, arith, slice_index, slice_index_or}
 use Rattle.std.specs.Global.{Vec}
-use Rattle.std.proofs.Math.ListN.{get_or-append}
 use Rattle.std.proofs.lemmas.List.{same_lists, length-map, get_or-map}
 use Rattle.row_code.specs.Block.{scattered}
-use Rattle.block_rounds.specs.declared.batch.Batch.{Batch}
-use Rattle.block_rounds.specs.Batches.{nodes_of}
-use Rattle.block_rounds.specs.Rounds.{HaveWords}
-use Rattle.block_rounds.specs.Shares.{HasWords}
-use Rattle.block_rounds.proofs.Ranges.{all_back}
+use Rattle.block_rounds.specs.Rounds.{HaveWords, HasWords}
 use Rattle.block_rounds.proofs.Words.{scatter_kept, scatter_written, column_lane}
-
--- what holds of all holds of the first of them
-all_front : (P : ℕ → Type 0) (front back : List ℕ) → All P (front ++ back) → All P front
-all_front P front back all k d h = subst P (get_or-append front back d k h) (all k d (omega (arith, h, length-append front back)))
-
--- what holds of the nodes of all batches holds of those of each
-pub all_in : (P : ℕ → Type 0) (batches : List Batch) (i : ℕ) (batch : Batch) → i < length batches → batch ≡ slice_index_or batches i batch → All P (nodes_of batches) → All P batch.nodes.items
-all_in P [] i batch inside is all = absurd (omega (arith, inside))
-all_in P (b ∷ bs) zero batch inside is all = subst (λ (x : Batch). All P x.nodes.items) (sym is) (all_front P b.nodes.items (nodes_of bs) all)
-all_in P (b ∷ bs) (suc i) batch inside is all = all_in P bs i batch (omega (arith, inside)) is (all_back P b.nodes.items (nodes_of bs) (b.nodes.items ++ nodes_of bs) refl all)
 
 module _ (old new source : List (Vec ℕ)) (nodes : List ℕ) (none : Vec ℕ) (n : ℕ) (words : ℕ → ℕ → ℕ) (many : length new ≡ length old) (fields : length source ≡ length old) (long : HaveWords n old) (within : All (λ u. u < n) nodes)
     (exact : (k : ℕ) (d e : Vec ℕ) → k < length old → (slice_index_or new k d).items ≡ scattered nodes (map (slice_index (slice_index_or source k e).items) nodes) (slice_index_or old k d).items)

@@ -6,4 +6,10 @@ pub mod Words
 pub mod Steps
 pub mod States
 pub mod Copies
-pub mod Parting
+pub mod Resting
+pub mod Walks
+pub mod Sets
+pub mod Due
+pub mod Covers
+pub mod Homes
+pub mod Turns

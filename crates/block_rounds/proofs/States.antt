@@ -63,22 +63,6 @@ pub states_kept : (columns : List (Vec ℕ)) (states : List State) (fields u : �
 states_kept columns states fields u d many made inside long plain =
     sym (state_is (slice_index_or states u d).words columns u long (λ k _. word_made columns states fields u k d many made inside plain (cases_lt k fields)))
 
--- columns with the same words, one by one
-pub words_same : (left right : List (Vec ℕ)) → length left ≡ length right → ((j : ℕ) (d : Vec ℕ) → j < length left → (slice_index_or left j d).items ≡ (slice_index_or right j d).items) → column_words left ≡ column_words right
-words_same [] [] many same = refl
-words_same [] (y ∷ ys) many same = absurd (omega (arith, many))
-words_same (x ∷ xs) [] many same = absurd (omega (arith, many))
-words_same (x ∷ xs) (y ∷ ys) many same =
-    ap (λ (w : List ℕ). w ∷ column_words xs) (same 0 x (omega arith))
-    ∙ ap (λ (ws : List (List ℕ)). y.items ∷ ws) (words_same xs ys (omega (arith, many)) (λ j d h. same (suc j) d (omega (arith, h))))
-
--- and one of columns that have the same words
-pub same_at : (left right : List (Vec ℕ)) (k : ℕ) (d e : Vec ℕ) → k < length left → k < length right → column_words left ≡ column_words right → (slice_index_or left k d).items ≡ (slice_index_or right k e).items
-same_at left right k d e here there same =
-    sym (get_or-map (λ (column : Vec ℕ). column.items) left k d [] here)
-    ∙ ap (λ (ws : List (List ℕ)). slice_index_or ws k []) same
-    ∙ get_or-map (λ (column : Vec ℕ). column.items) right k e [] there
-
 word_past : (columns : List (Vec ℕ)) (u k : ℕ) → length columns ≤ k → ((k < 8) ⊎ (8 ≤ k)) → slice_index (state_at columns u).words k ≡ 0
 word_past columns u k past (inl h) =
     range_at (lane (column_words columns) u) 8 k 0 h ∙ no_column (column_words columns) u k (omega (arith, past, length-map columns (λ (column : Vec ℕ). column.items)))
@@ -93,3 +77,30 @@ plain_all columns n states are k d h =
     subst (IsPlain (length columns))
     (sym (ap (λ (xs : List State). slice_index_or xs k d) are ∙ get_or-map-range_with_len (state_at columns) 0 n k k d inside (zero-add k)))
     (λ j past. word_past columns k j past (cases_lt j 8))
+
+some_column : (columns : List (Vec ℕ)) (k : ℕ) → k < length columns → Vec ℕ
+some_column [] k inside = absurd (omega (arith, inside))
+some_column (x ∷ xs) k inside = x
+
+lane_same : (left right : List (Vec ℕ)) (u k : ℕ) → length left ≡ length right → ((j : ℕ) (d e : Vec ℕ) → j < length left → slice_index (slice_index_or left j d).items u ≡ slice_index (slice_index_or right j e).items u)
+    → ((k < length left) ⊎ (length left ≤ k)) → lane (column_words left) u k ≡ lane (column_words right) u k
+lane_same left right u k many same (inl h) =
+    let none = some_column left k h in
+    ap (λ (ws : List ℕ). slice_index ws u) (get_or-map (λ (column : Vec ℕ). column.items) left k none [] h)
+    ∙ same k none none h
+    ∙ sym (ap (λ (ws : List ℕ). slice_index ws u) (get_or-map (λ (column : Vec ℕ). column.items) right k none [] (omega (arith, h, many))))
+lane_same left right u k many same (inr h) =
+    no_column (column_words left) u k (omega (arith, h, length-map left (λ (column : Vec ℕ). column.items)))
+    ∙ sym (no_column (column_words right) u k (omega (arith, h, many, length-map right (λ (column : Vec ℕ). column.items))))
+
+-- columns with the same words for a node have the same state of it
+pub state_same : (left right : List (Vec ℕ)) (u : ℕ) → length left ≡ length right → ((j : ℕ) (d e : Vec ℕ) → j < length left → slice_index (slice_index_or left j d).items u ≡ slice_index (slice_index_or right j e).items u) → state_at left u ≡ state_at right u
+state_same left right u many same =
+    let first = lane (column_words left) u in
+    let second = lane (column_words right) u in
+    ap make_state (same_lists (map first (range_with_len 0 8)) (map second (range_with_len 0 8)) (length-map-range_with_len first 0 8 ∙ sym (length-map-range_with_len second 0 8))
+    (λ k d h.
+    let inside : k < 8 = omega (arith, h, length-map-range_with_len first 0 8) in
+    range_at first 8 k d inside
+    ∙ lane_same left right u k many same (cases_lt k (length left))
+    ∙ sym (range_at second 8 k d inside)))

@@ -1,4 +1,5 @@
 pub mod Rounds
 pub mod Batches
 pub mod Gathered
-pub mod Shares
+pub mod Nears
+pub mod Walks

@@ -32,3 +32,7 @@ IsNext rules network round from columns u =
 -- the words behind the fields are 0
 abbrev pub IsPlain : ℕ → State → Type 0
 IsPlain fields state = (k : ℕ) → fields ≤ k → slice_index state.words k ≡ 0
+
+-- the columns have these words for a node, field by field
+abbrev pub HasWords : (ℕ → ℕ → ℕ) → List (Vec ℕ) → ℕ → Type 0
+HasWords words columns u = (k : ℕ) → k < length columns → lane (column_words columns) u k ≡ words u k

@@ -21,6 +21,8 @@ pub struct Batch {
     pub nodes: Vec<u32>,
     pub degrees: Vec<u32>,
     pub slots: Vec<Slot>,
+    /// How many neighbours its nodes have together.
+    pub ends: u64,
 }
 
 /// How many of these nodes have a neighbour in the slot.
@@ -110,6 +112,15 @@ fn most_of(degrees: &[u32]) -> u32
     degrees[0]
 }
 
+/// The sum of these degrees.
+fn sum_of(degrees: &[u32]) -> u64 {
+    let mut sum: u64 = 0;
+    for degree in degrees {
+        sum = sum.saturating_add(*degree as u64);
+    }
+    sum
+}
+
 /// These nodes as a batch.
 pub fn batch_of(alloc: Global, network: &Network, nodes: &[u32]) -> Result<Batch, AllocError>
     requires few { length nodes.now ≤ 256 }
@@ -125,9 +136,11 @@ pub fn batch_of(alloc: Global, network: &Network, nodes: &[u32]) -> Result<Batch
         slots.push(slot_of(alloc, network, nodes, &degrees, slot)?)?;
     }
     let nodes = nodes.to_vec(alloc)?;
+    let ends = sum_of(&degrees);
     Ok(Batch {
         nodes,
         degrees,
         slots,
+        ends,
     })
 }

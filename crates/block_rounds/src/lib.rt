@@ -1,16 +1,22 @@
-//! Rounds of a program over all nodes of a network, a block of nodes at a time.
+//! Rounds of a program over all nodes of a network, a block of nodes at a time, and only of blocks in which something may move.
 #![tactic(auto)]
 
+mod activity;
 mod batch;
 mod columns;
+mod laws;
 mod layout;
 mod merge;
+mod near;
 mod nodes;
 mod order;
 mod round;
 mod share;
-mod team;
+mod sharing;
+mod task;
+mod walk;
 
-pub use columns::{columns_of, same_columns, states_of};
+pub use laws::rests_where_nothing_moved;
 pub use layout::Layout;
-pub use team::Team;
+pub use sharing::Costs;
+pub use walk::Walk;

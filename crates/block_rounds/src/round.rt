@@ -3,11 +3,15 @@ ghost use Rattle.std.specs.Prelude.{◌≡◌, ◌<◌, ◌≤◌, ℕ, All, Non
 ghost use Rattle.rule_check.specs.WellFormed.{first_fault};
 ghost use Rattle.link_net.specs.Neighbours.{IsNetwork};
 ghost use Rattle.row_code.specs.Block.{Lane};
-ghost use Rattle.block_rounds.specs.Batches.{IsBatch, nodes_of};
+ghost use Rattle.block_rounds.specs.declared.batch.Batch.{Batch};
+ghost use Rattle.block_rounds.specs.Batches.{IsBatch};
+ghost use Rattle.block_rounds.specs.Nears.{IsDue};
 ghost use Rattle.block_rounds.specs.Rounds.{HaveWords, IsNext};
+ghost use Rattle.block_rounds.specs.Walks.{IsTask, HasNext, HoldsOfDue};
 ghost use Rattle.block_rounds.specs.Gathered.{gathered};
 
 use crate::batch::Batch;
+use crate::task::Task;
 use link_net::Network;
 use row_code::Block;
 
@@ -54,28 +58,48 @@ fn step(
     block.finish(&batch.nodes, to);
 }
 
-/// Writes the next states of all nodes of these batches.
-pub fn step_all(
-    network: &Network,
-    batches: &[Batch],
+/// Writes the next states of a batch's nodes, where it has to be computed.
+fn step_where(task: &Task<'_>, at: usize, block: &mut Block<'_>, to: &mut [Vec<u32>])
+    requires task { IsTask block.old.rules task.now }
+    requires there { at < length task.now.batches.now }
+    requires next_fields { length to.old ≡ length block.old.rules.fields }
+    requires next_nodes { HaveWords (length task.now.network.now) to.old }
+    ensures rules { block.new.rules ≡ block.old.rules }
+    ensures nodes { HaveWords (length task.now.network.now) to.new }
+    ensures done { (d : Batch) → IsDue task.now.due.now at → All (HasNext block.old.rules task.now to.new) (slice_index_or task.now.batches.now at d).nodes.items }
+    ensures kept { (u : ℕ) → HasNext block.old.rules task.now to.old u → HasNext block.old.rules task.now to.new u }
+{
+    if task.due[at] {
+        step(
+            task.network,
+            &task.batches[at],
+            block,
+            task.round,
+            task.from,
+            to,
+        );
+    }
+}
+
+/// Writes the next states of the nodes of those batches that have to be computed, from the first one on to the one
+/// behind the last.
+pub fn step_due(
+    task: &Task<'_>,
+    first: usize,
+    behind: usize,
     block: &mut Block<'_>,
-    round: u32,
-    from: &[Vec<u32>],
     to: &mut [Vec<u32>],
 )
-    requires batches { All (IsBatch network.now) batches.now }
-    requires sound { first_fault block.old.rules ≡ None }
-    requires fields { length from.now ≡ length block.old.rules.fields }
+    requires task { IsTask block.old.rules task.now }
+    requires inside { behind ≤ length task.now.batches.now }
     requires next_fields { length to.old ≡ length block.old.rules.fields }
-    requires nodes { HaveWords (length network.now) from.now }
-    requires next_nodes { HaveWords (length network.now) to.old }
+    requires next_nodes { HaveWords (length task.now.network.now) to.old }
     ensures rules { block.new.rules ≡ block.old.rules }
-    ensures nodes { HaveWords (length network.now) to.new }
-    ensures done { All (IsNext block.old.rules network.now round from.now to.new) (nodes_of batches.now) }
+    ensures nodes { HaveWords (length task.now.network.now) to.new }
+    ensures done { HoldsOfDue (HasNext block.old.rules task.now to.new) task.now first behind }
+    ensures kept { (u : ℕ) → HasNext block.old.rules task.now to.old u → HasNext block.old.rules task.now to.new u }
 {
-    // For the proof: what holds of every network.
-    let _nodes = network.nodes();
-    for batch in batches {
-        step(network, batch, block, round, from, to);
+    for at in first..behind {
+        step_where(task, at, block, to);
     }
 }

@@ -1,40 +1,35 @@
-//! Shares of a round.
-ghost use Rattle.std.specs.Prelude.{◌≡◌, ◌<◌, ◌≤◌, ℕ, All, IfOk, None, length};
-ghost use Rattle.rule_check.specs.WellFormed.{first_fault};
-ghost use Rattle.block_rounds.specs.Batches.{nodes_of};
-ghost use Rattle.block_rounds.specs.Rounds.{HaveWords};
-ghost use Rattle.block_rounds.specs.Shares.{IsShare, IsDone};
+//! A thread's share of each round.
+ghost use Rattle.std.specs.Prelude.{◌≡◌, length};
+ghost use Rattle.block_rounds.specs.Walks.{IsTask, IsShare, HasNext, HoldsOfDue};
 
-use crate::batch::Batch;
-use crate::round::step_all;
-use link_net::Network;
+use crate::round::step_due;
+use crate::task::Task;
 use row_code::Block;
 
-/// A thread's share of each round: some batches, what computes their nodes' next states, and the columns that these
-/// are written to.
+/// A thread's share of each round: the batches from the first one on to the one behind the last, what computes their
+/// nodes' next states, and the columns that these are written to.
 #[derive(Drop)]
 pub struct Share<'a> {
-    pub batches: &'a [Batch],
+    pub first: usize,
+    pub behind: usize,
     pub block: Block<'a>,
     pub columns: Vec<Vec<u32>>,
 }
 
-/// Computes the next states of a share's nodes.
-pub fn work(network: &Network, share: &mut Share<'_>, round: u32, from: &[Vec<u32>])
-    requires share { IsShare network.now share.old.block.rules share.old }
-    requires sound { first_fault share.old.block.rules ≡ None }
-    requires fields { length from.now ≡ length share.old.block.rules.fields }
-    requires nodes { HaveWords (length network.now) from.now }
-    ensures share { IsShare network.now share.old.block.rules share.new }
-    ensures batches { nodes_of share.new.batches.now ≡ nodes_of share.old.batches.now }
-    ensures done { IsDone share.old.block.rules network.now round from.now share.new }
+/// Computes the next states of the nodes of a share's batches, as far as these have to be computed.
+pub fn work(task: &Task<'_>, share: &mut Share<'_>)
+    requires task { IsTask share.old.block.rules task.now }
+    requires share { IsShare share.old.block.rules (length task.now.network.now) (length task.now.batches.now) share.old }
+    ensures share { IsShare share.old.block.rules (length task.now.network.now) (length task.now.batches.now) share.new }
+    ensures first { share.new.first ≡ share.old.first }
+    ensures behind { share.new.behind ≡ share.old.behind }
+    ensures done { HoldsOfDue (HasNext share.old.block.rules task.now share.new.columns.items) task.now share.new.first share.new.behind }
 {
-    step_all(
-        network,
-        share.batches,
+    step_due(
+        task,
+        share.first,
+        share.behind,
         &mut share.block,
-        round,
-        from,
         &mut share.columns,
     );
 }

@@ -5,17 +5,11 @@ use Rattle.std.proofs.lemmas.List.FromFn.{get_or-map-range_with_len, length-map-
 use Rattle.rule_check.specs.declared.state.State.{State}
 use Rattle.rule_check.specs.Value.{next_state}
 use Rattle.link_net.specs.Neighbours.{row, neighbour, IsNetwork}
-use Rattle.block_rounds.specs.Rounds.{near_at, nears_in, round_from}
+use Rattle.block_rounds.specs.Rounds.{nears_in, round_from}
+use Rattle.block_rounds.proofs.Resting.{near_same}
 use Rattle.lockstep.specs.Configs.{blank}
 use Rattle.lockstep.specs.Plans.{PlanView}
 use Rattle.lockstep.specs.Lockstep.{state_in, lockstep, lockstep_states, lockstep-start}
-
--- equal states at all neighbours give equal neighbours
-near_same : (f g : ℕ → State) (row : List (ℕ × ℕ)) → ((j : ℕ) → j < length row → f (get_or row j (0, 0)).0 ≡ g (get_or row j (0, 0)).0) → map (near_at f) row ≡ map (near_at g) row
-near_same f g [] same = refl
-near_same f g (a ∷ row) same =
-    ap (λ s. record { id = a.0; weight = a.1; state = s } ∷ map (near_at f) row) (same 0 (omega arith))
-    ∙ ap (λ ns. near_at g a ∷ ns) (near_same f g row (λ j h. same (suc j) (omega arith)))
 
 -- a round depends on the states of nodes alone
 pub round_agrees : (p : PlanView) (t : ℕ) (f g : ℕ → State) (u : ℕ) → IsNetwork p.network → ((w : ℕ) → w < length p.network → f w ≡ g w) → u < length p.network → round_from p.program p.network t f u ≡ round_from p.program p.network t g u

@@ -1,6 +1,5 @@
 -- A round that changes nothing is the last one that changes anything.
 use Rattle.std.proofs.Common.{◌≡◌, ℕ, zero, suc, ◌+◌, ◌-◌, ◌<◌, ◌≤◌, false, List, length, map, sym, subst, ap, ◌∙◌, arith, refl, zero-add}
-use Rattle.std.specs.Global.{Vec}
 use Rattle.std.specs.List.{range_with_len}
 use Rattle.std.proofs.lemmas.List.{ext_get_or}
 use Rattle.std.proofs.lemmas.List.FromFn.{get_or-map-range_with_len, length-map-range_with_len}
@@ -8,14 +7,14 @@ use Rattle.rule_check.specs.declared.state.State.{State}
 use Rattle.rule_check.specs.Rounds.{reads_round}
 use Rattle.rule_check.proofs.AnyRound.{next_state-any_round}
 use Rattle.link_net.specs.Neighbours.{IsNetwork}
-use Rattle.row_code.specs.Steps.{lane}
-use Rattle.row_code.specs.Block.{column_words, state_at}
-use Rattle.block_rounds.specs.Rounds.{nears_in, round_from}
-use Rattle.lockstep.specs.Columns.{HaveRound}
+use Rattle.block_rounds.specs.Rounds.{nears_in}
+use Rattle.block_rounds.specs.Walks.{Walked, state_by}
+use Rattle.block_rounds.proofs.Resting.{rests}
 use Rattle.lockstep.specs.Configs.{blank}
 use Rattle.lockstep.specs.Lockstep.{lockstep, lockstep_states, lockstep-more}
 use Rattle.lockstep.specs.Plans.{PlanView}
-use Rattle.lockstep.specs.Stays.{StaysAsItIs}
+use Rattle.lockstep.specs.Stays.{StaysAsItIs, RestsWhereNothingMoved}
+use Rattle.lockstep.specs.Walking.{HasRound}
 use Rattle.lockstep.proofs.Nears.{round_agrees, states_at}
 
 module _ (p : PlanView) (t : ℕ) (network : IsNetwork p.network) (unread : reads_round p.program ≡ false) (late : p.start ≤ t) (still : (u : ℕ) → u < length p.network → lockstep p (t + 1) u ≡ lockstep p t u) where
@@ -51,21 +50,24 @@ stays_as_it_is p t later network unread late same after =
     ∙ stays_at p t network unread late still later u after inside
     ∙ sym (get_or-map-range_with_len (lockstep p t) 0 n u u blank inside (zero-add u)))
 
-abbrev state_by : List (List ℕ) → ℕ → State
-state_by words u = record { words = map (lane words u) (range_with_len 0 8) }
+-- a round that changes nothing has the states of all later rounds
+pub held_still : (p : PlanView) (t later : ℕ) (old new : Walked) → IsNetwork p.network → reads_round p.program ≡ false → p.start ≤ t → t ≤ later → HasRound p t old → HasRound p (t + 1) new
+    → ((u : ℕ) → u < length old.network → state_by new.words u ≡ state_by old.words u) → HasRound p later new
+held_still p t later old new network unread late after held next rests =
+    let same = λ (u : ℕ) (inside : u < length p.network).
+    let low : u < length old.network = omega (arith, inside, ap length held.network) in
+    rests u low ∙ held.states u inside in
+    record {
+      rules = next.rules;
+      network = next.network;
+      states = λ u inside. same u inside ∙ sym (stays_at p t network unread late (λ w h. sym (next.states w h) ∙ same w h) later u after inside);
+    }
 
--- columns that a round leaves as they are have the states of all later rounds
-pub held_still : (p : PlanView) (t later : ℕ) (from to : List (Vec ℕ)) → IsNetwork p.network → reads_round p.program ≡ false → p.start ≤ t → t ≤ later → HaveRound p t from
-    → ((u : ℕ) → u < length p.network → state_at to u ≡ round_from p.program p.network t (state_at from) u) → column_words from ≡ column_words to → HaveRound p later from
-held_still p t later from to network unread late after held next same = record {
-  whole = held.whole;
-  states = λ u inside.
-      held.states u inside
-      ∙ sym (stays_at p t network unread late
-      (λ w h. lockstep-more p t w late
-      ∙ sym (round_agrees p t (state_at from) (lockstep p t) w network held.states h)
-      ∙ sym (next w h)
-      ∙ ap (λ words. state_by words w) (sym same)
-      ∙ held.states w h)
-      later u after inside);
-}
+-- a node does not change where neither it nor a neighbour of it changed in the last round
+pub rests_where_nothing_moved : RestsWhereNothingMoved
+rests_where_nothing_moved p t u unread late same nears =
+    let e : t + 2 ≡ t + 1 + 1 = omega arith in
+    let after : p.start ≤ t + 1 = omega (arith, late) in
+    ap (λ r. lockstep p r u) e
+    ∙ lockstep-more p (t + 1) u after
+    ∙ rests p.program p.network t (t + 1) (lockstep p t) (lockstep p (t + 1)) u unread (lockstep-more p t u late) same nears

@@ -7,7 +7,7 @@ pub mod Lockstep
 pub mod Resume
 pub mod Answer
 pub mod Opening
-pub mod Columns
+pub mod Walking
 pub mod Stays
 pub mod Lines
 pub mod Digits

@@ -1,8 +1,8 @@
 -- Where a round changes nothing.
-use Rattle.std.specs.Prelude.{ℕ, ◌≡◌, ◌≤◌, ◌+◌, false, length}
+use Rattle.std.specs.Prelude.{ℕ, ◌≡◌, ◌<◌, ◌≤◌, ◌+◌, false, length}
 use Rattle.rule_check.specs.Rounds.{reads_round}
-use Rattle.link_net.specs.Neighbours.{IsNetwork}
-use Rattle.lockstep.specs.Lockstep.{lockstep_states}
+use Rattle.link_net.specs.Neighbours.{IsNetwork, degree, neighbour}
+use Rattle.lockstep.specs.Lockstep.{lockstep, lockstep_states}
 use Rattle.lockstep.specs.Plans.{PlanView}
 
 -- Where the program does not read the number of the round, and the states after round t + 1 are those after round t, they are those after every later round.
@@ -10,3 +10,10 @@ abbrev pub StaysAsItIs : Type 0
 StaysAsItIs = (p : PlanView) (t later : ℕ) → IsNetwork p.network → reads_round p.program ≡ false → p.start ≤ t
     → lockstep_states p (t + 1) (length p.network) ≡ lockstep_states p t (length p.network)
     → t ≤ later → lockstep_states p later (length p.network) ≡ lockstep_states p t (length p.network)
+
+-- Where the program does not read the number of the round, and neither a node nor a neighbour of it changed in the step from round t, the node does not change in the next step.
+abbrev pub RestsWhereNothingMoved : Type 0
+RestsWhereNothingMoved = (p : PlanView) (t u : ℕ) → reads_round p.program ≡ false → p.start ≤ t
+    → lockstep p (t + 1) u ≡ lockstep p t u
+    → ((j : ℕ) → j < degree p.network u → lockstep p (t + 1) (neighbour p.network u j) ≡ lockstep p t (neighbour p.network u j))
+    → lockstep p (t + 2) u ≡ lockstep p (t + 1) u

@@ -1,7 +1,13 @@
 //! Laws of lockstep rounds.
-ghost use Rattle.lockstep.specs.Stays.{StaysAsItIs};
+ghost use Rattle.lockstep.specs.Stays.{StaysAsItIs, RestsWhereNothingMoved};
 
 /// Where a plan's program doesn't read the number of the round, and a round changes no state, no later round does.
 pub fn stays_as_it_is()
     ensures still { StaysAsItIs }
+{}
+
+/// Where a plan's program doesn't read the number of the round, and neither a node nor a neighbour of it changed in a
+/// round, the node doesn't change in the next one.
+pub fn rests_where_nothing_moved()
+    ensures rests { RestsWhereNothingMoved }
 {}

@@ -18,7 +18,7 @@ mod tally;
 pub use config::Config;
 pub use difference::{Difference, compare};
 pub use fault::{PlanFault, ReportFault, ResumeFault, RoundFault};
-pub use laws::stays_as_it_is;
+pub use laws::{rests_where_nothing_moved, stays_as_it_is};
 pub use number::{behind, read_number};
 pub use parallel::lockstep_par;
 pub use plan::Plan;

@@ -1,53 +1,49 @@
 //! Lockstep rounds.
-ghost use Rattle.std.specs.Prelude.{◌≡◌, ◌<◌, ◌≤◌, ℕ, IfOk, IfErr, MatchResult, Err, length};
-ghost use Rattle.row_code.specs.Block.{state_at};
+ghost use Rattle.std.specs.Prelude.{◌≡◌, ◌<◌, ◌≤◌, ℕ, IfOk, IfErr, MatchResult, Err, false, length};
+ghost use Rattle.rule_check.specs.Rounds.{reads_round};
 ghost use Rattle.block_rounds.specs.Rounds.{round_from};
+ghost use Rattle.block_rounds.specs.Walks.{state_by};
 ghost use Rattle.lockstep.specs.Answer.{IsAnswer};
-ghost use Rattle.lockstep.specs.Columns.{AreColumns, HaveRound};
 ghost use Rattle.lockstep.specs.Configs.{most_rounds};
 ghost use Rattle.lockstep.specs.Lockstep.{rounds_of, lockstep_config};
-ghost use Rattle.lockstep.specs.Plans.{PlanView};
+ghost use Rattle.lockstep.specs.Walking.{HasRound};
 
 use crate::config::Config;
 use crate::fault::RoundFault;
 use crate::plan::Plan;
-use block_rounds::{Layout, columns_of, same_columns, states_of};
-use row_code::{Block, RowCode};
+use block_rounds::{Layout, Walk};
+use row_code::RowCode;
 use std::alloc::{AllocError, Global};
-use std::mem;
 
 /// The greatest round that a plan starts from, that is computed and that a report has: 1,000,000,000, counted from
 /// round 0.
 pub const MOST_ROUNDS: u32 = 1_000_000_000;
 
-/// A way to make a round of some plans.
+/// A way to move the states of all nodes one round on.
 pub(crate) trait Step {
-    ghost serves: { Self → PlanView → Type 0 };
+    ghost serves: { Self → Type 0 };
 
-    /// Writes the states of all nodes one round after those in `from` into `to`, by columns.
-    fn step(&mut self, plan: &Plan, round: u32, from: &[Vec<u32>], to: &mut [Vec<u32>])
-        requires way { serves self.old plan.now }
-        requires from { AreColumns plan.now from.now }
-        requires to { AreColumns plan.now to.old }
-        ensures way { serves self.new plan.now }
-        ensures to { AreColumns plan.now to.new }
-        ensures next { (u : ℕ) → u < length plan.now.network → state_at to.new u ≡ round_from plan.now.program plan.now.network round (state_at from.now) u };
+    /// Moves them on, in the step from a round. Where the answer is false, the program doesn't read the number of the
+    /// round, and no state changed.
+    fn step(&mut self, walk: &mut Walk<'_>, round: u32) -> bool
+        requires way { serves self.old }
+        ensures way { serves self.new }
+        ensures rules { walk.new.rules ≡ walk.old.rules }
+        ensures network { walk.new.network ≡ walk.old.network }
+        ensures next { (u : ℕ) → u < length walk.old.network → state_by walk.new.words u ≡ round_from walk.old.rules walk.old.network round (state_by walk.old.words) u }
+        ensures rests { result ≡ false → (u : ℕ) → u < length walk.old.network → state_by walk.new.words u ≡ state_by walk.old.words u }
+        ensures unread { result ≡ false → reads_round walk.old.rules ≡ false };
 }
 
-/// All batches in turn.
+/// In one piece.
 #[derive(Drop)]
-struct InTurn<'a> {
-    layout: &'a Layout<'a>,
-    block: Block<'a>,
-}
+struct InTurn;
 
-impl Step for InTurn<'_> {
-    ghost serves = { λ way p. (way.block.rules ≡ p.program) × (way.layout.now ≡ p.network) };
+impl Step for InTurn {
+    ghost serves = { λ way. Unit {0} };
 
-    fn step(&mut self, plan: &Plan, round: u32, from: &[Vec<u32>], to: &mut [Vec<u32>]) {
-        // For the proof: a plan's program has no fault.
-        let _fields = plan.program().field_count();
-        self.layout.round(&mut self.block, round, from, to);
+    fn step(&mut self, walk: &mut Walk<'_>, round: u32) -> bool {
+        walk.round(round)
     }
 }
 
@@ -64,32 +60,21 @@ pub(crate) fn check_round(plan: &Plan, rounds: u32) -> Result<(), RoundFault>
     Ok(())
 }
 
-/// The states after a round by columns, each round from the plan's start on made in this way. Where the program
-/// doesn't read the number of the round, a round that changes nothing is the last one made.
-fn columns_after<S: Step>(
-    way: &mut S,
-    alloc: Global,
-    plan: &Plan,
-    rounds: u32,
-) -> Result<Vec<Vec<u32>>, AllocError>
-    requires way { S.serves way.old plan.now }
+/// Moves the states from the plan's start to those of a round, each round made in this way. Where the program doesn't
+/// read the number of the round, a round that changes nothing is the last one made.
+fn walk_to<S: Step>(way: &mut S, plan: &Plan, walk: &mut Walk<'_>, rounds: u32)
+    requires way { S.serves way.old }
     requires late { plan.now.start ≤ rounds }
-    ensures round { IfOk result (λ columns. HaveRound plan.now rounds columns.items) }
+    requires start { HasRound plan.now plan.now.start walk.old }
+    ensures round { HasRound plan.now rounds walk.new }
 {
     // For the proof: what holds of every plan.
     let _phase = plan.phase();
-    let fields = plan.program().field_count() as usize;
-    let settles = !plan.program().uses_round();
-    let mut from = columns_of(alloc, fields, plan.openings())?;
-    let mut to = columns_of(alloc, fields, plan.openings())?;
     for round in plan.start()..rounds {
-        way.step(plan, round, &from, &mut to);
-        if settles && same_columns(&from, &to) {
-            return Ok(from);
+        if !way.step(walk, round) {
+            return;
         }
-        mem::swap(&mut from, &mut to);
     }
-    Ok(from)
 }
 
 /// The configuration of a round, each round from the plan's start on made in this way.
@@ -97,18 +82,35 @@ pub(crate) fn rounds_by<S: Step>(
     way: &mut S,
     alloc: Global,
     plan: &Plan,
+    walk: &mut Walk<'_>,
     rounds: u32,
 ) -> Result<Config, AllocError>
-    requires way { S.serves way.old plan.now }
+    requires way { S.serves way.old }
     requires late { plan.now.start ≤ rounds }
     requires few { rounds ≤ most_rounds }
+    requires start { HasRound plan.now plan.now.start walk.old }
     ensures config { IfOk result (λ config. config ≡ lockstep_config plan.now rounds) }
+{
+    walk_to(way, plan, walk, rounds);
+    let states = walk.states(alloc)?;
+    Ok(Config::of(plan, rounds, states))
+}
+
+/// The states of the plan's start, with the code of its program and the layout of its network.
+pub(crate) fn walk_of<'a>(
+    alloc: Global,
+    plan: &Plan,
+    code: &'a RowCode<'a>,
+    layout: &'a Layout<'a>,
+) -> Result<Walk<'a>, AllocError>
+    requires code { code.now ≡ plan.now.program }
+    requires layout { layout.now ≡ plan.now.network }
+    ensures start { IfOk result (HasRound plan.now plan.now.start) }
 {
     // For the proof: what holds of every plan.
     let _phase = plan.phase();
-    let columns = columns_after(way, alloc, plan, rounds)?;
-    let states = states_of(alloc, plan.network().nodes() as usize, &columns)?;
-    Ok(Config::of(plan, rounds, states))
+    let walk = Walk::new(alloc, plan.program(), code, layout, plan.openings())?;
+    Ok(walk)
 }
 
 /// The configuration of the plan's start.
@@ -137,10 +139,12 @@ pub fn lockstep(alloc: Global, plan: &Plan, rounds: u32) -> Result<Config, Round
     }
     let code = RowCode::new(alloc, plan.program())?;
     let layout = Layout::new(alloc, plan.network())?;
-    let block = Block::new(alloc, &code)?;
-    let mut way = InTurn {
-        layout: &layout,
-        block,
-    };
-    Ok(rounds_by(&mut way, alloc, plan, rounds)?)
+    let mut walk = walk_of(alloc, plan, &code, &layout)?;
+    Ok(rounds_by(
+        &mut InTurn,
+        alloc,
+        plan,
+        &mut walk,
+        rounds,
+    )?)
 }

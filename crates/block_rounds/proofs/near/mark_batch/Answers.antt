@@ -1,0 +1,19 @@
+use Rattle.std.proofs.Common.{◌≡◌, ◌<◌, ◌∙◌, ℕ, All, ap, sym, subst, arith, length, slice_index_or}
+use Rattle.block_rounds.specs.Batches.{IsSlot}
+use Rattle.block_rounds.proofs.Slots.{slot_within}
+use Rattle.block_rounds.proofs.near.mark_batch.Goals as goal
+
+pub mark_homes-requires-in-loop-slot-clause-within :
+    goal.mark_homes-requires-in-loop-slot-clause-within
+mark_homes-requires-in-loop-slot-clause-within c =
+    let batch = c.args.batch.now in
+    let network = c.args.network.now in
+    let j = c.loop-slot.slot-index in
+    let slot = c.slot-item.result in
+    let are = c.deref-slot-items.ensures.value in
+    let here : j < length batch.slots.items = omega (arith, c.loop-slot-test.true, ap length are) in
+    let same : slice_index_or batch.slots.items j slot ≡ slot = ap (λ xs. slice_index_or xs j slot) (sym are) ∙ sym c.slot-item.is in
+    let is : IsSlot network batch.nodes.items j slot = subst (IsSlot network batch.nodes.items j) same (c.requires.batch.slots j slot here) in
+    let within = slot_within network batch.nodes.items j slot c.requires.network is in
+    subst (All (λ w. w < length c.args.homes.now)) (sym c.deref-in-loop-slot.ensures.value)
+    (subst (λ (n : ℕ). All (λ w. w < n) slot.neighbours.items) (sym c.requires.count) within)

@@ -1,0 +1,23 @@
+use Rattle.std.proofs.Common.{◌∙◌, ℕ, List, All, subst, sym, slice_index_or}
+use Rattle.rule_check.specs.Value.{Rules}
+use Rattle.block_rounds.specs.declared.batch.Batch.{Batch}
+use Rattle.block_rounds.specs.Nears.{IsDue}
+use Rattle.block_rounds.specs.Walks.{HasNext}
+use Rattle.block_rounds.proofs.Due.{due_more, due_fewer}
+use Rattle.block_rounds.proofs.round.step_due.Goals as goal
+
+pub loop-at-preserved : goal.loop-at-preserved
+loop-at-preserved c =
+    let a = c.args in
+    let l = c.loop-at in
+    let task = a.task.now in
+    let rules = a.block.now.rules in
+    let new = c.step_where.new.to in
+    let kept = subst (λ (r : Rules). (u : ℕ) → HasNext r task l.to u → HasNext r task new u) l.invariant.rules c.step_where.ensures.kept in
+    let done = subst (λ (r : Rules). (d : Batch) → IsDue task.due.now l.at → All (HasNext r task new) (slice_index_or task.batches.now l.at d).nodes.items) l.invariant.rules c.step_where.ensures.done in
+    record {
+      rules = c.step_where.ensures.rules ∙ l.invariant.rules;
+      nodes = c.step_where.ensures.nodes;
+      done = due_more (HasNext rules task l.to) (HasNext rules task new) task a.first l.at kept l.invariant.done done;
+      kept = λ u here. kept u (l.invariant.kept u here);
+    }

@@ -1,0 +1,105 @@
+-- Rounds in which only some batches are computed.
+use Rattle.std.specs.Prelude.{ℕ, ◌≡◌, ◌<◌, ◌≤◌, List, length, map, All, None, Bool, true, false, slice_index_or}
+use Rattle.std.specs.Global.{Vec}
+use Rattle.std.specs.List.{range_with_len}
+use Rattle.rule_check.specs.declared.state.State.{State}
+use Rattle.rule_check.specs.Value.{Rules}
+use Rattle.rule_check.specs.Rounds.{reads_round}
+use Rattle.rule_check.specs.WellFormed.{first_fault}
+use Rattle.link_net.specs.Neighbours.{Neighbours, IsNetwork, degree, neighbour}
+use Rattle.row_code.specs.Steps.{lane}
+use Rattle.row_code.specs.Block.{state_at}
+use Rattle.block_rounds.specs.declared.batch.Batch.{Batch}
+use Rattle.block_rounds.specs.declared.task.Task.{Task}
+use Rattle.block_rounds.specs.declared.share.Share.{Share}
+use Rattle.block_rounds.specs.declared.activity.Activity.{Activity}
+use Rattle.block_rounds.specs.Batches.{IsBatch, IsLayout}
+use Rattle.block_rounds.specs.Nears.{HaveNear, IsDue, Sleeps}
+use Rattle.block_rounds.specs.Rounds.{HaveWords, IsNext, round_from}
+
+-- a program on a network, and the words of all nodes by fields
+pub record Walked : Type 0 where
+  pub rules : Rules
+  pub network : Neighbours
+  pub words : List (List ℕ)
+
+-- the state of a node by the words of all nodes
+abbrev pub state_by : List (List ℕ) → ℕ → State
+state_by words u = record { words = map (lane words u) (range_with_len 0 8) }
+
+-- Where a program does not read the number of the round, and neither a node nor a neighbour changed in the last round, the node's next state is its state.
+abbrev pub RestsWhereNothingMoved : Type 0
+RestsWhereNothingMoved = (rules : Rules) (network : Neighbours) (round later : ℕ) (before after : ℕ → State) (u : ℕ) → reads_round rules ≡ false
+    → after u ≡ round_from rules network round before u → after u ≡ before u
+    → ((j : ℕ) → j < degree network u → after (neighbour network u j) ≡ before (neighbour network u j))
+    → round_from rules network later after u ≡ after u
+
+-- both have the same state of the node
+abbrev pub IsAsBefore : List (Vec ℕ) → List (Vec ℕ) → ℕ → Type 0
+IsAsBefore from to u = state_at to u ≡ state_at from u
+
+-- what a round is made of, for a program with these rules
+pub record IsTask (rules : Rules) (task : Task) : Type 0 where
+  pub network : IsNetwork task.network.now
+  pub each : All (IsBatch task.network.now) task.batches.now
+  pub flags : length task.due.now ≡ length task.batches.now
+  pub sound : first_fault rules ≡ None
+  pub fields : length task.from.now ≡ length rules.fields
+  pub nodes : HaveWords (length task.network.now) task.from.now
+
+-- the columns have the next words of a node
+abbrev pub HasNext : Rules → Task → List (Vec ℕ) → ℕ → Type 0
+HasNext rules task to u = IsNext rules task.network.now task.round task.from.now to u
+
+-- it holds of the nodes of each marked batch, from the first one on to the one behind the last
+abbrev pub HoldsOfDue : (ℕ → Type 0) → Task → ℕ → ℕ → Type 0
+HoldsOfDue P task first behind = (i : ℕ) (d : Batch) → first ≤ i → i < behind → IsDue task.due.now i → All P (slice_index_or task.batches.now i d).nodes.items
+
+-- a thread's part of each round: the batches from the first one on to the one behind the last, what computes a program's rules, and a column for each field
+pub record IsShare (rules : Rules) (nodes batches : ℕ) (share : Share) : Type 0 where
+  pub inside : share.behind ≤ batches
+  pub computes : share.block.rules ≡ rules
+  pub wide : length share.columns.items ≡ length rules.fields
+  pub long : HaveWords nodes share.columns.items
+
+-- the batch is in the share of this number
+pub record IsShared (shares : List Share) (i s : ℕ) : Type 0 where
+  pub there : s < length shares
+  pub from_first : (d : Share) → (slice_index_or shares s d).first ≤ i
+  pub before_end : (d : Share) → i < (slice_index_or shares s d).behind
+
+-- shares in which each batch is
+pub record AreShares (rules : Rules) (nodes batches : ℕ) (shares : List Share) : Type 0 where
+  pub each : All (IsShare rules nodes batches) shares
+  pub covered : 0 < length shares → (i : ℕ) → i < batches → (s : ℕ) × IsShared shares i s
+
+-- a node that the next round leaves as it is, and whose next words stand there already
+pub record Rests (rules : Rules) (network : Neighbours) (from to : List (Vec ℕ)) (u : ℕ) : Type 0 where
+  pub same : IsAsBefore from to u
+  pub next : (round : ℕ) → state_at to u ≡ round_from rules network round (state_at from) u
+
+-- the nodes of batches that are not marked rest
+abbrev pub SleepersRest : Rules → Neighbours → List Batch → List Bool → List (Vec ℕ) → List (Vec ℕ) → Type 0
+SleepersRest rules network batches due from to = (i : ℕ) (d : Batch) → i < length batches → Sleeps due i → All (Rests rules network from to) (slice_index_or batches i d).nodes.items
+
+-- which batches have to be computed: where the program reads the number of the round, all of them
+pub record IsActivity (network : Neighbours) (batches : List Batch) (activity : Activity) : Type 0 where
+  pub near : HaveNear network batches activity.nears.now
+  pub flags : length activity.due.items ≡ length batches
+  pub changes : length activity.changed.items ≡ length batches
+  pub all : activity.settles ≡ false → (i : ℕ) → i < length batches → IsDue activity.due.items i
+
+-- a program's states on the batches of a network, and how far each round has to look
+pub record IsWalk (rules : Rules) (network : Neighbours) (batches : List Batch) (activity : Activity) (shares : List Share) (from to : List (Vec ℕ)) : Type 0 where
+  pub whole : IsNetwork network
+  pub layout : IsLayout network batches
+  pub sound : first_fault rules ≡ None
+  pub few : length rules.fields ≤ 8
+  pub shared : AreShares rules (length network) (length batches) shares
+  pub active : IsActivity network batches activity
+  pub unread : activity.settles ≡ true → reads_round rules ≡ false
+  pub wide : length from ≡ length rules.fields
+  pub long : HaveWords (length network) from
+  pub next_wide : length to ≡ length rules.fields
+  pub next_long : HaveWords (length network) to
+  pub rest : SleepersRest rules network batches activity.due.items from to
