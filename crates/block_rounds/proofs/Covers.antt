@@ -23,18 +23,22 @@ module _ (old new : List Share) (share : Share) (first behind : ℕ) (are : new 
   covered_by : (i : ℕ) → i < behind → ((i < first) ⊎ (first ≤ i)) → (s : ℕ) × IsShared new i s
   covered_by i inside (inl h) =
       let found = before i h in
-      let there : found.0 < length new = omega (arith, found.1.there, count_new) in
-      (found.0, record {
-        there = there;
-        from_first = λ d. subst (λ (x : Share). x.first ≤ i) (sym (kept_share found.0 d found.1.there)) (found.1.from_first d);
-        before_end = λ d. subst (λ (x : Share). i < x.behind) (sym (kept_share found.0 d found.1.there)) (found.1.before_end d);
-      })
-  covered_by i inside (inr h) =
-      (length old, record {
-        there = omega (arith, count_new);
-        from_first = λ d. subst (λ (x : Share). x.first ≤ i) (sym (last_share d)) (omega (arith, h, begins));
-        before_end = λ d. subst (λ (x : Share). i < x.behind) (sym (last_share d)) (omega (arith, inside, ends));
-      })
+      let there : found.0 < length new = omega (arith, found.1.there, count_new) in (
+        found.0,
+        record {
+          there = there;
+          from_first = λ d. subst (λ (x : Share). x.first ≤ i) (sym (kept_share found.0 d found.1.there)) (found.1.from_first d);
+          before_end = λ d. subst (λ (x : Share). i < x.behind) (sym (kept_share found.0 d found.1.there)) (found.1.before_end d);
+        },
+      )
+  covered_by i inside (inr h) = (
+    length old,
+    record {
+      there = omega (arith, count_new);
+      from_first = λ d. subst (λ (x : Share). x.first ≤ i) (sym (last_share d)) (omega (arith, h, begins));
+      before_end = λ d. subst (λ (x : Share). i < x.behind) (sym (last_share d)) (omega (arith, inside, ends));
+    },
+  )
 
   -- one share more
   pub covered_more : (i : ℕ) → i < behind → (s : ℕ) × IsShared new i s

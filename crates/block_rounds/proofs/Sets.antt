@@ -1,9 +1,8 @@
 -- One element that is set.
-use Rattle.std.proofs.Common.{◌≡◌, ◌<◌, ◌≤◌, ◌⊎◌, inl, inr, ℕ, List, length, refl, sym, ap, ◌∙◌, slice_index_or, Bool, true, false, arith, slice_index}
+use Rattle.std.proofs.Common.{◌≡◌, ◌<◌, ◌≤◌, ◌⊎◌, inl, inr, ℕ, List, length, sym, ap, ◌∙◌, slice_index_or, Bool, true, false}
 use Rattle.std.specs.Prelude.{slice_set}
-use Rattle.std.specs.List.{Contains}
 use Rattle.std.proofs.lemmas.Bool.{cases_eq, cases_lt}
-use Rattle.std.proofs.lemmas.List.{get_or-set_same, get_or-set_other, get_or_past, get_or_default}
+use Rattle.std.proofs.lemmas.List.{get_or-set_same, get_or-set_other, get_or_past}
 use Rattle.block_rounds.specs.Nears.{IsDue}
 
 cases_of : {X : Type 0} (xs : List X) (v : ℕ) (b d : X) (u : ℕ) → v < length xs → ((u ≡ v) ⊎ (u ≡ v → ⊥))

@@ -1,5 +1,5 @@
 -- What a walk is after a round.
-use Rattle.std.proofs.Common.{◌≡◌, ◌<◌, ◌≤◌, ◌⊎◌, ◌==◌, inl, inr, ℕ, zero, suc, List, [], ◌∷◌, length, All, sym, ◌∙◌, arith, subst, slice_index_or, Bool, true, false}
+use Rattle.std.proofs.Common.{◌≡◌, ◌<◌, ◌⊎◌, ◌==◌, inl, inr, ℕ, zero, suc, List, [], ◌∷◌, length, All, sym, ◌∙◌, arith, subst, slice_index_or, Bool, true, false}
 use Rattle.std.specs.Global.{Vec}
 use Rattle.rule_check.specs.Value.{Rules}
 use Rattle.rule_check.specs.Rounds.{reads_round}
@@ -85,12 +85,14 @@ module _ (rules : Rules) (nodes batches : ℕ) (before after : List Share) (coun
   pub covered_after : 0 < length before → (i : ℕ) → i < batches → (s : ℕ) × IsShared after i s
   covered_after some i inside =
       let found = were.covered some i inside in
-      let s = found.0 in
-      (s, record {
-        there = omega (arith, found.1.there, count);
-        from_first = λ d. omega (arith, found.1.from_first d, firsts s d found.1.there);
-        before_end = λ d. omega (arith, found.1.before_end d, behinds s d found.1.there);
-      })
+      let s = found.0 in (
+        s,
+        record {
+          there = omega (arith, found.1.there, count);
+          from_first = λ d. omega (arith, found.1.from_first d, firsts s d found.1.there);
+          before_end = λ d. omega (arith, found.1.before_end d, behinds s d found.1.there);
+        },
+      )
 
   pub shares_after : All (IsShare rules nodes batches) after → AreShares rules nodes batches after
   shares_after each = record {

@@ -1,5 +1,5 @@
 -- A round that computes some batches only.
-use Rattle.std.proofs.Common.{◌≡◌, ◌<◌, ◌≤◌, ◌⊎◌, inl, inr, ℕ, zero, suc, List, [], ◌∷◌, length, All, refl, sym, ap, ◌∙◌, arith, subst, slice_index, slice_index_or, Bool, true, false}
+use Rattle.std.proofs.Common.{◌≡◌, ◌<◌, ◌≤◌, ◌⊎◌, inl, inr, ℕ, suc, List, [], ◌∷◌, length, All, refl, sym, ap, ◌∙◌, arith, slice_index, slice_index_or, Bool, true, false}
 use Rattle.std.specs.Global.{Vec}
 use Rattle.std.proofs.lemmas.List.Elements.{All-append, All-contains, All-nil}
 use Rattle.rule_check.specs.declared.state.State.{State}

@@ -140,11 +140,5 @@ pub fn lockstep(alloc: Global, plan: &Plan, rounds: u32) -> Result<Config, Round
     let code = RowCode::new(alloc, plan.program())?;
     let layout = Layout::new(alloc, plan.network())?;
     let mut walk = walk_of(alloc, plan, &code, &layout)?;
-    Ok(rounds_by(
-        &mut InTurn,
-        alloc,
-        plan,
-        &mut walk,
-        rounds,
-    )?)
+    Ok(rounds_by(&mut InTurn, alloc, plan, &mut walk, rounds)?)
 }

@@ -1,6 +1,4 @@
-use Rattle.std.proofs.Common.{◌≡◌, ◌<◌, ◌+◌, ◌⊎◌, inl, inr, ℕ, List, All, length, sym, subst, arith, slice_index_or}
-use Rattle.std.specs.Global.{Vec}
-use Rattle.std.proofs.lemmas.Bool.{cases_lt}
+use Rattle.std.proofs.Common.{sym, subst, arith}
 use Rattle.block_rounds.specs.declared.share.Share.{Share}
 use Rattle.block_rounds.specs.Rounds.{HasWords}
 use Rattle.block_rounds.specs.Walks.{HoldsOfDue}

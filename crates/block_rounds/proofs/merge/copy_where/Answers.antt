@@ -1,4 +1,4 @@
-use Rattle.std.proofs.Common.{◌≡◌, ◌<◌, ◌∙◌, ℕ, List, All, sym, subst, length, slice_index_or}
+use Rattle.std.proofs.Common.{◌≡◌, ◌<◌, ℕ, All, sym, subst, length, slice_index_or}
 use Rattle.std.proofs.lemmas.List.{get_or_default}
 use Rattle.block_rounds.specs.declared.batch.Batch.{Batch}
 use Rattle.block_rounds.specs.Rounds.{HaveWords, HasWords}
@@ -17,7 +17,7 @@ returns-then-task-at-clause-copied c = λ words d is there.
     let source = a.source.now in
     let long = subst (λ (m : ℕ). HaveWords m old) (sym c.nodes.ensures.count) c.requires.long in
     let within = subst (λ (m : ℕ). All (λ u. u < m) nodes) (sym c.nodes.ensures.count)
-        (subst (All (λ u. u < length task.network.now)) (sym c.deref.ensures.value) (c.requires.each a.at batch c.requires.there).within) in
+    (subst (All (λ u. u < length task.network.now)) (sym c.deref.ensures.value) (c.requires.each a.at batch c.requires.there).within) in
     let same : slice_index_or task.batches.now a.at d ≡ slice_index_or task.batches.now a.at batch = get_or_default task.batches.now a.at d batch c.requires.there in
     let given = subst (All (HasWords words source)) (sym c.deref.ensures.value) (subst (λ (b : Batch). All (HasWords words source) b.nodes.items) same there) in
     subst (λ (b : Batch). All (HasWords words new) b.nodes.items) (sym same)
@@ -36,6 +36,6 @@ returns-then-task-at-clause-kept c = λ words u there here.
     let source = a.source.now in
     let long = subst (λ (m : ℕ). HaveWords m old) (sym c.nodes.ensures.count) c.requires.long in
     let within = subst (λ (m : ℕ). All (λ u. u < m) nodes) (sym c.nodes.ensures.count)
-        (subst (All (λ u. u < length task.network.now)) (sym c.deref.ensures.value) (c.requires.each a.at batch c.requires.there).within) in
+    (subst (All (λ u. u < length task.network.now)) (sym c.deref.ensures.value) (c.requires.each a.at batch c.requires.there).within) in
     let given = subst (All (HasWords words source)) (sym c.deref.ensures.value) (there c.if-task-at.true batch) in
     nodes_kept old new source nodes batch.nodes n words c.copy_nodes.auto.columns c.requires.fields long within c.copy_nodes.ensures.exact given u here

@@ -1,4 +1,4 @@
-use Rattle.std.proofs.Common.{◌≡◌, ◌∙◌, ℕ, List, Bool, ap, sym, subst, arith, length}
+use Rattle.std.proofs.Common.{◌≡◌, ◌∙◌, ℕ, List, Bool, ap, subst, arith, length}
 use Rattle.std.specs.List.{Contains}
 use Rattle.row_code.proofs.Nodes.{refilled}
 use Rattle.block_rounds.specs.Nears.{IsDue}

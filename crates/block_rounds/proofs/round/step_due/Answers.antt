@@ -1,9 +1,9 @@
-use Rattle.std.proofs.Common.{◌∙◌, ℕ, List, All, subst, sym, slice_index_or}
+use Rattle.std.proofs.Common.{◌∙◌, ℕ, All, subst, slice_index_or}
 use Rattle.rule_check.specs.Value.{Rules}
 use Rattle.block_rounds.specs.declared.batch.Batch.{Batch}
 use Rattle.block_rounds.specs.Nears.{IsDue}
 use Rattle.block_rounds.specs.Walks.{HasNext}
-use Rattle.block_rounds.proofs.Due.{due_more, due_fewer}
+use Rattle.block_rounds.proofs.Due.{due_more}
 use Rattle.block_rounds.proofs.round.step_due.Goals as goal
 
 pub loop-at-preserved : goal.loop-at-preserved

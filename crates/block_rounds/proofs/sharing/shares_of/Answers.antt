@@ -1,4 +1,4 @@
-use Rattle.std.proofs.Common.{◌<◌, ℕ, All, length, sym, subst, arith}
+use Rattle.std.proofs.Common.{All, length, sym, subst, arith}
 use Rattle.std.proofs.lemmas.List.Elements.{All-push}
 use Rattle.block_rounds.specs.Walks.{IsShare}
 use Rattle.block_rounds.proofs.Covers.{covered_more}

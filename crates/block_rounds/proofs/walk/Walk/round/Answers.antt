@@ -1,17 +1,14 @@
-use Rattle.std.proofs.Common.{◌≡◌, ◌<◌, ◌∙◌, ℕ, List, All, ap, sym, subst, arith, length, slice_index_or, true, false, Bool}
+use Rattle.std.proofs.Common.{◌≡◌, ◌<◌, ◌∙◌, ℕ, List, All, ap, sym, subst, arith, length, slice_index_or, true, Bool}
 use Rattle.std.specs.Global.{Vec}
 use Rattle.std.proofs.lemmas.Grind.{common_steps}
 use Rattle.rule_check.specs.Value.{Rules}
-use Rattle.rule_check.specs.Rounds.{reads_round}
-use Rattle.link_net.specs.Neighbours.{Neighbours}
-use Rattle.row_code.specs.Block.{column_words, state_at}
+use Rattle.row_code.specs.Block.{state_at}
 use Rattle.row_code.proofs.Nodes.{refilled}
-use Rattle.block_rounds.specs.declared.activity.Activity.{Activity}
 use Rattle.block_rounds.specs.declared.batch.Batch.{Batch}
 use Rattle.block_rounds.specs.Nears.{IsDue, Sleeps}
 use Rattle.block_rounds.specs.Rounds.{IsNext, round_from}
 use Rattle.block_rounds.specs.Walks.{IsAsBefore, IsWalk, Walked, state_by}
-use Rattle.block_rounds.proofs.Turns.{IsWritten, IsLookedAt, walked, walked_next, walked_rests, walked_unread}
+use Rattle.block_rounds.proofs.Turns.{IsWritten, IsLookedAt, walked, walked_next, walked_rests}
 use Rattle.block_rounds.proofs.walk.Walk.round.Goals as goal
 
 new_is : (c : goal.After-swap) → c.swap.new.x.items ≡ c.step_due.new.to

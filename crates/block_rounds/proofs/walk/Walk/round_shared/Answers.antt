@@ -1,13 +1,12 @@
 use Rattle.std.proofs.Common.{◌≡◌, ◌<◌, ◌∙◌, ℕ, List, All, ap, sym, subst, arith, length, slice_index, vec_len}
 use Rattle.std.specs.Global.{Vec}
 use Rattle.std.proofs.lemmas.Grind.{common_steps}
-use Rattle.rule_check.specs.Value.{Rules}
 use Rattle.row_code.specs.Block.{state_at}
 use Rattle.row_code.proofs.Nodes.{refilled}
 use Rattle.block_rounds.specs.declared.share.Share.{Share}
 use Rattle.block_rounds.specs.declared.task.Task.{Task}
 use Rattle.block_rounds.specs.Rounds.{round_from}
-use Rattle.block_rounds.specs.Walks.{AreShares, HasNext, HoldsOfDue, IsShare, IsShared, IsWalk, Walked, state_by}
+use Rattle.block_rounds.specs.Walks.{AreShares, HasNext, HoldsOfDue, IsShare, IsWalk, Walked, state_by}
 use Rattle.block_rounds.proofs.Turns.{IsWritten, IsLookedAt, covered_after, looked_as, shares_after, some_of, walked, walked_next, walked_rests, with_shares, written_as, written_shared}
 use Rattle.block_rounds.proofs.walk.Walk.round_shared.Given.{Over}
 use Rattle.block_rounds.proofs.walk.Walk.round_shared.Goals as goal

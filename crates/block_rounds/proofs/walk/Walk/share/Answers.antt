@@ -1,5 +1,4 @@
-use Rattle.std.proofs.Common.{◌≡◌, ◌∙◌, ℕ, List, ap, sym, subst, length}
-use Rattle.std.specs.Global.{Vec}
+use Rattle.std.proofs.Common.{◌≡◌, ◌∙◌, ap, sym, subst, length}
 use Rattle.rule_check.specs.Value.{Rules}
 use Rattle.block_rounds.specs.Rounds.{HaveWords}
 use Rattle.block_rounds.specs.Walks.{AreShares, Walked}
