@@ -6,21 +6,49 @@ import time
 
 top, work, worlds = sys.argv[1:4]
 KINDS = ("random", "torus", "path", "hubs")
+LAST_ROUND = 1_000_000_000
 ROUNDS = {"distance": 1000, "rule_110": 1000, "majority": 1000, "heavy": 40}
 # Each program has, where a one is wanted, this word, which reads the round: so no round is left out where states stay as they are.
 ONE = "(round < 4294967295)"
 DISTANCE = "field dist = 4294967295;\nnext dist = (dist min least (n.dist + {}));\n"
+MAJORITY = "field s = 0;\nnext s = if ((count n.s * 2) > degree) then {} else if ((count n.s * 2) < degree) then 0 else s;\n"
 PROGRAMS = {
     "distance": DISTANCE.format(ONE),
     "rule_110": "field s = 0;\nnext s = (((s | any ((n.id > id) & n.s)) & not ((any ((n.id < id) & n.s) & s)"
     f" & any ((n.id > id) & n.s))) & {ONE});\n",
-    "majority": f"field s = 0;\nnext s = if ((count n.s * 2) > degree) then {ONE} else if ((count n.s * 2) < degree) then 0 else s;\n",
+    "majority": MAJORITY.format(ONE),
 }
 SETS = {
     "distance": "dist = [[0, 0]]",
     "rule_110": "s = [[0, 1], [65534, 1]]",
     "majority": f"s = {[[node, 1] for node in range(65_536) if node * 7 % 5 < 2]}",
 }
+# What moves little: a program that does not read the round, a network, a last round, and the most that is wanted, of the seconds by
+# hand or in seconds.
+LITTLE = (
+    ("distance", "path", LAST_ROUND, "1 s"),
+    ("distance", "torus", LAST_ROUND, "0.33"),
+    ("life", "cells", 10_000, "0.05"),
+    ("drawn_majority", "torus", 10_000, ""),
+)
+
+
+def is_drawn(node):
+    """Half of all numbers, without order: the last bit of what MurmurHash3 ends with, of the number after this one."""
+    value = node + 1
+    for shift, factor in ((16, 0x85EBCA6B), (13, 0xC2B2AE35)):
+        value = (value ^ value >> shift) * factor % 2**32
+    return (value ^ value >> 16) & 1 == 1
+
+
+def little_program(name):
+    """The text of a program that does not read the round, and its opening values."""
+    if name == "distance":
+        return DISTANCE.format(1), SETS["distance"]
+    if name == "life":
+        with open(f"{top}/examples/life.rules", encoding="ascii") as file:
+            return file.read(), "live = [[1, 1], [258, 1], [512, 1], [513, 1], [514, 1]]"
+    return MAJORITY.format(1), f"s = {[[node, 1] for node in range(65_536) if is_drawn(node)]}"
 
 
 def written(name, text):
@@ -43,10 +71,18 @@ def called(call):
     return output, time.perf_counter() - start, usage.ru_maxrss / 1024
 
 
-def seconds_of(job, program, network, stop, workers=0, calls=3):
+def least_of(call, calls=3, enough=15.0):
+    """What a call prints, and the least seconds of three calls, or of fewer where those before took long."""
+    made = [called(call)]
+    while len(made) < calls and sum(seconds for _, seconds, _ in made) < enough:
+        made.append(called(call))
+    return made[0][0], min(seconds for _, seconds, _ in made)
+
+
+def seconds_of(job, program, network, stop, workers=0):
     """The least seconds of some calls of world_bench, and the number that it prints."""
-    made = [called([worlds, job, program, network, str(stop), str(workers)]) for _ in range(calls)]
-    return min(seconds for _, seconds, _ in made), int(made[0][0])
+    output, seconds = least_of([worlds, job, program, network, str(stop), str(workers)])
+    return seconds, int(output)
 
 
 def rounds_of(job, program, network, rounds):
@@ -55,32 +91,93 @@ def rounds_of(job, program, network, rounds):
     return taken - seconds_of(job, program, network, 0)[0], answer
 
 
-def by_hand(name, network, rounds):
+def by_hand(job, name, network, rounds):
     """The seconds of a loop written for one program, and what it gave."""
-    made = [called([f"{work}/loops", "run", name, network, str(rounds)])[0].split() for _ in range(3)]
-    return min(float(seconds) for seconds, _ in made), int(made[0][1])
+    call = [f"{work}/loops", job, name, network, str(rounds)]
+    made = [called(call)[0].split()]
+    while len(made) < 3 and sum(float(seconds) for seconds, _, _ in made) < 15:
+        made.append(called(call)[0].split())
+    return min(float(seconds) for seconds, _, _ in made), int(made[0][1])
+
+
+def network_of(kind, sets):
+    """The file of a network with these opening values."""
+    with open(f"{work}/{kind}.toml", encoding="ascii") as file:
+        return written("network.toml", file.read() + (f"[set]\n{sets}\n" if sets else ""))
+
+
+def table(*names):
+    """Begins a table, in the form of docs/speed.md."""
+    print()
+    line(*names)
+    print("|---" * len(names) + "|")
+
+
+def line(*cells):
+    """A line of a table."""
+    print(f"| {' | '.join(cells)} |", flush=True)
+
+
+def long(seconds):
+    return f"{seconds:.3f} s"
+
+
+def beside(kind, program, network, rounds, loop):
+    """Rounds in one piece and by threads, beside a loop that took and gave this: the cells of a line, from the network's kind on."""
+    by_loop, wanted = loop
+    one, found = rounds_of("rounds", program, network, rounds)
+    shared, found_shared = rounds_of("parallel", program, network, rounds)
+    if not wanted == found == found_shared:
+        sys.exit(f"{program} on {kind}: the product and the loop differ")
+    ratios = f"{one / by_loop:.2f}", f"{shared / one:.2f}"
+    return kind, f"{rounds:,}", long(by_loop), long(one), ratios[0], long(shared), ratios[1]
 
 
 def lockstep():
     """Rounds in one piece and by threads, beside a loop that is written by hand for the one program."""
-    print(f"{'program':9} {'network':8} {'rounds':>7} {'by hand':>9} {'one piece':>10} {'ratio':>6} {'threads':>9} {'to one piece':>13}")
+    table("program", "network", "rounds", "by hand", "one piece", "ratio", "threads", "to one piece")
     for name, rounds in ROUNDS.items():
-        program = f"{work}/{name}.rules"
         for kind in KINDS:
-            with open(f"{work}/{kind}.toml", encoding="ascii") as file:
-                sets = f"[set]\n{SETS[name]}\n" if name in SETS else ""
-                network = written("network.toml", file.read() + sets)
-            loop, wanted = by_hand(name, network, rounds)
-            one, found = rounds_of("rounds", program, network, rounds)
-            shared, found_shared = rounds_of("parallel", program, network, rounds)
-            if not wanted == found == found_shared:
-                sys.exit(f"{name} on {kind}: the product and the loop differ")
-            print(f"{name:9} {kind:8} {rounds:7} {loop:7.3f} s {one:8.3f} s {one / loop:6.2f} {shared:7.3f} s {shared / one:13.2f}")
+            network = network_of(kind, SETS.get(name))
+            loop = by_hand("run", name, network, rounds)
+            line(name, *beside(kind, f"{work}/{name}.rules", network, rounds, loop))
+
+
+def little():
+    """Rounds in which little moves, beside a loop that looks at all nodes and ends, as the product may, where a round changes nothing."""
+    table("what moves little", "network", "rounds", "by hand", "one piece", "ratio", "threads", "to one piece", "wanted")
+    for name, kind, rounds, wanted in LITTLE:
+        text, sets = little_program(name)
+        network = network_of(kind, sets)
+        loop = by_hand("settle", name, network, rounds)
+        line(name, *beside(kind, written("little.rules", text), network, rounds, loop), wanted)
+
+
+def threads():
+    """The heavy program in one piece and by threads, by turns, on each network and on one with a single hub."""
+    table("program", "network", "rounds", "one piece", "threads", "to one piece")
+    name, rounds = "heavy", ROUNDS["heavy"]
+    for kind in (*KINDS, "hub"):
+        one, shared = by_turns(f"{work}/{name}.rules", f"{work}/{kind}.toml", rounds)
+        line(name, kind, f"{rounds}", long(one), long(shared), f"{shared / one:.2f}")
+
+
+def by_turns(program, network, rounds):
+    """The seconds of rounds in one piece and by threads, the least of calls that are made by turns."""
+    jobs = [("rounds", rounds), ("parallel", rounds), ("rounds", 0)]
+    least, answers = {}, {}
+    for job, stop in jobs * 3:
+        output, seconds, _ = called([worlds, job, program, network, str(stop), "0"])
+        least[job, stop] = min(seconds, least.get((job, stop), seconds))
+        answers[job, stop] = output
+    if answers["rounds", rounds] != answers["parallel", rounds]:
+        sys.exit(f"{program} on {network}: threads differ")
+    return least["rounds", rounds] - least["rounds", 0], least["parallel", rounds] - least["rounds", 0]
 
 
 def small():
     """Rounds in one piece and by threads where a round is small."""
-    print(f"\n{'program':9} {'nodes':>6} {'rounds':>7} {'one piece':>10} {'threads':>9} {'to one piece':>13}")
+    table("program", "nodes", "rounds", "one piece", "threads", "ratio")
     for name in ("distance", "heavy"):
         for side, rounds in ((16, 4000), (32, 2000), (64, 1000), (96, 500)):
             network = written("small.toml", torus(side))
@@ -88,7 +185,7 @@ def small():
             shared, found_shared = rounds_of("parallel", f"{work}/{name}.rules", network, rounds)
             if found != found_shared:
                 sys.exit(f"{name} on {side * side} nodes: threads differ")
-            print(f"{name:9} {side * side:6} {rounds:7} {one:8.3f} s {shared:7.3f} s {shared / one:13.2f}")
+            line(name, f"{side * side:,}", f"{rounds}", long(one), long(shared), f"{shared / one:.2f}")
 
 
 def torus(side):
@@ -101,9 +198,8 @@ def torus(side):
 def settled():
     """Distances on a path of 65,536 nodes to the last round: the rounds end where nothing changes any more."""
     program = written("settled.rules", DISTANCE.format(1))
-    with open(f"{work}/path.toml", encoding="ascii") as file:
-        network = written("settled.toml", file.read() + "[set]\ndist = [[0, 0]]\n")
-    call = [f"{top}/unison", "lockstep", program, network, "--rounds", "1000000000"]
+    network = network_of("path", SETS["distance"])
+    call = [f"{top}/unison", "lockstep", program, network, "--rounds", f"{LAST_ROUND}"]
     report, seconds, _ = called(call)
     if report != b"round 1000000000\n" + b"".join(b"%d dist=%d\n" % (node, node) for node in range(65_536)):
         sys.exit("the settled distances are not the numbers of the nodes")
@@ -112,7 +208,7 @@ def settled():
 
 def memory():
     """The most memory that the product holds for the largest network."""
-    print(f"\n{'program':9} {'network':8} {'bytes of the file':>18} {'memory, round 0':>16} {'memory, round 5':>16}")
+    table("program", "network", "bytes of the file", "memory, round 0", "memory, round 5")
     for name in ("distance", "heavy"):
         for kind in ("random", "hubs"):
             network = f"{work}/{kind}.toml"
@@ -120,32 +216,32 @@ def memory():
                 called([f"{top}/unison", "lockstep", f"{work}/{name}.rules", network, "--rounds", str(rounds)])[2]
                 for rounds in (0, 5)
             ]
-            print(f"{name:9} {kind:8} {os.path.getsize(network):18,} {held[0]:12.1f} MiB {held[1]:12.1f} MiB")
+            line(name, kind, f"{os.path.getsize(network):,}", f"{held[0]:.1f} MiB", f"{held[1]:.1f} MiB")
 
 
 def reading():
     """The seconds in which the file of a network alone is read, and in which a report alone is made."""
-    print(f"\n{'network':8} {'bytes':>10} {'links':>8} {'read alone':>11}")
+    table("network", "bytes", "links", "reading the file alone")
     for kind in KINDS:
         network = f"{work}/{kind}.toml"
         seconds, links = seconds_of("read", "none", network, 0)
-        print(f"{kind:8} {os.path.getsize(network):10,} {links:8,} {seconds:9.3f} s")
+        line(kind, f"{os.path.getsize(network):,}", f"{links:,}", long(seconds))
     program, network = f"{work}/heavy.rules", f"{work}/path.toml"
     taken, length = seconds_of("report", program, network, 1)
     taken -= seconds_of("rounds", program, network, 1)[0]
-    print(f"the report of 65,536 nodes with 8 fields, {length:,} bytes: {taken:.3f} s")
+    print(f"\nthe report of 65,536 nodes with 8 fields, {length:,} bytes: {taken:.3f} s")
 
 
 def sweeps():
     """20 rounds by whole sweeps of a world, beside 20 lockstep rounds, a twentieth of the time of 400."""
     stop = 20
     program = f"{work}/distance.rules"
-    print(f"\n{'network':8} {'sweeps':>9} {'steps a second':>16} {'lockstep':>10} {'ratio':>7}")
+    table("network", "sweeps", "steps a second", "lockstep", "ratio")
     for kind in KINDS:
         network = f"{work}/{kind}.toml"
         swept, steps = rounds_of("sweeps", program, network, stop)
         rounds = rounds_of("rounds", program, network, 20 * stop)[0] / 20
-        print(f"{kind:8} {swept:7.3f} s {steps / swept:16,.0f} {rounds:8.3f} s {swept / rounds:7.1f}")
+        line(kind, long(swept), f"{steps / swept:,.0f}", long(rounds), f"{swept / rounds:.1f}")
 
 
 def replays():
@@ -168,15 +264,18 @@ def runs():
     program, network, stop = f"{work}/distance.rules", written("small.toml", torus(64)), 50
     swept, steps = seconds_of("sweeps", program, network, stop)
     print(f"\n{steps:,} steps by whole sweeps: {swept:.3f} s")
+    table("workers", "seconds", "times the sweeps")
     for workers in (1, 2, 4):
         taken, _ = seconds_of("workers", program, network, stop, workers)
-        print(f"by {workers} workers: {taken:.3f} s, {taken / swept:.1f} times as long")
+        line(f"{workers}", long(taken), f"{taken / swept:.1f}")
 
 
 def main():
     for name, text in PROGRAMS.items():
         written(f"{name}.rules", text)
     lockstep()
+    little()
+    threads()
     small()
     settled()
     memory()

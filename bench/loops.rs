@@ -1,9 +1,11 @@
 //! Makes the networks of the benchmark, and runs the same programs by loops written by hand.
 //!
-//!   loops make KIND FILE          KIND: random, torus, path, hubs; all of 65,536 nodes
-//!   loops run PROGRAM FILE N      PROGRAM: distance, rule_110, majority, heavy; prints the seconds of N rounds and a checksum
+//!   loops make KIND FILE          KIND: random, torus, path, hubs, hub, cells; all of 65,536 nodes
+//!   loops run PROGRAM FILE N      PROGRAM: distance, rule_110, majority, drawn_majority, life, heavy; prints the seconds of N rounds and a checksum
+//!   loops settle PROGRAM FILE N   the same, but the first round that changes nothing is the last; prints the rounds that were made, too
 //!
 //! HEAVY names the file with the loop of the heavy program, which heavy.py makes.
+use std::collections::BTreeSet;
 use std::env;
 use std::fs;
 use std::io::{BufWriter, Write};
@@ -12,6 +14,7 @@ use std::time::Instant;
 const M: u32 = u32::MAX;
 const NODES: u32 = 65_536;
 const LINKS: usize = 262_144;
+const LINKS_BESIDE_A_HUB: usize = 131_072;
 const SIDE: u32 = 256;
 const HUBS: u32 = 48;
 const MOST_NEIGHBOURS: usize = 4_096;
@@ -28,16 +31,31 @@ impl Sequence {
     }
 }
 
-fn random_links() -> Vec<(u32, u32)> {
-    let mut sequence = Sequence(12_345);
-    let mut links = std::collections::BTreeSet::new();
-    while links.len() < LINKS {
-        let u = sequence.below(NODES);
-        let w = sequence.below(NODES);
+/// Links between nodes that are drawn, of numbers from `first` on, until there are so many in all.
+fn draw_links(sequence: &mut Sequence, first: u32, links: &mut BTreeSet<(u32, u32)>, count: usize) {
+    while links.len() < count {
+        let u = first + sequence.below(NODES - first);
+        let w = first + sequence.below(NODES - first);
         if u != w {
             links.insert((u.min(w), u.max(w)));
         }
     }
+}
+
+fn random_links() -> Vec<(u32, u32)> {
+    let mut links = BTreeSet::new();
+    draw_links(&mut Sequence(12_345), 0, &mut links, LINKS);
+    links.into_iter().collect()
+}
+
+/// Node 0 with 4,096 neighbours that are drawn, and links between the other nodes that are drawn.
+fn hub_and_random_links() -> Vec<(u32, u32)> {
+    let mut sequence = Sequence(24_680);
+    let mut links = BTreeSet::new();
+    while links.len() < MOST_NEIGHBOURS {
+        links.insert((0, 1 + sequence.below(NODES - 1)));
+    }
+    draw_links(&mut sequence, 1, &mut links, MOST_NEIGHBOURS + LINKS_BESIDE_A_HUB);
     links.into_iter().collect()
 }
 
@@ -53,6 +71,19 @@ fn torus_links() -> Vec<(u32, u32)> {
     links
 }
 
+/// A torus whose cells have eight neighbours each.
+fn cell_links() -> Vec<(u32, u32)> {
+    let mut links = torus_links();
+    for row in 0..SIDE {
+        for column in 0..SIDE {
+            let below = (row + 1) % SIDE * SIDE;
+            links.push((row * SIDE + column, below + (column + 1) % SIDE));
+            links.push((row * SIDE + column, below + (column + SIDE - 1) % SIDE));
+        }
+    }
+    links
+}
+
 fn path_links() -> Vec<(u32, u32)> {
     (0..NODES - 1).map(|node| (node, node + 1)).collect()
 }
@@ -60,7 +91,7 @@ fn path_links() -> Vec<(u32, u32)> {
 /// Hubs of 4,096 neighbours each, spread over the numbers, the neighbours drawn from nodes that are no hubs.
 fn hub_links() -> Vec<(u32, u32)> {
     let mut sequence = Sequence(54_321);
-    let mut links = std::collections::BTreeSet::new();
+    let mut links = BTreeSet::new();
     let apart = NODES / HUBS;
     for hub in 0..HUBS {
         let node = hub * apart;
@@ -79,7 +110,9 @@ fn make(kind: &str, file: &str) {
     let links = match kind {
         "random" => random_links(),
         "torus" => torus_links(),
+        "cells" => cell_links(),
         "hubs" => hub_links(),
+        "hub" => hub_and_random_links(),
         _ => path_links(),
     };
     let mut out = BufWriter::new(fs::File::create(file).expect("the file"));
@@ -161,14 +194,85 @@ fn majority_round(offsets: &[usize], near: &[u32], now: &[Vec<u32>], next: &mut 
     }
 }
 
+fn life_round(offsets: &[usize], near: &[u32], now: &[Vec<u32>], next: &mut [Vec<u32>]) {
+    let (states, next) = (&now[0], &mut next[0]);
+    for node in 0..NODES as usize {
+        let mut alive = 0;
+        for other in &near[offsets[node]..offsets[node + 1]] {
+            alive += (states[*other as usize] != 0) as u32;
+        }
+        next[node] = (alive == 3) as u32 | ((alive == 2) as u32 & states[node]);
+    }
+}
+
+/// Half of all numbers, without order: the last bit of what MurmurHash3 ends with, of the number after this one.
+fn is_drawn(node: u32) -> bool {
+    let mut hash = node + 1;
+    hash = (hash ^ hash >> 16).wrapping_mul(0x85eb_ca6b);
+    hash = (hash ^ hash >> 13).wrapping_mul(0xc2b2_ae35);
+    (hash ^ hash >> 16) & 1 == 1
+}
+
+/// The cells of a glider, by their numbers on the torus.
+const GLIDER: [u32; 5] = [1, SIDE + 2, 2 * SIDE, 2 * SIDE + 1, 2 * SIDE + 2];
+
+/// One column, with a word for each node.
+fn column(word: impl Fn(u32) -> u32) -> Vec<Vec<u32>> {
+    vec![(0..NODES).map(word).collect()]
+}
+
 /// The columns at first: as the programs of compare.py make them in round 0, from the numbers of the nodes.
 fn opening(program: &str) -> Vec<Vec<u32>> {
     match program {
-        "distance" => vec![(0..NODES).map(|node| if node == 0 { 0 } else { M }).collect()],
-        "rule_110" => vec![(0..NODES).map(|node| (node == 0 || node == 65_534) as u32).collect()],
-        "majority" => vec![(0..NODES).map(|node| ((node * 7) % 5 < 2) as u32).collect()],
+        "distance" => column(|node| if node == 0 { 0 } else { M }),
+        "rule_110" => column(|node| (node == 0 || node == 65_534) as u32),
+        "majority" => column(|node| ((node * 7) % 5 < 2) as u32),
+        "drawn_majority" => column(|node| is_drawn(node) as u32),
+        "life" => column(|node| GLIDER.contains(&node) as u32),
         _ => (0..8).map(|field| vec![field; NODES as usize]).collect(),
     }
+}
+
+fn round_of(program: &str) -> Round {
+    match program {
+        "distance" => distance_round,
+        "rule_110" => rule_110_round,
+        "majority" | "drawn_majority" => majority_round,
+        "life" => life_round,
+        _ => heavy_round,
+    }
+}
+
+/// A sum over all words, in which their order plays a part.
+fn sum(columns: &[Vec<u32>]) -> u64 {
+    let mut sum = 0u64;
+    for node in 0..NODES as usize {
+        for field in 0..8 {
+            let word = columns.get(field).map_or(0, |column| column[node]);
+            sum = sum.wrapping_mul(31).wrapping_add(word as u64);
+        }
+    }
+    sum
+}
+
+/// Makes rounds of a program, each over all nodes. Where they may settle, the first one that changes nothing is the last.
+fn run(program: &str, file: &str, rounds: u32, may_settle: bool) {
+    let round = round_of(program);
+    let (offsets, near) = read(file);
+    let mut now = opening(program);
+    let mut next = now.clone();
+    let mut made = 0;
+    let start = Instant::now();
+    while made < rounds {
+        round(&offsets, &near, &now, &mut next);
+        made += 1;
+        if may_settle && now == next {
+            break;
+        }
+        std::mem::swap(&mut now, &mut next);
+    }
+    let seconds = start.elapsed().as_secs_f64();
+    println!("{seconds:.4} {} {made}", sum(&now));
 }
 
 fn main() {
@@ -176,28 +280,6 @@ fn main() {
     if words[1] == "make" {
         return make(&words[2], &words[3]);
     }
-    let round: Round = match words[2].as_str() {
-        "distance" => distance_round,
-        "rule_110" => rule_110_round,
-        "majority" => majority_round,
-        _ => heavy_round,
-    };
-    let (offsets, near) = read(&words[3]);
-    let rounds: u32 = words[4].parse().expect("rounds");
-    let mut now = opening(&words[2]);
-    let mut next = now.clone();
-    let start = Instant::now();
-    for _ in 0..rounds {
-        round(&offsets, &near, &now, &mut next);
-        std::mem::swap(&mut now, &mut next);
-    }
-    let seconds = start.elapsed().as_secs_f64();
-    let mut sum = 0u64;
-    for node in 0..NODES as usize {
-        for field in 0..8 {
-            let word = now.get(field).map_or(0, |column| column[node]);
-            sum = sum.wrapping_mul(31).wrapping_add(word as u64);
-        }
-    }
-    println!("{seconds:.4} {sum}");
+    let rounds = words[4].parse().expect("rounds");
+    run(&words[2], &words[3], rounds, words[1] == "settle");
 }

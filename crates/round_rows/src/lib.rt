@@ -2,7 +2,15 @@
 #![tactic(auto)]
 
 #[cfg(test)]
+mod activity;
+#[cfg(test)]
+mod activity_networks;
+#[cfg(test)]
+mod activity_shared;
+#[cfg(test)]
 mod largest;
+#[cfg(test)]
+mod plain;
 #[cfg(test)]
 mod plain_rounds;
 #[cfg(test)]

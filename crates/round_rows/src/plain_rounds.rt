@@ -1,10 +1,9 @@
-//! Lockstep rounds beside the plain evaluation: node by node, each by the one call that gives its next state.
+//! Lockstep rounds of many programs beside the plain evaluation.
 
-use lockstep::{Config, Plan, RoundFault, lockstep, lockstep_par};
-use row_plans::{Refusal, plan_of};
+use crate::plain::{assert_plain_rounds_of, up_to};
+use row_plans::plan_of;
 use row_texts::grown::put_link;
 use row_texts::programs::EIGHT_FIELDS;
-use rule_check::{Near, State};
 use std::alloc::{AllocError, Global};
 use std::process::Abort;
 use std::test::Fail;
@@ -83,123 +82,6 @@ fn hub(alloc: Global) -> Result<String, AllocError> {
     Ok(text)
 }
 
-/// A neighbour with its state.
-fn near_of(states: &[State], id: u32, weight: u32) -> Result<Near, Fail> {
-    let state = *states.get(id as usize).ok_or("a state")?;
-    Ok(Near { id, weight, state })
-}
-
-/// The neighbours of a node, with their states.
-fn nears_of(alloc: Global, plan: &Plan, states: &[State], node: u32) -> Result<Vec<Near>, Fail> {
-    let ids = plan.network().neighbours(node).ok_or("neighbours")?;
-    let weights = plan.network().weights(node).ok_or("weights")?;
-    let mut nears = Vec::new(alloc);
-    for (id, weight) in ids.iter().zip(weights) {
-        nears.push(near_of(states, *id, *weight)?)?;
-    }
-    Ok(nears)
-}
-
-/// The state of a node one round later.
-fn plain_next(
-    alloc: Global,
-    plan: &Plan,
-    round: u32,
-    states: &[State],
-    node: u32,
-) -> Result<State, Fail> {
-    let state = *states.get(node as usize).ok_or("a state")?;
-    let nears = nears_of(alloc, plan, states, node)?;
-    if nears.len() > 4096 {
-        return Err(Fail::from("too many neighbours"));
-    }
-    Ok(plan.program().next(node, state, round, &nears))
-}
-
-/// The states one round later, node by node.
-fn plain_round(
-    alloc: Global,
-    plan: &Plan,
-    round: u32,
-    states: &[State],
-) -> Result<Vec<State>, Fail> {
-    let mut next = Vec::new(alloc);
-    for node in 0..plan.network().nodes() {
-        next.push(plain_next(alloc, plan, round, states, node)?)?;
-    }
-    Ok(next)
-}
-
-/// What is wanted after so many rounds of a program: the states of the nodes.
-#[derive(Clone, Copy)]
-struct Wanted<'a> {
-    program: &'a str,
-    rounds: u32,
-    states: &'a [State],
-}
-
-/// Asserts the states of a configuration.
-fn assert_states(rt: &impl Abort, config: &Config, wanted: Wanted<'_>) {
-    let Wanted {
-        program,
-        rounds,
-        states,
-    } = wanted;
-    assert_eq!(rt; config.states(), states, "{program} after {rounds}");
-}
-
-/// Asserts the rounds of one thread.
-fn assert_alone(
-    rt: &impl Abort,
-    alloc: Global,
-    plan: &Plan,
-    wanted: Wanted<'_>,
-) -> Result<(), RoundFault> {
-    let config = lockstep(alloc, plan, wanted.rounds)?;
-    assert_states(rt, &config, wanted);
-    Ok(())
-}
-
-/// Asserts the rounds that are shared among threads.
-fn assert_shared<R: Threads + Abort + Sync>(
-    rt: &R,
-    alloc: Global,
-    plan: &Plan,
-    wanted: Wanted<'_>,
-) -> Result<(), RoundFault> {
-    let config = lockstep_par(rt, alloc, plan, wanted.rounds)?;
-    assert_states(rt, &config, wanted);
-    Ok(())
-}
-
-/// The states before the first round.
-fn opening(alloc: Global, plan: &Plan) -> Result<Vec<State>, Refusal> {
-    let config = lockstep(alloc, plan, 0)?;
-    Ok(config.states().to_vec(alloc)?)
-}
-
-/// Asserts that the rounds of a plan are the plain ones, alone and shared among threads.
-fn assert_plain_rounds_of<R: Threads + Abort + Sync>(
-    rt: &R,
-    alloc: Global,
-    plan: &Plan,
-    program: &str,
-    rounds: u32,
-) -> Result<(), Fail> {
-    let mut states = opening(alloc, plan)?;
-    for round in 0..rounds {
-        states = plain_round(alloc, plan, round, &states)?;
-        let wanted = Wanted {
-            program,
-            rounds: round + 1,
-            states: &states,
-        };
-        assert_alone(rt, alloc, plan, wanted)?;
-        assert_shared(rt, alloc, plan, wanted)?;
-    }
-    Ok(())
-}
-
 /// Asserts that the rounds of a program on a network are the plain ones.
 fn assert_plain_rounds<R: Threads + Abort + Sync>(
     rt: &R,
@@ -209,7 +91,7 @@ fn assert_plain_rounds<R: Threads + Abort + Sync>(
     rounds: u32,
 ) -> Result<(), Fail> {
     let plan = plan_of(alloc, program, network)?;
-    assert_plain_rounds_of(rt, alloc, &plan, program, rounds)
+    assert_plain_rounds_of(rt, alloc, &plan, program, up_to(rounds))
 }
 
 /// Asserts that the first five rounds of each program on a network are the plain ones.

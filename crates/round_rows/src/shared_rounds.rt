@@ -26,7 +26,7 @@ fn assert_same_states(rt: &impl Abort, left: &Config, right: &Config) -> Result<
 }
 
 /// Asserts that the rounds are those of one thread.
-fn assert_same_rounds<R: Threads + Abort + Sync>(
+pub(crate) fn assert_same_rounds<R: Threads + Abort + Sync>(
     rt: &R,
     alloc: Global,
     plan: &Plan,
