@@ -1,5 +1,5 @@
 -- States and columns.
-use Rattle.std.proofs.Common.{◌≡◌, ◌<◌, ◌≤◌, ◌+◌, ◌⊎◌, inl, inr, ℕ, zero, suc, List, [], ◌∷◌, ◌++◌, length, map, sym, ap, ◌∙◌, arith, slice_index, slice_index_or, zero-add, All, subst}
+use Rattle.std.proofs.Common.{◌≡◌, ◌≢◌, ◌<◌, ◌≤◌, ◌+◌, ◌⊎◌, inl, inr, ℕ, zero, suc, List, [], ◌∷◌, ◌++◌, length, map, sym, ap, ◌∙◌, arith, slice_index, slice_index_or, zero-add, All, subst}
 use Rattle.std.specs.Global.{Vec}
 use Rattle.std.specs.List.{range_with_len}
 use Rattle.std.proofs.lemmas.Bool.{cases_lt}
@@ -62,6 +62,20 @@ pub states_kept : (columns : List (Vec ℕ)) (states : List State) (fields u : �
     → u < length states → length (slice_index_or states u d).words ≡ 8 → IsPlain fields (slice_index_or states u d) → state_at columns u ≡ slice_index_or states u d
 states_kept columns states fields u d many made inside long plain =
     sym (state_is (slice_index_or states u d).words columns u long (λ k _. word_made columns states fields u k d many made inside plain (cases_lt k fields)))
+
+word_read : (columns : List (Vec ℕ)) (u k : ℕ) (d : Vec ℕ) → length columns ≤ 8 → k < length columns → slice_index (state_at columns u).words k ≡ slice_index (slice_index_or columns k d).items u
+word_read columns u k d few inside =
+    range_at (lane (column_words columns) u) 8 k 0 (omega (arith, few, inside))
+    ∙ ap (λ (ws : List ℕ). slice_index ws u) (get_or-map (λ (column : Vec ℕ). column.items) columns k d [] inside)
+
+-- columns with different words for a node have different states of it
+pub state_apart : (left right : List (Vec ℕ)) (u k : ℕ) (d e : Vec ℕ) → length left ≤ 8 → length left ≡ length right → k < length left
+    → slice_index (slice_index_or left k d).items u ≢ slice_index (slice_index_or right k e).items u → state_at left u ≢ state_at right u
+state_apart left right u k d e few many inside apart same =
+    apart
+    (sym (word_read left u k d few inside)
+    ∙ ap (λ (s : State). slice_index s.words k) same
+    ∙ word_read right u k e (omega (arith, few, many)) (omega (arith, inside, many)))
 
 word_past : (columns : List (Vec ℕ)) (u k : ℕ) → length columns ≤ k → ((k < 8) ⊎ (8 ≤ k)) → slice_index (state_at columns u).words k ≡ 0
 word_past columns u k past (inl h) =

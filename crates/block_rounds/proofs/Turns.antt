@@ -1,6 +1,7 @@
 -- What a walk is after a round.
-use Rattle.std.proofs.Common.{◌≡◌, ◌<◌, ◌⊎◌, ◌==◌, inl, inr, ℕ, zero, suc, List, [], ◌∷◌, length, All, sym, ◌∙◌, arith, subst, slice_index_or, Bool, true, false}
+use Rattle.std.proofs.Common.{◌≡◌, ◌≢◌, ◌<◌, ◌⊎◌, ◌==◌, inl, inr, ℕ, zero, suc, List, [], ◌∷◌, length, All, sym, ◌∙◌, arith, subst, slice_index_or, Bool, true, false}
 use Rattle.std.specs.Global.{Vec}
+use Rattle.std.proofs.lemmas.List.Elements.{All-contains}
 use Rattle.rule_check.specs.Value.{Rules}
 use Rattle.rule_check.specs.Rounds.{reads_round}
 use Rattle.link_net.specs.Neighbours.{Neighbours}
@@ -11,7 +12,7 @@ use Rattle.block_rounds.specs.declared.share.Share.{Share}
 use Rattle.block_rounds.specs.declared.task.Task.{Task}
 use Rattle.block_rounds.specs.Nears.{HaveNear, IsDue, Sleeps}
 use Rattle.block_rounds.specs.Rounds.{HaveWords, IsNext, round_from}
-use Rattle.block_rounds.specs.Walks.{AreShares, HasNext, HoldsOfDue, IsAsBefore, IsShare, IsShared, IsWalk, SleepersRest}
+use Rattle.block_rounds.specs.Walks.{AreShares, HasNext, HoldsOfDue, HasMoved, IsAsBefore, IsShare, IsShared, IsWalk, SleepersRest}
 use Rattle.block_rounds.proofs.Walks.{all_next, mark_cases, same_all, still_rest}
 
 -- what a round writes: the next words of the nodes of marked batches, and it keeps those that stand there
@@ -30,7 +31,12 @@ pub record IsLookedAt (batches : List Batch) (old new : Activity) (from to : Lis
   pub all : old.settles ≡ false → (i : ℕ) → i < length batches → IsDue new.due.items i
   pub noted : old.settles ≡ true → (i : ℕ) (d : Batch) → i < length batches → Sleeps new.changed.items i → IsDue old.due.items i → All (IsAsBefore from to) (slice_index_or batches i d).nodes.items
   pub awake : old.settles ≡ true → (i : ℕ) (d : Vec ℕ) → i < length batches → Sleeps new.due.items i → All (Sleeps new.changed.items) (slice_index_or old.nears.now i d).items
+  pub some : moved ≡ true → old.settles ≡ true → HasMoved batches from to
   pub none : moved ≡ false → (old.settles ≡ true) × ((i : ℕ) → i < length batches → Sleeps new.changed.items i)
+
+some_batch : (batches : List Batch) (i : ℕ) → i < length batches → Batch
+some_batch [] i inside = absurd (omega (arith, inside))
+some_batch (x ∷ xs) i inside = x
 
 module _ (rules : Rules) (network : Neighbours) (batches : List Batch) (active next : Activity) (shares : List Share) (round : ℕ) (from old new : List (Vec ℕ)) (moved : Bool)
     (walk : IsWalk rules network batches active shares from old) (written : IsWritten rules network batches active.due.items round from old new) (looked : IsLookedAt batches active next from new moved) where
@@ -48,6 +54,15 @@ module _ (rules : Rules) (network : Neighbours) (batches : List Batch) (active n
   -- and the program does not read the round
   pub walked_unread : moved ≡ false → reads_round rules ≡ false
   walked_unread still = walk.unread (looked.none still).0
+
+  -- where something moved, a node has another state
+  pub walked_moves : moved ≡ true → reads_round rules ≡ false → (u : ℕ) × (u < length network) × (state_at new u ≢ state_at from u)
+  walked_moves some unread =
+      let found = looked.some some (walk.settles unread) in
+      let stands = found.stands in
+      let none = some_batch batches found.home stands.there in
+      let nodes = (slice_index_or batches found.home none).nodes.items in
+      (found.node, All-contains (λ u. u < length network) nodes found.node (walk.layout.each found.home none stands.there).within (stands.stands none), found.moved)
 
   sleepers : ((active.settles ≡ true) ⊎ (active.settles ≡ false)) → SleepersRest rules network batches next.due.items new from
   sleepers (inl reads_not) =
@@ -70,6 +85,7 @@ module _ (rules : Rules) (network : Neighbours) (batches : List Batch) (active n
       all = λ reads. looked.all (sym looked.settles ∙ reads);
     };
     unread = λ settles. walk.unread (sym looked.settles ∙ settles);
+    settles = λ unread. looked.settles ∙ walk.settles unread;
     wide = written.wide;
     long = written.long;
     next_wide = walk.wide;
@@ -144,6 +160,7 @@ with_shares rules network batches active old new from to walk shared = record {
   shared = shared;
   active = walk.active;
   unread = walk.unread;
+  settles = walk.settles;
   wide = walk.wide;
   long = walk.long;
   next_wide = walk.next_wide;

@@ -1,6 +1,8 @@
 -- A round that computes some batches only.
-use Rattle.std.proofs.Common.{◌≡◌, ◌<◌, ◌≤◌, ◌⊎◌, inl, inr, ℕ, suc, List, [], ◌∷◌, length, All, refl, sym, ap, ◌∙◌, arith, slice_index, slice_index_or, Bool, true, false}
+use Rattle.std.proofs.Common.{◌≡◌, ◌<◌, ◌≤◌, ◌⊎◌, inl, inr, ℕ, suc, List, [], ◌∷◌, length, All, refl, sym, ap, ◌∙◌, arith, subst, slice_index, slice_index_or, Bool, true, false}
 use Rattle.std.specs.Global.{Vec}
+use Rattle.std.specs.List.{Contains}
+use Rattle.std.proofs.lemmas.List.{get_or_default}
 use Rattle.std.proofs.lemmas.List.Elements.{All-append, All-contains, All-nil}
 use Rattle.rule_check.specs.declared.state.State.{State}
 use Rattle.rule_check.specs.Value.{Rules}
@@ -13,7 +15,7 @@ use Rattle.block_rounds.specs.declared.batch.Batch.{Batch}
 use Rattle.block_rounds.specs.Batches.{IsLayout, nodes_of}
 use Rattle.block_rounds.specs.Nears.{IsDue, Sleeps, IsAmong, HaveNear}
 use Rattle.block_rounds.specs.Rounds.{IsNext, round_from}
-use Rattle.block_rounds.specs.Walks.{IsAsBefore, SleepersRest}
+use Rattle.block_rounds.specs.Walks.{HasMoved, IsAsBefore, Moved, SleepersRest}
 use Rattle.block_rounds.proofs.Ranges.{each_number}
 use Rattle.block_rounds.proofs.Resting.{rests}
 use Rattle.block_rounds.proofs.Words.{next_whole}
@@ -100,3 +102,21 @@ module _ (rules : Rules) (network : Neighbours) (batches : List Batch) (due : Li
               ∙ sym (rests rules network round later (state_at from) (state_at new) u unread (all_next u ((layout.each i d h).within k e inside)) same
               (λ j low. same_among here (neighbour network u j) d still (are.neighbours k e inside j low)));
         }
+
+-- a node of this batch moved
+pub moved_here : (batches : List Batch) (from to : List (Vec ℕ)) (i : ℕ) (batch : Batch) → i < length batches → batch ≡ slice_index_or batches i batch
+    → (u : ℕ) × Contains batch.nodes.items u × Moved from to u → HasMoved batches from to
+moved_here batches from to i batch inside is found = record {
+  node = found.0;
+  home = i;
+  stands = record {
+    there = inside;
+    stands = λ d. subst (λ (b : Batch). Contains b.nodes.items found.0) (is ∙ get_or_default batches i batch d inside) found.1;
+  };
+  moved = found.2;
+}
+
+-- the nodes of this batch, as they are looked at
+pub same_here : (batches : List Batch) (from to : List (Vec ℕ)) (i : ℕ) (d batch : Batch) → i < length batches → batch ≡ slice_index_or batches i batch
+    → All (IsAsBefore from to) batch.nodes.items → All (IsAsBefore from to) (slice_index_or batches i d).nodes.items
+same_here batches from to i d batch inside is same = subst (λ (b : Batch). All (IsAsBefore from to) b.nodes.items) (is ∙ get_or_default batches i batch d inside) same

@@ -1,5 +1,5 @@
 -- Rounds in which only some batches are computed.
-use Rattle.std.specs.Prelude.{ℕ, ◌≡◌, ◌<◌, ◌≤◌, List, length, map, All, None, Bool, true, false, slice_index_or}
+use Rattle.std.specs.Prelude.{ℕ, ◌≡◌, ◌≢◌, ◌<◌, ◌≤◌, List, length, map, All, None, Bool, true, false, slice_index_or}
 use Rattle.std.specs.Global.{Vec}
 use Rattle.std.specs.List.{range_with_len}
 use Rattle.rule_check.specs.declared.state.State.{State}
@@ -14,7 +14,7 @@ use Rattle.block_rounds.specs.declared.task.Task.{Task}
 use Rattle.block_rounds.specs.declared.share.Share.{Share}
 use Rattle.block_rounds.specs.declared.activity.Activity.{Activity}
 use Rattle.block_rounds.specs.Batches.{IsBatch, IsLayout}
-use Rattle.block_rounds.specs.Nears.{HaveNear, IsDue, Sleeps}
+use Rattle.block_rounds.specs.Nears.{HaveNear, IsDue, Sleeps, StandsIn}
 use Rattle.block_rounds.specs.Rounds.{HaveWords, IsNext, round_from}
 
 -- a program on a network, and the words of all nodes by fields
@@ -37,6 +37,17 @@ RestsWhereNothingMoved = (rules : Rules) (network : Neighbours) (round later : �
 -- both have the same state of the node
 abbrev pub IsAsBefore : List (Vec ℕ) → List (Vec ℕ) → ℕ → Type 0
 IsAsBefore from to u = state_at to u ≡ state_at from u
+
+-- they have different states of it
+abbrev pub Moved : List (Vec ℕ) → List (Vec ℕ) → ℕ → Type 0
+Moved from to u = state_at to u ≢ state_at from u
+
+-- a node of a batch moved
+pub record HasMoved (batches : List Batch) (from to : List (Vec ℕ)) : Type 0 where
+  pub node : ℕ
+  pub home : ℕ
+  pub stands : StandsIn batches node home
+  pub moved : Moved from to node
 
 -- what a round is made of, for a program with these rules
 pub record IsTask (rules : Rules) (task : Task) : Type 0 where
@@ -98,6 +109,7 @@ pub record IsWalk (rules : Rules) (network : Neighbours) (batches : List Batch) 
   pub shared : AreShares rules (length network) (length batches) shares
   pub active : IsActivity network batches activity
   pub unread : activity.settles ≡ true → reads_round rules ≡ false
+  pub settles : reads_round rules ≡ false → activity.settles ≡ true
   pub wide : length from ≡ length rules.fields
   pub long : HaveWords (length network) from
   pub next_wide : length to ≡ length rules.fields

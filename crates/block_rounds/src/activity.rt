@@ -1,13 +1,14 @@
 //! Which batches a round has to compute.
-ghost use Rattle.std.specs.Prelude.{◌≡◌, ◌<◌, ℕ, All, IfOk, false, true, length, slice_index, slice_index_or};
+ghost use Rattle.std.specs.Prelude.{◌≡◌, ◌≢◌, ◌<◌, ◌≤◌, ℕ, All, IfOk, false, true, length, slice_index, slice_index_or};
 ghost use Rattle.std.specs.Global.{Vec};
+ghost use Rattle.std.specs.List.{Contains};
 ghost use Rattle.link_net.specs.Neighbours.{Neighbours};
 ghost use Rattle.row_code.specs.Block.{state_at, Covers};
 ghost use Rattle.block_rounds.specs.declared.batch.Batch.{Batch};
 ghost use Rattle.block_rounds.specs.Batches.{IsBatch};
 ghost use Rattle.block_rounds.specs.Nears.{HaveNear, IsDue, Sleeps};
 ghost use Rattle.block_rounds.specs.Rounds.{HaveWords};
-ghost use Rattle.block_rounds.specs.Walks.{IsAsBefore, IsActivity};
+ghost use Rattle.block_rounds.specs.Walks.{IsAsBefore, Moved, HasMoved, IsActivity};
 
 use crate::batch::Batch;
 use std::alloc::{AllocError, Global};
@@ -27,6 +28,7 @@ fn words_differ(left: &[u32], right: &[u32], nodes: &[u32]) -> bool
     requires within_left { All (λ u. u < length left.now) nodes.now }
     requires within_right { All (λ u. u < length right.now) nodes.now }
     ensures same { result ≡ false → All (λ u. slice_index left.now u ≡ slice_index right.now u) nodes.now }
+    ensures apart { result ≡ true → (u : ℕ) × Contains nodes.now u × (slice_index left.now u ≢ slice_index right.now u) }
 {
     for node in nodes {
         let place = *node as usize;
@@ -39,10 +41,12 @@ fn words_differ(left: &[u32], right: &[u32], nodes: &[u32]) -> bool
 
 /// Whether one of these nodes has another state by the one columns than by the other.
 fn states_differ(left: &[Vec<u32>], right: &[Vec<u32>], nodes: &[u32]) -> bool
+    requires few { length left.now ≤ 8 }
     requires fields { length left.now ≡ length right.now }
     requires within_left { Covers left.now nodes.now }
     requires within_right { Covers right.now nodes.now }
     ensures same { result ≡ false → All (λ u. state_at left.now u ≡ state_at right.now u) nodes.now }
+    ensures apart { result ≡ true → (u : ℕ) × Contains nodes.now u × (state_at left.now u ≢ state_at right.now u) }
 {
     for (k, column) in left.iter().enumerate() {
         if words_differ(column, &right[k], nodes) {
@@ -54,10 +58,12 @@ fn states_differ(left: &[Vec<u32>], right: &[Vec<u32>], nodes: &[u32]) -> bool
 
 /// Whether a node of a batch changed, where the batch was computed.
 fn has_changed(batch: &Batch, was_due: bool, from: &[Vec<u32>], to: &[Vec<u32>]) -> bool
+    requires few { length from.now ≤ 8 }
     requires fields { length to.now ≡ length from.now }
     requires within { Covers from.now batch.now.nodes.items }
     requires within_next { Covers to.now batch.now.nodes.items }
     ensures same { result ≡ false → was_due ≡ true → All (IsAsBefore from.now to.now) batch.now.nodes.items }
+    ensures moved { result ≡ true → (u : ℕ) × Contains batch.now.nodes.items u × Moved from.now to.now u }
 {
     was_due && states_differ(to, from, &batch.nodes)
 }
@@ -72,16 +78,19 @@ fn note(
 ) -> bool
     requires flags { length due.now ≡ length batches.now }
     requires changes { length changed.old ≡ length batches.now }
+    requires few { length from.now ≤ 8 }
     requires fields { length to.now ≡ length from.now }
     requires within { All (λ batch. Covers from.now batch.nodes.items) batches.now }
     requires within_next { All (λ batch. Covers to.now batch.nodes.items) batches.now }
     ensures noted { (i : ℕ) (d : Batch) → i < length batches.now → Sleeps changed.new i → IsDue due.now i → All (IsAsBefore from.now to.now) (slice_index_or batches.now i d).nodes.items }
     ensures none { result ≡ false → (i : ℕ) → i < length batches.now → Sleeps changed.new i }
+    ensures some { result ≡ true → HasMoved batches.now from.now to.now }
 {
     let mut moved = false;
     for (i, batch) in batches.iter().enumerate() {
-        changed[i] = has_changed(batch, due[i], from, to);
-        moved = moved || changed[i];
+        let has_moved = has_changed(batch, due[i], from, to);
+        changed[i] = has_moved;
+        moved = moved || has_moved;
     }
     moved
 }
@@ -137,6 +146,7 @@ impl Activity<'_> {
     /// compute. Answers whether a node changed, where the program doesn't read the number of the round, and else true.
     pub fn look(&mut self, batches: &[Batch], from: &[Vec<u32>], to: &[Vec<u32>]) -> bool
         requires activity { (network : Neighbours) × IsActivity network batches.now self.old }
+        requires few { length from.now ≤ 8 }
         requires fields { length to.now ≡ length from.now }
         requires within { All (λ batch. Covers from.now batch.nodes.items) batches.now }
         requires within_next { All (λ batch. Covers to.now batch.nodes.items) batches.now }
@@ -147,6 +157,7 @@ impl Activity<'_> {
         ensures all { self.old.settles ≡ false → (i : ℕ) → i < length batches.now → IsDue self.new.due.items i }
         ensures noted { self.old.settles ≡ true → (i : ℕ) (d : Batch) → i < length batches.now → Sleeps self.new.changed.items i → IsDue self.old.due.items i → All (IsAsBefore from.now to.now) (slice_index_or batches.now i d).nodes.items }
         ensures awake { self.old.settles ≡ true → (i : ℕ) (d : Vec ℕ) → i < length batches.now → Sleeps self.new.due.items i → All (Sleeps self.new.changed.items) (slice_index_or self.old.nears.now i d).items }
+        ensures some { result ≡ true → self.old.settles ≡ true → HasMoved batches.now from.now to.now }
         ensures none { result ≡ false → (self.old.settles ≡ true) × ((i : ℕ) → i < length batches.now → Sleeps self.new.changed.items i) }
     {
         if !self.settles {

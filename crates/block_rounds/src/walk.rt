@@ -1,5 +1,5 @@
 //! Rounds of a program on a network, one behind the other.
-ghost use Rattle.std.specs.Prelude.{◌≡◌, ◌<◌, ℕ, All, IfOk, false, length, map, slice_index_or};
+ghost use Rattle.std.specs.Prelude.{◌≡◌, ◌≢◌, ◌<◌, ℕ, All, IfOk, false, true, length, map, slice_index_or};
 ghost use denote.Param.Send.{IsSync};
 ghost use Rattle.rule_check.specs.declared.state.State.{State};
 ghost use Rattle.rule_check.specs.Rounds.{reads_round};
@@ -124,6 +124,7 @@ impl<'a> Walk<'a> {
         ensures next { (u : ℕ) → u < length self.old.network → state_by self.new.words u ≡ round_from self.old.rules self.old.network round (state_by self.old.words) u }
         ensures rests { result ≡ false → (u : ℕ) → u < length self.old.network → state_by self.new.words u ≡ state_by self.old.words u }
         ensures unread { result ≡ false → reads_round self.old.rules ≡ false }
+        ensures moves { result ≡ true → reads_round self.old.rules ≡ false → (u : ℕ) × (u < length self.old.network) × (state_by self.new.words u ≢ state_by self.old.words u) }
     {
         let task = Task {
             network: self.network,
@@ -146,6 +147,7 @@ impl<'a> Walk<'a> {
         ensures next { (u : ℕ) → u < length self.old.network → state_by self.new.words u ≡ round_from self.old.rules self.old.network round (state_by self.old.words) u }
         ensures rests { result ≡ false → (u : ℕ) → u < length self.old.network → state_by self.new.words u ≡ state_by self.old.words u }
         ensures unread { result ≡ false → reads_round self.old.rules ≡ false }
+        ensures moves { result ≡ true → reads_round self.old.rules ≡ false → (u : ℕ) × (u < length self.old.network) × (state_by self.new.words u ≢ state_by self.old.words u) }
     {
         let saved = saved_by(self.batches, &self.activity.due, &self.shares, &self.costs);
         if self.shares.is_empty() || saved < self.costs.least_saving {

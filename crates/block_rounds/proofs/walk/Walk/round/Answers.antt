@@ -2,13 +2,14 @@ use Rattle.std.proofs.Common.{◌≡◌, ◌<◌, ◌∙◌, ℕ, List, All, ap,
 use Rattle.std.specs.Global.{Vec}
 use Rattle.std.proofs.lemmas.Grind.{common_steps}
 use Rattle.rule_check.specs.Value.{Rules}
+use Rattle.rule_check.specs.Rounds.{reads_round}
 use Rattle.row_code.specs.Block.{state_at}
 use Rattle.row_code.proofs.Nodes.{refilled}
 use Rattle.block_rounds.specs.declared.batch.Batch.{Batch}
 use Rattle.block_rounds.specs.Nears.{IsDue, Sleeps}
 use Rattle.block_rounds.specs.Rounds.{IsNext, round_from}
-use Rattle.block_rounds.specs.Walks.{IsAsBefore, IsWalk, Walked, state_by}
-use Rattle.block_rounds.proofs.Turns.{IsWritten, IsLookedAt, walked, walked_next, walked_rests}
+use Rattle.block_rounds.specs.Walks.{HasMoved, IsAsBefore, IsWalk, Walked, state_by}
+use Rattle.block_rounds.proofs.Turns.{IsWritten, IsLookedAt, walked, walked_next, walked_moves, walked_rests}
 use Rattle.block_rounds.proofs.walk.Walk.round.Goals as goal
 
 new_is : (c : goal.After-swap) → c.swap.new.x.items ≡ c.step_due.new.to
@@ -43,6 +44,9 @@ looked c =
     let batches = s.batches.now in
     let changed = c.look-moved.new.self.changed.items in
     let made : c.deref-4.result.now ≡ c.step_due.new.to = c.deref-4.ensures.value ∙ refilled s.to.len c.step_due.new.to s.to.items (c.step_due.auto.to ∙ c.deref_mut.ensures.len) in
+    let some =
+    subst (λ (from : List (Vec ℕ)). c.look-moved.result ≡ true → s.activity.settles ≡ true → HasMoved batches from c.step_due.new.to) c.deref-3.ensures.value
+    (subst (λ (to : List (Vec ℕ)). c.look-moved.result ≡ true → s.activity.settles ≡ true → HasMoved batches c.deref-3.result.now to) made e.some) in
     record {
       nears = e.nears;
       settles = e.settles;
@@ -53,6 +57,7 @@ looked c =
           subst (λ (from : List (Vec ℕ)). s.activity.settles ≡ true → (i : ℕ) (d : Batch) → i < length batches → Sleeps changed i → IsDue s.activity.due.items i → All (IsAsBefore from c.step_due.new.to) (slice_index_or batches i d).nodes.items) c.deref-3.ensures.value
           (subst (λ (to : List (Vec ℕ)). s.activity.settles ≡ true → (i : ℕ) (d : Batch) → i < length batches → Sleeps changed i → IsDue s.activity.due.items i → All (IsAsBefore c.deref-3.result.now to) (slice_index_or batches i d).nodes.items) made e.noted);
       awake = e.awake;
+      some = some;
       none = e.none;
     }
 
@@ -84,3 +89,20 @@ returns-clause-rests c = λ still u inside.
     ∙ walked_rests s.block.rules s.network.now s.batches.now s.activity c.look-moved.new.self s.shares.items c.args.round s.from.items s.to.items c.step_due.new.to c.look-moved.result c.self.invariant (written c) (looked c)
     still u (omega (arith, inside, ap length network_is))
     ∙ ap (λ (w : Walked). state_by w.words u) view
+
+pub returns-clause-moves : goal.returns-clause-moves
+returns-clause-moves c = λ moved unread.
+    let s = c.self.inside in
+    let view = c.self.view_is in
+    let network_is : s.network.now ≡ c.args.self.now.network = ap (λ (w : Walked). w.network) view in
+    let rules_are : s.block.rules ≡ c.args.self.now.rules = ap (λ (w : Walked). w.rules) view in
+    let found = walked_moves s.block.rules s.network.now s.batches.now s.activity c.look-moved.new.self s.shares.items c.args.round s.from.items s.to.items c.step_due.new.to c.look-moved.result c.self.invariant (written c) (looked c)
+    moved (ap (λ (r : Rules). reads_round r) rules_are ∙ unread) in (
+      found.0,
+      omega (arith, found.1, ap length network_is),
+      λ same.
+          found.2
+          (sym (ap (λ (columns : List (Vec ℕ)). state_at columns found.0) (new_is c))
+          ∙ same
+          ∙ sym (ap (λ (w : Walked). state_by w.words found.0) view)),
+    )

@@ -1,13 +1,15 @@
 use Rattle.std.proofs.Common.{◌≡◌, ◌<◌, ◌∙◌, ℕ, List, All, ap, sym, subst, arith, length, slice_index, vec_len}
 use Rattle.std.specs.Global.{Vec}
 use Rattle.std.proofs.lemmas.Grind.{common_steps}
+use Rattle.rule_check.specs.Value.{Rules}
+use Rattle.rule_check.specs.Rounds.{reads_round}
 use Rattle.row_code.specs.Block.{state_at}
 use Rattle.row_code.proofs.Nodes.{refilled}
 use Rattle.block_rounds.specs.declared.share.Share.{Share}
 use Rattle.block_rounds.specs.declared.task.Task.{Task}
 use Rattle.block_rounds.specs.Rounds.{round_from}
 use Rattle.block_rounds.specs.Walks.{AreShares, HasNext, HoldsOfDue, IsShare, IsWalk, Walked, state_by}
-use Rattle.block_rounds.proofs.Turns.{IsWritten, IsLookedAt, covered_after, looked_as, shares_after, some_of, walked, walked_next, walked_rests, with_shares, written_as, written_shared}
+use Rattle.block_rounds.proofs.Turns.{IsWritten, IsLookedAt, covered_after, looked_as, shares_after, some_of, walked, walked_next, walked_moves, walked_rests, with_shares, written_as, written_shared}
 use Rattle.block_rounds.proofs.walk.Walk.round_shared.Given.{Over}
 use Rattle.block_rounds.proofs.walk.Walk.round_shared.Goals as goal
 
@@ -57,7 +59,7 @@ looked g c =
     let e = c.look-moved.ensures in
     let made : c.deref-7.result.now ≡ c.copy_shares.new.to = c.deref-7.ensures.value ∙ refilled s.to.len c.copy_shares.new.to s.to.items (c.copy_shares.auto.to ∙ c.deref_mut-2.ensures.len) in
     looked_as s.batches.now s.activity c.look-moved.new.self s.from.items c.deref-6.result.now c.copy_shares.new.to c.deref-7.result.now c.look-moved.result c.deref-6.ensures.value made
-    (record { nears = e.nears; settles = e.settles; flags = e.flags; changes = e.changes; all = e.all; noted = e.noted; awake = e.awake; none = e.none })
+    (record { nears = e.nears; settles = e.settles; flags = e.flags; changes = e.changes; all = e.all; noted = e.noted; awake = e.awake; some = e.some; none = e.none })
 
 pub invariant_of-self : goal.invariant_of-self
 invariant_of-self g c =
@@ -93,3 +95,20 @@ returns-clause-rests g c = λ still u inside.
     ∙ walked_rests s.block.rules s.network.now s.batches.now s.activity c.look-moved.new.self s.shares.items c.args.round s.from.items s.to.items c.copy_shares.new.to c.look-moved.result c.self.invariant (written g c) (looked g c)
     still u (omega (arith, inside, ap length network_is))
     ∙ ap (λ (w : Walked). state_by w.words u) view
+
+pub returns-clause-moves : goal.returns-clause-moves
+returns-clause-moves g c = λ moved unread.
+    let s = c.self.inside in
+    let view = c.self.view_is in
+    let network_is : s.network.now ≡ c.args.self.now.network = ap (λ (w : Walked). w.network) view in
+    let rules_are : s.block.rules ≡ c.args.self.now.rules = ap (λ (w : Walked). w.rules) view in
+    let found = walked_moves s.block.rules s.network.now s.batches.now s.activity c.look-moved.new.self s.shares.items c.args.round s.from.items s.to.items c.copy_shares.new.to c.look-moved.result c.self.invariant (written g c) (looked g c)
+    moved (ap (λ (r : Rules). reads_round r) rules_are ∙ unread) in (
+      found.0,
+      omega (arith, found.1, ap length network_is),
+      λ same.
+          found.2
+          (sym (ap (λ (columns : List (Vec ℕ)). state_at columns found.0) (new_is g c))
+          ∙ same
+          ∙ sym (ap (λ (w : Walked). state_by w.words found.0) view)),
+    )
