@@ -1,0 +1,6 @@
+pub mod Lists
+pub mod Sweeps
+pub mod Ways
+pub mod Starving
+pub mod Walks
+pub mod Manners
