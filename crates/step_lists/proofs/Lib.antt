@@ -5,3 +5,4 @@ pub mod Fronts
 pub mod Walking
 pub mod Finding
 pub mod Ending
+pub mod Mixing

@@ -4,3 +4,4 @@ pub mod Ways
 pub mod Starving
 pub mod Walks
 pub mod Manners
+pub mod Mixing

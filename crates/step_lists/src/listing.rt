@@ -52,7 +52,7 @@ fn node_fault(network: &Network, node: Option<u32>) -> Option<ListFault>
 }
 
 /// Why there is no list, whatever memory there is.
-fn refusal(plan: &Plan, stop: u32, manner: Manner) -> Option<ListFault>
+pub(crate) fn refusal(plan: &Plan, stop: u32, manner: Manner) -> Option<ListFault>
     ensures { result ≡ refusal_of plan.now stop manner }
 {
     if stop > MOST_ROUNDS {
@@ -65,7 +65,7 @@ fn refusal(plan: &Plan, stop: u32, manner: Manner) -> Option<ListFault>
 }
 
 /// How many steps a list may have.
-fn limit_of(count: Option<u32>) -> u32
+pub(crate) fn limit_of(count: Option<u32>) -> u32
     ensures { result ≡ limit_of count }
 {
     match count {

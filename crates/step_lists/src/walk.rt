@@ -39,7 +39,7 @@ impl Model for Walk {
 }
 
 /// Whether a step with this answer changes the world.
-fn changes(answer: Answer) -> bool
+pub(crate) fn changes(answer: Answer) -> bool
     ensures { result ≡ is_change answer }
 {
     matches!(answer, Answer::Taken | Answer::Moved)
