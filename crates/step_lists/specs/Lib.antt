@@ -1,0 +1,7 @@
+pub mod Lists
+pub mod Sweeps
+pub mod Ways
+pub mod Starving
+pub mod Walks
+pub mod Manners
+pub mod Mixing

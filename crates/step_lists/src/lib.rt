@@ -1,0 +1,19 @@
+//! Lists of single steps that each change something, made in a manner that is asked for: sweeps, by lot, without one node.
+#![tactic(auto)]
+
+mod ahead;
+mod fault;
+mod links;
+mod listing;
+mod manner;
+mod open_steps;
+mod queue;
+mod refused;
+mod rest;
+mod sweeps;
+mod walk;
+
+pub use fault::ListFault;
+pub use listing::listed;
+pub use manner::Manner;
+pub use refused::with_refused;
