@@ -4,6 +4,8 @@
 #[cfg(test)]
 mod memory_answers;
 #[cfg(test)]
+mod memory_of_lists;
+#[cfg(test)]
 mod memory_of_logs;
 #[cfg(test)]
 mod memory_of_replays;

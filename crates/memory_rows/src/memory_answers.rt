@@ -14,6 +14,7 @@ use rule_check::CheckFault;
 use rule_lang::LangFault;
 use std::alloc::{AllocError, AllocFailed};
 use std::test::Fail;
+use step_lists::ListFault;
 use unison_pool::RunFault;
 use unison_trace::{ReplayFault, ScheduleFault};
 use unison_world::{FinishFault, OpenFault};
@@ -28,6 +29,7 @@ pub enum Stopped {
     Schedule(ScheduleFault),
     Replay(ReplayFault),
     Run(RunFault),
+    List(ListFault),
     Memory,
 }
 
@@ -91,6 +93,12 @@ impl From<RunFault> for Stopped {
     }
 }
 
+impl From<ListFault> for Stopped {
+    fn from(fault: ListFault) -> Stopped {
+        Stopped::List(fault)
+    }
+}
+
 impl From<RoundFault> for Stopped {
     fn from(fault: RoundFault) -> Stopped {
         Stopped::Text(Refusal::Round(fault))
@@ -119,6 +127,7 @@ fn is_memory(stopped: Stopped) -> bool {
         Stopped::Schedule(fault) => fault == ScheduleFault::Memory,
         Stopped::Replay(fault) => is_memory_of_replays(fault),
         Stopped::Run(fault) => fault == RunFault::Memory,
+        Stopped::List(fault) => fault == ListFault::Memory,
         Stopped::Memory => true,
     }
 }
