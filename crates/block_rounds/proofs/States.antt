@@ -11,7 +11,7 @@ use Rattle.row_code.specs.Steps.{lane}
 use Rattle.row_code.specs.Block.{column_words, state_at}
 use Rattle.row_code.proofs.Columns.{no_column}
 use Rattle.row_code.proofs.Nodes.{range_at}
-use Rattle.block_rounds.specs.Rounds.{IsPlain}
+use Rattle.block_rounds.specs.Rounds.{HaveWords, IsPlain}
 
 abbrev make_state : List ℕ → State
 make_state ws = record { words = ws }
@@ -118,3 +118,25 @@ state_same left right u many same =
     range_at first 8 k d inside
     ∙ lane_same left right u k many same (cases_lt k (length left))
     ∙ sym (range_at second 8 k d inside)))
+
+-- columns with the same states of all nodes have the same words
+pub words_same : (left right : List (Vec ℕ)) (n : ℕ) → length left ≤ 8 → length left ≡ length right → HaveWords n left → HaveWords n right
+    → ((u : ℕ) → u < n → state_at left u ≡ state_at right u) → column_words left ≡ column_words right
+words_same left right n few many long other_long same =
+    let items = λ (column : Vec ℕ). column.items in
+    same_lists (column_words left) (column_words right) (length-map left items ∙ many ∙ sym (length-map right items))
+    (λ k d h.
+    let inside : k < length left = omega (arith, h, length-map left items) in
+    let there : k < length right = omega (arith, inside, many) in
+    let here = some_column left k inside in
+    let beside = some_column right k there in
+    get_or-map items left k here d inside
+    ∙ same_lists (slice_index_or left k here).items (slice_index_or right k beside).items (long k here inside ∙ sym (other_long k beside there))
+      (λ u e l.
+      let node : u < n = omega (arith, l, long k here inside) in
+      get_or_default (slice_index_or left k here).items u e 0 l
+      ∙ sym (word_read left u k here few inside)
+      ∙ ap (λ (s : State). slice_index s.words k) (same u node)
+      ∙ word_read right u k beside (omega (arith, few, many)) there
+      ∙ sym (get_or_default (slice_index_or right k beside).items u e 0 (omega (arith, node, other_long k beside there))))
+    ∙ sym (get_or-map items right k beside d there))

@@ -1,8 +1,8 @@
 //! States by columns, one for each field.
-ghost use Rattle.std.specs.Prelude.{◌≡◌, ◌<◌, ◌≤◌, ℕ, All, IfOk, length, map, slice_index, slice_index_or};
+ghost use Rattle.std.specs.Prelude.{◌≡◌, ◌↔◌, ◌<◌, ◌≤◌, ℕ, All, IfOk, IsTrue, length, map, slice_index, slice_index_or};
 ghost use Rattle.rule_check.specs.declared.state.State.{State};
 ghost use Rattle.link_net.specs.Neighbours.{numbers_below};
-ghost use Rattle.row_code.specs.Block.{state_at};
+ghost use Rattle.row_code.specs.Block.{column_words, state_at};
 ghost use Rattle.block_rounds.specs.Rounds.{HaveWords, IsPlain};
 
 use rule_check::State;
@@ -81,4 +81,11 @@ pub fn states_of(
         states.push(state_of(columns, node))?;
     }
     Ok(states)
+}
+
+/// Whether the columns have the same words.
+pub fn are_same(left: &[Vec<u32>], right: &[Vec<u32>]) -> bool
+    ensures exact { IsTrue result ↔ (column_words left.now ≡ column_words right.now) }
+{
+    left == right
 }

@@ -1,5 +1,5 @@
 //! Rounds of a program on a network, one behind the other.
-ghost use Rattle.std.specs.Prelude.{◌≡◌, ◌≢◌, ◌<◌, ℕ, All, IfOk, false, true, length, map, slice_index_or};
+ghost use Rattle.std.specs.Prelude.{◌≡◌, ◌≢◌, ◌↔◌, ◌<◌, ℕ, All, IfOk, IsTrue, false, true, length, map, slice_index_or};
 ghost use denote.Param.Send.{IsSync};
 ghost use Rattle.rule_check.specs.declared.state.State.{State};
 ghost use Rattle.rule_check.specs.Rounds.{reads_round};
@@ -9,7 +9,7 @@ ghost use Rattle.block_rounds.specs.Walks.{state_by};
 
 use crate::activity::{Activity, all_due};
 use crate::batch::Batch;
-use crate::columns::{columns_of, states_of};
+use crate::columns::{are_same, columns_of, states_of};
 use crate::layout::Layout;
 use crate::merge::copy_shares;
 use crate::round::step_due;
@@ -173,5 +173,13 @@ impl<'a> Walk<'a> {
         ensures plain { IfOk result (λ states. All (IsPlain (length self.now.rules.fields)) states.items) }
     {
         states_of(alloc, self.network.nodes() as usize, &self.from)
+    }
+    /// Whether all nodes have the states that they have in another walk of the same program on the same network.
+    pub fn is_like(&self, other: &Walk<'_>) -> bool
+        requires rules { other.now.rules ≡ self.now.rules }
+        requires network { other.now.network ≡ self.now.network }
+        ensures exact { IsTrue result ↔ ((u : ℕ) → u < length self.now.network → state_by self.now.words u ≡ state_by other.now.words u) }
+    {
+        are_same(&self.from, &other.from)
     }
 }

@@ -1,11 +1,34 @@
 -- The states of a plan's nodes, round by round.
-use Rattle.std.specs.Prelude.{ℕ, ◌≡◌, ◌<◌, length}
+use Rattle.std.specs.Prelude.{ℕ, ◌≡◌, ◌<◌, ◌≤◌, length}
+use Rattle.rule_check.specs.Value.{Rules}
+use Rattle.link_net.specs.Neighbours.{Neighbours}
 use Rattle.block_rounds.specs.Walks.{Walked, state_by}
-use Rattle.lockstep.specs.Plans.{PlanView}
-use Rattle.lockstep.specs.Lockstep.{lockstep}
+use Rattle.lockstep.specs.Plans.{PlanView, IsPlan}
+use Rattle.lockstep.specs.Lockstep.{lockstep, lockstep_states}
 
 -- the states of all nodes of the plan after round t
 pub record HasRound (p : PlanView) (t : ℕ) (walk : Walked) : Type 0 where
   pub rules : walk.rules ≡ p.program
   pub network : walk.network ≡ p.network
   pub states : (u : ℕ) → u < length p.network → state_by walk.words u ≡ lockstep p t u
+
+-- a plan, and the round at which its nodes stand
+pub record RoundView : Type 0 where
+  pub plan : PlanView
+  pub round : ℕ
+
+-- what holds of a plan, the code of its program and the layout of its network
+pub record IsCourse (p : PlanView) (code : Rules) (layout : Neighbours) : Type 0 where
+  pub whole : IsPlan p
+  pub code : code ≡ p.program
+  pub layout : layout ≡ p.network
+
+-- what holds of a plan whose nodes stand at a round
+pub record StandsAt (p : PlanView) (t : ℕ) (walk : Walked) : Type 0 where
+  pub whole : IsPlan p
+  pub late : p.start ≤ t
+  pub held : HasRound p t walk
+
+-- the states of all nodes are the same after both rounds
+abbrev pub AreAlike : PlanView → ℕ → ℕ → Type 0
+AreAlike p s t = lockstep_states p s (length p.network) ≡ lockstep_states p t (length p.network)

@@ -2,6 +2,7 @@
 #![tactic(auto)]
 
 mod config;
+mod costs;
 mod difference;
 mod fault;
 mod laws;
@@ -12,7 +13,9 @@ mod plan;
 mod plan_cause;
 mod report_reader;
 mod report_writer;
+mod round_walk;
 mod rounds;
+mod steps;
 mod tally;
 
 pub use config::Config;
@@ -25,5 +28,6 @@ pub use plan::Plan;
 pub use plan_cause::{PlanCause, diagnose_plan};
 pub use report_reader::read_report;
 pub use report_writer::{put_fields, report};
+pub use round_walk::{Course, RoundWalk};
 pub use rounds::{MOST_ROUNDS, lockstep};
 pub use tally::{Cut, DeviceFault, Tally, write_text};

@@ -1,5 +1,5 @@
 use Rattle.lockstep.specs.Walking.{HasRound}
-use Rattle.lockstep.proofs.rounds.walk_to.Given as goal
+use Rattle.lockstep.proofs.steps.walk_to.Given as goal
 
 abbrev pub invariant-loop-round : goal.invariant-loop-round
 invariant-loop-round g l = record {

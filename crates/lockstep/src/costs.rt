@@ -1,0 +1,53 @@
+//! What rounds cost.
+
+use crate::plan::Plan;
+use block_rounds::Costs;
+use link_net::Network;
+use rule_check::{Gatherer, Program, Rule};
+
+/// The least work of a round, in instructions, that threads have to save, if the round is shared. To share a round of
+/// 65,536 nodes costs 0.3 to 0.7 ms on four idle cores, and more on busy ones: threads start and join, read columns that another
+/// core wrote, and their columns are copied together. One thread does as much work as this in about 1.5 ms. Rounds in
+/// which threads save less gain a quarter at most on idle cores, and take up to twice as long on busy ones; docs/speed.md
+/// has the figures.
+const LEAST_SAVING: u64 = 5_898_240;
+
+/// How many instructions the rules have.
+fn rules_length(rules: &[Rule]) -> u64 {
+    let mut sum: u64 = 0;
+    for rule in rules {
+        sum = sum.saturating_add(rule.code.len() as u64);
+    }
+    sum
+}
+
+/// How many instructions the aggregates have.
+fn aggregates_length(aggregates: &[Gatherer]) -> u64 {
+    let mut sum: u64 = 0;
+    for aggregate in aggregates {
+        sum = sum.saturating_add(aggregate.code.len() as u64);
+    }
+    sum
+}
+
+/// What a round of a plan costs: the rules' instructions at each node, and the aggregates' at each end of a link.
+pub(crate) fn costs_of(program: &Program) -> Costs {
+    Costs {
+        node: rules_length(program.rules()),
+        end: aggregates_length(program.aggregates()),
+        least_saving: LEAST_SAVING,
+    }
+}
+
+/// The work of a whole round, in instructions.
+fn work_of(network: &Network, costs: &Costs) -> u64 {
+    let ends = 2 * network.links() as u64;
+    let at_nodes = costs.node.saturating_mul(network.nodes() as u64);
+    let at_ends = costs.end.saturating_mul(ends);
+    at_nodes.saturating_add(at_ends)
+}
+
+/// Whether a whole round of a plan has as much work as threads have to save.
+pub(crate) fn is_worth_sharing(plan: &Plan) -> bool {
+    work_of(plan.network(), &costs_of(plan.program())) >= LEAST_SAVING
+}
