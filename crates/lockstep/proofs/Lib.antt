@@ -9,6 +9,7 @@ pub mod Nears
 pub mod Resumed
 pub mod Held
 pub mod Stays
+pub mod Alike
 pub mod Digits
 pub mod Fronts
 pub mod Once

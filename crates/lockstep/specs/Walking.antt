@@ -18,10 +18,10 @@ pub record RoundView : Type 0 where
   pub round : ℕ
 
 -- what holds of a plan, the code of its program and the layout of its network
-pub record IsCourse (p : PlanView) (code : Rules) (layout : Neighbours) : Type 0 where
+pub record IsCourse (p : PlanView) (rules : Rules) (network : Neighbours) : Type 0 where
   pub whole : IsPlan p
-  pub code : code ≡ p.program
-  pub layout : layout ≡ p.network
+  pub code : rules ≡ p.program
+  pub layout : network ≡ p.network
 
 -- what holds of a plan whose nodes stand at a round
 pub record StandsAt (p : PlanView) (t : ℕ) (walk : Walked) : Type 0 where
