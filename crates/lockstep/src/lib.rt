@@ -27,7 +27,7 @@ pub use parallel::lockstep_par;
 pub use plan::Plan;
 pub use plan_cause::{PlanCause, diagnose_plan};
 pub use report_reader::read_report;
-pub use report_writer::{put_fields, report};
+pub use report_writer::{put_field, put_fields, report};
 pub use round_walk::{Course, RoundWalk};
 pub use rounds::{MOST_ROUNDS, lockstep};
 pub use tally::{Cut, DeviceFault, Tally, write_text};

@@ -8,8 +8,16 @@ use crate::plan::Plan;
 use rule_check::{Program, State};
 use std::alloc::{AllocError, Global};
 
-/// One space, the field's name, `=` and the value.
-fn put_field(out: &mut String, program: &Program, place: u32, value: u32) -> Result<(), AllocError>
+/// Writes a value of the field at a place behind what stands in the text: one space, the field's name, `=` and the value in
+/// decimal digits.
+///
+/// Where memory runs out some of it may stand there.
+pub fn put_field(
+    out: &mut String,
+    program: &Program,
+    place: u32,
+    value: u32,
+) -> Result<(), AllocError>
     requires place { place < length program.now.fields }
     ensures text { OnOk result (string_bytes out.new ≡ string_bytes out.old ++ field_text (slice_index_or (names_of program.now) place []) value) }
 {

@@ -1,0 +1,52 @@
+//! Which nodes are shown.
+ghost use Rattle.std.specs.Prelude.{◌≡◌, length, slice_get, slice_index};
+ghost use Rattle.std.specs.List.{filter, option_and_then};
+ghost use Rattle.link_net.specs.Neighbours.{numbers_below};
+ghost use Rattle.round_watch.specs.Watching.{differs, is_changed, is_shown, shown_nodes, states_of};
+
+use crate::show::Show;
+use lockstep::Config;
+use rule_check::State;
+
+/// A word of a state; 0 past the last.
+pub(crate) fn word(state: &State, place: u32) -> u32
+    ensures { result ≡ slice_index state.now.words place }
+{
+    state.words.get(place as usize).copied().unwrap_or(0)
+}
+
+/// Whether one of the fields has another value.
+fn is_changed(fields: &[u32], old: &State, new: &State) -> bool
+    ensures { result ≡ is_changed fields.now old.now new.now }
+{
+    for place in fields {
+        if word(old, *place) != word(new, *place) {
+            return true;
+        }
+    }
+    false
+}
+
+/// Whether a node is shown that had the old state in the round before, if there was one.
+fn differs(show: &Show<'_>, old: Option<State>, new: &State) -> bool
+    ensures { result ≡ differs show.now old new.now }
+{
+    match old {
+        Some(old) => !show.changes || is_changed(show.fields, &old, new),
+        None => true,
+    }
+}
+
+/// The state of a node in the round before, if there was one.
+fn state_before(before: Option<&Config>, node: u32) -> Option<State>
+    ensures { result ≡ option_and_then (λ states. slice_get states node) (states_of before) }
+{
+    before?.state(node)
+}
+
+/// Whether a node with this state is shown.
+pub(crate) fn is_shown(show: &Show<'_>, before: Option<&Config>, node: u32, state: &State) -> bool
+    ensures { result ≡ is_shown show.now (states_of before) node state.now }
+{
+    differs(show, state_before(before, node), state)
+}

@@ -1,0 +1,15 @@
+//! The reports of some rounds of a plan, one behind the other, in one pass over the rounds.
+#![tactic(auto)]
+
+mod changes;
+mod laws;
+mod parts;
+mod rows;
+mod show;
+mod span;
+mod watching;
+
+pub use laws::whole_parts_are_reports;
+pub use show::{Format, Show};
+pub use span::Span;
+pub use watching::{Progress, watched};
