@@ -1,11 +1,8 @@
 //! Which nodes are shown.
-ghost use Rattle.std.specs.Prelude.{◌≡◌, length, slice_get, slice_index};
-ghost use Rattle.std.specs.List.{filter, option_and_then};
-ghost use Rattle.link_net.specs.Neighbours.{numbers_below};
-ghost use Rattle.round_watch.specs.Watching.{differs, is_changed, is_shown, shown_nodes, states_of};
+ghost use Rattle.std.specs.Prelude.{◌≡◌, slice_index};
+ghost use Rattle.round_watch.specs.Watching.{differs, is_changed, is_shown};
 
 use crate::show::Show;
-use lockstep::Config;
 use rule_check::State;
 
 /// A word of a state; 0 past the last.
@@ -37,16 +34,9 @@ fn differs(show: &Show<'_>, old: Option<State>, new: &State) -> bool
     }
 }
 
-/// The state of a node in the round before, if there was one.
-fn state_before(before: Option<&Config>, node: u32) -> Option<State>
-    ensures { result ≡ option_and_then (λ states. slice_get states node) (states_of before) }
+/// Whether a node with this state is shown, the states of the round that was shown before being these, or none.
+pub(crate) fn is_shown(show: &Show<'_>, before: &[State], node: u32, state: &State) -> bool
+    ensures { result ≡ is_shown show.now before.now node state.now }
 {
-    before?.state(node)
-}
-
-/// Whether a node with this state is shown.
-pub(crate) fn is_shown(show: &Show<'_>, before: Option<&Config>, node: u32, state: &State) -> bool
-    ensures { result ≡ is_shown show.now (states_of before) node state.now }
-{
-    differs(show, state_before(before, node), state)
+    differs(show, before.get(node as usize).copied(), state)
 }

@@ -1,11 +1,11 @@
 //! Which rounds are watched.
-ghost use Rattle.std.specs.Prelude.{◌≡◌, ◌<◌, ◌≤◌, ◌×◌, ◌⊎◌, MatchOption};
+ghost use Rattle.std.specs.Prelude.{◌≡◌, ◌<◌, ◌≤◌, ◌+◌, ◌⊎◌, MatchOption};
 ghost use Rattle.round_watch.specs.Spans.{count_of, round_at};
 
 use std::marker::Model;
 
 /// Rounds from a first one on, every so many, up to a last one, counted from round 0.
-#[derive(Clone, Copy, Debug, PartialEq, Eq)]
+#[derive(Debug, Drop)]
 pub struct Span {
     first: u32,
     last: u32,
@@ -52,6 +52,7 @@ impl Span {
     /// How many rounds there are, less one.
     pub fn steps(&self) -> u32
         ensures steps { result + 1 ≡ count_of self.now }
+        ensures few { result ≤ self.now.last }
     {
         (self.last - self.first) / self.every
     }
