@@ -10,3 +10,5 @@ mod devices;
 mod plans;
 #[cfg(test)]
 mod resumed;
+#[cfg(test)]
+mod watching;

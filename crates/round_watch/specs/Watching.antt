@@ -10,8 +10,8 @@ use Rattle.lockstep.specs.Configs.{Configuration, blank, most_rounds}
 use Rattle.lockstep.specs.Lockstep.{lockstep_config, lockstep_states, state_in}
 use Rattle.lockstep.specs.Plans.{PlanView}
 use Rattle.lockstep.specs.Report.{field_text, round_line}
-use Rattle.lockstep.specs.declared.fault.RoundFault.{RoundFault}
-use Rattle.lockstep.specs.declared.fault.RoundFault.TheVariants.{TooManyRounds, RoundsBelowStart}
+use Rattle.round_watch.specs.declared.fault.WatchFault.{WatchFault}
+use Rattle.round_watch.specs.declared.fault.WatchFault.TheVariants.{TooManyRounds, RoundsBelowStart, NoField}
 use Rattle.round_watch.specs.declared.show.Format.{Format}
 use Rattle.round_watch.specs.declared.show.Format.TheVariants.{Report, Csv, Json}
 use Rattle.round_watch.specs.declared.show.Show.{Show}
@@ -109,9 +109,14 @@ opening_text show names = headings show.format (flat_map (λ k. codes "," ++ sli
 abbrev pub watch_text : PlanView → SpanView → Show → List ℕ
 watch_text p span show = opening_text show (names_of p.program) ++ parts_text p show [] (rounds_in span)
 
+-- the first of the places that is none of so many fields
+abbrev pub missing_of : ℕ → List ℕ → Option ℕ
+missing_of count [] = None
+missing_of count (place ∷ places) = if nat_lt place count then missing_of count places else Some place
+
 -- why there is none, whatever memory there is
-abbrev pub refusal_of : PlanView → SpanView → Option RoundFault
-refusal_of p span =
+abbrev pub refusal_of : PlanView → SpanView → Show → Option WatchFault
+refusal_of p span show =
     if nat_lt most_rounds span.last then Some TooManyRounds
     else if nat_lt span.first p.start then Some RoundsBelowStart
-    else None
+    else option_map NoField (missing_of (length p.program.fields) show.fields.now)

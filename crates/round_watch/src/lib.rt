@@ -2,6 +2,7 @@
 #![tactic(auto)]
 
 mod changes;
+mod fault;
 mod laws;
 mod parts;
 mod rows;
@@ -9,6 +10,7 @@ mod show;
 mod span;
 mod watching;
 
+pub use fault::WatchFault;
 pub use laws::whole_parts_are_reports;
 pub use show::{Format, Show};
 pub use span::Span;

@@ -2,17 +2,18 @@
 ghost use Rattle.std.specs.Prelude.{◌≡◌, ◌≤◌, ◌<◌, ◌++◌, [], All, Err, IfOk, IfErr, MatchOption, None, OnOk, codes, length, slice_index_or, string_bytes};
 ghost use Rattle.std.specs.List.{flat_map};
 ghost use Rattle.rule_check.specs.Value.{names_of};
-ghost use Rattle.lockstep.specs.declared.fault.RoundFault.TheVariants.{Memory};
 ghost use Rattle.lockstep.specs.Configs.{most_rounds};
 ghost use Rattle.lockstep.specs.Lockstep.{lockstep_config};
+ghost use Rattle.round_watch.specs.declared.fault.WatchFault.TheVariants.{Memory};
 ghost use Rattle.round_watch.specs.Spans.{rounds_in};
-ghost use Rattle.round_watch.specs.Watching.{opening_text, part_text, parts_text, refusal_of, states_in, watch_text};
+ghost use Rattle.round_watch.specs.Watching.{missing_of, opening_text, part_text, parts_text, refusal_of, states_in, watch_text};
 
+use crate::fault::WatchFault;
 use crate::parts::put_part;
 use crate::rows::name_at;
 use crate::show::{Format, Show};
 use crate::span::Span;
-use lockstep::{Config, Course, MOST_ROUNDS, Plan, RoundFault, RoundWalk};
+use lockstep::{Config, Course, MOST_ROUNDS, Plan, RoundWalk};
 use rule_check::{Program, State};
 use std::alloc::{AllocError, Global};
 use std::thread::Threads;
@@ -23,17 +24,30 @@ pub trait Progress {
     fn reached(&mut self, round: u32);
 }
 
-/// Why the rounds cannot be watched, whatever memory there is.
-fn refusal(plan: &Plan, span: &Span) -> Option<RoundFault>
-    ensures { result ≡ refusal_of plan.now span.now }
+/// The first of the places that is none of so many fields.
+fn missing_of(count: u32, places: &[u32]) -> Option<u32>
+    ensures { result ≡ missing_of count places.now }
 {
-    if span.last() > MOST_ROUNDS {
-        return Some(RoundFault::TooManyRounds);
-    }
-    if span.first() < plan.start() {
-        return Some(RoundFault::RoundsBelowStart);
+    for place in places {
+        if *place >= count {
+            return Some(*place);
+        }
     }
     None
+}
+
+/// Why the rounds cannot be watched, whatever memory there is.
+fn refusal(plan: &Plan, span: &Span, show: &Show<'_>) -> Option<WatchFault>
+    ensures { result ≡ refusal_of plan.now span.now show.now }
+{
+    if span.last() > MOST_ROUNDS {
+        return Some(WatchFault::TooManyRounds);
+    }
+    if span.first() < plan.start() {
+        return Some(WatchFault::RoundsBelowStart);
+    }
+    let place = missing_of(plan.program().field_count(), show.fields)?;
+    Some(WatchFault::NoField { place })
 }
 
 /// The names of the shown fields.
@@ -123,11 +137,32 @@ fn put_rounds<P: Progress>(
     Ok(())
 }
 
+/// The text of the rounds, where nothing refuses them.
+fn text_of<P: Progress>(
+    rt: &(impl Threads + Sync),
+    alloc: Global,
+    plan: &Plan,
+    span: &Span,
+    show: &Show<'_>,
+    progress: &mut P,
+) -> Result<Vec<u8>, AllocError>
+    requires fits { refusal_of plan.now span.now show.now ≡ None }
+    ensures text { IfOk result (λ v. v.items ≡ watch_text plan.now span.now show.now) }
+{
+    let course = Course::new(alloc, plan)?;
+    let mut walk = course.shared_walk(rt, alloc)?;
+    let mut out = String::new(alloc);
+    put_opening(&mut out, show, plan.program())?;
+    put_rounds(rt, alloc, &mut out, plan, &mut walk, span, show, progress)?;
+    Ok(out.into_bytes())
+}
+
 /// The text of the rounds of a span of a plan, in one pass over the rounds: none is computed twice. Each round is shared among
 /// as many threads as there are processors where it has enough to compute for them.
 ///
-/// `TooManyRounds` comes where the last round is above 1,000,000,000, and else `RoundsBelowStart` where the first lies before
-/// the plan's start, both before anything is done; `Memory` only where neither of them holds.
+/// `TooManyRounds` comes where the last round is above 1,000,000,000, else `RoundsBelowStart` where the first lies before
+/// the plan's start, and else `NoField` with the first place of those that are to be shown at which the program has no field, all
+/// before anything is done; `Memory` only where none of them holds.
 pub fn watched<P: Progress>(
     rt: &(impl Threads + Sync),
     alloc: Global,
@@ -135,20 +170,15 @@ pub fn watched<P: Progress>(
     span: &Span,
     show: &Show<'_>,
     progress: &mut P,
-) -> Result<Vec<u8>, RoundFault>
-    requires fields { All (λ place. place < length plan.now.program.fields) show.now.fields.now }
+) -> Result<Vec<u8>, WatchFault>
     ensures text { IfOk result (λ v. v.items ≡ watch_text plan.now span.now show.now) }
-    ensures fits { IfOk result (λ _. refusal_of plan.now span.now ≡ None) }
-    ensures refused { IfErr result (λ fault. fault ≡ Memory → refusal_of plan.now span.now ≡ None) }
-    ensures at_once { MatchOption (refusal_of plan.now span.now) (Unit {0}) (λ fault. result ≡ Err fault) }
+    ensures fits { IfOk result (λ _. refusal_of plan.now span.now show.now ≡ None) }
+    ensures refused { IfErr result (λ fault. fault ≡ Memory → refusal_of plan.now span.now show.now ≡ None) }
+    ensures at_once { MatchOption (refusal_of plan.now span.now show.now) (Unit {0}) (λ fault. result ≡ Err fault) }
 {
-    if let Some(fault) = refusal(plan, span) {
+    if let Some(fault) = refusal(plan, span, show) {
         return Err(fault);
     }
-    let course = Course::new(alloc, plan)?;
-    let mut walk = course.shared_walk(rt, alloc)?;
-    let mut out = String::new(alloc);
-    put_opening(&mut out, show, plan.program())?;
-    put_rounds(rt, alloc, &mut out, plan, &mut walk, span, show, progress)?;
-    Ok(out.into_bytes())
+    let text = text_of(rt, alloc, plan, span, show, progress)?;
+    Ok(text)
 }
