@@ -6,7 +6,10 @@ use row_plans::{plan_of, resumed};
 use row_texts::networks::{PATH, UNSET_PAIR};
 use row_texts::programs::{DISTANCE, SWAP_AND_COUNT};
 use row_texts::reports::PATH_AFTER_ONE;
+use std::alloc::Global;
+use std::process::Abort;
 use std::test::Fail;
+use std::thread::Threads;
 
 /// The rounds that were reached: how many, and the last one.
 #[derive(Drop)]
@@ -106,7 +109,12 @@ fn span_of(row: &Row) -> Result<Span, Fail> {
 }
 
 /// Asserts the text of a row, and that each of its rounds is told.
-fn assert_row(rt: &HostRuntime, plan: &Plan, row: &Row) -> Result<(), Fail> {
+fn assert_row<R: Threads + Abort + Sync>(
+    rt: &R,
+    alloc: Global,
+    plan: &Plan,
+    row: &Row,
+) -> Result<(), Fail> {
     let mut seen = Reached { count: 0, last: 0 };
     let show = Show {
         format: row.format,
@@ -115,7 +123,7 @@ fn assert_row(rt: &HostRuntime, plan: &Plan, row: &Row) -> Result<(), Fail> {
         changes: row.changes,
     };
     let span = span_of(row)?;
-    let text = watched(rt, rt.alloc(), plan, &span, &show, &mut seen)?;
+    let text = watched(rt, alloc, plan, &span, &show, &mut seen)?;
     assert_eq!(rt; str::from_utf8(&text), Ok(row.text));
     let (first, last, every) = row.span;
     let steps = (last - first) / every;
@@ -128,7 +136,7 @@ fn assert_row(rt: &HostRuntime, plan: &Plan, row: &Row) -> Result<(), Fail> {
 fn rounds_on_the_path(rt: HostRuntime) -> Result<(), Fail> {
     let plan = plan_of(rt.alloc(), DISTANCE, PATH)?;
     for row in &PATH_ROWS {
-        assert_row(&rt, &plan, row)?;
+        assert_row(&rt, rt.alloc(), &plan, row)?;
     }
     Ok(())
 }
@@ -137,14 +145,15 @@ fn rounds_on_the_path(rt: HostRuntime) -> Result<(), Fail> {
 fn rounds_of_a_pair(rt: HostRuntime) -> Result<(), Fail> {
     let plan = plan_of(rt.alloc(), SWAP_AND_COUNT, UNSET_PAIR)?;
     for row in &PAIR_ROWS {
-        assert_row(&rt, &plan, row)?;
+        assert_row(&rt, rt.alloc(), &plan, row)?;
     }
     Ok(())
 }
 
 /// The answer for some rounds of a plan, the field at a place being shown, node 0 by a label.
-fn answer(
-    rt: &HostRuntime,
+fn answer<R: Threads + Sync>(
+    rt: &R,
+    alloc: Global,
     plan: &Plan,
     span: (u32, u32, u32),
     place: u32,
@@ -153,8 +162,8 @@ fn answer(
     let Some(span) = Span::new(first, last, every) else {
         return Err(Fail::new(format_args!("{first}..{last} every {every}")));
     };
-    let mut labels = Vec::new(rt.alloc());
-    labels.push(String::from_str(rt.alloc(), "\"a, b\"")?)?;
+    let mut labels = Vec::new(alloc);
+    labels.push(String::from_str(alloc, "\"a, b\"")?)?;
     let show = Show {
         format: Format::Csv,
         fields: &[place],
@@ -162,14 +171,14 @@ fn answer(
         changes: false,
     };
     let mut seen = Reached { count: 0, last: 0 };
-    Ok(watched(rt, rt.alloc(), plan, &span, &show, &mut seen))
+    Ok(watched(rt, alloc, plan, &span, &show, &mut seen))
 }
 
 /// From round 1 on: labels stand in place of numbers as they are given.
 #[test]
 fn rounds_from_a_report(rt: HostRuntime) -> Result<(), Fail> {
     let plan = resumed(rt.alloc(), DISTANCE, PATH, PATH_AFTER_ONE)?;
-    let text = answer(&rt, &plan, (2, 2, 1), 0)??;
+    let text = answer(&rt, rt.alloc(), &plan, (2, 2, 1), 0)??;
     assert_eq!(rt; str::from_utf8(&text), Ok("round,node,dist\n2,\"a, b\",0\n2,1,1\n2,2,2\n"));
     let refused: [((u32, u32, u32), u32, WatchFault); 4] = [
         ((0, 2, 1), 0, WatchFault::RoundsBelowStart),
@@ -178,7 +187,7 @@ fn rounds_from_a_report(rt: HostRuntime) -> Result<(), Fail> {
         ((1, 2, 1), 1, WatchFault::NoField { place: 1 }),
     ];
     for (span, place, fault) in refused {
-        assert!(rt; answer(&rt, &plan, span, place)? == Err(fault), "{fault}");
+        assert!(rt; answer(&rt, rt.alloc(), &plan, span, place)? == Err(fault), "{fault}");
     }
     Ok(())
 }

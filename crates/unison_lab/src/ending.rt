@@ -18,6 +18,8 @@ pub(crate) enum Ending {
     Refused(String),
     /// A network file is refused.
     Network(NetFault),
+    /// What one of the five commands refuses, too.
+    Served(ServeFault),
     /// Standard output refused.
     Output,
     Memory,
@@ -31,6 +33,7 @@ impl Ending {
             Ending::Usage(_) => 2,
             Ending::Refused(_) => 3,
             Ending::Network(fault) => ServeFault::Net(*fault).status(),
+            Ending::Served(fault) => fault.status(),
             Ending::File(_) | Ending::Output | Ending::Memory => 1,
         }
     }

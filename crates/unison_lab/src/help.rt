@@ -12,7 +12,28 @@ fn put_command(out: &mut String, name: &str, about: &str) -> Result<(), AllocErr
 type Known = (&'static str, &'static str);
 
 /// The commands of this program, in groups.
-const GROUPS: [(&str, &[Known]); 2] = [
+const GROUPS: [(&str, &[Known]); 3] = [
+    (
+        "The way of a run",
+        &[
+            (
+                "watch",
+                "Show all rounds from one to another, in one pass, as reports, CSV or JSON",
+            ),
+            (
+                "settle",
+                "Tell from which round on nothing changes, or all states come again",
+            ),
+            (
+                "steps",
+                "Make a schedule: sweeps, by lot, one node starved or ahead, or from lines for people",
+            ),
+            (
+                "tell",
+                "Tell what each step of a schedule does, and why it is refused",
+            ),
+        ],
+    ),
     (
         "Networks",
         &[

@@ -5,13 +5,19 @@ mod cells;
 mod ending;
 mod files;
 mod help;
+mod labels;
 mod make;
 mod names;
 mod open;
 mod output;
+mod plan_texts;
 mod refusals;
+mod settle;
 mod show;
+mod steps;
 mod take;
+mod tell;
+mod watch;
 mod why;
 #[cfg(test)]
 mod word_tests;
@@ -21,11 +27,17 @@ use crate::help::help_text;
 use crate::make::make_network;
 use crate::names::name_report;
 use crate::open::open_network;
+use crate::settle::settle_rounds;
 use crate::show::show_network;
+use crate::steps::make_steps;
 use crate::take::take_network;
-use crate::why::why_command;
+use crate::tell::tell_steps;
+use crate::watch::watch_rounds;
+use crate::why::{print_fault, why_command};
 use std::process::ExitCode;
+use std::thread::Threads;
 use std::{env, io};
+use unison_jobs::ServeFault;
 
 /// The words of the command line. One that is no UTF-8 is a wrong word.
 fn words_of(rt: &HostRuntime) -> Result<Vec<String>, Ending> {
@@ -47,7 +59,7 @@ fn no_command(rt: &HostRuntime, word: &str) -> Result<u8, Ending> {
 }
 
 /// Does what the command line asks for. The status with which the program ends.
-fn run(rt: &HostRuntime) -> Result<u8, Ending> {
+fn run(rt: &HostRuntime, threads: &(impl Threads + Sync)) -> Result<u8, Ending> {
     let words = words_of(rt)?;
     let command = match words.get(1) {
         Some(word) => word.as_str(),
@@ -57,12 +69,24 @@ fn run(rt: &HostRuntime) -> Result<u8, Ending> {
         "make" => make_network(rt, &words[1..]),
         "names" => name_report(rt, &words[1..]),
         "open" => open_network(rt, &words[1..]),
+        "settle" => settle_rounds(rt, threads, &words[1..]),
         "show" => show_network(rt, &words[1..]),
+        "steps" => make_steps(rt, &words[1..]),
         "take" => take_network(rt, &words[1..]),
+        "tell" => tell_steps(rt, &words[1..]),
+        "watch" => watch_rounds(rt, threads, &words[1..]),
         "why" => why_command(rt, &words[1..]),
         "help" | "--help" | "-h" => Err(Ending::Help(help_text(rt.alloc())?)),
         word => no_command(rt, word),
     }
+}
+
+/// Prints the line of a fault that one of the five commands has, too, and what tells more.
+fn print_served(rt: &HostRuntime, fault: &ServeFault) -> io::Result<()> {
+    print_fault(rt, fault)?;
+    eprintln!(rt;
+        "unison why tells where and what to do: unison why lockstep PROGRAM NETWORK --rounds 0, or unison why replay PROGRAM NETWORK SCHEDULE --stop 0"
+    )
 }
 
 /// Prints the help, or the fault's line on standard error.
@@ -74,6 +98,7 @@ fn print_ending(rt: &HostRuntime, ending: &Ending) -> io::Result<()> {
         Ending::Network(fault) => eprintln!(rt;
             "fault: network {fault}\nunison why tells where: unison why lockstep PROGRAM NETWORK --rounds 0"
         ),
+        Ending::Served(fault) => print_served(rt, fault),
         Ending::Refused(text) => eprintln!(rt; "fault: {text}"),
         Ending::Output => eprintln!(rt; "fault: device Write"),
         Ending::Memory => eprintln!(rt; "fault: memory Memory"),
@@ -82,7 +107,7 @@ fn print_ending(rt: &HostRuntime, ending: &Ending) -> io::Result<()> {
 
 /// Does what the command line asks for, and ends with its status.
 fn main(rt: HostRuntime) -> ExitCode {
-    match run(&rt) {
+    match run(&rt, &rt) {
         Ok(status) => ExitCode::from(status),
         Err(ending) => {
             let _ = print_ending(&rt, &ending);

@@ -118,7 +118,7 @@ fn finding_of(alloc: Global, request: &Request, read: &Given) -> Result<Finding,
 }
 
 /// Prints the line of a fault on standard error, as the command would.
-fn print_fault(rt: &HostRuntime, fault: &ServeFault) -> io::Result<()> {
+pub(crate) fn print_fault(rt: &HostRuntime, fault: &ServeFault) -> io::Result<()> {
     let (part, name) = fault.part_and_name();
     match fault.bad_line() {
         Some(line) => eprintln!(rt; "fault: {part} {name} {line}"),

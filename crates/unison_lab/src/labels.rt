@@ -1,0 +1,78 @@
+//! What stands for nodes in CSV and JSON: their names.
+
+use crate::ending::Ending;
+use csv::{ByteRecord, Writer};
+use node_names::NodeNames;
+use round_watch::Format;
+use serde_json::Value;
+use std::alloc::{AllocError, Global};
+
+/// A name as a JSON string.
+fn json_label(alloc: Global, name: &str) -> Result<String, AllocError> {
+    let value = Value::String(String::from_str(alloc, name)?);
+    value.to_string(alloc)
+}
+
+/// The bytes of a record of one cell, with the end of its line.
+fn record_of(alloc: Global, name: &str) -> Result<Vec<u8>, AllocError> {
+    let mut record = ByteRecord::new(alloc);
+    record.push_field(name.as_bytes())?;
+    let mut writer = Writer::from_writer(Vec::new(alloc));
+    if writer.write_byte_record(&record).is_err() {
+        return Err(AllocError);
+    }
+    match writer.into_inner() {
+        Ok(bytes) => Ok(bytes),
+        Err(_) => Err(AllocError),
+    }
+}
+
+/// A name as a cell of CSV.
+fn csv_label(alloc: Global, name: &str) -> Result<String, AllocError> {
+    let record = record_of(alloc, name)?;
+    let text = str::from_utf8(&record).unwrap_or(name);
+    String::from_str(alloc, text.strip_suffix("\n").unwrap_or(text))
+}
+
+/// What stands for a node of this name.
+fn label_of(alloc: Global, format: Format, name: &str) -> Result<String, AllocError> {
+    match format {
+        Format::Json => json_label(alloc, name),
+        Format::Csv => csv_label(alloc, name),
+        Format::Report => String::from_str(alloc, name),
+    }
+}
+
+/// What stands for the nodes of these names, by rising number.
+fn labels_in(alloc: Global, format: Format, names: &NodeNames) -> Result<Vec<String>, AllocError> {
+    let mut labels = Vec::new(alloc);
+    for node in 0..names.count() {
+        labels.push(label_of(alloc, format, names.name(node).unwrap_or(""))?)?;
+    }
+    Ok(labels)
+}
+
+/// Refuses another number of names than there are nodes.
+pub(crate) fn check_count(alloc: Global, names: &NodeNames, nodes: u32) -> Result<(), Ending> {
+    let count = names.count();
+    if count != nodes {
+        return Err(Ending::Usage(format!(in alloc;
+            "--names: the file has {count} names, and the network {nodes} nodes"
+        )?));
+    }
+    Ok(())
+}
+
+/// What stands for so many nodes, which have names or, where there are none, their numbers.
+pub(crate) fn labels_of(
+    alloc: Global,
+    format: Format,
+    names: &Option<NodeNames>,
+    nodes: u32,
+) -> Result<Vec<String>, Ending> {
+    let Some(names) = names else {
+        return Ok(Vec::new(alloc));
+    };
+    check_count(alloc, names, nodes)?;
+    Ok(labels_in(alloc, format, names)?)
+}

@@ -1,0 +1,114 @@
+//! `settle PROGRAM NETWORK`: from which round on nothing changes, or all states come again.
+
+use crate::ending::Ending;
+use crate::files::{path_in, read_once};
+use crate::output::write_out;
+use crate::plan_texts::plan_at;
+use lab_words::{Settlement, settlement_of};
+use lockstep::{Plan, RoundFault, lockstep_par, report};
+use round_settle::{SettleFault, Settling, settle};
+use std::alloc::{AllocError, Global};
+use std::thread::Threads;
+use unison_jobs::ServeFault;
+
+/// The ending where it is not told.
+fn not_told(alloc: Global, limit: u32, fault: SettleFault) -> Result<Ending, AllocError> {
+    let text = match fault {
+        SettleFault::ReadsRound => String::from_str(
+            alloc,
+            "program ReadsRound\nthe program reads `round`, so equal states need not be followed by equal ones, and no round tells that it settles; run it with lockstep or watch",
+        )?,
+        SettleFault::LimitBelowStart => {
+            format!(in alloc; "run RoundsBelowStart\n--limit: the plan starts behind round {limit}")?
+        }
+        SettleFault::LimitTooLarge => {
+            String::from_str(alloc, "run TooManyRounds\n--limit: the greatest is 1000000000")?
+        }
+        SettleFault::Memory => return Ok(Ending::Memory),
+    };
+    Ok(Ending::Refused(text))
+}
+
+/// What was found, as a line.
+fn put_line(out: &mut String, found: Settling) -> Result<(), AllocError> {
+    match found {
+        Settling::Settles { round } => write!(out, "settles {round}\n"),
+        Settling::Repeats { round, period } => write!(out, "repeats {round} {period}\n"),
+        Settling::Open { limit } => write!(out, "open {limit}\n"),
+    }
+}
+
+/// The round that was found.
+fn round_of(found: Settling) -> Option<u32> {
+    match found {
+        Settling::Settles { round } => Some(round),
+        Settling::Repeats { round, .. } => Some(round),
+        Settling::Open { .. } => None,
+    }
+}
+
+/// The ending where a round has no report.
+fn no_report(fault: RoundFault) -> Ending {
+    match fault {
+        RoundFault::Memory => Ending::Memory,
+        fault => Ending::Served(ServeFault::Round(fault)),
+    }
+}
+
+/// The report of a round.
+fn report_of(
+    alloc: Global,
+    threads: &(impl Threads + Sync),
+    plan: &Plan,
+    round: u32,
+) -> Result<Vec<u8>, Ending> {
+    match lockstep_par(threads, alloc, plan, round) {
+        Ok(config) => Ok(report(alloc, plan, &config)?),
+        Err(fault) => Err(no_report(fault)),
+    }
+}
+
+/// What was found, and the report of its round where it is asked for.
+fn text_of(
+    alloc: Global,
+    threads: &(impl Threads + Sync),
+    plan: &Plan,
+    asked: &Settlement,
+    found: Settling,
+) -> Result<Vec<u8>, Ending> {
+    let mut out = String::new(alloc);
+    put_line(&mut out, found)?;
+    let mut text = out.into_bytes();
+    if let (true, Some(round)) = (asked.report, round_of(found)) {
+        text.extend_from_slice(&report_of(alloc, threads, plan, round)?)?;
+    }
+    Ok(text)
+}
+
+/// What becomes of the rounds of the plan that is asked for.
+fn found_for(alloc: Global, plan: &Plan, limit: u32) -> Result<Settling, Ending> {
+    match settle(alloc, plan, limit) {
+        Ok(found) => Ok(found),
+        Err(fault) => Err(not_told(alloc, limit, fault)?),
+    }
+}
+
+/// Tells from which round on nothing changes, or all states come again. The status with which the program ends.
+pub(crate) fn settle_rounds(
+    rt: &HostRuntime,
+    threads: &(impl Threads + Sync),
+    words: &[String],
+) -> Result<u8, Ending> {
+    let asked = settlement_of(rt.alloc(), words)?;
+    let paths = [
+        asked.plan.program.as_str(),
+        asked.plan.network.as_str(),
+        path_in(&asked.plan.from),
+    ];
+    read_once(rt.alloc(), &paths)?;
+    let plan = plan_at(rt, &asked.plan)?;
+    let found = found_for(rt.alloc(), &plan, asked.limit)?;
+    let text = text_of(rt.alloc(), threads, &plan, &asked, found)?;
+    write_out(rt, &text)?;
+    Ok(0)
+}
