@@ -32,7 +32,8 @@ fn put_refused(out: &mut String, answered: Answered) -> Result<(), AllocError>
     put_number(out, "  NotReady ", answered.not_ready)?;
     put_number(out, "  Stopped ", answered.stopped)?;
     put_number(out, "  NoNode ", answered.no_node)?;
-    put_number(out, "  NoSlot ", answered.no_slot)
+    put_number(out, "  NoSlot ", answered.no_slot)?;
+    Ok(())
 }
 
 /// How many steps there were, and how many had each answer.
@@ -52,7 +53,8 @@ fn put_counts(out: &mut String, world: &World, difference: u32) -> Result<(), Al
 {
     put_number(out, "least count ", least_count(world) as u64)?;
     put_number(out, "greatest count ", greatest_count(world) as u64)?;
-    put_number(out, "greatest difference ", difference as u64)
+    put_number(out, "greatest difference ", difference as u64)?;
+    Ok(())
 }
 
 /// The summary of the steps that led to a world.
@@ -62,5 +64,6 @@ pub(crate) fn put_summary(out: &mut String, world: &World, way: Way) -> Result<(
 {
     out.push_str("\n")?;
     put_answered(out, way.answered)?;
-    put_counts(out, world, way.difference)
+    put_counts(out, world, way.difference)?;
+    Ok(())
 }

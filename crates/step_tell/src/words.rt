@@ -39,7 +39,8 @@ fn put_taken(out: &mut String, world: &World, neighbour: u32) -> Result<(), Allo
     ensures words { OnOk result (string_bytes out.new ≡ string_bytes out.old ++ (codes "Taken: neighbour " ++ at_count world.now.counts neighbour)) }
 {
     out.push_str("Taken: neighbour ")?;
-    put_at_count(out, world, neighbour)
+    put_at_count(out, world, neighbour)?;
+    Ok(())
 }
 
 /// The answer to a read, with its reason.
