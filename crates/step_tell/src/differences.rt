@@ -10,7 +10,7 @@ fn difference_at(world: &World, node: u32) -> u32
     ensures { result ≡ greatest_of (differences world.now.plan.network world.now.counts node) }
 {
     let own = moves(world, node);
-    let mut greatest = 0;
+    let mut greatest: u32 = 0;
     for neighbour in neighbours_of(world.plan().network(), node) {
         greatest = greatest.max(own.abs_diff(moves(world, *neighbour)));
     }
@@ -45,7 +45,7 @@ pub(crate) fn least_count(world: &World) -> u32
 pub(crate) fn greatest_count(world: &World) -> u32
     ensures { result ≡ greatest_of world.now.counts.moves }
 {
-    let mut greatest = 0;
+    let mut greatest: u32 = 0;
     for node in 0..world.nodes() {
         greatest = greatest.max(moves(world, node));
     }

@@ -75,7 +75,7 @@ fn tell_steps(
     ensures room { IfOk result (λ way. total way.answered < 2 ^ 64) }
 {
     let mut answered = Answered::none();
-    let mut difference = 0;
+    let mut difference: u32 = 0;
     for (index, step) in steps.iter().enumerate() {
         let answer = tell_step(out, world, index + 1, *step)?;
         put_counts_asked(out, world, counts)?;
