@@ -4,3 +4,4 @@ pub mod Texts
 pub mod Nearing
 pub mod Way
 pub mod Reading
+pub mod Counting

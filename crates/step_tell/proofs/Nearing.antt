@@ -1,15 +1,15 @@
 -- A node that has moved is near its neighbours.
-use Rattle.std.proofs.Common.{◌≡◌, ℕ, zero, suc, ◌+◌, ◌-◌, ◌<◌, ◌≤◌, max, List, [], ◌∷◌, length, map, get_or, refl, arith}
+use Rattle.std.proofs.Common.{ℕ, suc, ◌<◌, ◌≤◌, max, List, [], ◌∷◌, length, map, get_or, arith}
 use Rattle.std.specs.Int.{abs_diff}
 use Rattle.std.specs.List.{fold}
-use Rattle.link_net.specs.Neighbours.{Neighbours, row, degree, neighbour, IsNetwork}
+use Rattle.link_net.specs.Neighbours.{Neighbours, row, IsNetwork}
 use Rattle.unison_world.specs.declared.step.Step.{Step}
 use Rattle.unison_world.specs.declared.step.Step.TheVariants.{Read, Write}
 use Rattle.unison_world.specs.declared.step.Answer.{Answer}
 use Rattle.unison_world.specs.declared.step.Answer.TheVariants.{Moved}
 use Rattle.unison_world.specs.Counting.{Counts, moves_of, at_start, answer_of, after, HasShape, InStep}
 use Rattle.unison_world.proofs.Steps.{shape-after, in_step-after, shape-at_start, in_step-at_start}
-use Rattle.step_tell.specs.Differences.{differences, difference_after, differences_after, greatest_difference, DifferByOneAtMost}
+use Rattle.step_tell.specs.Differences.{differences, difference_after, differences_after, DifferByOneAtMost}
 
 -- no number of the list is above a limit
 abbrev AreWithin : ℕ → List ℕ → Type 0

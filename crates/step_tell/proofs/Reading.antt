@@ -1,12 +1,12 @@
 -- Slots that are counted one by one.
-use Rattle.std.proofs.Common.{◌≡◌, ◌∙◌, ℕ, ◌+◌, ◌<◌, ◌≤◌, ◌⊎◌, Bool, true, false, cond, List, [], length, drop, get_or, refl, sym, ap, ⊎_elim, arith}
+use Rattle.std.proofs.Common.{◌≡◌, ◌∙◌, ℕ, ◌+◌, ◌<◌, Bool, true, false, cond, [], length, drop, sym, ap, ⊎_elim, arith}
 use Rattle.std.proofs.lemmas.Bool.{cases_lt}
 use Rattle.std.proofs.lemmas.Bool.Decides.{nat_tests}
 use Rattle.std.proofs.lemmas.List.{get_or_past}
 use Rattle.std.proofs.lemmas.List.Sums.{sum_by-drop_more}
 use Rattle.link_net.specs.Neighbours.{Neighbours, degree}
 use Rattle.unison_world.specs.declared.step.Step.TheVariants.{Read}
-use Rattle.unison_world.specs.declared.step.Answer.TheVariants.{Already, Stopped}
+use Rattle.unison_world.specs.declared.step.Answer.TheVariants.{Already}
 use Rattle.unison_world.specs.Counting.{Counts, moves_of, marks_of, is_marked, answer_of, HasShape, InStep}
 use Rattle.unison_world.specs.Progress.{marks_in}
 use Rattle.unison_world.proofs.Sights.{cases_bool}

@@ -1,5 +1,5 @@
 -- Steps told one by one.
-use Rattle.std.proofs.Common.{◌≡◌, ◌∙◌, ℕ, ◌+◌, max, nat_lt, Bool, true, false, if◌then◌else◌, List, [], ◌∷◌, ◌++◌, Result, Ok, Err, sym, ap, append_assoc}
+use Rattle.std.proofs.Common.{◌≡◌, ◌∙◌, ℕ, ◌+◌, max, nat_lt, Bool, true, false, if◌then◌else◌, List, [], ◌∷◌, ◌++◌, Ok, Err, sym, ap, append_assoc}
 use Rattle.std.specs.List.{fold}
 use Rattle.link_net.specs.Neighbours.{Neighbours}
 use Rattle.lockstep.specs.Configs.{most_rounds}

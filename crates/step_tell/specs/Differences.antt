@@ -1,9 +1,9 @@
 -- How far nodes that have moved are from their neighbours.
-use Rattle.std.specs.Prelude.{◌≡◌, ℕ, ◌≤◌, min, max, List, [], ◌∷◌, map, fold}
+use Rattle.std.specs.Prelude.{ℕ, ◌≤◌, min, max, List, [], ◌∷◌, map, fold}
 use Rattle.std.specs.Int.{abs_diff}
 use Rattle.link_net.specs.Neighbours.{Neighbours, IsNetwork}
 use Rattle.unison_world.specs.declared.step.Step.{Step}
-use Rattle.unison_world.specs.declared.step.Step.TheVariants.{Read, Write}
+use Rattle.unison_world.specs.declared.step.Step.TheVariants.{Write}
 use Rattle.unison_world.specs.declared.step.Answer.{Answer}
 use Rattle.unison_world.specs.declared.step.Answer.TheVariants.{Moved}
 use Rattle.unison_world.specs.Counting.{Counts, moves_of, at_start, answer_of, after}

@@ -1,11 +1,12 @@
 -- The summary of a list of steps.
-use Rattle.std.specs.Prelude.{ℕ, ◌+◌, codes, List, [], ◌∷◌, ◌++◌, length, fold}
+use Rattle.std.specs.Prelude.{◌≡◌, ℕ, ◌+◌, codes, List, [], ◌∷◌, ◌++◌, length, fold}
 use Rattle.std.specs.Fmt.{decimal}
+use Rattle.link_net.specs.Neighbours.{Neighbours}
 use Rattle.lockstep.specs.Plans.{PlanView}
 use Rattle.unison_world.specs.declared.step.Step.{Step}
 use Rattle.unison_world.specs.declared.step.Answer.{Answer}
 use Rattle.unison_world.specs.declared.step.Answer.TheVariants.{Taken, Behind, Already, Moved, NotReady, Stopped, NoNode, NoSlot}
-use Rattle.unison_world.specs.Counting.{Counts, at_start}
+use Rattle.unison_world.specs.Counting.{Counts, at_start, answers}
 use Rattle.unison_trace.specs.Histories.{run_of, answers_of}
 use Rattle.step_tell.specs.declared.answered.Answered.{Answered}
 use Rattle.step_tell.specs.Differences.{least_of, greatest_of, greatest_difference}
@@ -36,6 +37,10 @@ refused_in a = a.behind + a.already + a.not_ready + a.stopped + a.no_node + a.no
 -- how many answers there are
 abbrev pub total : Answered → ℕ
 total a = a.taken + a.moved + refused_in a
+
+-- each step is counted by one answer
+abbrev pub EachIsCounted : Type 0
+EachIsCounted = (network : Neighbours) (stop : ℕ) (c : Counts) (steps : List Step) → total (answered_in (answers network stop c steps)) ≡ length steps
 
 -- a line of some words and a number
 abbrev pub number_line : List ℕ → ℕ → List ℕ

@@ -6,7 +6,7 @@ use Rattle.link_net.specs.Neighbours.{Neighbours}
 use Rattle.lockstep.specs.Plans.{PlanView}
 use Rattle.unison_world.specs.declared.step.Step.{Step}
 use Rattle.unison_world.specs.declared.fault.OpenFault.{OpenFault}
-use Rattle.unison_world.specs.declared.fault.OpenFault.TheVariants.{StopTooLarge, StopBelowStart, Memory}
+use Rattle.unison_world.specs.declared.fault.OpenFault.TheVariants.{Memory}
 use Rattle.unison_world.specs.Counting.{Counts, at_start, answer_of, after}
 use Rattle.unison_world.specs.Opening.{opening_of}
 use Rattle.unison_world.specs.View.{opened}

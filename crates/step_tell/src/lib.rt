@@ -9,5 +9,5 @@ mod summary;
 mod telling;
 mod words;
 
-pub use laws::{differ_by_one_at_most, spelled_as_in_schedules};
+pub use laws::{differ_by_one_at_most, each_is_counted, spelled_as_in_schedules};
 pub use telling::told;

@@ -1,5 +1,4 @@
-use Rattle.std.proofs.Common.{arith, length, ◌≡◌, ◌∙◌, ap}
-use Rattle.std.proofs.lemmas.Grind.{common_steps}
+use Rattle.std.proofs.Common.{length, ◌≡◌, ◌∙◌, ap}
 use Rattle.step_tell.proofs.words.put_read.Goals as goal
 
 pub returns-in-NoNode : goal.returns-in-NoNode
