@@ -11,7 +11,8 @@ use step_tell::told;
 use unison_world::Step;
 
 /// A read and a move of node 0 of the pair, told with the counts.
-const TOLD: &[u8] = b"1  read 0 0  Taken: neighbour 1 at count 0\n  counts 0 0\n2  write 0  Moved: node 0 at count 1\n  counts 1 0\n\nsteps 2\nreads 1\nmoves 1\nrefused 0\n  Behind 0\n  Already 0\n  NotReady 0\n  Stopped 0\n  NoNode 0\n  NoSlot 0\nleast count 0\ngreatest count 1\ngreatest difference 1\n";
+const TOLD: &[u8] =
+    b"1  read 0 0  Taken: neighbour 1 at count 0\n  counts 0 0\n2  write 0  Moved: node 0 at count 1\n  counts 1 0\n\nsteps 2\nreads 1\nmoves 1\nrefused 0\n  Behind 0\n  Already 0\n  NotReady 0\n  Stopped 0\n  NoNode 0\n  NoSlot 0\nleast count 0\ngreatest count 1\ngreatest difference 1\n";
 
 /// These steps, told.
 fn told_steps(rt: &impl Abort, alloc: Global) -> Result<(), Stopped> {

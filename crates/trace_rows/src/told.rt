@@ -211,12 +211,7 @@ fn steps_from_round_one_are_told(rt: HostRuntime) -> Result<(), Fail> {
 }
 
 /// Asserts that nothing is told up to a stop from round 1 on.
-fn assert_refused(
-    rt: &impl Abort,
-    alloc: Global,
-    stop: u32,
-    want: OpenFault,
-) -> Result<(), Fail> {
+fn assert_refused(rt: &impl Abort, alloc: Global, stop: u32, want: OpenFault) -> Result<(), Fail> {
     let plan = Arc::new(alloc, resumed(alloc, DISTANCE, PATH, PATH_AFTER_ONE)?)?;
     let steps: [Step; 2] = [read(0, 0), write(0)];
     match told(alloc, plan, stop, &steps, false) {
