@@ -16,4 +16,6 @@ mod memory_of_shared_rounds;
 #[cfg(test)]
 mod memory_of_texts;
 #[cfg(test)]
+mod memory_of_told;
+#[cfg(test)]
 mod memory_of_worlds;
