@@ -1,0 +1,4 @@
+mod Following
+mod Counts
+mod Readings
+mod Wholes

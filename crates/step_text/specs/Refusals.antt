@@ -1,5 +1,5 @@
 -- Why a text says no steps.
-use Rattle.std.specs.Prelude.{◌≡◌, ◌<◌, ◌≤◌, ℕ, ◌+◌, max, List, [], ◌∷◌, ◌++◌, length, map, slice_get, Option, Some, Result, Ok, Err}
+use Rattle.std.specs.Prelude.{◌≡◌, ◌≢◌, ◌⊎◌, ◌<◌, ◌≤◌, ℕ, ◌+◌, max, List, [], ◌∷◌, ◌++◌, length, map, slice_get, Option, Some, Result, Ok, Err}
 use Rattle.std.specs.List.{repeat}
 use Rattle.line_words.specs.Texts.{told_from}
 use Rattle.link_net.specs.Neighbours.{Neighbours}
@@ -43,39 +43,48 @@ pub record Stand (network : Neighbours) (names : Option (List (List ℕ))) (told
   pub deep : begun_depth b ≤ most_deep
   pub few : length (begun_steps network b) ≤ most_steps
 
--- with this line behind a beginning there are more steps than may be: with those of its action, or with the repeats that its `}` ends
+-- a `}` behind a beginning makes more steps than may be: with the repeats that it ends
+abbrev pub EndsTooMuch : Neighbours → Beginning → Type 0
+EndsTooMuch network (whole parts) = ⊥
+EndsTooMuch network (inside outer count parts) = most_steps < length (begun_steps network outer ++ repeat count (steps_of network parts))
+
+-- with this line behind a beginning there are more steps than may be
 abbrev pub IsTooMuch : Neighbours → Beginning → Line → Type 0
 IsTooMuch network b (Act action) = most_steps < length (begun_steps network b ++ made_by network action)
-IsTooMuch network (inside outer count parts) End = most_steps < length (begun_steps network outer ++ repeat count (steps_of network parts))
-IsTooMuch network b line = ⊥
+IsTooMuch network b (Repeat count) = ⊥
+IsTooMuch network b End = EndsTooMuch network b
 
--- why a line can't stand behind a beginning
+-- why a line that says something can't stand behind a beginning: it opens one repeat too many, it ends none, or it makes too many steps
+abbrev pub IsMisplaced : Neighbours → Option (List (List ℕ)) → Beginning → ℕ × List ℕ → StepTextFault → Type 0
+IsMisplaced network names b here (TooDeep line) = (line ≡ here.0) × ((count : ℕ) × (line_at network names here ≡ Ok (Repeat count))) × (open_in b ≡ most_deep)
+IsMisplaced network names b here (EndWithoutRepeat line) = (line ≡ here.0) × (line_at network names here ≡ Ok End) × (open_in b ≡ 0)
+IsMisplaced network names b here (TooManySteps line) = (line ≡ here.0) × ((said : Line) × (line_at network names here ≡ Ok said) × IsTooMuch network b said)
+IsMisplaced network names b here fault = ⊥
+
+-- why a line is bad behind a beginning: it says nothing that a line may say, or it can't stand there
 abbrev pub IsLineFault : Neighbours → Option (List (List ℕ)) → Beginning → ℕ × List ℕ → StepTextFault → Type 0
-IsLineFault network names b here (TooDeep line) = (line ≡ here.0) × ((count : ℕ) × (line_at network names here ≡ Ok (Repeat count))) × (open_in b ≡ most_deep)
-IsLineFault network names b here (EndWithoutRepeat line) = (line ≡ here.0) × (line_at network names here ≡ Ok End) × (open_in b ≡ 0)
-IsLineFault network names b here (TooManySteps line) = (line ≡ here.0) × ((said : Line) × (line_at network names here ≡ Ok said) × IsTooMuch network b said)
-IsLineFault network names b here fault = line_at network names here ≡ Err fault
+IsLineFault network names b here fault = (line_at network names here ≡ Err fault) ⊎ IsMisplaced network names b here fault
 
--- the lines before one stand, and that one can't stand behind them
-pub record IsFirstBadLine (network : Neighbours) (names : Option (List (List ℕ))) (text : List ℕ) (fault : StepTextFault) : Type 0 where
+-- of these lines those before one stand, and that one is bad behind them
+pub record IsFirstBadLine (network : Neighbours) (names : Option (List (List ℕ))) (told : List (ℕ × List ℕ)) (fault : StepTextFault) : Type 0 where
   pub earlier : List (ℕ × List ℕ)
   pub here : ℕ × List ℕ
   pub later : List (ℕ × List ℕ)
-  pub all : told_from 1 text ≡ earlier ++ here ∷ later
+  pub all : told ≡ earlier ++ here ∷ later
   pub begun : Beginning
   pub stand : Stand network names earlier begun
   pub why : IsLineFault network names begun here fault
 
--- all lines stand, and the last repeat that has no end is in this line
-pub record IsUnclosed (network : Neighbours) (names : Option (List (List ℕ))) (text : List ℕ) (line : ℕ) : Type 0 where
+-- these lines stand, but a repeat is open at their end, and the fault names the line of the last that is
+pub record IsUnclosed (network : Neighbours) (names : Option (List (List ℕ))) (told : List (ℕ × List ℕ)) (fault : StepTextFault) : Type 0 where
   pub outer : Beginning
   pub count : ℕ
   pub parts : Parts
-  pub stand : Stand network names (told_from 1 text) (inside outer count parts)
-  pub place : slice_get (map (λ l. l.0) (told_from 1 text)) (length (begun_lines outer)) ≡ Some line
+  pub stand : Stand network names told (inside outer count parts)
+  pub line : ℕ
+  pub place : slice_get (map (λ l. l.0) told) (length (begun_lines outer)) ≡ Some line
+  pub names_it : fault ≡ RepeatWithoutEnd line
 
--- why a text says no steps: a line that can't stand, or at its end a repeat without an end; or want of memory
+-- why a text says no steps, but for want of memory: a line is bad, or at its end a repeat is open
 abbrev pub IsRefused : Neighbours → Option (List (List ℕ)) → List ℕ → StepTextFault → Type 0
-IsRefused network names text (RepeatWithoutEnd line) = IsUnclosed network names text line
-IsRefused network names text Memory = Unit {0}
-IsRefused network names text fault = IsFirstBadLine network names text fault
+IsRefused network names text fault = fault ≢ Memory → IsFirstBadLine network names (told_from 1 text) fault ⊎ IsUnclosed network names (told_from 1 text) fault

@@ -5,7 +5,7 @@ use Rattle.line_words.specs.Texts.{told_from}
 use Rattle.link_net.specs.Neighbours.{Neighbours}
 use Rattle.unison_world.specs.declared.step.Step.{Step}
 use Rattle.unison_trace.specs.Histories.{most_steps}
-use Rattle.step_text.specs.declared.open.Open.{Open}
+use Rattle.step_text.specs.declared.open_repeat.OpenRepeat.{OpenRepeat}
 use Rattle.step_text.specs.declared.line.Line.{Line}
 use Rattle.step_text.specs.declared.line.Line.TheVariants.{Act, Repeat, End}
 use Rattle.step_text.specs.declared.fault.StepTextFault.{StepTextFault}
@@ -16,7 +16,7 @@ use Rattle.step_text.specs.Texts.{made_by, most_deep}
 -- the steps so far, and the repeats that are open, the last one last
 pub record Reading : Type 0 where
   pub steps : List Step
-  pub opens : List Open
+  pub opens : List OpenRepeat
 
 -- nothing is read
 abbrev pub unread : Reading
@@ -27,20 +27,20 @@ abbrev pub few_steps : ℕ → List Step → Result (List Step) StepTextFault
 few_steps line steps = if nat_le (length steps) most_steps then Ok steps else Err (TooManySteps line)
 
 -- the steps with those since the start of an open repeat as many times more as it says
-abbrev pub repeated : List Step → Open → List Step
-repeated steps open = steps ++ repeat open.again (drop open.start steps)
+abbrev pub repeated : List Step → OpenRepeat → List Step
+repeated steps last = steps ++ repeat last.again (drop last.start steps)
 
 -- the last of the open repeats, and the others
-abbrev pub last_open : List Open → Option Open
+abbrev pub last_open : List OpenRepeat → Option OpenRepeat
 last_open opens = slice_get opens (length opens - 1)
 
-abbrev pub but_last : List Open → List Open
+abbrev pub but_last : List OpenRepeat → List OpenRepeat
 but_last opens = take (length opens - 1) opens
 
 -- behind a `}`
-abbrev pub ended : ℕ → Reading → Option Open → Result Reading StepTextFault
+abbrev pub ended : ℕ → Reading → Option OpenRepeat → Result Reading StepTextFault
 ended line r None = Err (EndWithoutRepeat line)
-ended line r (Some open) = and_then (few_steps line (repeated r.steps open)) (λ steps. Ok (record { steps = steps; opens = but_last r.opens }))
+ended line r (Some last) = and_then (few_steps line (repeated r.steps last)) (λ steps. Ok (record { steps = steps; opens = but_last r.opens }))
 
 -- behind a line
 unfoldable pub behind_line : Neighbours → ℕ → Reading → Line → Result Reading StepTextFault
@@ -61,9 +61,9 @@ behind_all network names r [] = Ok r
 behind_all network names r (l ∷ ls) = and_then (behind_told network names r l) (λ q. behind_all network names q ls)
 
 -- the steps, where no repeat is open
-abbrev pub closed : List Step → Option Open → Result (List Step) StepTextFault
+abbrev pub closed : List Step → Option OpenRepeat → Result (List Step) StepTextFault
 closed steps None = Ok steps
-closed steps (Some open) = Err (RepeatWithoutEnd open.line)
+closed steps (Some last) = Err (RepeatWithoutEnd last.line)
 
 -- the steps of a text, or its fault
 abbrev pub read_text : Neighbours → Option (List (List ℕ)) → List ℕ → Result (List Step) StepTextFault

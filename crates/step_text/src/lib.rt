@@ -6,7 +6,7 @@ mod fault;
 mod line;
 mod line_reader;
 mod nodes;
-mod open;
+mod open_repeat;
 mod put;
 mod text;
 

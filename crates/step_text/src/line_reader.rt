@@ -1,6 +1,6 @@
 //! Lines that are read.
 ghost use Rattle.std.specs.Prelude.{◌≡◌, ◌∷◌, [], MatchOption};
-ghost use Rattle.std.specs.Option.{option_copied};
+ghost use Rattle.std.specs.Option.{option_map};
 ghost use Rattle.line_words.specs.Parts.{shown};
 ghost use Rattle.step_text.specs.Words.{is_comment, words_in};
 ghost use Rattle.step_text.specs.Meaning.{fault_at, text_at, two_words, reads_line, three_words, one_word, long_line, line_of, line_at};
@@ -70,7 +70,7 @@ fn two_words(
     first: &str,
     second: &str,
 ) -> Result<Action, StepTextFault>
-    ensures { result ≡ two_words network.now (option_copied names) line first.now second.now }
+    ensures { result ≡ two_words network.now (option_map (λ n. n.now) names.entry) line first.now second.now }
 {
     if second == "moves" {
         let node = node_at(network, names, line, 1, first)?;
@@ -91,7 +91,7 @@ fn reads_line(
     first: &str,
     third: &str,
 ) -> Result<Action, StepTextFault>
-    ensures { result ≡ reads_line network.now (option_copied names) line first.now third.now }
+    ensures { result ≡ reads_line network.now (option_map (λ n. n.now) names.entry) line first.now third.now }
 {
     let node = node_at(network, names, line, 1, first)?;
     if third == "all" {
@@ -111,7 +111,7 @@ fn three_words(
     second: &str,
     third: &str,
 ) -> Result<Line, StepTextFault>
-    ensures { result ≡ three_words network.now (option_copied names) line first.now second.now third.now }
+    ensures { result ≡ three_words network.now (option_map (λ n. n.now) names.entry) line first.now second.now third.now }
 {
     if first == "repeat" && third == "{" {
         let count = count_at(line, second)?;
@@ -133,7 +133,7 @@ fn long_line(
     second: &str,
     rest: &str,
 ) -> Result<Line, StepTextFault>
-    ensures { result ≡ long_line network.now (option_copied names) line first.now second.now (words_in rest.now) }
+    ensures { result ≡ long_line network.now (option_map (λ n. n.now) names.entry) line first.now second.now (words_in rest.now) }
 {
     let Some((third, behind)) = next_said(rest) else {
         let action = two_words(network, names, line, first, second)?;
@@ -152,7 +152,7 @@ fn line_of(
     line: u64,
     text: &str,
 ) -> Result<Line, StepTextFault>
-    ensures { result ≡ line_of network.now (option_copied names) line (words_in text.now) }
+    ensures { result ≡ line_of network.now (option_map (λ n. n.now) names.entry) line (words_in text.now) }
 {
     let Some((first, rest)) = next_said(text) else {
         return Err(StepTextFault::NoSuchLine { line });
@@ -170,7 +170,7 @@ pub(crate) fn line_at(
     line: u64,
     bytes: &[u8],
 ) -> Result<Line, StepTextFault>
-    ensures { result ≡ line_at network.now (option_copied names) (line, bytes.now) }
+    ensures { result ≡ line_at network.now (option_map (λ n. n.now) names.entry) (line, bytes.now) }
 {
     match line_text(bytes) {
         Ok(text) => line_of(network, names, line, text),

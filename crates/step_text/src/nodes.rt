@@ -1,6 +1,6 @@
 //! Nodes, slots and counts that words call.
 ghost use Rattle.std.specs.Prelude.{◌≡◌};
-ghost use Rattle.std.specs.Option.{option_copied};
+ghost use Rattle.std.specs.Option.{option_map};
 ghost use Rattle.step_text.specs.Words.{number_in, called_in, node_at, slot_at, count_at};
 
 use crate::fault::StepTextFault;
@@ -24,7 +24,7 @@ fn number_in(word: &str) -> Option<u32>
 
 /// The number of the node that a word calls, where names are given by its name alone.
 fn called_in(names: Option<&NodeNames>, word: &str) -> Option<u32>
-    ensures { result ≡ called_in (option_copied names) word.now }
+    ensures { result ≡ called_in (option_map (λ n. n.now) names.entry) word.now }
 {
     match names {
         Some(names) => names.number_of(word),
@@ -40,7 +40,7 @@ pub(crate) fn node_at(
     place: u32,
     word: &str,
 ) -> Result<u32, StepTextFault>
-    ensures { result ≡ node_at network.now (option_copied names) line place word.now }
+    ensures { result ≡ node_at network.now (option_map (λ n. n.now) names.entry) line place word.now }
 {
     match called_in(names, word) {
         Some(node) => {

@@ -1,16 +1,18 @@
 //! Steps and open repeats that lines put behind those before them.
-ghost use Rattle.std.specs.Prelude.{◌≡◌, ◌≢◌, ◌≤◌, ◌+◌, ◌-◌, ◌<◌, ◌++◌, ◌∷◌, [], drop, length, map, nat_le, Ok, Err, Some, None, OnOk, OnErr, IfErr, IfOk, IsTrue};
+ghost use Rattle.std.specs.Prelude.{◌≡◌, ◌≢◌, ◌≤◌, ◌+◌, ◌-◌, ◌<◌, ◌^◌, ◌++◌, ◌∷◌, [], length, OnOk, IfErr};
 ghost use Rattle.std.specs.List.{repeat, slice_range};
+ghost use Rattle.std.specs.Option.{option_map};
+ghost use Rattle.link_net.specs.Neighbours.{degree};
 ghost use Rattle.unison_trace.specs.Histories.{most_steps};
-ghost use Rattle.step_text.specs.declared.fault.StepTextFault.TheVariants.{Memory, TooManySteps};
-ghost use Rattle.step_text.specs.Texts.{reads_of, turn_of, made_by};
-ghost use Rattle.step_text.specs.Runs.{few_steps, behind_line, behind_told};
+ghost use Rattle.step_text.specs.declared.fault.StepTextFault.TheVariants.{Memory, TooManySteps, TooDeep};
+ghost use Rattle.step_text.specs.Texts.{reads_of, turn_of, made_by, most_deep};
+ghost use Rattle.step_text.specs.Runs.{IsAnswer, few_steps, repeated, last_open, ended, behind_line, behind_told};
 
 use crate::action::Action;
 use crate::fault::StepTextFault;
 use crate::line::Line;
 use crate::line_reader::line_at;
-use crate::open::Open;
+use crate::open_repeat::OpenRepeat;
 use link_net::Network;
 use node_names::NodeNames;
 use std::alloc::AllocError;
@@ -41,8 +43,7 @@ fn check_room(steps: &[Step], more: u128, line: u64) -> Result<(), StepTextFault
 
 /// Puts a step behind the others.
 fn put_step(steps: &mut Vec<Step>, line: u64, step: Step) -> Result<(), StepTextFault>
-    ensures put { OnOk result (few_steps line (steps.old.items ++ step ∷ []) ≡ Ok steps.new.items) }
-    ensures refused { IfErr result (λ fault. fault ≢ Memory → few_steps line (steps.old.items ++ step ∷ []) ≡ Err fault) }
+    ensures put { IsAnswer (λ _. steps.new.items) (few_steps line (steps.old.items ++ step ∷ [])) result }
 {
     check_room(steps, 1, line)?;
     steps.push(step)?;
@@ -61,8 +62,7 @@ fn push_reads(steps: &mut Vec<Step>, network: &Network, node: u32) -> Result<(),
 
 /// Puts the reads of all slots of a node behind the others.
 fn put_reads(steps: &mut Vec<Step>, network: &Network, line: u64, node: u32) -> Result<(), StepTextFault>
-    ensures put { OnOk result (few_steps line (steps.old.items ++ reads_of network.now node) ≡ Ok steps.new.items) }
-    ensures refused { IfErr result (λ fault. fault ≢ Memory → few_steps line (steps.old.items ++ reads_of network.now node) ≡ Err fault) }
+    ensures put { IsAnswer (λ _. steps.new.items) (few_steps line (steps.old.items ++ reads_of network.now node)) result }
 {
     check_room(steps, degree(network, node) as u128, line)?;
     push_reads(steps, network, node)?;
@@ -71,8 +71,7 @@ fn put_reads(steps: &mut Vec<Step>, network: &Network, line: u64, node: u32) -> 
 
 /// Puts a turn of a node behind the others.
 fn put_turn(steps: &mut Vec<Step>, network: &Network, line: u64, node: u32) -> Result<(), StepTextFault>
-    ensures put { OnOk result (few_steps line (steps.old.items ++ turn_of network.now node) ≡ Ok steps.new.items) }
-    ensures refused { IfErr result (λ fault. fault ≢ Memory → few_steps line (steps.old.items ++ turn_of network.now node) ≡ Err fault) }
+    ensures put { IsAnswer (λ _. steps.new.items) (few_steps line (steps.old.items ++ turn_of network.now node)) result }
 {
     check_room(steps, degree(network, node) as u128 + 1, line)?;
     push_reads(steps, network, node)?;
@@ -83,8 +82,7 @@ fn put_turn(steps: &mut Vec<Step>, network: &Network, line: u64, node: u32) -> R
 /// Puts a turn of each node behind the others.
 fn put_sweep(steps: &mut Vec<Step>, network: &Network, line: u64) -> Result<(), StepTextFault>
     requires few { length steps.old.items ≤ most_steps }
-    ensures put { OnOk result (few_steps line (steps.old.items ++ made_by network.now Sweep) ≡ Ok steps.new.items) }
-    ensures refused { IfErr result (λ fault. fault ≢ Memory → few_steps line (steps.old.items ++ made_by network.now Sweep) ≡ Err fault) }
+    ensures put { IsAnswer (λ _. steps.new.items) (few_steps line (steps.old.items ++ made_by network.now Action.Sweep)) result }
 {
     for node in 0..network.nodes() {
         put_turn(steps, network, line, node)?;
@@ -100,8 +98,7 @@ fn put_action(
     action: Action,
 ) -> Result<(), StepTextFault>
     requires few { length steps.old.items ≤ most_steps }
-    ensures put { OnOk result (few_steps line (steps.old.items ++ made_by network.now action) ≡ Ok steps.new.items) }
-    ensures refused { IfErr result (λ fault. fault ≢ Memory → few_steps line (steps.old.items ++ made_by network.now action) ≡ Err fault) }
+    ensures put { IsAnswer (λ _. steps.new.items) (few_steps line (steps.old.items ++ made_by network.now action)) result }
 {
     match action {
         Action::ReadSlot { node, slot } => put_step(steps, line, Step::Read { node, slot }),
@@ -130,24 +127,23 @@ fn push_again(
 }
 
 /// Puts the steps since the start of a repeat behind the others, as many times more as it says.
-fn put_again(steps: &mut Vec<Step>, line: u64, open: Open) -> Result<(), StepTextFault>
+fn put_again(steps: &mut Vec<Step>, line: u64, last: OpenRepeat) -> Result<(), StepTextFault>
     requires few { length steps.old.items ≤ most_steps }
-    ensures put { OnOk result (few_steps line (repeated steps.old.items open) ≡ Ok steps.new.items) }
-    ensures refused { IfErr result (λ fault. fault ≢ Memory → few_steps line (repeated steps.old.items open) ≡ Err fault) }
+    ensures put { IsAnswer (λ _. steps.new.items) (few_steps line (repeated steps.old.items last)) result }
 {
     let end = steps.len();
-    if open.start >= end {
+    if last.start >= end {
         return Ok(());
     }
-    let more = open.again as u128 * (end - open.start) as u128;
+    let more = last.again as u128 * (end - last.start) as u128;
     check_room(steps, more, line)?;
-    push_again(steps, open.start, end, open.again)?;
+    push_again(steps, last.start, end, last.again)?;
     Ok(())
 }
 
 /// Opens a repeat.
-fn open_repeat(
-    opens: &mut Vec<Open>,
+fn begin_repeat(
+    opens: &mut Vec<OpenRepeat>,
     start: usize,
     line: u64,
     count: u32,
@@ -159,7 +155,7 @@ fn open_repeat(
     if opens.len() >= MOST_DEEP {
         return Err(StepTextFault::TooDeep { line });
     }
-    opens.push(Open {
+    opens.push(OpenRepeat {
         line,
         start,
         again: count.saturating_sub(1),
@@ -170,34 +166,32 @@ fn open_repeat(
 /// Ends the last repeat that is open.
 fn end_repeat(
     steps: &mut Vec<Step>,
-    opens: &mut Vec<Open>,
+    opens: &mut Vec<OpenRepeat>,
     line: u64,
 ) -> Result<(), StepTextFault>
     requires few { length steps.old.items ≤ most_steps }
-    ensures put { OnOk result (ended line (record { steps = steps.old.items; opens = opens.old.items }) (last_open opens.old.items) ≡ Ok (record { steps = steps.new.items; opens = opens.new.items })) }
-    ensures refused { IfErr result (λ fault. fault ≢ Memory → ended line (record { steps = steps.old.items; opens = opens.old.items }) (last_open opens.old.items) ≡ Err fault) }
+    ensures put { IsAnswer (λ _. record { steps = steps.new.items; opens = opens.new.items }) (ended line (record { steps = steps.old.items; opens = opens.old.items }) (last_open opens.old.items)) result }
 {
-    let Some(open) = opens.pop() else {
+    let Some(last) = opens.pop() else {
         return Err(StepTextFault::EndWithoutRepeat { line });
     };
-    put_again(steps, line, open)
+    put_again(steps, line, last)
 }
 
 /// Puts what a line says behind the others.
 fn put_line(
     steps: &mut Vec<Step>,
-    opens: &mut Vec<Open>,
+    opens: &mut Vec<OpenRepeat>,
     network: &Network,
     number: u64,
     line: Line,
 ) -> Result<(), StepTextFault>
     requires few { length steps.old.items ≤ most_steps }
-    ensures put { OnOk result (behind_line network.now number (record { steps = steps.old.items; opens = opens.old.items }) line ≡ Ok (record { steps = steps.new.items; opens = opens.new.items })) }
-    ensures refused { IfErr result (λ fault. fault ≢ Memory → behind_line network.now number (record { steps = steps.old.items; opens = opens.old.items }) line ≡ Err fault) }
+    ensures put { IsAnswer (λ _. record { steps = steps.new.items; opens = opens.new.items }) (behind_line network.now number (record { steps = steps.old.items; opens = opens.old.items }) line) result }
 {
     match line {
         Line::Act { action } => put_action(steps, network, number, action),
-        Line::Repeat { count } => open_repeat(opens, steps.len(), number, count),
+        Line::Repeat { count } => begin_repeat(opens, steps.len(), number, count),
         Line::End => end_repeat(steps, opens, number),
     }
 }
@@ -205,16 +199,15 @@ fn put_line(
 /// Reads a line, and puts what it says behind the others.
 pub(crate) fn put_told(
     steps: &mut Vec<Step>,
-    opens: &mut Vec<Open>,
+    opens: &mut Vec<OpenRepeat>,
     network: &Network,
     names: Option<&NodeNames>,
     number: u64,
     bytes: &[u8],
 ) -> Result<(), StepTextFault>
     requires few { length steps.old.items ≤ most_steps }
-    ensures put { OnOk result (behind_told network.now (option_copied names) (record { steps = steps.old.items; opens = opens.old.items }) (number, bytes.now) ≡ Ok (record { steps = steps.new.items; opens = opens.new.items })) }
+    ensures put { IsAnswer (λ _. record { steps = steps.new.items; opens = opens.new.items }) (behind_told network.now (option_map (λ n. n.now) names.entry) (record { steps = steps.old.items; opens = opens.old.items }) (number, bytes.now)) result }
     ensures few { OnOk result (length steps.new.items ≤ most_steps) }
-    ensures refused { IfErr result (λ fault. fault ≢ Memory → behind_told network.now (option_copied names) (record { steps = steps.old.items; opens = opens.old.items }) (number, bytes.now) ≡ Err fault) }
 {
     let line = line_at(network, names, number, bytes)?;
     put_line(steps, opens, network, number, line)

@@ -1,6 +1,6 @@
 //! The steps of a text.
 ghost use Rattle.std.specs.Prelude.{◌≡◌, ◌≢◌, ◌≤◌, List, length, IfOk, IfErr};
-ghost use Rattle.std.specs.Option.{option_copied};
+ghost use Rattle.std.specs.Option.{option_map};
 ghost use Rattle.unison_world.specs.declared.step.Step.{Step};
 ghost use Rattle.unison_trace.specs.Histories.{most_steps};
 ghost use Rattle.step_text.specs.Runs.{IsAnswer, closed, last_open, read_text};
@@ -8,7 +8,7 @@ ghost use Rattle.step_text.specs.Texts.{Says};
 ghost use Rattle.step_text.specs.Refusals.{IsRefused};
 
 use crate::fault::StepTextFault;
-use crate::open::Open;
+use crate::open_repeat::OpenRepeat;
 use crate::put::put_told;
 use line_words::Lines;
 use link_net::Network;
@@ -17,12 +17,12 @@ use std::alloc::Global;
 use unison_world::Step;
 
 /// The steps, where no repeat is open.
-fn closed(steps: Vec<Step>, opens: &[Open]) -> Result<Vec<Step>, StepTextFault>
+fn closed(steps: Vec<Step>, opens: &[OpenRepeat]) -> Result<Vec<Step>, StepTextFault>
     ensures { IsAnswer (λ v. v.items) (closed steps.items (last_open opens.now)) result }
 {
     match opens.last() {
         None => Ok(steps),
-        Some(open) => Err(StepTextFault::RepeatWithoutEnd { line: open.line }),
+        Some(last) => Err(StepTextFault::RepeatWithoutEnd { line: last.line }),
     }
 }
 
@@ -33,7 +33,7 @@ fn read_text(
     names: Option<&NodeNames>,
     text: &[u8],
 ) -> Result<Vec<Step>, StepTextFault>
-    ensures { IsAnswer (λ v. v.items) (read_text network.now (option_copied names) text.now) result }
+    ensures { IsAnswer (λ v. v.items) (read_text network.now (option_map (λ n. n.now) names.entry) text.now) result }
 {
     let mut steps = Vec::new(alloc);
     let mut opens = Vec::new(alloc);
@@ -73,11 +73,11 @@ pub fn written(
     names: Option<&NodeNames>,
     text: &[u8],
 ) -> Result<Vec<Step>, StepTextFault>
-    ensures steps { IfOk result (λ v. Says network.now (option_copied names) text.now v.items) }
-    ensures only { (steps : List Step) → Says network.now (option_copied names) text.now steps → IfOk result (λ v. v.items ≡ steps) }
+    ensures steps { IfOk result (λ v. Says network.now (option_map (λ n. n.now) names.entry) text.now v.items) }
+    ensures only { (steps : List Step) → Says network.now (option_map (λ n. n.now) names.entry) text.now steps → IfOk result (λ v. v.items ≡ steps) }
     ensures few { IfOk result (λ v. length v.items ≤ most_steps) }
-    ensures refused { IfErr result (IsRefused network.now (option_copied names) text.now) }
-    ensures memory { (steps : List Step) → Says network.now (option_copied names) text.now steps → IfErr result (λ fault. fault ≡ Memory) }
+    ensures refused { IfErr result (IsRefused network.now (option_map (λ n. n.now) names.entry) text.now) }
+    ensures memory { (steps : List Step) → Says network.now (option_map (λ n. n.now) names.entry) text.now steps → IfErr result (λ fault. fault ≡ StepTextFault.Memory) }
 {
     let steps = read_text(alloc, network, names, text)?;
     Ok(steps)

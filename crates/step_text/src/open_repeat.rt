@@ -2,7 +2,7 @@
 
 /// A repeat whose end has not come yet.
 #[derive(Clone, Copy)]
-pub(crate) struct Open {
+pub(crate) struct OpenRepeat {
     /// The number of its line, counted from 1.
     pub line: u64,
     /// How many steps stand before it.
