@@ -101,6 +101,3 @@ module _ (network : Neighbours) (names : Option (List (List ℕ))) where
           | inl stops ↦ inl (bad-line [] told unread (whole none) fault begun-unread stops)
           | inr x ↦ (let a = all-read [] told unread (whole none) x.0 begun-unread x.1 in inr (unclosed told x.0 fault a.0 a.1 x.2))
         ]
-
-    pub text-read : (steps : List Step) → Says network names text steps → read_text network names text ≡ Ok steps
-    text-read steps said = ?
