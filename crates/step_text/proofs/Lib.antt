@@ -6,3 +6,4 @@ mod Readings
 mod Wholes
 mod Saids
 mod Pushes
+mod Answering

@@ -31,9 +31,9 @@ spelled word h =
 
 unspelled : (word : List ℕ) → (spells word ≡ true → ⊥) → number_in word ≡ None
 unfolding number_in
-unspelled word no =
+unspelled word never =
     elim (cases_Bool (spells word)) [
-      | inl is ↦ absurd (no is)
+      | inl is ↦ absurd (never is)
       | inr other ↦ rw other refl
     ]
 
