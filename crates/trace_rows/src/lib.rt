@@ -9,3 +9,5 @@ mod logs;
 mod replays;
 #[cfg(test)]
 mod schedules;
+#[cfg(test)]
+mod written;

@@ -1,4 +1,4 @@
-use Rattle.std.proofs.Common.{◌≡◌, ◌<◌, ◌≤◌, length, sym, ◌∙◌, arith}
+use Rattle.std.proofs.Common.{◌≡◌, ◌-◌, ◌*◌, ◌<◌, ◌≤◌, length, ap, sym, ◌∙◌, arith}
 use Rattle.std.proofs.lemmas.Result.{err_from_is_err_and}
 use Rattle.unison_trace.specs.Histories.{most_steps}
 use Rattle.step_text.specs.Runs.{few_steps, repeated}
@@ -17,6 +17,8 @@ returns-in_err-check_room c =
     let ss = c.args.steps.now.items in
     let p = err_from_is_err_and c.from_residual.result c.from_residual.ensures.1 in
     let many = c.in_err-check_room.ensures.many in
+    let end : c.len-end.result ≡ length ss = omega arith in
+    let same = ap (λ n. c.args.last.again * (n - c.args.last.start)) end in
     let len = repeated-length ss c.args.last in
     let long : most_steps < length (repeated ss c.args.last) = omega (arith, many.1) in
     record { put = answer-err _ (few_steps c.args.line (repeated ss c.args.last)) c.from_residual.result p.0 c.in_err-check_room.field-0.0 p.1 p.2 (λ _. many-put c.args.line (repeated ss c.args.last) c.in_err-check_room.field-0.0 many.0 long) }
@@ -25,7 +27,8 @@ pub returns : goal.returns
 returns c =
     let ss = c.args.steps.now.items in
     let new = c.push_again.new.steps.items in
-    let end : c.len-end.result ≡ length ss = c.len-end.ensures in
+    let end : c.len-end.result ≡ length ss = omega arith in
+    let same = ap (λ n. c.args.last.again * (n - c.args.last.start)) end in
     let whole : repeated ss c.args.last ≡ new = repeated-whole ss new c.args.last c.len-end.result end c.in_ok-push_again.ensures.put in
     let len = repeated-length ss c.args.last in
     let room = c.in_ok-check_room.ensures.few in

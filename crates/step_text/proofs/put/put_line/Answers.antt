@@ -1,3 +1,4 @@
+use Rattle.std.proofs.Common.{◌≡◌, length, arith}
 use Rattle.step_text.proofs.Answering.{answer-act, answer-repeat, answer-end}
 use Rattle.step_text.proofs.put.put_line.Goals as goal
 
@@ -10,8 +11,9 @@ returns-in-Act c =
 pub returns-in-Repeat : goal.returns-in-Repeat
 returns-in-Repeat c =
     let begun = c.begin_repeat.ensures in
+    let start : c.len.result ≡ length c.args.steps.now.items = omega arith in
     record {
-      put = answer-repeat c.args.network.now c.args.number (record { steps = c.args.steps.now.items; opens = c.args.opens.now.items }) c.args.line c.begin_repeat.result c.in-Repeat.count c.len.result c.begin_repeat.new.opens.items c.in-Repeat.is c.len.ensures begun.room begun.opened begun.refused;
+      put = answer-repeat c.args.network.now c.args.number (record { steps = c.args.steps.now.items; opens = c.args.opens.now.items }) c.args.line c.begin_repeat.result c.in-Repeat.count c.len.result c.begin_repeat.new.opens.items c.in-Repeat.is start begun.room begun.opened begun.refused;
     }
 
 pub returns-in-End : goal.returns-in-End
