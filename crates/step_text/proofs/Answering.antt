@@ -1,5 +1,5 @@
 -- Answers that are defined, but for want of memory.
-use Rattle.std.proofs.Common.{◌≡◌, ◌≢◌, ℕ, ◌+◌, ◌-◌, ◌<◌, ◌≤◌, true, false, List, [], ◌∷◌, ◌++◌, length, nat_lt, subst, sym, refl, ap, ◌∙◌, Option, Some, None, Result, Ok, Err, IfErr, OnOk, inl, inr, arith}
+use Rattle.std.proofs.Common.{◌≡◌, ◌≢◌, ℕ, ◌-◌, ◌<◌, ◌≤◌, true, false, List, [], ◌∷◌, ◌++◌, length, nat_lt, subst, sym, refl, ap, ◌∙◌, Option, Some, None, Result, Ok, Err, IfErr, OnOk, inl, inr, arith}
 use Rattle.std.proofs.lemmas.Bool.Decides.{nat_tests}
 use Rattle.link_net.specs.Neighbours.{Neighbours}
 use Rattle.unison_world.specs.declared.step.Step.{Step}
@@ -58,9 +58,9 @@ few-behind network line r q (Repeat k) few h =
       | inl a ↦ subst (λ (x : Result Reading StepTextFault). few_in x) a.1 few
       | inr b ↦ (let e = b.1 in cc)
     ] where
-  few_in : Result Reading StepTextFault → Type 0
-  few_in (Ok q) = length q.steps ≤ most_steps
-  few_in (Err e) = Unit {0}
+      few_in : Result Reading StepTextFault → Type 0
+      few_in (Ok q) = length q.steps ≤ most_steps
+      few_in (Err e) = Unit {0}
 few-behind network line r q End few h = few-ended (last_open r.opens) h where
   few-ended : (last : Option OpenRepeat) → ended line r last ≡ Ok q → length q.steps ≤ most_steps
   few-ended None g = cc
@@ -78,7 +78,7 @@ module _ {B : Type 0} (network : Neighbours) (line : ℕ) (r : Reading) (said : 
   answer-act result action ss is h =
       let q : Reading = record { steps = ss; opens = r.opens } in
       answer-same (λ (x : B). q) (behind_line network line r (Act action)) (behind_line network line r said) result (ap (λ s. behind_line network line r s) (sym is))
-        (answer-then ss (λ steps. Ok (record { steps = steps; opens = r.opens })) q (few_steps line (r.steps ++ made_by network action)) result refl h)
+      (answer-then ss (λ steps. Ok (record { steps = steps; opens = r.opens })) q (few_steps line (r.steps ++ made_by network action)) result refl h)
 
   pub answer-repeat : (result : Result B StepTextFault) (k start : ℕ) (opens : List OpenRepeat) → said ≡ Repeat k → start ≡ length r.steps → OnOk result (length r.opens < most_deep)
       → OnOk result (opens ≡ r.opens ++ (record { line = line; start = start; again = k - 1 }) ∷ []) → IfErr result (λ fault. fault ≢ Memory → (fault ≡ TooDeep line) × (most_deep ≤ length r.opens))

@@ -1,5 +1,5 @@
 -- Steps that may fail, and the counts of repeats.
-use Rattle.std.proofs.Common.{◌≡◌, ℕ, ◌≤◌, Bool, true, false, ◌&&◌, List, [], ◌∷◌, nat_le, codes, if◌then◌else◌, ◌⊎◌, subst, refl, sym, ap, ◌∙◌, Option, Some, None, Result, Ok, Err, inl, inr, arith}
+use Rattle.std.proofs.Common.{◌≡◌, ℕ, ◌≤◌, Bool, true, false, ◌&&◌, List, [], ◌∷◌, nat_le, codes, if◌then◌else◌, ◌⊎◌, subst, refl, ap, ◌∙◌, Option, Some, None, Result, Ok, Err, inl, inr, arith}
 use Rattle.std.proofs.lemmas.Bool.{cases_Bool}
 use Rattle.std.proofs.lemmas.Bool.Decides.{nat_tests}
 use Rattle.std.specs.Option.{option_and_then, ok_or}
@@ -7,7 +7,6 @@ use Rattle.std.specs.Str.{bytes_eq}
 use Rattle.line_words.specs.Parts.{shown}
 use Rattle.link_net.specs.Neighbours.{Neighbours}
 use Rattle.step_text.specs.declared.action.Action.{Action}
-use Rattle.step_text.specs.declared.line.Line.{Line}
 use Rattle.step_text.specs.declared.line.Line.TheVariants.{Repeat}
 use Rattle.step_text.specs.declared.fault.StepTextFault.{StepTextFault}
 use Rattle.step_text.specs.declared.fault.StepTextFault.TheVariants.{BadCount}
@@ -53,9 +52,9 @@ module _ (network : Neighbours) (names : Option (List (List ℕ))) (line k : ℕ
       elim (choice (bytes_eq word (codes "sweep")) _ _ _ h) [
         | inl a ↦ (let e = a.1 in cc)
         | inr b ↦ elim (choice (bytes_eq word (codes "}")) _ _ _ b.1) [
-            | inl a ↦ (let e = a.1 in cc)
-            | inr c ↦ (let e = c.1 in cc)
-          ]
+          | inl a ↦ (let e = a.1 in cc)
+          | inr c ↦ (let e = c.1 in cc)
+        ]
       ]
 
   three-least : (first second third : List ℕ) → three_words network names line first second third ≡ Ok (Repeat k) → 1 ≤ k
@@ -63,9 +62,9 @@ module _ (network : Neighbours) (names : Option (List (List ℕ))) (line k : ℕ
       elim (choice (bytes_eq first (codes "repeat") && bytes_eq third (codes "{")) _ _ _ h) [
         | inl a ↦ (let x = then-ok (count_at line second) (λ n. Ok (Repeat n)) (Repeat k) a.1 in let same : x.0 ≡ k = cc in subst (λ n. 1 ≤ n) same (count-least line (number_in second) x.0 x.1))
         | inr b ↦ elim (choice (bytes_eq second (codes "reads")) _ _ _ b.1) [
-            | inl a ↦ absurd (no-repeat (reads_line network names line first third) k a.1)
-            | inr c ↦ (let e = c.1 in cc)
-          ]
+          | inl a ↦ absurd (no-repeat (reads_line network names line first third) k a.1)
+          | inr c ↦ (let e = c.1 in cc)
+        ]
       ]
 
   long-least : (first second : List ℕ) (words : List (List ℕ)) → long_line network names line first second words ≡ Ok (Repeat k) → 1 ≤ k

@@ -1,5 +1,5 @@
 -- Parts of texts, one behind another, and beginnings that grow.
-use Rattle.std.proofs.Common.{◌≡◌, ℕ, ◌+◌, ◌≤◌, max, List, [], ◌∷◌, ◌++◌, length, refl, sym, ap, ◌∙◌, append_assoc, arith}
+use Rattle.std.proofs.Common.{◌≡◌, ◌+◌, ◌≤◌, max, ◌∷◌, ◌++◌, refl, sym, ap, ◌∙◌, append_assoc, arith}
 use Rattle.std.specs.List.{repeat}
 use Rattle.link_net.specs.Neighbours.{Neighbours}
 use Rattle.step_text.specs.declared.line.Line.TheVariants.{Act, Repeat, End}

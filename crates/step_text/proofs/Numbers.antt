@@ -1,5 +1,5 @@
 -- Words that are numbers.
-use Rattle.std.proofs.Common.{◌≡◌, ◌≢◌, ℕ, ◌<◌, ◌^◌, ◌==◌, Bool, true, false, ◌&&◌, List, [], ◌∷◌, ◌++◌, length, nat_lt, refl, sym, ap, ◌∙◌, subst, append-nil, Option, Some, None, inl, inr, if◌then◌else◌, arith}
+use Rattle.std.proofs.Common.{◌≡◌, ◌≢◌, ℕ, ◌<◌, ◌^◌, ◌==◌, Bool, true, false, ◌&&◌, List, [], ◌∷◌, ◌++◌, length, nat_lt, refl, sym, ap, ◌∙◌, append-nil, Some, None, inl, inr, arith}
 use Rattle.std.specs.Fmt.{decimal}
 use Rattle.std.specs.Str.{bytes_eq}
 use Rattle.std.specs.Str.Parse.{digits_value}
@@ -41,19 +41,19 @@ unspelled word never =
 pub number-none : (word bytes : List ℕ) → bytes ≡ word → ((n : ℕ) (behind : List ℕ) → n < 2 ^ 32 → Ends behind → bytes ≢ decimal n ++ behind) → number_in word ≡ None
 number-none word bytes same none =
     unspelled word (λ h.
-      let is = spelled word h in
-      none (digits_value 10 word) [] is.1 tt (same ∙ sym is.0 ∙ sym (append-nil (decimal (digits_value 10 word)))))
+    let is = spelled word h in
+    none (digits_value 10 word) [] is.1 tt (same ∙ sym is.0 ∙ sym (append-nil (decimal (digits_value 10 word)))))
 
 -- something stands behind the number at the front
 pub number-more : (word bytes rest : List ℕ) (n : ℕ) → bytes ≡ word → bytes ≡ decimal n ++ rest → n < 2 ^ 32 → Ends rest → false ≡ (length rest == 0) → number_in word ≡ None
 number-more word bytes rest n same cut small ends some =
     unspelled word (λ h.
-      let is = spelled word h in
-      let both : decimal n ++ rest ≡ decimal (digits_value 10 word) ++ [] = sym cut ∙ same ∙ sym is.0 ∙ sym (append-nil (decimal (digits_value 10 word))) in
-      let end : rest ≡ [] = (number_once n (digits_value 10 word) rest [] small is.1 ends tt both).1 in
-      let full : (length rest == 0) ≡ true = (Decides-eqb (length rest) 0).1 (ap length end) in
-      let bad : false ≡ true = some ∙ full in
-      cc)
+    let is = spelled word h in
+    let both : decimal n ++ rest ≡ decimal (digits_value 10 word) ++ [] = sym cut ∙ same ∙ sym is.0 ∙ sym (append-nil (decimal (digits_value 10 word))) in
+    let end : rest ≡ [] = (number_once n (digits_value 10 word) rest [] small is.1 ends tt both).1 in
+    let full : (length rest == 0) ≡ true = (Decides-eqb (length rest) 0).1 (ap length end) in
+    let bad : false ≡ true = some ∙ full in
+    cc)
 
 -- the number is all of the word
 pub number-some : (word bytes rest : List ℕ) (n : ℕ) → bytes ≡ word → bytes ≡ decimal n ++ rest → n < 2 ^ 32 → true ≡ (length rest == 0) → number_in word ≡ Some n

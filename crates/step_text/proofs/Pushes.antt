@@ -1,5 +1,5 @@
 -- Steps that are put behind others.
-use Rattle.std.proofs.Common.{◌≡◌, ℕ, zero, suc, ◌+◌, ◌-◌, ◌*◌, ◌<◌, ◌≤◌, min, true, false, List, [], ◌∷◌, ◌++◌, length, map, take, drop, nat_le, append_assoc, append-nil, length-append, subst, sym, refl, ap, ◌∙◌, Result, Ok, Err, arith}
+use Rattle.std.proofs.Common.{◌≡◌, ℕ, zero, suc, ◌+◌, ◌-◌, ◌*◌, ◌<◌, ◌≤◌, true, false, List, [], ◌∷◌, ◌++◌, length, map, take, drop, nat_le, append_assoc, append-nil, length-append, subst, sym, refl, ap, ◌∙◌, Ok, Err, arith}
 use Rattle.std.specs.List.{range_with_len, flat_map, repeat, slice_range}
 use Rattle.std.proofs.lemmas.Bool.Decides.{nat_tests}
 use Rattle.std.proofs.lemmas.List.{take-append-le, drop-append-le, length-drop, take_all}
@@ -148,6 +148,7 @@ sweep-many line first ss f i n fault low is stops =
 -- the steps of one node more
 pub sweep-more : (line : ℕ) (first ss tt : List Step) (f : ℕ → List Step) (i : ℕ) → ss ≡ first ++ flat_map f (range_with_len 0 i) → few_steps line (ss ++ f i) ≡ Ok tt → (tt ≡ first ++ flat_map f (range_with_len 0 (i + 1))) × (length tt ≤ most_steps)
 sweep-more line first ss tt f i is put =
-    let few = few-ok line (ss ++ f i) tt put in
-    (sym few.0 ∙ ap (λ xs. xs ++ f i) is ∙ append_assoc first (flat_map f (range_with_len 0 i)) (f i) ∙ ap (λ xs. first ++ xs) (turns-push f i),
-     subst (λ (xs : List Step). length xs ≤ most_steps) few.0 few.1)
+    let few = few-ok line (ss ++ f i) tt put in (
+      sym few.0 ∙ ap (λ xs. xs ++ f i) is ∙ append_assoc first (flat_map f (range_with_len 0 i)) (f i) ∙ ap (λ xs. first ++ xs) (turns-push f i),
+      subst (λ (xs : List Step). length xs ≤ most_steps) few.0 few.1,
+    )

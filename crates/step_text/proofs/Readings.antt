@@ -1,11 +1,9 @@
 -- What readings have read.
-use Rattle.std.proofs.Common.{◌≡◌, ℕ, zero, suc, ◌+◌, ◌-◌, ◌<◌, ◌≤◌, max, Bool, true, false, List, [], ◌∷◌, ◌++◌, length, map, take, drop, nat_le, nat_lt, slice_get, ◌⊎◌, inl, inr, subst, refl, sym, ap, ◌∙◌, append_assoc, append-nil, length-append, Option, Some, None, Result, Ok, Err, arith}
+use Rattle.std.proofs.Common.{◌≡◌, ℕ, zero, suc, ◌+◌, ◌-◌, ◌<◌, ◌≤◌, max, List, [], ◌∷◌, ◌++◌, length, map, take, drop, nat_le, nat_lt, slice_get, inl, inr, subst, refl, sym, ap, ◌∙◌, append_assoc, append-nil, length-append, Option, Some, None, Ok, Err, arith}
 use Rattle.std.specs.List.{repeat}
 use Rattle.std.proofs.Math.Seq.{drop-append_seam, take-append_seam}
-use Rattle.std.proofs.lemmas.Bool.{cases_Bool}
 use Rattle.std.proofs.lemmas.Bool.Decides.{nat_tests}
 use Rattle.std.proofs.lemmas.List.{map-append, length-map}
-use Rattle.std.proofs.lemmas.Option.{slice_get_past}
 use Rattle.link_net.specs.Neighbours.{Neighbours}
 use Rattle.unison_world.specs.declared.step.Step.{Step}
 use Rattle.unison_trace.specs.Histories.{most_steps}
@@ -15,12 +13,12 @@ use Rattle.step_text.specs.declared.line.Line.{Line}
 use Rattle.step_text.specs.declared.line.Line.TheVariants.{Act, Repeat, End}
 use Rattle.step_text.specs.declared.fault.StepTextFault.{StepTextFault}
 use Rattle.step_text.specs.declared.fault.StepTextFault.TheVariants.{TooDeep, EndWithoutRepeat, TooManySteps}
-use Rattle.step_text.specs.Meaning.{and_then, line_at}
+use Rattle.step_text.specs.Meaning.{line_at}
 use Rattle.step_text.specs.Texts.{Parts, none, act, again, lines_of, steps_of, depth_of, made_by, most_deep, AreSaid}
-use Rattle.step_text.specs.Refusals.{Beginning, whole, inside, begun_lines, begun_steps, begun_depth, open_in, Stand, IsTooMuch, IsLineFault, IsMisplaced, IsFirstBadLine}
-use Rattle.step_text.specs.Runs.{Reading, few_steps, repeated, last_open, but_last, ended, behind_line, behind_told, behind_all}
+use Rattle.step_text.specs.Refusals.{Beginning, whole, inside, begun_lines, begun_steps, begun_depth, open_in, Stand, IsMisplaced}
+use Rattle.step_text.specs.Runs.{Reading, few_steps, repeated, last_open, but_last, ended, behind_line}
 use Rattle.step_text.proofs.Counts.{then-ok, then-err, choice, line-least}
-use Rattle.step_text.proofs.Following.{grown, lines-grown, steps-grown, open-grown, depth-grown, open-deep}
+use Rattle.step_text.proofs.Following.{grown, lines-grown, steps-grown, depth-grown, open-deep}
 
 -- the number of a line
 abbrev pub numbers : List (ℕ × List ℕ) → List ℕ
@@ -151,7 +149,7 @@ module _ (network : Neighbours) where
           let deep = open-deep b in
           let stood = read.stand.deep in
           subst (λ q. HasRead network names (told ++ l ∷ []) q (grown b (act action none))) same
-            (behind-grown p b (act action none) (begun_lines b ++ Act action ∷ []) (said-more told (begun_lines b) l (Act action) read.stand.lines is) refl made low read.stand.deep (omega arith) opens-more)
+          (behind-grown p b (act action none) (begun_lines b ++ Act action ∷ []) (said-more told (begun_lines b) l (Act action) read.stand.lines is) refl made low read.stand.deep (omega arith) opens-more)
 
       pub behind-repeat : (k : ℕ) (q : Reading) → line_at network names l ≡ Ok (Repeat k) → behind_line network l.0 r (Repeat k) ≡ Ok q → HasRead network names (told ++ l ∷ []) q (inside b k none)
       unfolding behind_line
@@ -172,15 +170,15 @@ module _ (network : Neighbours) where
                 let named : slice_get (numbers (told ++ l ∷ [])) (length (begun_lines b)) ≡ Some l.0 = subst (λ (ns : List ℕ). slice_get ns (length (begun_lines b)) ≡ Some l.0) (sym (map-append (λ (l : ℕ × List ℕ). l.0) told (l ∷ []))) got in
                 let made : r.steps ≡ begun_steps network b ++ [] = read.steps ∙ sym (append-nil (begun_steps network b)) in
                 subst (λ q. HasRead network names (told ++ l ∷ []) q (inside b k none)) same
-                  (record {
-                    stand = record {
-                      lines = said-more told (begun_lines b) l (Repeat k) read.stand.lines is;
-                      deep = omega arith;
-                      few = subst (λ (xs : List Step). length xs ≤ most_steps) (sym (append-nil (begun_steps network b))) read.stand.few;
-                    };
-                    steps = made;
-                    opens = (r.opens, new, refl, line-least network names l k is, refl, ap length read.steps, named, opens-more);
-                  }))
+                (record {
+                  stand = record {
+                    lines = said-more told (begun_lines b) l (Repeat k) read.stand.lines is;
+                    deep = omega arith;
+                    few = subst (λ (xs : List Step). length xs ≤ most_steps) (sym (append-nil (begun_steps network b))) read.stand.few;
+                  };
+                  steps = made;
+                  opens = (r.opens, new, refl, line-least network names l k is, refl, ap length read.steps, named, opens-more);
+                }))
             | inr other ↦ (let e = other.1 in cc)
           ]
 
@@ -207,10 +205,11 @@ module _ (network : Neighbours) where
             let left : but_last r.opens ≡ o.0 = ap but_last o.2 ∙ but-last-push o.0 o.1 in
             let others : AreOpen network (numbers (told ++ l ∷ [])) outer o.0 = subst (λ ns. AreOpen network ns outer o.0) (sym (map-append (λ (l : ℕ × List ℕ). l.0) told (l ∷ []))) (open-more (numbers told) (l.0 ∷ []) outer o.0 o.7) in
             let opens : AreOpen network (numbers (told ++ l ∷ [])) outer (but_last r.opens) = subst (λ os. AreOpen network (numbers (told ++ l ∷ [])) outer os) (sym left) others in
-            let stood : max (begun_depth outer) (open_in outer + 1 + depth_of ps) ≤ most_deep = stand.deep in
-            (grown outer (again k ps none),
-             subst (λ q. HasRead network names (told ++ l ∷ []) q (grown outer (again k ps none))) same
-               (behind-grown p outer (again k ps none) (begun_lines (inside outer k ps) ++ End ∷ []) (said-more told (begun_lines (inside outer k ps)) l End stand.lines is) lines made low (omega arith) (omega arith) opens))
+            let stood : max (begun_depth outer) (open_in outer + 1 + depth_of ps) ≤ most_deep = stand.deep in (
+              grown outer (again k ps none),
+              subst (λ q. HasRead network names (told ++ l ∷ []) q (grown outer (again k ps none))) same
+                  (behind-grown p outer (again k ps none) (begun_lines (inside outer k ps) ++ End ∷ []) (said-more told (begun_lines (inside outer k ps)) l End stand.lines is) lines made low (omega arith) (omega arith) opens),
+            )
 
       misplaced-end : (fault : StepTextFault) → line_at network names l ≡ Ok End → ended l.0 r (last_open r.opens) ≡ Err fault → (x : Beginning) → AreOpen network (numbers told) x r.opens → r.steps ≡ begun_steps network x → IsMisplaced network names x l fault
       misplaced-end fault is h (whole ps) o steps =

@@ -1,5 +1,5 @@
 -- What is said is read.
-use Rattle.std.proofs.Common.{◌≡◌, ℕ, zero, suc, ◌+◌, ◌-◌, ◌<◌, ◌≤◌, max, true, List, [], ◌∷◌, ◌++◌, length, map, nat_le, nat_lt, subst, refl, sym, ap, ◌∙◌, append_assoc, append-nil, length-append, Option, Some, Result, Ok, Err, arith}
+use Rattle.std.proofs.Common.{◌≡◌, ℕ, zero, suc, ◌+◌, ◌-◌, ◌<◌, ◌≤◌, max, true, List, [], ◌∷◌, ◌++◌, length, map, nat_le, nat_lt, subst, refl, sym, ap, ◌∙◌, append_assoc, append-nil, length-append, Option, Some, Result, Ok, arith}
 use Rattle.std.specs.List.{repeat}
 use Rattle.std.proofs.lemmas.Bool.Decides.{nat_tests}
 use Rattle.std.proofs.lemmas.List.{map-append}
@@ -14,7 +14,7 @@ use Rattle.step_text.specs.declared.line.Line.TheVariants.{Act, Repeat, End}
 use Rattle.step_text.specs.declared.fault.StepTextFault.{StepTextFault}
 use Rattle.step_text.specs.Meaning.{and_then, line_at}
 use Rattle.step_text.specs.Texts.{Parts, none, act, again, lines_of, steps_of, depth_of, made_by, most_deep, Says}
-use Rattle.step_text.specs.Runs.{Reading, unread, few_steps, repeated, last_open, but_last, ended, behind_line, behind_told, behind_all, closed, read_text}
+use Rattle.step_text.specs.Runs.{Reading, unread, few_steps, repeated, last_open, but_last, ended, behind_line, behind_all, closed, read_text}
 use Rattle.step_text.proofs.Counts.{line-least}
 use Rattle.step_text.proofs.Readings.{last-push, but-last-push, repeated-is}
 
@@ -105,18 +105,18 @@ module _ (network : Neighbours) (names : Option (List (List ℕ))) where
       let is : line_at network names l ≡ Ok (Repeat k) = cc in
       let rest : map (line_at network names) ls ≡ map Ok (lines_of body ++ (End ∷ lines_of ps)) ++ more = cc in
       let others : Tells ls body (Ok End ∷ (map Ok (lines_of ps) ++ more)) =
-          rest ∙ ap (λ rs. rs ++ more) (map-append Ok (lines_of body) (End ∷ lines_of ps)) ∙ append_assoc (map Ok (lines_of body)) (Ok End ∷ map Ok (lines_of ps)) more in
+      rest ∙ ap (λ rs. rs ++ more) (map-append Ok (lines_of body) (End ∷ lines_of ps)) ∙ append_assoc (map Ok (lines_of body)) (Ok End ∷ map Ok (lines_of ps)) more in
       let least = line-least network names l k is in
       let new = opened l.0 r k in
       let q : Reading = record { steps = r.steps; opens = r.opens ++ new ∷ [] } in
       let b = steps_of network body in
       let made = repeat k b in
       let low : length (r.steps ++ b) ≤ most_steps =
-          (let e = length-append r.steps b in
-           let f = length-append r.steps (made ++ steps_of network ps) in
-           let g = length-append made (steps_of network ps) in
-           let h = length-again k b least in
-           omega arith) in
+      (let e = length-append r.steps b in
+      let f = length-append r.steps (made ++ steps_of network ps) in
+      let g = length-append made (steps_of network ps) in
+      let h = length-again k b least in
+      omega arith) in
       let deeper : length r.opens + max (depth_of body + 1) (depth_of ps) ≤ most_deep = deep in
       let room : length r.opens < most_deep = omega arith in
       let shallow : length (r.opens ++ new ∷ []) + depth_of body ≤ most_deep = omega (arith, length-append r.opens (new ∷ [])) in

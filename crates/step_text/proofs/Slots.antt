@@ -1,11 +1,11 @@
 -- The slot at which a neighbour stands.
-use Rattle.std.proofs.Common.{◌≡◌, ◌↔◌, ℕ, zero, suc, ◌<◌, ◌==◌, Bool, true, false, List, [], ◌∷◌, length, map, position, nat_lt, ◌≤◌, slice_get, slice_index_or, get_or, refl, sym, ap, ◌∙◌, Option, Some, None, inl, inr, arith}
-use Rattle.std.specs.List.{position_or_len, list_any}
-use Rattle.std.specs.Option.{option_map, option_and_then, unwrap_or}
+use Rattle.std.proofs.Common.{◌≡◌, ◌↔◌, ℕ, zero, suc, ◌<◌, ◌==◌, List, [], ◌∷◌, length, map, position, nat_lt, ◌≤◌, slice_get, get_or, refl, sym, ap, ◌∙◌, Option, Some, None, inl, inr, arith}
+use Rattle.std.specs.List.{position_or_len}
+use Rattle.std.specs.Option.{option_map, unwrap_or}
 use Rattle.std.proofs.lemmas.Bool.{cases_Bool}
 use Rattle.std.proofs.lemmas.Bool.Decides.{nat_tests, Decides-eqb}
 use Rattle.std.proofs.lemmas.List.Quantifiers.{position-Some}
-use Rattle.std.proofs.lemmas.Option.{slice_get-map, slice_get-get_or, slice_get_within, get_or_from_slice_get}
+use Rattle.std.proofs.lemmas.Option.{slice_get-map, slice_get-get_or}
 use Rattle.link_net.specs.Neighbours.{Neighbours, row, degree, neighbour_at}
 
 -- the neighbours of a node

@@ -1,5 +1,5 @@
 -- Texts that are read.
-use Rattle.std.proofs.Common.{◌≡◌, ◌≢◌, ℕ, ◌+◌, ◌≤◌, List, [], ◌∷◌, ◌++◌, length, map, slice_get, ◌⊎◌, inl, inr, subst, refl, sym, ap, ◌∙◌, append_assoc, append-nil, Option, Some, None, Result, Ok, Err, arith}
+use Rattle.std.proofs.Common.{◌≡◌, ℕ, ◌≤◌, List, [], ◌∷◌, ◌++◌, length, ◌⊎◌, inl, inr, subst, refl, sym, ap, ◌∙◌, append_assoc, append-nil, Option, Some, None, Ok, Err, arith}
 use Rattle.line_words.specs.Texts.{told_from}
 use Rattle.link_net.specs.Neighbours.{Neighbours}
 use Rattle.unison_world.specs.declared.step.Step.{Step}
@@ -9,13 +9,13 @@ use Rattle.step_text.specs.declared.line.Line.{Line}
 use Rattle.step_text.specs.declared.line.Line.TheVariants.{Act, Repeat, End}
 use Rattle.step_text.specs.declared.fault.StepTextFault.{StepTextFault}
 use Rattle.step_text.specs.declared.fault.StepTextFault.TheVariants.{RepeatWithoutEnd}
-use Rattle.step_text.specs.Meaning.{and_then, line_at}
+use Rattle.step_text.specs.Meaning.{line_at}
 use Rattle.step_text.specs.Texts.{Parts, none, act, Says, steps_of}
-use Rattle.step_text.specs.Refusals.{Beginning, whole, inside, Stand, IsFirstBadLine, IsUnclosed, IsRefused}
+use Rattle.step_text.specs.Refusals.{Beginning, whole, inside, IsFirstBadLine, IsUnclosed}
 use Rattle.step_text.specs.Runs.{Reading, unread, behind_line, behind_told, behind_all, closed, last_open, read_text}
 use Rattle.step_text.proofs.Counts.{then-ok, then-err}
 use Rattle.step_text.proofs.Following.{grown}
-use Rattle.step_text.proofs.Readings.{HasRead, AreOpen, numbers, last-push, behind-act, behind-repeat, behind-end, misplaced}
+use Rattle.step_text.proofs.Readings.{HasRead, last-push, behind-act, behind-repeat, behind-end, misplaced}
 
 module _ (network : Neighbours) (names : Option (List (List ℕ))) where
   one-more : (told : List (ℕ × List ℕ)) (r : Reading) (b : Beginning) (l : ℕ × List ℕ) (said : Line) (q : Reading) → HasRead network names told r b → line_at network names l ≡ Ok said → behind_line network l.0 r said ≡ Ok q → (next : Beginning) × HasRead network names (told ++ l ∷ []) q next
@@ -39,9 +39,9 @@ module _ (network : Neighbours) (names : Option (List (List ℕ))) where
   bad-line told (l ∷ ls) r b fault read h =
       elim (then-err (behind_told network names r l) (λ q. behind_all network names q ls) fault h) [
         | inl stops ↦ elim (then-err (line_at network names l) (λ line. behind_line network l.0 r line) fault stops) [
-            | inl own ↦ record { earlier = told; here = l; later = ls; all = refl; begun = b; stand = read.stand; why = inl own }
-            | inr y ↦ record { earlier = told; here = l; later = ls; all = refl; begun = b; stand = read.stand; why = inr (misplaced network names told r b l read y.0 fault y.1 y.2) }
-          ]
+          | inl own ↦ record { earlier = told; here = l; later = ls; all = refl; begun = b; stand = read.stand; why = inl own }
+          | inr y ↦ record { earlier = told; here = l; later = ls; all = refl; begun = b; stand = read.stand; why = inr (misplaced network names told r b l read y.0 fault y.1 y.2) }
+        ]
         | inr x ↦ (
             let y = then-ok (line_at network names l) (λ line. behind_line network l.0 r line) x.0 x.1 in
             let one = one-more told r b l y.0 x.0 read y.1 y.2 in

@@ -1,5 +1,5 @@
 -- What lines say. A line is its number, counted from 1, and its bytes.
-use Rattle.std.specs.Prelude.{ℕ, Bool, ◌&&◌, List, [], ◌∷◌, codes, Option, Result, Ok, Err, if◌then◌else◌}
+use Rattle.std.specs.Prelude.{ℕ, ◌&&◌, List, [], ◌∷◌, codes, Option, Result, Ok, Err, if◌then◌else◌}
 use Rattle.std.specs.Str.{bytes_eq}
 use Rattle.line_words.specs.Parts.{shown}
 use Rattle.line_words.specs.declared.fault.WordsFault.{WordsFault}

@@ -1,5 +1,5 @@
--- How a text is read: line by line, with the repeats that are open.
-use Rattle.std.specs.Prelude.{◌≡◌, ◌≢◌, ℕ, ◌+◌, ◌-◌, List, [], ◌∷◌, ◌++◌, length, map, take, drop, nat_le, nat_lt, slice_get, MatchResult, Option, Some, None, Result, Ok, Err, if◌then◌else◌}
+-- How a text is read: line by line, with the repeats that are open. The clauses of private functions speak of this; what it is for stands in Texts and Refusals.
+use Rattle.std.specs.Prelude.{◌≡◌, ◌≢◌, ℕ, ◌-◌, List, [], ◌∷◌, ◌++◌, length, take, drop, nat_le, nat_lt, slice_get, MatchResult, Option, Some, None, Result, Ok, Err, if◌then◌else◌}
 use Rattle.std.specs.List.{repeat}
 use Rattle.line_words.specs.Texts.{told_from}
 use Rattle.link_net.specs.Neighbours.{Neighbours}

@@ -1,5 +1,5 @@
 -- The steps that a text says.
-use Rattle.std.specs.Prelude.{◌≡◌, ℕ, zero, suc, ◌+◌, ◌≤◌, max, List, [], ◌∷◌, ◌++◌, length, map, Option, Result, Ok}
+use Rattle.std.specs.Prelude.{◌≡◌, ℕ, ◌+◌, ◌≤◌, max, List, [], ◌∷◌, ◌++◌, length, map, Option, Ok}
 use Rattle.std.specs.List.{flat_map, repeat}
 use Rattle.line_words.specs.Texts.{told_from}
 use Rattle.link_net.specs.Neighbours.{Neighbours, degree, numbers_below}
@@ -10,7 +10,6 @@ use Rattle.step_text.specs.declared.action.Action.{Action}
 use Rattle.step_text.specs.declared.action.Action.TheVariants.{ReadSlot, ReadAll, Move, Turn, Sweep}
 use Rattle.step_text.specs.declared.line.Line.{Line}
 use Rattle.step_text.specs.declared.line.Line.TheVariants.{Act, Repeat, End}
-use Rattle.step_text.specs.declared.fault.StepTextFault.{StepTextFault}
 use Rattle.step_text.specs.Meaning.{line_at}
 
 -- the most repeats that may stand inside each other

@@ -1,5 +1,5 @@
 -- What words of a line call: nodes, slots, counts.
-use Rattle.std.specs.Prelude.{◌≡◌, ℕ, ◌^◌, ◌==◌, Bool, ◌&&◌, List, [], ◌∷◌, map, nat_lt, nat_le, length, slice_index, Option, Some, None, Result, Ok, Err, if◌then◌else◌}
+use Rattle.std.specs.Prelude.{ℕ, ◌^◌, ◌==◌, Bool, ◌&&◌, List, map, nat_lt, nat_le, length, slice_index, Option, Some, None, Result, if◌then◌else◌}
 use Rattle.std.specs.List.{before_first, position}
 use Rattle.std.specs.Fmt.{decimal}
 use Rattle.std.specs.Option.{option_and_then, ok_or}

@@ -61,7 +61,12 @@ fn push_reads(steps: &mut Vec<Step>, network: &Network, node: u32) -> Result<(),
 }
 
 /// Puts the reads of all slots of a node behind the others.
-fn put_reads(steps: &mut Vec<Step>, network: &Network, line: u64, node: u32) -> Result<(), StepTextFault>
+fn put_reads(
+    steps: &mut Vec<Step>,
+    network: &Network,
+    line: u64,
+    node: u32,
+) -> Result<(), StepTextFault>
     ensures put { IsAnswer (λ _. steps.new.items) (few_steps line (steps.old.items ++ reads_of network.now node)) result }
 {
     check_room(steps, degree(network, node) as u128, line)?;
@@ -70,7 +75,12 @@ fn put_reads(steps: &mut Vec<Step>, network: &Network, line: u64, node: u32) -> 
 }
 
 /// Puts a turn of a node behind the others.
-fn put_turn(steps: &mut Vec<Step>, network: &Network, line: u64, node: u32) -> Result<(), StepTextFault>
+fn put_turn(
+    steps: &mut Vec<Step>,
+    network: &Network,
+    line: u64,
+    node: u32,
+) -> Result<(), StepTextFault>
     ensures put { IsAnswer (λ _. steps.new.items) (few_steps line (steps.old.items ++ turn_of network.now node)) result }
 {
     check_room(steps, degree(network, node) as u128 + 1, line)?;
@@ -110,12 +120,7 @@ fn put_action(
 }
 
 /// Puts the steps from a start on up to an end so many times more behind the others.
-fn push_again(
-    steps: &mut Vec<Step>,
-    start: usize,
-    end: usize,
-    times: u32,
-) -> Result<(), AllocError>
+fn push_again(steps: &mut Vec<Step>, start: usize, end: usize, times: u32) -> Result<(), AllocError>
     requires start { start ≤ end }
     requires end { end ≤ length steps.old.items }
     ensures put { OnOk result (steps.new.items ≡ steps.old.items ++ repeat times (slice_range steps.old.items start end)) }
