@@ -1,0 +1,5 @@
+pub mod Words
+pub mod Meaning
+pub mod Texts
+pub mod Refusals
+pub mod Runs
