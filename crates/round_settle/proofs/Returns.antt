@@ -1,0 +1,107 @@
+-- Rounds of a plan whose configurations come again.
+use Rattle.std.proofs.Common.{◌≡◌, ℕ, ◌+◌, ◌-◌, ◌<◌, ◌≤◌, false, length, sym, ap, ◌∙◌, arith}
+use Rattle.rule_check.specs.Rounds.{reads_round}
+use Rattle.rule_check.proofs.AnyRound.{next_state-any_round}
+use Rattle.link_net.specs.Neighbours.{IsNetwork}
+use Rattle.block_rounds.specs.Rounds.{nears_in}
+use Rattle.lockstep.specs.Lockstep.{lockstep, lockstep_states, lockstep-more}
+use Rattle.lockstep.specs.Plans.{PlanView}
+use Rattle.lockstep.specs.Walking.{AreAlike}
+use Rattle.lockstep.proofs.Alike.{alike_of, each_alike}
+use Rattle.lockstep.proofs.Nears.{round_agrees}
+use Rattle.round_settle.specs.declared.settling.Settling.{Settling}
+use Rattle.round_settle.specs.declared.settling.Settling.TheVariants.{Settles, Repeats, Open}
+use Rattle.round_settle.specs.Outcomes.{IsOpen, IsRestless, IsSettling, SettlesAt, RepeatsFrom}
+use Rattle.round_settle.specs.Searching.{IsAway, IsStill, ComesAgain, IsFirstOf}
+use Rattle.round_settle.proofs.Cycles as cycles
+
+module _ (p : PlanView) (network : IsNetwork p.network) (unread : reads_round p.program ≡ false) where
+  -- rounds that are alike are followed by such rounds
+  alike_next : (a b : ℕ) → p.start ≤ a → p.start ≤ b → AreAlike p a b → AreAlike p (a + 1) (b + 1)
+  alike_next a b late later same =
+      alike_of p (a + 1) (b + 1)
+      (λ u inside.
+      lockstep-more p a u late
+      ∙ round_agrees p a (lockstep p a) (lockstep p b) u network (each_alike p a b same) inside
+      ∙ next_state-any_round p.program a b u (lockstep p b u) (nears_in p.network (lockstep p b) u) unread
+      ∙ sym (lockstep-more p b u later))
+
+  -- so many rounds on they are alike too
+  alike_on : (k a b : ℕ) → p.start ≤ a → p.start ≤ b → AreAlike p a b → AreAlike p (a + k) (b + k)
+  alike_on = cycles.so_many_on (λ t. lockstep_states p t (length p.network)) p.start alike_next
+
+  -- a configuration that comes again does so after each period that another one has
+  carried : (m n e q : ℕ) → p.start ≤ m → p.start ≤ e → 1 ≤ q → AreAlike p m (m + n) → AreAlike p e (e + q) → AreAlike p e (e + n)
+  carried = cycles.carried (λ t. lockstep_states p t (length p.network)) p.start alike_next
+
+  -- where a round is left as it is, no configuration before it comes again
+  pub before_still : (r e q : ℕ) → IsStill p r → p.start ≤ e → e < r → 1 ≤ q → AreAlike p e (e + q) → ⊥
+  before_still r e q still late before some same = still.first e late before (carried r 1 e q still.late late some still.still same)
+
+  pub still_open : (limit r : ℕ) → IsStill p r → limit ≤ r → IsOpen p limit
+  still_open limit r still over e q late some within same = before_still r e q still late (omega arith) some same
+
+  -- a configuration that comes again does so no earlier than one that was found
+  none_shorter : (m n e q : ℕ) → ComesAgain p m n → p.start ≤ e → 1 ≤ q → q < n → AreAlike p e (e + q) → ⊥
+  none_shorter m n e q found late some short same =
+      let several = found.several in
+      found.least (m + q) (omega arith) (omega arith) (carried e q m n late found.late (omega arith) same found.again)
+
+  -- none before the first one with its period ever does
+  none_before : (m n r e q : ℕ) → ComesAgain p m n → IsFirstOf p n r → p.start ≤ e → e < r → 1 ≤ q → AreAlike p e (e + q) → ⊥
+  none_before m n r e q found first late before some same = first.first e late before (carried m n e q found.late late some found.again same)
+
+  pub repeats : (limit m n r : ℕ) → ComesAgain p m n → IsFirstOf p n r → r + n ≤ limit → RepeatsFrom p limit r n
+  repeats limit m n r found first within = record {
+    late = first.late;
+    within = within;
+    several = found.several;
+    again = first.again;
+    first = λ e q late before some same. none_before m n r e q found first late before some same;
+    least = λ q some short same. none_shorter m n r q found first.late some short same;
+  }
+
+  pub again_open : (limit m n r : ℕ) → ComesAgain p m n → IsFirstOf p n r → limit < r + n → IsOpen p limit
+  again_open limit m n r found first over e q late some within same =
+      let after : e < r → ⊥ = λ before. none_before m n r e q found first late before some same in
+      let long : q < n → ⊥ = λ short. none_shorter m n e q found late some short same in
+      omega (arith, after, long)
+
+  -- where no configuration came again in a window as long as all rounds, none does up to the limit
+  pub away_open : (limit m length : ℕ) → p.start + length ≡ limit → limit ≤ m + 1 → IsAway p m (m + length + 1) → IsOpen p limit
+  away_open limit m length whole late away e q from some within same =
+      let here : e + (m - e) ≡ m = omega arith in
+      away (m + q) (omega arith) (omega arith) ?
+
+  -- there is one answer
+  pub one_settling : (limit : ℕ) (one other : Settling) → IsSettling p limit one → IsSettling p limit other → other ≡ one
+  one_settling limit (Settles r) (Settles s) one other =
+      let low : r < s → ⊥ = λ before. other.first r one.late before one.still in
+      let high : s < r → ⊥ = λ before. one.first s other.late before other.still in
+      let same : s ≡ r = omega (arith, low, high) in
+      ap Settles same
+  one_settling limit (Settles r) (Repeats s n) one other =
+      let several = other.several in
+      absurd (other.least 1 (omega arith) (omega arith) (carried r 1 s n one.late other.late (omega arith) one.still other.again))
+  one_settling limit (Settles r) (Open last) one other = absurd (other.1 r 1 one.late (omega arith) one.within one.still)
+  one_settling limit (Repeats r n) (Settles s) one other =
+      let several = one.several in
+      absurd (one.least 1 (omega arith) (omega arith) (carried s 1 r n other.late one.late (omega arith) other.still one.again))
+  one_settling limit (Repeats r n) (Repeats s k) one other =
+      let several = one.several in
+      let more = other.several in
+      let low : r < s → ⊥ = λ before. other.first r n one.late before (omega arith) one.again in
+      let high : s < r → ⊥ = λ before. one.first s k other.late before (omega arith) other.again in
+      let short : k < n → ⊥ = λ less. one.least k (omega arith) less (carried s k r n other.late one.late (omega arith) other.again one.again) in
+      let long : n < k → ⊥ = λ less. other.least n (omega arith) less (carried r n s k one.late other.late (omega arith) one.again other.again) in
+      let same : s ≡ r = omega (arith, low, high) in
+      let equal : k ≡ n = omega (arith, short, long) in
+      cc
+  one_settling limit (Repeats r n) (Open last) one other =
+      let several = one.several in
+      absurd (other.1 r n one.late (omega arith) one.within one.again)
+  one_settling limit (Open last) (Settles s) one other = absurd (one.1 s 1 other.late (omega arith) other.within other.still)
+  one_settling limit (Open last) (Repeats s k) one other =
+      let several = other.several in
+      absurd (one.1 s k other.late (omega arith) other.within other.again)
+  one_settling limit (Open last) (Open end) one other = ap Open (other.0 ∙ sym one.0)
