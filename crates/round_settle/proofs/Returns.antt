@@ -1,12 +1,11 @@
 -- Rounds of a plan whose configurations come again.
-use Rattle.std.proofs.Common.{◌≡◌, ℕ, ◌+◌, ◌-◌, ◌<◌, ◌≤◌, false, length, sym, ap, ◌∙◌, arith}
+use Rattle.std.proofs.Common.{◌≡◌, ℕ, ◌+◌, ◌-◌, ◌<◌, ◌≤◌, false, length, sym, subst, ap, ◌∙◌, arith, below_more}
 use Rattle.rule_check.specs.Rounds.{reads_round}
 use Rattle.rule_check.proofs.AnyRound.{next_state-any_round}
 use Rattle.link_net.specs.Neighbours.{IsNetwork}
-use Rattle.block_rounds.specs.Rounds.{nears_in}
-use Rattle.lockstep.specs.Lockstep.{lockstep, lockstep_states, lockstep-more}
+use Rattle.lockstep.specs.Lockstep.{lockstep, lockstep_states, lockstep-more, nears_in}
 use Rattle.lockstep.specs.Plans.{PlanView}
-use Rattle.lockstep.specs.Walking.{AreAlike}
+use Rattle.lockstep.specs.Walking.{AreAlike, RoundView}
 use Rattle.lockstep.proofs.Alike.{alike_of, each_alike}
 use Rattle.lockstep.proofs.Nears.{round_agrees}
 use Rattle.round_settle.specs.declared.settling.Settling.{Settling}
@@ -27,7 +26,7 @@ module _ (p : PlanView) (network : IsNetwork p.network) (unread : reads_round p.
       ∙ sym (lockstep-more p b u later))
 
   -- so many rounds on they are alike too
-  alike_on : (k a b : ℕ) → p.start ≤ a → p.start ≤ b → AreAlike p a b → AreAlike p (a + k) (b + k)
+  alike_on : (k a b c d : ℕ) → a + k ≡ c → b + k ≡ d → p.start ≤ a → p.start ≤ b → AreAlike p a b → AreAlike p c d
   alike_on = cycles.so_many_on (λ t. lockstep_states p t (length p.network)) p.start alike_next
 
   -- a configuration that comes again does so after each period that another one has
@@ -71,7 +70,8 @@ module _ (p : PlanView) (network : IsNetwork p.network) (unread : reads_round p.
   pub away_open : (limit m length : ℕ) → p.start + length ≡ limit → limit ≤ m + 1 → IsAway p m (m + length + 1) → IsOpen p limit
   away_open limit m length whole late away e q from some within same =
       let here : e + (m - e) ≡ m = omega arith in
-      away (m + q) (omega arith) (omega arith) ?
+      let there : e + q + (m - e) ≡ m + q = omega arith in
+      away (m + q) (omega arith) (omega arith) (alike_on (m - e) e (e + q) m (m + q) here there from (omega arith) same)
 
   -- there is one answer
   pub one_settling : (limit : ℕ) (one other : Settling) → IsSettling p limit one → IsSettling p limit other → other ≡ one
@@ -105,3 +105,13 @@ module _ (p : PlanView) (network : IsNetwork p.network) (unread : reads_round p.
       let several = other.several in
       absurd (one.1 s k other.late (omega arith) other.within other.again)
   one_settling limit (Open last) (Open end) one other = ap Open (other.0 ∙ sym one.0)
+
+-- a walk that found nothing in a window stands behind it, and each round up to there changed something
+pub restless_there : (p : PlanView) (old new : RoundView) (r : ℕ) → old.plan ≡ p → new.round ≡ r → IsRestless old.plan r → IsRestless p new.round
+restless_there p old new r plan here restless = subst (λ t. IsRestless p t) (sym here) (subst (λ q. IsRestless q r) plan restless)
+
+-- one more round that is not the first whose configuration comes again after so many rounds
+pub none_more : (p : PlanView) (n r : ℕ) → ((e : ℕ) → p.start ≤ e → e < r → AreAlike p e (e + n) → ⊥) → (AreAlike p r (r + n) → ⊥)
+    → (e : ℕ) → p.start ≤ e → e < r + 1 → AreAlike p e (e + n) → ⊥
+none_more p n r before here e late less =
+    below_more (λ t. p.start ≤ t → AreAlike p t (t + n) → ⊥) r (λ t under from. before t from under) (λ from. here) e less late

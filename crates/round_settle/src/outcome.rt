@@ -66,6 +66,7 @@ fn settled(alloc: Global, plan: &Plan, limit: u32) -> Result<Settling, AllocErro
     requires late { plan.now.start ≤ limit }
     requires few { limit ≤ most_rounds }
     ensures settling { IfOk result (IsSettling plan.now limit) }
+    ensures only { IfOk result (λ found. (s : Settling) → IsSettling plan.now limit s → s ≡ found) }
 {
     // For the proof: what holds of every plan.
     let _phase = plan.phase();
@@ -95,8 +96,6 @@ pub fn settle(alloc: Global, plan: &Plan, limit: u32) -> Result<Settling, Settle
     if let Some(fault) = refusal(plan, limit) {
         return Err(fault);
     }
-    // For the proof: what holds of every plan.
-    let _phase = plan.phase();
     let settling = settled(alloc, plan, limit)?;
     Ok(settling)
 }
