@@ -1,5 +1,7 @@
 -- Rounds of a plan whose configurations come again.
-use Rattle.std.proofs.Common.{◌≡◌, ℕ, ◌+◌, ◌-◌, ◌<◌, ◌≤◌, false, length, sym, subst, ap, ◌∙◌, arith, below_more}
+use Rattle.std.proofs.Common.{◌≡◌, ℕ, ◌+◌, ◌-◌, ◌<◌, ◌≤◌, false, length, refl, sym, subst, ap, ◌∙◌, arith, below_more}
+use Rattle.std.specs.Prelude.{Bool, IsTrue, Option, Some, None, IfSome, MatchOption}
+use Rattle.std.proofs.lemmas.Bool.{false≢true}
 use Rattle.rule_check.specs.Rounds.{reads_round}
 use Rattle.rule_check.proofs.AnyRound.{next_state-any_round}
 use Rattle.link_net.specs.Neighbours.{IsNetwork}
@@ -8,10 +10,11 @@ use Rattle.lockstep.specs.Plans.{PlanView}
 use Rattle.lockstep.specs.Walking.{AreAlike, RoundView}
 use Rattle.lockstep.proofs.Alike.{alike_of, each_alike}
 use Rattle.lockstep.proofs.Nears.{round_agrees}
+use Rattle.round_settle.specs.declared.search.Found.{Found}
 use Rattle.round_settle.specs.declared.settling.Settling.{Settling}
 use Rattle.round_settle.specs.declared.settling.Settling.TheVariants.{Settles, Repeats, Open}
 use Rattle.round_settle.specs.Outcomes.{IsOpen, IsRestless, IsSettling, SettlesAt, RepeatsFrom}
-use Rattle.round_settle.specs.Searching.{IsAway, IsStill, ComesAgain, IsFirstOf}
+use Rattle.round_settle.specs.Searching.{IsAway, IsStill, IsFound, ComesAgain, IsFirstOf, last_of}
 use Rattle.round_settle.proofs.Cycles as cycles
 
 module _ (p : PlanView) (network : IsNetwork p.network) (unread : reads_round p.program ≡ false) where
@@ -106,7 +109,14 @@ module _ (p : PlanView) (network : IsNetwork p.network) (unread : reads_round p.
       absurd (one.1 s k other.late (omega arith) other.within other.again)
   one_settling limit (Open last) (Open end) one other = ap Open (other.0 ∙ sym one.0)
 
--- a walk that found nothing in a window stands behind it, and each round up to there changed something
+abbrev view_of : PlanView → ℕ → RoundView
+view_of p r = record { plan = p; round = r }
+
+-- a walk of the plan at the round
+pub same_view : (v : RoundView) (p : PlanView) (r : ℕ) → p ≡ v.plan → r ≡ v.round → record { plan = p; round = r } ≡ v
+same_view v p r plan round = ap (λ q. view_of q r) plan ∙ ap (view_of v.plan) round
+
+-- each round up to where a walk stands changes something
 pub restless_there : (p : PlanView) (old new : RoundView) (r : ℕ) → old.plan ≡ p → new.round ≡ r → IsRestless old.plan r → IsRestless p new.round
 restless_there p old new r plan here restless = subst (λ t. IsRestless p t) (sym here) (subst (λ q. IsRestless q r) plan restless)
 
@@ -115,3 +125,21 @@ pub none_more : (p : PlanView) (n r : ℕ) → ((e : ℕ) → p.start ≤ e → 
     → (e : ℕ) → p.start ≤ e → e < r + 1 → AreAlike p e (e + n) → ⊥
 none_more p n r before here e late less =
     below_more (λ t. p.start ≤ t → AreAlike p t (t + n) → ⊥) r (λ t under from. before t from under) (λ from. here) e less late
+
+-- walks that are not alike
+pub not_like : (p : PlanView) (r n : ℕ) (ahead behind : RoundView) (like : Bool) → ahead ≡ record { plan = p; round = r + n } → behind ≡ record { plan = p; round = r } → like ≡ false
+    → (AreAlike ahead.plan ahead.round behind.round → IsTrue like) → AreAlike p r (r + n) → ⊥
+not_like p r n ahead behind like front back other told same =
+    let views : AreAlike ahead.plan ahead.round behind.round =
+        subst (λ (v : RoundView). AreAlike v.plan v.round behind.round) (sym front) (subst (λ (v : RoundView). AreAlike p (r + n) v.round) (sym back) (sym same)) in
+    false≢true (sym other ∙ told views)
+
+-- what a search answers, where its last window found this
+pub answered : (p : PlanView) (limit : ℕ) (found : Option Found) → (found ≡ None → IsOpen p limit) → IfSome found (IsFound p) → MatchOption found (IsOpen p limit) (IsFound p)
+answered p limit None none found = none refl
+answered p limit (Some some) none found = found
+
+-- the last round that was looked at is within a greater bound
+pub last_within : (found : Option Found) (low high : ℕ) → low ≤ high → IfSome found (λ some. last_of some ≤ low) → IfSome found (λ some. last_of some ≤ high)
+last_within None low high up last = last
+last_within (Some some) low high up last = omega arith
