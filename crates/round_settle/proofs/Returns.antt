@@ -13,8 +13,8 @@ use Rattle.lockstep.proofs.Nears.{round_agrees}
 use Rattle.round_settle.specs.declared.search.Found.{Found}
 use Rattle.round_settle.specs.declared.settling.Settling.{Settling}
 use Rattle.round_settle.specs.declared.settling.Settling.TheVariants.{Settles, Repeats, Open}
-use Rattle.round_settle.specs.Outcomes.{IsOpen, IsRestless, IsSettling, SettlesAt, RepeatsFrom}
-use Rattle.round_settle.specs.Searching.{IsAway, IsStill, IsFound, ComesAgain, IsFirstOf, last_of}
+use Rattle.round_settle.specs.Outcomes.{IsOpen, IsRestless, IsSettling, IsStill, RepeatsFrom}
+use Rattle.round_settle.specs.Searching.{IsAway, IsFound, ComesAgain, IsFirstOf, last_of}
 use Rattle.round_settle.proofs.Cycles as cycles
 
 module _ (p : PlanView) (network : IsNetwork p.network) (unread : reads_round p.program ≡ false) where
@@ -40,6 +40,7 @@ module _ (p : PlanView) (network : IsNetwork p.network) (unread : reads_round p.
   pub before_still : (r e q : ℕ) → IsStill p r → p.start ≤ e → e < r → 1 ≤ q → AreAlike p e (e + q) → ⊥
   before_still r e q still late before some same = still.first e late before (carried r 1 e q still.late late some still.still same)
 
+  -- where the next round is past the limit, none comes again up to it
   pub still_open : (limit r : ℕ) → IsStill p r → limit ≤ r → IsOpen p limit
   still_open limit r still over e q late some within same = before_still r e q still late (omega arith) some same
 
@@ -49,10 +50,11 @@ module _ (p : PlanView) (network : IsNetwork p.network) (unread : reads_round p.
       let several = found.several in
       found.least (m + q) (omega arith) (omega arith) (carried e q m n late found.late (omega arith) same found.again)
 
-  -- none before the first one with its period ever does
+  -- no configuration before the first one with that period ever comes again
   none_before : (m n r e q : ℕ) → ComesAgain p m n → IsFirstOf p n r → p.start ≤ e → e < r → 1 ≤ q → AreAlike p e (e + q) → ⊥
   none_before m n r e q found first late before some same = first.first e late before (carried m n e q found.late late some found.again same)
 
+  -- the first round that ever comes again
   pub repeats : (limit m n r : ℕ) → ComesAgain p m n → IsFirstOf p n r → r + n ≤ limit → RepeatsFrom p limit r n
   repeats limit m n r found first within = record {
     late = first.late;
@@ -63,6 +65,7 @@ module _ (p : PlanView) (network : IsNetwork p.network) (unread : reads_round p.
     least = λ q some short same. none_shorter m n r q found first.late some short same;
   }
 
+  -- where it comes again past the limit, none does up to it
   pub again_open : (limit m n r : ℕ) → ComesAgain p m n → IsFirstOf p n r → limit < r + n → IsOpen p limit
   again_open limit m n r found first over e q late some within same =
       let after : e < r → ⊥ = λ before. none_before m n r e q found first late before some same in
@@ -76,20 +79,22 @@ module _ (p : PlanView) (network : IsNetwork p.network) (unread : reads_round p.
       let there : e + q + (m - e) ≡ m + q = omega arith in
       away (m + q) (omega arith) (omega arith) (alike_on (m - e) e (e + q) m (m + q) here there from (omega arith) same)
 
+  -- rounds that come to be left as they are do not repeat
+  still_repeats : (limit r s n : ℕ) → IsStill p r → RepeatsFrom p limit s n → ⊥
+  still_repeats limit r s n still found =
+      let several = found.several in
+      found.least 1 (omega arith) (omega arith) (carried r 1 s n still.late found.late (omega arith) still.still found.again)
+
   -- there is one answer
   pub one_settling : (limit : ℕ) (one other : Settling) → IsSettling p limit one → IsSettling p limit other → other ≡ one
   one_settling limit (Settles r) (Settles s) one other =
-      let low : r < s → ⊥ = λ before. other.first r one.late before one.still in
-      let high : s < r → ⊥ = λ before. one.first s other.late before other.still in
+      let low : r < s → ⊥ = λ before. other.round.first r one.round.late before one.round.still in
+      let high : s < r → ⊥ = λ before. one.round.first s other.round.late before other.round.still in
       let same : s ≡ r = omega (arith, low, high) in
       ap Settles same
-  one_settling limit (Settles r) (Repeats s n) one other =
-      let several = other.several in
-      absurd (other.least 1 (omega arith) (omega arith) (carried r 1 s n one.late other.late (omega arith) one.still other.again))
-  one_settling limit (Settles r) (Open last) one other = absurd (other.1 r 1 one.late (omega arith) one.within one.still)
-  one_settling limit (Repeats r n) (Settles s) one other =
-      let several = one.several in
-      absurd (one.least 1 (omega arith) (omega arith) (carried s 1 r n other.late one.late (omega arith) other.still one.again))
+  one_settling limit (Settles r) (Repeats s n) one other = absurd (still_repeats limit r s n one.round other)
+  one_settling limit (Settles r) (Open last) one other = absurd (other.1 r 1 one.round.late (omega arith) one.within one.round.still)
+  one_settling limit (Repeats r n) (Settles s) one other = absurd (still_repeats limit s r n other.round one)
   one_settling limit (Repeats r n) (Repeats s k) one other =
       let several = one.several in
       let more = other.several in
@@ -103,7 +108,7 @@ module _ (p : PlanView) (network : IsNetwork p.network) (unread : reads_round p.
   one_settling limit (Repeats r n) (Open last) one other =
       let several = one.several in
       absurd (other.1 r n one.late (omega arith) one.within one.again)
-  one_settling limit (Open last) (Settles s) one other = absurd (one.1 s 1 other.late (omega arith) other.within other.still)
+  one_settling limit (Open last) (Settles s) one other = absurd (one.1 s 1 other.round.late (omega arith) other.within other.round.still)
   one_settling limit (Open last) (Repeats s k) one other =
       let several = other.several in
       absurd (one.1 s k other.late (omega arith) other.within other.again)
@@ -131,7 +136,7 @@ pub not_like : (p : PlanView) (r n : ℕ) (ahead behind : RoundView) (like : Boo
     → (AreAlike ahead.plan ahead.round behind.round → IsTrue like) → AreAlike p r (r + n) → ⊥
 not_like p r n ahead behind like front back other told same =
     let views : AreAlike ahead.plan ahead.round behind.round =
-        subst (λ (v : RoundView). AreAlike v.plan v.round behind.round) (sym front) (subst (λ (v : RoundView). AreAlike p (r + n) v.round) (sym back) (sym same)) in
+    subst (λ (v : RoundView). AreAlike v.plan v.round behind.round) (sym front) (subst (λ (v : RoundView). AreAlike p (r + n) v.round) (sym back) (sym same)) in
     false≢true (sym other ∙ told views)
 
 -- what a search answers, where its last window found this

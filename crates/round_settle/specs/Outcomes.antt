@@ -13,12 +13,16 @@ use Rattle.round_settle.specs.declared.settling.Settling.TheVariants.{Settles, R
 abbrev pub IsRestless : PlanView → ℕ → Type 0
 IsRestless p r = (e : ℕ) → p.start ≤ e → e < r → AreAlike p e (e + 1) → ⊥
 
--- the first round that the next one, which is within the limit, leaves as it is
-pub record SettlesAt (p : PlanView) (limit r : ℕ) : Type 0 where
+-- the first round that the next one leaves as it is
+pub record IsStill (p : PlanView) (r : ℕ) : Type 0 where
   pub late : p.start ≤ r
-  pub within : r + 1 ≤ limit
   pub still : AreAlike p r (r + 1)
   pub first : IsRestless p r
+
+-- the same, where the next one is within the limit
+pub record SettlesAt (p : PlanView) (limit r : ℕ) : Type 0 where
+  pub round : IsStill p r
+  pub within : r + 1 ≤ limit
 
 -- The first round whose configuration ever comes again, and after how many rounds, two or more, it does so for the first time, which is
 -- within the limit.

@@ -4,17 +4,11 @@ use Rattle.lockstep.specs.Plans.{PlanView}
 use Rattle.lockstep.specs.Walking.{AreAlike}
 use Rattle.round_settle.specs.declared.search.Found.{Found}
 use Rattle.round_settle.specs.declared.search.Found.TheVariants.{Still, Again}
-use Rattle.round_settle.specs.Outcomes.{IsRestless}
+use Rattle.round_settle.specs.Outcomes.{IsStill}
 
 -- the configuration of round m comes again in no round before this one
 abbrev pub IsAway : PlanView → ℕ → ℕ → Type 0
 IsAway p m end = (t : ℕ) → m < t → t < end → AreAlike p m t → ⊥
-
--- the first round that the next one leaves as it is
-pub record IsStill (p : PlanView) (r : ℕ) : Type 0 where
-  pub late : p.start ≤ r
-  pub still : AreAlike p r (r + 1)
-  pub first : IsRestless p r
 
 -- a round, and after how many rounds, two or more, its configuration comes again for the first time
 pub record ComesAgain (p : PlanView) (m n : ℕ) : Type 0 where

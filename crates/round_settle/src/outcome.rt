@@ -82,8 +82,8 @@ fn settled(alloc: Global, plan: &Plan, limit: u32) -> Result<Settling, AllocErro
 /// What becomes of the lockstep rounds of a plan from its start up to a limit, a round counted from round 0: the states of
 /// all nodes settle, or they repeat, or neither shows up to the limit. There is one answer for each plan and limit.
 ///
-/// It takes memory for four walks over the rounds, whatever the limit, and no walk makes more than twice the rounds up to
-/// the limit.
+/// It takes memory for two walks over the rounds at a time, whatever the limit, and none makes more than twice the rounds
+/// from the start to the limit.
 ///
 /// `ReadsRound` comes where the program reads the number of the round, else `LimitTooLarge` above 1,000,000,000, and else
 /// `LimitBelowStart` below the plan's start, all before any memory is taken; want of memory only where none of them does.

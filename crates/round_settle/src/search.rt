@@ -64,11 +64,9 @@ fn look(walk: &mut RoundWalk<'_>, mark: &RoundWalk<'_>, window: u32) -> Option<F
     None
 }
 
-/// Looks for a round whose states come again, from the start on, by two walks and in constant memory (R. P. Brent, An
-/// improved Monte Carlo factorization algorithm, 1980): a mark stays behind while the other walk moves on, and catches up
+/// Looks for a round whose states come again, by two walks from the start on and in constant memory (R. P. Brent, An
+/// improved Monte Carlo factorization algorithm, 1980): the mark stays behind while the other walk moves on, and catches up
 /// at rounds that lie further and further apart. None, where no states come again up to the limit.
-///
-/// No walk makes more than twice the rounds from the start to the limit.
 pub(crate) fn search<'a>(
     alloc: Global,
     course: &'a Course<'a>,
