@@ -11,7 +11,8 @@ use std::process::Abort;
 use std::test::Fail;
 
 /// The greatest number among the nodes that are at most so many links away.
-const ELECTION: &str = "field leader = 0; next leader = ((leader max id) max most (n.leader max n.id));";
+const ELECTION: &str =
+    "field leader = 0; next leader = ((leader max id) max most (n.leader max n.id));";
 
 /// Round by round 0 1 2 3 4 5 3 4 5 3 ..
 const TAIL: &str = "field s = 0; next s = if (s < 5) then (s + 1) else 3;";
@@ -36,22 +37,52 @@ const ELECTED: [Row; 3] = [
 const SWAPPED: [Row; 4] = [
     (0, Settling::Open { limit: 0 }),
     (1, Settling::Open { limit: 1 }),
-    (2, Settling::Repeats { round: 0, period: 2 }),
-    (1000, Settling::Repeats { round: 0, period: 2 }),
+    (
+        2,
+        Settling::Repeats {
+            round: 0,
+            period: 2,
+        },
+    ),
+    (
+        1000,
+        Settling::Repeats {
+            round: 0,
+            period: 2,
+        },
+    ),
 ];
 
 /// The 3 of round 3 comes again in round 6.
 const WITH_TAIL: [Row; 3] = [
     (5, Settling::Open { limit: 5 }),
-    (6, Settling::Repeats { round: 3, period: 3 }),
-    (1000, Settling::Repeats { round: 3, period: 3 }),
+    (
+        6,
+        Settling::Repeats {
+            round: 3,
+            period: 3,
+        },
+    ),
+    (
+        1000,
+        Settling::Repeats {
+            round: 3,
+            period: 3,
+        },
+    ),
 ];
 
 /// From 1 in round 7 on: 1 2 3 4 5 3, so that the 3 of round 9 comes again in round 12.
 const RESUMED_TAIL: [Row; 3] = [
     (7, Settling::Open { limit: 7 }),
     (11, Settling::Open { limit: 11 }),
-    (12, Settling::Repeats { round: 9, period: 3 }),
+    (
+        12,
+        Settling::Repeats {
+            round: 9,
+            period: 3,
+        },
+    ),
 ];
 
 /// Two linked nodes with the value 0 take it from each other.
@@ -63,7 +94,13 @@ const AT_ONCE: [Row; 2] = [
 /// The 0 of round 0 comes again in round 65,536.
 const LONG_PERIOD: [Row; 2] = [
     (65_535, Settling::Open { limit: 65_535 }),
-    (65_536, Settling::Repeats { round: 0, period: 65_536 }),
+    (
+        65_536,
+        Settling::Repeats {
+            round: 0,
+            period: 65_536,
+        },
+    ),
 ];
 
 /// Two nodes that count their moves come to no value again.
@@ -77,7 +114,13 @@ fn assert_rows(rt: &impl Abort, alloc: Global, plan: &Plan, rows: &[Row]) {
 }
 
 /// Asserts the same of the plan of two texts.
-fn assert_texts(rt: &impl Abort, alloc: Global, program: &str, network: &str, rows: &[Row]) -> Result<(), Fail> {
+fn assert_texts(
+    rt: &impl Abort,
+    alloc: Global,
+    program: &str,
+    network: &str,
+    rows: &[Row],
+) -> Result<(), Fail> {
     let plan = plan_of(alloc, program, network)?;
     assert_rows(rt, alloc, &plan, rows);
     Ok(())

@@ -8,7 +8,7 @@ returns-then-round-limit c =
     let p = c.args.course.now in
     let r = c.in-Still.round in
     let found = subst (IsFound p) c.in-Still.is c.requires.found in
-    record { settling = (refl, still_open p c.requires.whole.network c.requires.unread c.args.limit r found c.if-round-limit.true) }
+    record { settling = (refl, still_open p c.requires.whole.network c.requires.unread c.args.limit r found (omega (arith, c.if-round-limit.true))) }
 
 pub returns-then-round-period : goal.returns-then-round-period
 returns-then-round-period c =
@@ -17,7 +17,7 @@ returns-then-round-period c =
     let n = c.in-Again.period in
     let r = c.in_ok-round-in-Again.round in
     let found = subst (IsFound p) c.in-Again.is c.requires.found in
-    record { settling = (refl, again_open p c.requires.whole.network c.requires.unread c.args.limit m n r found c.in_ok-round-in-Again.ensures.first c.if-round-period.true) }
+    record { settling = (refl, again_open p c.requires.whole.network c.requires.unread c.args.limit m n r found c.in_ok-round-in-Again.ensures.first (omega (arith, c.if-round-period.true))) }
 
 pub returns-else-round-period : goal.returns-else-round-period
 returns-else-round-period c =
@@ -26,4 +26,4 @@ returns-else-round-period c =
     let n = c.in-Again.period in
     let r = c.in_ok-round-in-Again.round in
     let found = subst (IsFound p) c.in-Again.is c.requires.found in
-    record { settling = repeats p c.requires.whole.network c.requires.unread c.args.limit m n r found c.in_ok-round-in-Again.ensures.first c.if-round-period.false }
+    record { settling = repeats p c.requires.whole.network c.requires.unread c.args.limit m n r found c.in_ok-round-in-Again.ensures.first (omega (arith, c.if-round-period.false)) }
