@@ -10,8 +10,5 @@ mod replays;
 #[cfg(test)]
 mod schedules;
 #[cfg(test)]
-<<<<<<< HEAD
 mod told;
-=======
 mod written;
->>>>>>> 5eb8c63232f1c40bc1782a0f1f77b152564bf297
