@@ -591,12 +591,15 @@ def without_comments(text):
 
 
 def is_shown(name):
-    """The page shows the program, without its comments, and where it shows the report, that is the whole one."""
-    blocks = [block.replace("\n    ", "\n").strip() for block in re.findall(r"(?:^    .*\n)+", PAGE.read_text(), re.MULTILINE)]
-    assert "\n".join(without_comments((HERE / f"{name}.rules").read_text())) in blocks, "the page does not show the program"
+    """A section of the page shows the program, without its comments; where it shows a report, that is this one."""
+    program = "\n".join(without_comments((HERE / f"{name}.rules").read_text()))
     report = (HERE / f"{name}.report").read_text().strip()
-    heads = [block for block in blocks if block.splitlines()[:2] == report.splitlines()[:2]]
-    assert heads in ([], [report]), "the page shows another report"
+    for section in re.split(r"^#+ ", PAGE.read_text(), flags=re.MULTILINE):
+        blocks = [block.replace("\n    ", "\n").strip() for block in re.findall(r"(?:^    .*\n)+", section, re.MULTILINE)]
+        if program in blocks:
+            assert all(block == report for block in blocks if block.startswith("round ")), "the page shows another report"
+            return
+    raise AssertionError("the page does not show the program")
 
 
 def check(example, row):
