@@ -344,8 +344,7 @@ def cells(rows, beside, rule):
 
 def majority(net):
     is_grid(net, 6, 6, FOUR, wraps=True)
-    turn = lambda own, near: own if sum(near) == 2 else int(sum(near) > 2)
-    for rows in cells(table(net.opening("s", 0), 6), FOUR, turn):
+    for rows in cells(table(net.opening("s", 0), 6), FOUR, lambda own, near: own if sum(near) == 2 else int(sum(near) > 2)):
         yield columns(s=flat(rows))
 
 
@@ -448,8 +447,7 @@ def life(net):
 
 def brians_brain(net):
     is_grid(net, 8, 8, EIGHT, wraps=True)
-    turn = lambda own, near: {1: 2, 2: 0}.get(own, int(near.count(1) == 2))
-    for rows in cells(table(net.opening("s", 0), 8), EIGHT, turn):
+    for rows in cells(table(net.opening("s", 0), 8), EIGHT, lambda own, near: {1: 2, 2: 0}.get(own, int(near.count(1) == 2))):
         yield columns(s=flat(rows))
 
 
@@ -525,7 +523,10 @@ def game(net):
         if now % 2 == 0:
             score = [[10 * (1 + sum(near)) if own else 16 * sum(near) for own, near in row] for row in together]
         else:
-            best = [[max(zip([score[r][c]] + around(score, r, c, EIGHT), [own] + near)) for c, (own, near) in enumerate(row)] for r, row in enumerate(together)]
+            best = [
+                [max(zip([score[r][c]] + around(score, r, c, EIGHT), [own] + near)) for c, (own, near) in enumerate(row)]
+                for r, row in enumerate(together)
+            ]
             coop = [[strategy for _, strategy in row] for row in best]
 
 
@@ -623,7 +624,7 @@ def main():
         try:
             check(example, rows[example.__name__])
             print(f"{example.__name__}: ok")
-        except (AssertionError, OSError, KeyError, ValueError) as reason:
+        except (AssertionError, OSError, LookupError, ValueError) as reason:
             failed.append(example.__name__)
             print(f"{example.__name__}: FAILED, {reason!r}")
     return int(bool(failed))
