@@ -11,4 +11,5 @@ mod replays;
 mod schedules;
 #[cfg(test)]
 mod told;
+#[cfg(test)]
 mod written;
