@@ -1,6 +1,6 @@
 //! Schedules that are written from lines for people.
 
-use link_net::{NetFile, NetFault, read_network};
+use link_net::{NetFault, NetFile, read_network};
 use node_names::{NodeNames, read_names};
 use row_texts::grown::ring;
 use row_texts::networks::PATH;
@@ -100,13 +100,12 @@ const NAMED: [(&[u8], &[u8], &[Step]); 3] = [
         b"1 reads 0\n0 moves\n",
         &[Step::Read { node: 1, slot: 1 }, Step::Write { node: 2 }],
     ),
-    (b"sweep\n}\n", b"sweep moves\n} moves\n", &[Step::Write { node: 0 }, Step::Write { node: 1 }]),
+    (
+        b"sweep\n}\n",
+        b"sweep moves\n} moves\n",
+        &[Step::Write { node: 0 }, Step::Write { node: 1 }],
+    ),
 ];
-
-/// A word that calls no node.
-const fn no_node(line: u64, word: u32) -> StepTextFault {
-    StepTextFault::NoNode { line, word }
-}
 
 /// Texts that say no steps on the path, and why.
 const REFUSED: [(&[u8], StepTextFault); 34] = [
@@ -123,19 +122,31 @@ const REFUSED: [(&[u8], StepTextFault); 34] = [
     (b"sweep\n} }\n", StepTextFault::NoSuchLine { line: 2 }),
     (b"repeat 3\n", StepTextFault::NoSuchLine { line: 1 }),
     (b"repeat 3{\n", StepTextFault::NoSuchLine { line: 1 }),
-    (b"repeat 3 { #\n0 all\n", StepTextFault::NoSuchLine { line: 2 }),
-    (b"3 moves\n", no_node(1, 1)),
-    (b"0 turn\n1 reads 3\n", no_node(2, 3)),
-    (b"3 reads all\n", no_node(1, 1)),
-    (b"01 turn\n", no_node(1, 1)),
-    (b"+1 moves\n", no_node(1, 1)),
-    (b"1x moves\n", no_node(1, 1)),
-    (b"a moves\n", no_node(1, 1)),
-    (b"4294967296 moves\n", no_node(1, 1)),
+    (
+        b"repeat 3 { #\n0 all\n",
+        StepTextFault::NoSuchLine { line: 2 },
+    ),
+    (b"3 moves\n", StepTextFault::NoNode { line: 1, word: 1 }),
+    (
+        b"0 turn\n1 reads 3\n",
+        StepTextFault::NoNode { line: 2, word: 3 },
+    ),
+    (b"3 reads all\n", StepTextFault::NoNode { line: 1, word: 1 }),
+    (b"01 turn\n", StepTextFault::NoNode { line: 1, word: 1 }),
+    (b"+1 moves\n", StepTextFault::NoNode { line: 1, word: 1 }),
+    (b"1x moves\n", StepTextFault::NoNode { line: 1, word: 1 }),
+    (b"a moves\n", StepTextFault::NoNode { line: 1, word: 1 }),
+    (
+        b"4294967296 moves\n",
+        StepTextFault::NoNode { line: 1, word: 1 },
+    ),
     (b"0 reads 2\n", StepTextFault::NotNeighbour { line: 1 }),
     (b"1 reads 1\n", StepTextFault::NotNeighbour { line: 1 }),
     (b"repeat 0 {\n}\n", StepTextFault::BadCount { line: 1 }),
-    (b"repeat 1000001 {\n}\n", StepTextFault::BadCount { line: 1 }),
+    (
+        b"repeat 1000001 {\n}\n",
+        StepTextFault::BadCount { line: 1 },
+    ),
     (b"repeat 02 {\n}\n", StepTextFault::BadCount { line: 1 }),
     (b"repeat reads {\n}\n", StepTextFault::BadCount { line: 1 }),
     (b"}\n", StepTextFault::EndWithoutRepeat { line: 1 }),
@@ -172,10 +183,26 @@ const REFUSED: [(&[u8], StepTextFault); 34] = [
 
 /// The names of nodes, texts that say no steps on the path, and why.
 const MISNAMED: [(&[u8], &[u8], StepTextFault); 4] = [
-    (b"a\nb\nc\n", b"a moves\n0 moves\n", no_node(2, 1)),
-    (b"a\nb\nc\nd\n", b"c moves\nd moves\n", no_node(2, 1)),
-    (b"a\nb\nall\n", b"b reads all\nb reads d\n", no_node(2, 3)),
-    (b"a\nb\nc\n", b"a reads c\n", StepTextFault::NotNeighbour { line: 1 }),
+    (
+        b"a\nb\nc\n",
+        b"a moves\n0 moves\n",
+        StepTextFault::NoNode { line: 2, word: 1 },
+    ),
+    (
+        b"a\nb\nc\nd\n",
+        b"c moves\nd moves\n",
+        StepTextFault::NoNode { line: 2, word: 1 },
+    ),
+    (
+        b"a\nb\nall\n",
+        b"b reads all\nb reads d\n",
+        StepTextFault::NoNode { line: 2, word: 3 },
+    ),
+    (
+        b"a\nb\nc\n",
+        b"a reads c\n",
+        StepTextFault::NotNeighbour { line: 1 },
+    ),
 ];
 
 /// The path of three nodes.
