@@ -1,4 +1,4 @@
-use Rattle.std.proofs.Common.{◌<◌, ◌+◌, refl, subst, arith}
+use Rattle.std.proofs.Common.{refl, subst, arith}
 use Rattle.round_settle.specs.Searching.{IsFound}
 use Rattle.round_settle.proofs.Returns.{still_open, again_open, repeats}
 use Rattle.round_settle.proofs.outcome.settling_of.Goals as goal

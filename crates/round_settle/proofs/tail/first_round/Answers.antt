@@ -1,5 +1,4 @@
-use Rattle.std.proofs.Common.{◌≡◌, ◌+◌, ◌≤◌, arith, sym, ap, ◌∙◌}
-use Rattle.lockstep.specs.Plans.{PlanView}
+use Rattle.std.proofs.Common.{◌≡◌, ◌+◌, arith, ap, ◌∙◌}
 use Rattle.lockstep.specs.Walking.{RoundView}
 use Rattle.round_settle.proofs.Returns.{none_more, not_like, same_view}
 use Rattle.round_settle.proofs.tail.first_round.Goals as goal
