@@ -206,3 +206,32 @@ fn spans_that_are_none(rt: HostRuntime) {
     assert!(rt; Span::new(3, 2, 1).is_none());
     assert!(rt; Span::new(3, 3, 1).is_some());
 }
+
+/// Prints `answer` where the text is as wanted, and `memory` where a request for memory was refused, be it the plan's; see
+/// `.ci/refuse_memory`. Anything else fails the test.
+#[test]
+fn watching_where_memory_is_refused(rt: HostRuntime) -> Result<(), Fail> {
+    let Ok(plan) = plan_of(rt.alloc(), DISTANCE, PATH) else {
+        println!(rt; "memory")?;
+        return Ok(());
+    };
+    let show = Show {
+        format: Format::Report,
+        fields: &[0],
+        labels: &[],
+        changes: true,
+    };
+    let Some(span) = Span::new(0, 3, 1) else {
+        return Err(Fail::new(format_args!("no span")));
+    };
+    let mut seen = Reached { count: 0, last: 0 };
+    match watched(&rt, rt.alloc(), &plan, &span, &show, &mut seen) {
+        Err(WatchFault::Memory) => println!(rt; "memory")?,
+        Err(fault) => return Err(Fail::new(format_args!("{fault}"))),
+        Ok(text) => {
+            assert_eq!(rt; str::from_utf8(&text), Ok(PATH_ROWS[1].text));
+            println!(rt; "answer")?;
+        }
+    }
+    Ok(())
+}
