@@ -1,7 +1,7 @@
 //! How the program ends where it does not do what it was asked for.
 
 use link_net::NetFault;
-use std::alloc::AllocError;
+use std::alloc::{AllocError, AllocFailed};
 use std::io;
 use std::io::ErrorKind;
 use unison_jobs::ServeFault;
@@ -41,6 +41,12 @@ impl Ending {
 
 impl From<AllocError> for Ending {
     fn from(_error: AllocError) -> Ending {
+        Ending::Memory
+    }
+}
+
+impl<T: Drop> From<AllocFailed<T>> for Ending {
+    fn from(_error: AllocFailed<T>) -> Ending {
         Ending::Memory
     }
 }
