@@ -35,7 +35,7 @@ pub fn settle_command<'a>(alloc: Global) -> Result<Command<'a>, AllocError> {
             alloc,
             "limit",
             "T",
-            "Look at the rounds up to T: 0 to 1000000000, and 1000000 where it is left out; up to three times as many are computed",
+            "Look at the rounds up to T: 0 to 1000000000, and 1000000 where it is left out; up to twice as many are computed",
         ))?
         .arg(flag(
             alloc,
