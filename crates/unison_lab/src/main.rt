@@ -81,12 +81,27 @@ fn run(rt: &HostRuntime, threads: &(impl Threads + Sync)) -> Result<u8, Ending> 
     }
 }
 
+/// What tells more of a fault of this part.
+fn hint(part: &str) -> &'static str {
+    match part {
+        "schedule" => {
+            "unison why tells where and what to do: unison why replay PROGRAM NETWORK SCHEDULE --stop 0"
+        }
+        "run" | "replay" => {
+            "rounds and stops lie between the plan's start, which is 0 or the round of the report that --from names, and 1000000000"
+        }
+        _ => {
+            "unison why tells where and what to do: unison why lockstep PROGRAM NETWORK --rounds 0, with --from REPORT where there is one"
+        }
+    }
+}
+
 /// Prints the line of a fault that one of the five commands has, too, and what tells more.
 fn print_served(rt: &HostRuntime, fault: &ServeFault) -> io::Result<()> {
     print_fault(rt, fault)?;
-    eprintln!(rt;
-        "unison why tells where and what to do: unison why lockstep PROGRAM NETWORK --rounds 0, or unison why replay PROGRAM NETWORK SCHEDULE --stop 0"
-    )
+    let (part, _) = fault.part_and_name();
+    let hint = hint(part);
+    eprintln!(rt; "{hint}")
 }
 
 /// Prints the help, or the fault's line on standard error.
