@@ -6,6 +6,8 @@ mod facts;
 #[cfg(test)]
 mod lots;
 #[cfg(test)]
+mod run_words;
+#[cfg(test)]
 mod shapes;
 #[cfg(test)]
 mod weights;
