@@ -1,6 +1,7 @@
 mod Numbers
 mod Slots
 mod Following
+mod Endings
 mod Counts
 mod Readings
 mod Wholes

@@ -1,5 +1,5 @@
 -- Why a text says no steps.
-use Rattle.std.specs.Prelude.{◌≡◌, ◌≢◌, ◌⊎◌, ◌<◌, ◌≤◌, ℕ, ◌+◌, max, List, ◌∷◌, ◌++◌, length, map, slice_get, Option, Some, Ok, Err}
+use Rattle.std.specs.Prelude.{◌≡◌, ◌≢◌, replicate, ◌⊎◌, ◌<◌, ◌≤◌, ℕ, ◌+◌, max, List, ◌∷◌, ◌++◌, length, map, slice_get, Option, Some, Ok, Err}
 use Rattle.std.specs.List.{repeat}
 use Rattle.line_words.specs.Texts.{told_from}
 use Rattle.link_net.specs.Neighbours.{Neighbours}
@@ -36,6 +36,10 @@ open_in (inside outer count parts) = open_in outer + 1
 abbrev pub begun_depth : Beginning → ℕ
 begun_depth (whole parts) = depth_of parts
 begun_depth (inside outer count parts) = max (begun_depth outer) (open_in outer + 1 + depth_of parts)
+
+-- every beginning is the front of a whole text: behind its lines so many `}` can stand as repeats are open
+abbrev pub BeginningsEnd : Type 0
+BeginningsEnd = (b : Beginning) → (parts : Parts) × (lines_of parts ≡ begun_lines b ++ replicate (open_in b) End)
 
 -- lines that stand: they begin a text, repeats are nested no deeper than they may be, and there are no more steps than may be
 pub record Stand (network : Neighbours) (names : Option (List (List ℕ))) (told : List (ℕ × List ℕ)) (b : Beginning) : Type 0 where

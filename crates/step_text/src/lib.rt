@@ -3,6 +3,7 @@
 
 mod action;
 mod fault;
+mod laws;
 mod line;
 mod line_reader;
 mod nodes;
@@ -11,4 +12,5 @@ mod put;
 mod text;
 
 pub use fault::StepTextFault;
+pub use laws::beginnings_end;
 pub use text::written;

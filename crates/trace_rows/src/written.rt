@@ -325,3 +325,32 @@ fn sweeps_are_those_of_the_list(rt: HostRuntime) -> Result<(), Fail> {
     assert!(rt; steps.as_slice() == listed.as_slice());
     Ok(())
 }
+
+/// Faults, and how they are told.
+const TOLD: [(StepTextFault, &str); 4] = [
+    (
+        StepTextFault::NoSuchLine { line: 7 },
+        "line 7: expected `NODE reads NODE`, `NODE reads all`, `NODE moves`, `NODE turn`, `sweep`, `repeat COUNT {` or `}`",
+    ),
+    (
+        StepTextFault::BadCount { line: 1 },
+        "line 1: expected a count from 1 to 1000000 between `repeat` and `{`",
+    ),
+    (
+        StepTextFault::NoNode { line: 2, word: 3 },
+        "line 2: expected a node of the network as word 3",
+    ),
+    (
+        StepTextFault::RepeatWithoutEnd { line: 4 },
+        "line 4: expected a `}` for this `repeat`",
+    ),
+];
+
+#[test]
+fn faults_that_are_told(rt: HostRuntime) -> Result<(), Fail> {
+    for (fault, wanted) in &TOLD {
+        let text = format!(in rt.alloc(); "{fault}")?;
+        assert_eq!(rt; text.as_str(), *wanted);
+    }
+    Ok(())
+}
