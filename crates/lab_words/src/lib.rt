@@ -20,8 +20,8 @@ pub use open::{CellsWord, LotWord, Openings, SetWord, open_command, openings_of}
 pub use plan_paths::PlanPaths;
 pub use settle::{Settlement, settle_command, settlement_of};
 pub use show::{show_command, shown_path};
-pub use steps::{Listing, StepsAsked, StepsManner, Writing, steps_command, steps_of};
+pub use steps::{Limits, Listing, StepsAsked, StepsManner, Writing, steps_command, steps_of};
 pub use take::{Format, Taking, take_command, taking_of};
 pub use tell::{Telling, tell_command, telling_of};
-pub use watch::{Watching, watch_command, watching_of};
+pub use watch::{View, Watching, watch_command, watching_of};
 pub use weights::Weights;

@@ -2,7 +2,7 @@
 
 use crate::parts::{flag, option};
 use crate::plan_paths::{PlanPaths, number_or, paths_in, with_from, with_texts};
-use clap::Command;
+use clap::{ArgMatches, Command};
 use lockstep::MOST_ROUNDS;
 use std::alloc::{AllocError, Global};
 use unison_words::{UsageFault, matches_of};
@@ -41,14 +41,19 @@ pub fn settle_command<'a>(alloc: Global) -> Result<Command<'a>, AllocError> {
     with_from(alloc, command)
 }
 
-/// What the words ask for, the command's name first.
-pub fn settlement_of(alloc: Global, words: &[String]) -> Result<Settlement, UsageFault> {
-    let matches = matches_of(alloc, settle_command(alloc)?, words)?;
-    let limit = number_or(alloc, &matches, "limit", (0, MOST_ROUNDS), LIMIT)?;
-    let plan = paths_in(alloc, &matches)?;
+/// What the options ask for.
+fn asked_in(alloc: Global, matches: &ArgMatches<'_>) -> Result<Settlement, UsageFault> {
+    let limit = number_or(alloc, matches, "limit", (0, MOST_ROUNDS), LIMIT)?;
+    let plan = paths_in(alloc, matches)?;
     Ok(Settlement {
         plan,
         limit,
         report: matches.get_flag("report"),
     })
+}
+
+/// What the words ask for, the command's name first.
+pub fn settlement_of(alloc: Global, words: &[String]) -> Result<Settlement, UsageFault> {
+    let matches = matches_of(alloc, settle_command(alloc)?, words)?;
+    asked_in(alloc, &matches)
 }

@@ -23,11 +23,9 @@ pub enum StepsManner {
     SlowLinks,
 }
 
-/// Steps in a manner.
-#[derive(Debug, Drop)]
-pub struct Listing {
-    pub plan: PlanPaths,
-    pub manner: StepsManner,
+/// Up to where steps go, and by what they are drawn.
+#[derive(Clone, Copy, Debug, PartialEq, Eq)]
+pub struct Limits {
     /// The round at which nodes stop, counted from round 0.
     pub stop: u32,
     /// By what is drawn.
@@ -36,6 +34,14 @@ pub struct Listing {
     pub count: u32,
     /// How many of a hundred steps are refused ones, where some are mixed in.
     pub refused: u32,
+}
+
+/// Steps in a manner.
+#[derive(Debug, Drop)]
+pub struct Listing {
+    pub plan: PlanPaths,
+    pub manner: StepsManner,
+    pub limits: Limits,
     /// The path of the names by which nodes are called, where they are.
     pub names: Option<String>,
 }
@@ -219,34 +225,42 @@ fn manner_in(
     }
 }
 
-/// The names that a manner may have, where it names a node.
+/// The names by which nodes are called, where a manner of this name may have them.
 fn names_in(
     alloc: Global,
-    manner: &StepsManner,
+    name: &str,
     matches: &ArgMatches<'_>,
 ) -> Result<Option<String>, AllocError> {
-    match manner {
-        StepsManner::Starve { .. } | StepsManner::Ahead { .. } => text_of(alloc, matches, "names"),
+    match name {
+        "starve" | "ahead" => text_of(alloc, matches, "names"),
         _ => Ok(None),
     }
 }
 
-/// The steps in the manner of this name.
-fn listing_in(alloc: Global, name: &str, matches: &ArgMatches<'_>) -> Result<Listing, UsageFault> {
-    let manner = manner_in(alloc, name, matches)?;
+/// Up to where steps go, and by what they are drawn.
+fn limits_in(alloc: Global, matches: &ArgMatches<'_>) -> Result<Limits, UsageFault> {
     let stop = number_or(alloc, matches, "stop", (0, MOST_ROUNDS), MOST_ROUNDS)?;
     let count = number_or(alloc, matches, "count", (0, MOST_STEPS), MOST_STEPS)?;
     let seed = number_or(alloc, matches, "seed", (0, 4_294_967_295), 0)?;
     let refused = number_or(alloc, matches, "refused", (0, 99), 0)?;
-    let names = names_in(alloc, &manner, matches)?;
-    let plan = paths_in(alloc, matches)?;
-    Ok(Listing {
-        plan,
-        manner,
+    Ok(Limits {
         stop,
         seed,
         count,
         refused,
+    })
+}
+
+/// The steps in the manner of this name.
+fn listing_in(alloc: Global, name: &str, matches: &ArgMatches<'_>) -> Result<Listing, UsageFault> {
+    let limits = limits_in(alloc, matches)?;
+    let names = names_in(alloc, name, matches)?;
+    let manner = manner_in(alloc, name, matches)?;
+    let plan = paths_in(alloc, matches)?;
+    Ok(Listing {
+        plan,
+        manner,
+        limits,
         names,
     })
 }
@@ -259,15 +273,25 @@ fn writing_in(alloc: Global, matches: &ArgMatches<'_>) -> Result<Writing, AllocE
     Ok(Writing { plan, lines, names })
 }
 
+/// What the words of a subcommand of this name ask for.
+fn asked_in(
+    alloc: Global,
+    name: &str,
+    matches: &ArgMatches<'_>,
+) -> Result<StepsAsked, UsageFault> {
+    if name == "write" {
+        let writing = writing_in(alloc, matches)?;
+        return Ok(StepsAsked::Writing(writing));
+    }
+    let listing = listing_in(alloc, name, matches)?;
+    Ok(StepsAsked::Listing(listing))
+}
+
 /// What the words ask for, the command's name first.
 pub fn steps_of(alloc: Global, words: &[String]) -> Result<StepsAsked, UsageFault> {
     let matches = matches_of(alloc, steps_command(alloc)?, words)?;
     match matches.subcommand() {
-        Some(("write", inner)) => Ok(StepsAsked::Writing(writing_in(alloc, inner)?)),
-        Some((name, inner)) => {
-            let listing = listing_in(alloc, name, inner)?;
-            Ok(StepsAsked::Listing(listing))
-        }
+        Some((name, inner)) => asked_in(alloc, name, inner),
         None => Err(wrong_words(alloc, "MANNER")),
     }
 }

@@ -2,7 +2,7 @@
 
 use crate::parts::{argument, flag, option, path_of};
 use crate::plan_paths::{PlanPaths, number_or, paths_in, with_from, with_texts};
-use clap::Command;
+use clap::{ArgMatches, Command};
 use lockstep::MOST_ROUNDS;
 use std::alloc::{AllocError, Global};
 use unison_words::{UsageFault, matches_of};
@@ -47,16 +47,21 @@ pub fn tell_command<'a>(alloc: Global) -> Result<Command<'a>, AllocError> {
     with_from(alloc, command)
 }
 
-/// What the words ask for, the command's name first.
-pub fn telling_of(alloc: Global, words: &[String]) -> Result<Telling, UsageFault> {
-    let matches = matches_of(alloc, tell_command(alloc)?, words)?;
-    let stop = number_or(alloc, &matches, "stop", (0, MOST_ROUNDS), 0)?;
-    let schedule = path_of(alloc, &matches, "schedule")?;
-    let plan = paths_in(alloc, &matches)?;
+/// What the options ask for.
+fn asked_in(alloc: Global, matches: &ArgMatches<'_>) -> Result<Telling, UsageFault> {
+    let stop = number_or(alloc, matches, "stop", (0, MOST_ROUNDS), 0)?;
+    let schedule = path_of(alloc, matches, "schedule")?;
+    let plan = paths_in(alloc, matches)?;
     Ok(Telling {
         plan,
         schedule,
         stop,
         counts: matches.get_flag("counts"),
     })
+}
+
+/// What the words ask for, the command's name first.
+pub fn telling_of(alloc: Global, words: &[String]) -> Result<Telling, UsageFault> {
+    let matches = matches_of(alloc, tell_command(alloc)?, words)?;
+    asked_in(alloc, &matches)
 }

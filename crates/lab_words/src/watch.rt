@@ -1,6 +1,6 @@
 //! The words of `watch`: a plan, the rounds that are watched, and how they are shown.
 
-use crate::parts::{flag, option, text_of, told};
+use crate::parts::{flag, option, told};
 use crate::plan_paths::{PlanPaths, number_or, paths_in, with_from, with_texts};
 use clap::{Arg, ArgMatches, Command};
 use lockstep::MOST_ROUNDS;
@@ -8,12 +8,9 @@ use round_watch::{Format as WatchFormat, Span};
 use std::alloc::{AllocError, Global};
 use unison_words::{UsageFault, matches_of, number};
 
-/// What `watch` is asked for.
+/// How rounds are shown.
 #[derive(Debug, Drop)]
-pub struct Watching {
-    pub plan: PlanPaths,
-    /// The rounds that are watched.
-    pub span: Span,
+pub struct View {
     pub format: WatchFormat,
     /// The fields that are shown, where not all are.
     pub only: Option<Vec<String>>,
@@ -21,6 +18,15 @@ pub struct Watching {
     pub changes: bool,
     /// The path of the names of the nodes, where they are shown.
     pub names: Option<String>,
+}
+
+/// What `watch` is asked for.
+#[derive(Debug, Drop)]
+pub struct Watching {
+    pub plan: PlanPaths,
+    /// The rounds that are watched.
+    pub span: Span,
+    pub view: View,
 }
 
 /// What stands behind the help of `watch`.
@@ -143,36 +149,48 @@ fn only_in(alloc: Global, matches: &ArgMatches<'_>) -> Result<Option<Vec<String>
     }
 }
 
-/// Refuses names for reports.
-fn check_names(
+/// The path of the names, which reports have not.
+fn names_in(
     alloc: Global,
     format: WatchFormat,
-    names: &Option<String>,
-) -> Result<(), UsageFault> {
-    if names.is_some() && format == WatchFormat::Report {
+    matches: &ArgMatches<'_>,
+) -> Result<Option<String>, UsageFault> {
+    let Some(path) = matches.get_str("names") else {
+        return Ok(None);
+    };
+    if format == WatchFormat::Report {
         return Err(told(String::from_str(
             alloc,
             "--names: reports have numbers for nodes; add --format csv or --format json",
         )));
     }
-    Ok(())
+    let path = String::from_str(alloc, path)?;
+    Ok(Some(path))
 }
 
-/// What the words ask for, the command's name first.
-pub fn watching_of(alloc: Global, words: &[String]) -> Result<Watching, UsageFault> {
-    let matches = matches_of(alloc, watch_command(alloc)?, words)?;
-    let span = span_in(alloc, &matches)?;
-    let format = format_in(alloc, &matches)?;
-    let names = text_of(alloc, &matches, "names")?;
-    check_names(alloc, format, &names)?;
-    let only = only_in(alloc, &matches)?;
-    let plan = paths_in(alloc, &matches)?;
-    Ok(Watching {
-        plan,
-        span,
+/// How rounds are to be shown.
+fn view_in(alloc: Global, matches: &ArgMatches<'_>) -> Result<View, UsageFault> {
+    let format = format_in(alloc, matches)?;
+    let names = names_in(alloc, format, matches)?;
+    let only = only_in(alloc, matches)?;
+    Ok(View {
         format,
         only,
         changes: matches.get_flag("changes"),
         names,
     })
+}
+
+/// What the options ask for.
+fn asked_in(alloc: Global, matches: &ArgMatches<'_>) -> Result<Watching, UsageFault> {
+    let view = view_in(alloc, matches)?;
+    let span = span_in(alloc, matches)?;
+    let plan = paths_in(alloc, matches)?;
+    Ok(Watching { plan, span, view })
+}
+
+/// What the words ask for, the command's name first.
+pub fn watching_of(alloc: Global, words: &[String]) -> Result<Watching, UsageFault> {
+    let matches = matches_of(alloc, watch_command(alloc)?, words)?;
+    asked_in(alloc, &matches)
 }

@@ -1,7 +1,7 @@
 //! The words of `watch`, `settle`, `steps` and `tell`.
 
 use lab_words::{
-    StepsAsked, StepsManner, Watching, settlement_of, steps_of, telling_of, watching_of,
+    Limits, StepsAsked, StepsManner, Watching, settlement_of, steps_of, telling_of, watching_of,
 };
 use std::alloc::{AllocError, Global};
 use std::process::Abort;
@@ -92,8 +92,8 @@ fn assert_watching(rt: &impl Abort, asked: &Watching) {
     assert_eq!(rt; asked.span.first(), 3);
     assert_eq!(rt; asked.span.last(), 9);
     assert_eq!(rt; asked.span.steps(), 3);
-    assert!(rt; asked.changes);
-    let only = asked.only.as_ref().map_or(0, |fields| fields.len());
+    assert!(rt; asked.view.changes);
+    let only = asked.view.only.as_ref().map_or(0, |fields| fields.len());
     assert_eq!(rt; only, 2);
 }
 
@@ -121,7 +121,7 @@ fn assert_starving(rt: &impl Abort, asked: &StepsAsked) -> Result<(), Fail> {
         return Err(Fail::new(format_args!("another manner")));
     };
     assert_eq!(rt; node.as_str(), "7");
-    assert_eq!(rt; (asked.stop, asked.count, asked.seed, asked.refused), (1_000_000_000, 50, 0, 0));
+    assert_eq!(rt; asked.limits, Limits { stop: 1_000_000_000, seed: 0, count: 50, refused: 0 });
     Ok(())
 }
 

@@ -98,13 +98,12 @@ fn found_for(alloc: Global, plan: &Plan, limit: u32) -> Result<Settling, Ending>
     }
 }
 
-/// Tells from which round on nothing changes, or all states come again. The status with which the program ends.
-pub(crate) fn settle_rounds(
+/// What is told of the plan that is asked for.
+fn text_for(
     rt: &HostRuntime,
     threads: &(impl Threads + Sync),
-    words: &[String],
-) -> Result<u8, Ending> {
-    let asked = settlement_of(rt.alloc(), words)?;
+    asked: &Settlement,
+) -> Result<Vec<u8>, Ending> {
     let paths = [
         asked.plan.program.as_str(),
         asked.plan.network.as_str(),
@@ -113,7 +112,17 @@ pub(crate) fn settle_rounds(
     read_once(rt.alloc(), &paths)?;
     let plan = plan_at(rt, &asked.plan)?;
     let found = found_for(rt.alloc(), &plan, asked.limit)?;
-    let text = text_of(rt.alloc(), threads, &plan, &asked, found)?;
+    text_of(rt.alloc(), threads, &plan, asked, found)
+}
+
+/// Tells from which round on nothing changes, or all states come again. The status with which the program ends.
+pub(crate) fn settle_rounds(
+    rt: &HostRuntime,
+    threads: &(impl Threads + Sync),
+    words: &[String],
+) -> Result<u8, Ending> {
+    let asked = settlement_of(rt.alloc(), words)?;
+    let text = text_for(rt, threads, &asked)?;
     write_out(rt, &text)?;
     Ok(0)
 }

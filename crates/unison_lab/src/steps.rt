@@ -7,7 +7,7 @@ use crate::names::names_at;
 use crate::output::write_out;
 use crate::plan_texts::plan_at;
 use lab_words::{Listing, PlanPaths, StepsAsked, StepsManner, Writing, steps_of};
-use link_net::MOST_NODES;
+use link_net::{MOST_NODES, Network};
 use lockstep::Plan;
 use node_names::NodeNames;
 use std::alloc::{AllocError, Global};
@@ -68,7 +68,7 @@ fn manner_of(
     asked: &Listing,
     nodes: u32,
 ) -> Result<Manner, Ending> {
-    let seed = asked.seed as u64;
+    let seed = asked.limits.seed as u64;
     match &asked.manner {
         StepsManner::Sweeps => Ok(Manner::Sweeps),
         StepsManner::Random => Ok(Manner::Random { seed }),
@@ -104,25 +104,40 @@ fn list_of(
     manner: Manner,
     asked: &Listing,
 ) -> Result<Vec<Step>, ListFault> {
-    let count = Some(asked.count);
-    let steps = listed(alloc, Arc::try_clone(&plan)?, asked.stop, manner, count)?;
-    if asked.refused == 0 {
+    let count = Some(asked.limits.count);
+    let steps = listed(alloc, Arc::try_clone(&plan)?, asked.limits.stop, manner, count)?;
+    if asked.limits.refused == 0 {
         return Ok(steps);
     }
-    let seed = asked.seed as u64;
-    with_refused(alloc, plan, asked.stop, &steps, seed, asked.refused, count)
+    let seed = asked.limits.seed as u64;
+    with_refused(alloc, plan, asked.limits.stop, &steps, seed, asked.limits.refused, count)
+}
+
+/// The manner that is asked for, on a network of so many nodes.
+fn manner_for(rt: &HostRuntime, asked: &Listing, nodes: u32) -> Result<Manner, Ending> {
+    let names = names_for(rt, &asked.names, nodes)?;
+    manner_of(rt.alloc(), &names, asked, nodes)
+}
+
+/// The steps of a manner on a plan.
+fn steps_by(
+    alloc: Global,
+    plan: Plan,
+    manner: Manner,
+    asked: &Listing,
+) -> Result<Vec<Step>, Ending> {
+    let plan = Arc::new(alloc, plan)?;
+    match list_of(alloc, plan, manner, asked) {
+        Ok(steps) => Ok(steps),
+        Err(fault) => Err(no_list(fault)),
+    }
 }
 
 /// The steps that are asked for in a manner.
 fn steps_in_manner(rt: &HostRuntime, asked: &Listing) -> Result<Vec<Step>, Ending> {
     let plan = plan_at(rt, &asked.plan)?;
-    let nodes = plan.network().nodes();
-    let names = names_for(rt, &asked.names, nodes)?;
-    let manner = manner_of(rt.alloc(), &names, asked, nodes)?;
-    match list_of(rt.alloc(), Arc::new(rt.alloc(), plan)?, manner, asked) {
-        Ok(steps) => Ok(steps),
-        Err(fault) => Err(no_list(fault)),
-    }
+    let manner = manner_for(rt, asked, plan.network().nodes())?;
+    steps_by(rt.alloc(), plan, manner, asked)
 }
 
 /// The line of which a fault tells.
@@ -160,15 +175,25 @@ fn no_steps(alloc: Global, text: &Text, fault: StepTextFault) -> Result<Ending, 
     Ok(Ending::Refused(format!(in alloc; "steps\n{name}: {fault}, found `{found}`")?))
 }
 
+/// The steps that lines say on a network.
+fn steps_said(
+    rt: &HostRuntime,
+    network: &Network,
+    names: &Option<NodeNames>,
+    path: &str,
+) -> Result<Vec<Step>, Ending> {
+    let lines = text_at(rt, path)?;
+    match written(rt.alloc(), network, names.as_ref(), &lines.bytes) {
+        Ok(steps) => Ok(steps),
+        Err(fault) => Err(no_steps(rt.alloc(), &lines, fault)?),
+    }
+}
+
 /// The steps that the lines say.
 fn steps_of_lines(rt: &HostRuntime, asked: &Writing) -> Result<Vec<Step>, Ending> {
     let plan = plan_at(rt, &asked.plan)?;
     let names = names_for(rt, &asked.names, plan.network().nodes())?;
-    let lines = text_at(rt, asked.lines.as_str())?;
-    match written(rt.alloc(), plan.network(), names.as_ref(), &lines.bytes) {
-        Ok(steps) => Ok(steps),
-        Err(fault) => Err(no_steps(rt.alloc(), &lines, fault)?),
-    }
+    steps_said(rt, plan.network(), &names, asked.lines.as_str())
 }
 
 /// Refuses standard input for more than one of the texts.

@@ -46,20 +46,35 @@ fn text_of(alloc: Global, plan: Plan, steps: &[Step], asked: &Telling) -> Result
     }
 }
 
-/// Tells what each step of a schedule does. The status with which the program ends.
-pub(crate) fn tell_steps(rt: &HostRuntime, words: &[String]) -> Result<u8, Ending> {
-    let asked = telling_of(rt.alloc(), words)?;
+/// The steps of the schedule at a path.
+fn steps_at(rt: &HostRuntime, path: &str) -> Result<Vec<Step>, Ending> {
+    let schedule = text_at(rt, path)?;
+    steps_in(rt.alloc(), &schedule.bytes)
+}
+
+/// Refuses standard input for more than one of the texts.
+fn check_paths(alloc: Global, asked: &Telling) -> Result<(), Ending> {
     let paths = [
         asked.plan.program.as_str(),
         asked.plan.network.as_str(),
         path_in(&asked.plan.from),
         asked.schedule.as_str(),
     ];
-    read_once(rt.alloc(), &paths)?;
+    read_once(alloc, &paths)
+}
+
+/// What is told of the schedule that is asked for.
+fn text_for(rt: &HostRuntime, asked: &Telling) -> Result<Vec<u8>, Ending> {
+    check_paths(rt.alloc(), asked)?;
     let plan = plan_at(rt, &asked.plan)?;
-    let schedule = text_at(rt, asked.schedule.as_str())?;
-    let steps = steps_in(rt.alloc(), &schedule.bytes)?;
-    let text = text_of(rt.alloc(), plan, &steps, &asked)?;
+    let steps = steps_at(rt, asked.schedule.as_str())?;
+    text_of(rt.alloc(), plan, &steps, asked)
+}
+
+/// Tells what each step of a schedule does. The status with which the program ends.
+pub(crate) fn tell_steps(rt: &HostRuntime, words: &[String]) -> Result<u8, Ending> {
+    let asked = telling_of(rt.alloc(), words)?;
+    let text = text_for(rt, &asked)?;
     write_out(rt, &text)?;
     Ok(0)
 }

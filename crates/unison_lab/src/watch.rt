@@ -6,7 +6,7 @@ use crate::labels::labels_of;
 use crate::names::names_at;
 use crate::output::write_out;
 use crate::plan_texts::plan_at;
-use lab_words::{Watching, watching_of};
+use lab_words::{View, Watching, watching_of};
 use lockstep::{Plan, RoundFault};
 use round_watch::{Format, Progress, Show, WatchFault, watched};
 use rule_check::Program;
@@ -96,8 +96,8 @@ fn named_fields(alloc: Global, program: &Program, words: &[String]) -> Result<Ve
 }
 
 /// The places of the fields that are shown.
-fn shown_fields(alloc: Global, program: &Program, asked: &Watching) -> Result<Vec<u32>, Ending> {
-    match &asked.only {
+fn shown_fields(alloc: Global, program: &Program, view: &View) -> Result<Vec<u32>, Ending> {
+    match &view.only {
         Some(words) => named_fields(alloc, program, words),
         None => Ok(all_fields(alloc, program)?),
     }
@@ -137,22 +137,26 @@ fn is_long(plan: &Plan, asked: &Watching) -> bool {
     rounds.saturating_mul(plan.network().nodes() as u64) >= LONG
 }
 
-/// The text of the rounds.
-fn text_of(
+/// What stands for the nodes.
+fn labels_for(rt: &HostRuntime, plan: &Plan, view: &View) -> Result<Vec<String>, Ending> {
+    let names = names_at(rt, &view.names)?;
+    labels_of(rt.alloc(), view.format, &names, plan.network().nodes())
+}
+
+/// The text of the rounds, these fields being shown.
+fn shown_text(
     rt: &HostRuntime,
     threads: &(impl Threads + Sync),
     plan: &Plan,
     asked: &Watching,
+    fields: &[u32],
 ) -> Result<Vec<u8>, Ending> {
-    let fields = shown_fields(rt.alloc(), plan.program(), asked)?;
-    check_headings(rt.alloc(), plan.program(), asked.format, &fields)?;
-    let names = names_at(rt, &asked.names)?;
-    let labels = labels_of(rt.alloc(), asked.format, &names, plan.network().nodes())?;
+    let labels = labels_for(rt, plan, &asked.view)?;
     let show = Show {
-        format: asked.format,
-        fields: &fields,
+        format: asked.view.format,
+        fields,
         labels: &labels,
-        changes: asked.changes,
+        changes: asked.view.changes,
     };
     let mut telling = Telling {
         rt,
@@ -167,6 +171,40 @@ fn text_of(
     }
 }
 
+/// The text of the rounds of a plan.
+fn text_of(
+    rt: &HostRuntime,
+    threads: &(impl Threads + Sync),
+    plan: &Plan,
+    asked: &Watching,
+) -> Result<Vec<u8>, Ending> {
+    let fields = shown_fields(rt.alloc(), plan.program(), &asked.view)?;
+    check_headings(rt.alloc(), plan.program(), asked.view.format, &fields)?;
+    shown_text(rt, threads, plan, asked, &fields)
+}
+
+/// Refuses standard input for more than one of the texts.
+fn check_paths(alloc: Global, asked: &Watching) -> Result<(), Ending> {
+    let paths = [
+        asked.plan.program.as_str(),
+        asked.plan.network.as_str(),
+        path_in(&asked.plan.from),
+        path_in(&asked.view.names),
+    ];
+    read_once(alloc, &paths)
+}
+
+/// The text of the rounds that are asked for.
+fn text_for(
+    rt: &HostRuntime,
+    threads: &(impl Threads + Sync),
+    asked: &Watching,
+) -> Result<Vec<u8>, Ending> {
+    check_paths(rt.alloc(), asked)?;
+    let plan = plan_at(rt, &asked.plan)?;
+    text_of(rt, threads, &plan, asked)
+}
+
 /// Prints rounds of a plan. The status with which the program ends.
 pub(crate) fn watch_rounds(
     rt: &HostRuntime,
@@ -174,16 +212,7 @@ pub(crate) fn watch_rounds(
     words: &[String],
 ) -> Result<u8, Ending> {
     let asked = watching_of(rt.alloc(), words)?;
-    let plan = &asked.plan;
-    let paths = [
-        plan.program.as_str(),
-        plan.network.as_str(),
-        path_in(&plan.from),
-        path_in(&asked.names),
-    ];
-    read_once(rt.alloc(), &paths)?;
-    let plan = plan_at(rt, &asked.plan)?;
-    let text = text_of(rt, threads, &plan, &asked)?;
+    let text = text_for(rt, threads, &asked)?;
     write_out(rt, &text)?;
     Ok(0)
 }
