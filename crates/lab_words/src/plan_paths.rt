@@ -45,7 +45,10 @@ pub(crate) fn with_texts<'a>(
 }
 
 /// The command with `--from`.
-pub(crate) fn with_from<'a>(alloc: Global, command: Command<'a>) -> Result<Command<'a>, AllocError> {
+pub(crate) fn with_from<'a>(
+    alloc: Global,
+    command: Command<'a>,
+) -> Result<Command<'a>, AllocError> {
     command.arg(from_option(alloc))
 }
 

@@ -37,11 +37,7 @@ pub fn settle_command<'a>(alloc: Global) -> Result<Command<'a>, AllocError> {
             "T",
             "Look at the rounds up to T: 0 to 1000000000, and 1000000 where it is left out; up to twice as many are computed",
         ))?
-        .arg(flag(
-            alloc,
-            "report",
-            "Print the report of round R, too",
-        ))?;
+        .arg(flag(alloc, "report", "Print the report of round R, too"))?;
     with_from(alloc, command)
 }
 

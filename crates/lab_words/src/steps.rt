@@ -166,10 +166,7 @@ fn write_command<'a>(alloc: Global) -> Result<Command<'a>, AllocError> {
             "FILE",
             "The file of the lines, or - for standard input",
         ))?;
-    with_from(
-        alloc,
-        with_texts(alloc, command)?.arg(names_option(alloc))?,
-    )
+    with_from(alloc, with_texts(alloc, command)?.arg(names_option(alloc))?)
 }
 
 /// The command with all manners that name no node.

@@ -36,15 +36,13 @@ pub fn tell_command<'a>(alloc: Global) -> Result<Command<'a>, AllocError> {
             "SCHEDULE",
             "The file of the steps: lines `read NODE SLOT` and `write NODE`, or - for standard input",
         ))?
-        .arg(
-            option(
-                alloc,
-                "stop",
-                "T",
-                "The round at which a node stops, counted from round 0: 0 to 1000000000",
-            )
-            .required(true),
-        )?
+        .arg(option(
+            alloc,
+            "stop",
+            "T",
+            "The round at which a node stops, counted from round 0: 0 to 1000000000",
+        )
+        .required(true))?
         .arg(flag(alloc, "counts", "Show all counts after each step"))?;
     with_from(alloc, command)
 }

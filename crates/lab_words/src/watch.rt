@@ -120,9 +120,9 @@ fn format_in(alloc: Global, matches: &ArgMatches<'_>) -> Result<WatchFormat, Usa
         "report" => Ok(WatchFormat::Report),
         "csv" => Ok(WatchFormat::Csv),
         "json" => Ok(WatchFormat::Json),
-        found => Err(told(
-            format!(in alloc; "--format: expected report, csv or json, found `{found}`"),
-        )),
+        found => Err(told(format!(in alloc;
+            "--format: expected report, csv or json, found `{found}`"
+        ))),
     }
 }
 

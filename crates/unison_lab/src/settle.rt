@@ -19,10 +19,15 @@ fn not_told(alloc: Global, limit: u32, fault: SettleFault) -> Result<Ending, All
             "program ReadsRound\nthe program reads `round`, so equal states need not be followed by equal ones, and no round tells that it settles; run it with lockstep or watch",
         )?,
         SettleFault::LimitBelowStart => {
-            format!(in alloc; "run RoundsBelowStart\n--limit: the plan starts behind round {limit}")?
+            format!(in alloc;
+                "run RoundsBelowStart\n--limit: the plan starts behind round {limit}"
+            )?
         }
         SettleFault::LimitTooLarge => {
-            String::from_str(alloc, "run TooManyRounds\n--limit: the greatest is 1000000000")?
+            String::from_str(
+                alloc,
+                "run TooManyRounds\n--limit: the greatest is 1000000000",
+            )?
         }
         SettleFault::Memory => return Ok(Ending::Memory),
     };
