@@ -132,11 +132,11 @@ words_same left right n few many long other_long same =
     let beside = some_column right k there in
     get_or-map items left k here d inside
     ∙ same_lists (slice_index_or left k here).items (slice_index_or right k beside).items (long k here inside ∙ sym (other_long k beside there))
-      (λ u e l.
-      let node : u < n = omega (arith, l, long k here inside) in
-      get_or_default (slice_index_or left k here).items u e 0 l
-      ∙ sym (word_read left u k here few inside)
-      ∙ ap (λ (s : State). slice_index s.words k) (same u node)
-      ∙ word_read right u k beside (omega (arith, few, many)) there
-      ∙ sym (get_or_default (slice_index_or right k beside).items u e 0 (omega (arith, node, other_long k beside there))))
+    (λ u e l.
+    let node : u < n = omega (arith, l, long k here inside) in
+    get_or_default (slice_index_or left k here).items u e 0 l
+    ∙ sym (word_read left u k here few inside)
+    ∙ ap (λ (s : State). slice_index s.words k) (same u node)
+    ∙ word_read right u k beside (omega (arith, few, many)) there
+    ∙ sym (get_or_default (slice_index_or right k beside).items u e 0 (omega (arith, node, other_long k beside there))))
     ∙ sym (get_or-map items right k beside d there))

@@ -186,7 +186,10 @@ fn answer<R: Threads + Sync>(
 fn rounds_from_a_report(rt: HostRuntime) -> Result<(), Fail> {
     let plan = resumed(rt.alloc(), DISTANCE, PATH, PATH_AFTER_ONE)?;
     let text = answer(&rt, rt.alloc(), &plan, (2, 2, 1), 0)??;
-    assert_eq!(rt; str::from_utf8(&text), Ok("round,node,dist\n2,\"a, b\",0\n2,1,1\n2,2,2\n"));
+    assert_eq!(rt;
+        str::from_utf8(&text),
+        Ok("round,node,dist\n2,\"a, b\",0\n2,1,1\n2,2,2\n")
+    );
     let refused: [((u32, u32, u32), u32, WatchFault); 4] = [
         ((0, 2, 1), 0, WatchFault::RoundsBelowStart),
         ((1, 1_000_000_001, 1), 0, WatchFault::TooManyRounds),
@@ -194,7 +197,10 @@ fn rounds_from_a_report(rt: HostRuntime) -> Result<(), Fail> {
         ((1, 2, 1), 1, WatchFault::NoField { place: 1 }),
     ];
     for (span, place, fault) in refused {
-        assert!(rt; answer(&rt, rt.alloc(), &plan, span, place)? == Err(fault), "{fault}");
+        assert!(rt;
+            answer(&rt, rt.alloc(), &plan, span, place)? == Err(fault),
+            "{fault}"
+        );
     }
     Ok(())
 }

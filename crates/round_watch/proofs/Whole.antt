@@ -23,9 +23,9 @@ fields_are (name ∷ names) [] i f few each = absurd (omega (arith, few))
 fields_are (name ∷ names) (w ∷ words) i f few each =
     let here : f i ≡ field_text name w = subst (λ (k : ℕ). f k ≡ field_text name w) (omega arith) (each 0 (omega arith)) in
     let rest = fields_are names words (i + 1) f (omega (arith, few))
-        (λ k inside.
-        let e : i + suc k ≡ i + 1 + k = omega arith in
-        subst (λ (j : ℕ). f j ≡ field_text (slice_index_or names k []) (slice_index words k)) e (each (suc k) (omega (arith, inside)))) in
+    (λ k inside.
+    let e : i + suc k ≡ i + 1 + k = omega arith in
+    subst (λ (j : ℕ). f j ≡ field_text (slice_index_or names k []) (slice_index words k)) e (each (suc k) (omega (arith, inside)))) in
     ap (λ (text : List ℕ). text ++ flat_map f (range_with_len (i + 1) (length names))) here ∙ ap (λ (text : List ℕ). field_text name w ++ text) rest
 
 -- the lines of all nodes in order
@@ -35,9 +35,9 @@ lines_are names [] i f each = refl
 lines_are names (s ∷ states) i f each =
     let here : f i ≡ node_line names i s = subst (λ (k : ℕ). f k ≡ node_line names k s) (omega arith) (each 0 (omega arith)) in
     let rest = lines_are names states (i + 1) f
-        (λ k inside.
-        let e : i + suc k ≡ i + 1 + k = omega arith in
-        subst (λ (j : ℕ). f j ≡ node_line names j (state_in states k)) e (each (suc k) (omega (arith, inside)))) in
+    (λ k inside.
+    let e : i + suc k ≡ i + 1 + k = omega arith in
+    subst (λ (j : ℕ). f j ≡ node_line names j (state_in states k)) e (each (suc k) (omega (arith, inside)))) in
     ap (λ (text : List ℕ). text ++ flat_map f (range_with_len (i + 1) (length states))) here ∙ ap (λ (text : List ℕ). node_line names i s ++ text) rest
 
 -- each node is shown where not only changes are asked for
@@ -51,9 +51,9 @@ module _ (show : Show) (names : List (List ℕ)) (whole : ShowsAll show (length 
       ap (λ (format : Format). flat_map (λ (k : ℕ). cell_text format (slice_index_or names k []) (slice_index state.words k)) show.fields.now) whole.report
       ∙ ap (flat_map (λ (k : ℕ). field_text (slice_index_or names k []) (slice_index state.words k))) whole.fields
       ∙ fields_are names state.words 0 (λ (k : ℕ). field_text (slice_index_or names k []) (slice_index state.words k)) few
-        (λ k inside.
-        let e : 0 + k ≡ k = omega arith in
-        ap (λ (j : ℕ). field_text (slice_index_or names j []) (slice_index state.words j)) e)
+      (λ k inside.
+      let e : 0 + k ≡ k = omega arith in
+      ap (λ (j : ℕ). field_text (slice_index_or names j []) (slice_index state.words j)) e)
 
   label_is : (u : ℕ) → label_of (option_map string_bytes (slice_get show.labels.now u)) u ≡ decimal u
   label_is u = ap (λ labels. label_of (option_map string_bytes (slice_get labels u)) u) whole.labels
@@ -81,10 +81,10 @@ module _ (show : Show) (names : List (List ℕ)) (whole : ShowsAll show (length 
       let text = node_text show names before c in
       ap (λ (head : List ℕ). head ++ flat_map text (numbers_below (length c.states))) (head_is c.rounds (length (shown_nodes show before c.states)))
       ∙ ap (λ (lines : List ℕ). round_line c.rounds ++ lines)
-        (lines_are names c.states 0 text
-        (λ k inside.
-        let e : 0 + k ≡ k = omega arith in
-        subst (λ (j : ℕ). text j ≡ node_line names j (state_in c.states k)) (sym e) (node_is before c k (wide k blank inside))))
+      (lines_are names c.states 0 text
+      (λ k inside.
+      let e : 0 + k ≡ k = omega arith in
+      subst (λ (j : ℕ). text j ≡ node_line names j (state_in c.states k)) (sym e) (node_is before c k (wide k blank inside))))
 
 pub whole_parts_are_reports : WholePartsAreReports
 whole_parts_are_reports show names before c whole wide = part_is show names whole before c wide

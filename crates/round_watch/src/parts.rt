@@ -34,12 +34,7 @@ fn count_shown(show: &Show<'_>, before: &[State], config: &Config) -> u32
 }
 
 /// What stands before the lines of the nodes.
-fn put_head(
-    out: &mut String,
-    show: &Show<'_>,
-    round: u32,
-    count: u32,
-) -> Result<(), AllocError>
+fn put_head(out: &mut String, show: &Show<'_>, round: u32, count: u32) -> Result<(), AllocError>
     ensures text { OnOk result (string_bytes out.new ≡ string_bytes out.old ++ head_text show.now.format show.now.changes round count) }
 {
     if show.format != Format::Report {
@@ -102,6 +97,11 @@ pub(crate) fn put_part(
     requires fields { All (λ place. place < length program.now.fields) show.now.fields.now }
     ensures text { OnOk result (string_bytes out.new ≡ string_bytes out.old ++ part_text show.now (names_of program.now) before.now config.now) }
 {
-    put_head(out, show, config.rounds(), count_shown(show, before, config))?;
+    put_head(
+        out,
+        show,
+        config.rounds(),
+        count_shown(show, before, config),
+    )?;
     put_nodes(out, show, program, before, config)
 }

@@ -29,10 +29,10 @@ returns c =
             c.are_same.ensures.exact.1
             (lent
             ∙ words_same s.from.items o.from.items (length s.network.now) few many c.self.invariant.long long
-              (λ u inside.
-              ap (λ (words : List (List ℕ)). state_by words u) here
-              ∙ each u (omega (arith, inside, ap length network_is))
-              ∙ sym (ap (λ (words : List (List ℕ)). state_by words u) there))
+            (λ u inside.
+            ap (λ (words : List (List ℕ)). state_by words u) here
+            ∙ each u (omega (arith, inside, ap length network_is))
+            ∙ sym (ap (λ (words : List (List ℕ)). state_by words u) there))
             ∙ sym other_lent),
       );
     }

@@ -23,7 +23,7 @@ returns c =
     let walk = s.states in
     let states = c.in_ok-states.states.items in
     let made = config_is p s.round s.round states c.of.result c.of.ensures.parts refl
-        (c.in_ok-states.ensures.exact
-        ∙ ap (λ (n : Neighbours). map (state_by walk.words) (numbers_below (length n))) c.self.invariant.held.network
-        ∙ held_states p s.round walk c.self.invariant.held) in
+    (c.in_ok-states.ensures.exact
+    ∙ ap (λ (n : Neighbours). map (state_by walk.words) (numbers_below (length n))) c.self.invariant.held.network
+    ∙ held_states p s.round walk c.self.invariant.held) in
     record { exact = subst (λ (v : RoundView). c.of.result ≡ lockstep_config v.plan v.round) c.self.view_is made }
