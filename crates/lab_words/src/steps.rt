@@ -274,11 +274,7 @@ fn writing_in(alloc: Global, matches: &ArgMatches<'_>) -> Result<Writing, AllocE
 }
 
 /// What the words of a subcommand of this name ask for.
-fn asked_in(
-    alloc: Global,
-    name: &str,
-    matches: &ArgMatches<'_>,
-) -> Result<StepsAsked, UsageFault> {
+fn asked_in(alloc: Global, name: &str, matches: &ArgMatches<'_>) -> Result<StepsAsked, UsageFault> {
     if name == "write" {
         let writing = writing_in(alloc, matches)?;
         return Ok(StepsAsked::Writing(writing));

@@ -102,7 +102,16 @@ fn words_of_watch(rt: HostRuntime) -> Result<(), Fail> {
     let words = owned(
         rt.alloc(),
         &[
-            "watch", "p", "-", "--rounds", "3..9", "--every", "2", "--only", "a,b", "--changes",
+            "watch",
+            "p",
+            "-",
+            "--rounds",
+            "3..9",
+            "--every",
+            "2",
+            "--only",
+            "a,b",
+            "--changes",
         ],
     )?;
     match watching_of(rt.alloc(), &words) {
@@ -121,7 +130,15 @@ fn assert_starving(rt: &impl Abort, asked: &StepsAsked) -> Result<(), Fail> {
         return Err(Fail::new(format_args!("another manner")));
     };
     assert_eq!(rt; node.as_str(), "7");
-    assert_eq!(rt; asked.limits, Limits { stop: 1_000_000_000, seed: 0, count: 50, refused: 0 });
+    assert_eq!(rt;
+        asked.limits,
+        Limits {
+            stop: 1_000_000_000,
+            seed: 0,
+            count: 50,
+            refused: 0
+        }
+    );
     Ok(())
 }
 

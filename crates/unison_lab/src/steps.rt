@@ -105,12 +105,26 @@ fn list_of(
     asked: &Listing,
 ) -> Result<Vec<Step>, ListFault> {
     let count = Some(asked.limits.count);
-    let steps = listed(alloc, Arc::try_clone(&plan)?, asked.limits.stop, manner, count)?;
+    let steps = listed(
+        alloc,
+        Arc::try_clone(&plan)?,
+        asked.limits.stop,
+        manner,
+        count,
+    )?;
     if asked.limits.refused == 0 {
         return Ok(steps);
     }
     let seed = asked.limits.seed as u64;
-    with_refused(alloc, plan, asked.limits.stop, &steps, seed, asked.limits.refused, count)
+    with_refused(
+        alloc,
+        plan,
+        asked.limits.stop,
+        &steps,
+        seed,
+        asked.limits.refused,
+        count,
+    )
 }
 
 /// The manner that is asked for, on a network of so many nodes.
