@@ -4,12 +4,13 @@ use crate::ending::Ending;
 use crate::files::{path_in, read_once};
 use crate::output::write_out;
 use crate::plan_texts::plan_at;
+use crate::watch::{all_fields, no_rounds};
 use lab_words::{Settlement, settlement_of};
-use lockstep::{Plan, RoundFault, lockstep_par, report};
+use lockstep::Plan;
 use round_settle::{SettleFault, Settling, settle};
+use round_watch::{Format, Progress, Show, Span, watched};
 use std::alloc::{AllocError, Global};
 use std::thread::Threads;
-use unison_jobs::ServeFault;
 
 /// The ending where it is not told.
 fn not_told(alloc: Global, limit: u32, fault: SettleFault) -> Result<Ending, AllocError> {
@@ -52,24 +53,34 @@ fn round_of(found: Settling) -> Option<u32> {
     }
 }
 
-/// The ending where a round has no report.
-fn no_report(fault: RoundFault) -> Ending {
-    match fault {
-        RoundFault::Memory => Ending::Memory,
-        fault => Ending::Served(ServeFault::Round(fault)),
-    }
+/// Tells nothing.
+#[derive(Drop)]
+struct Silent;
+
+impl Progress for Silent {
+    fn reached(&mut self, _round: u32) {}
 }
 
-/// The report of a round.
+/// The report of a round: what is watched where it is the first and the last one.
 fn report_of(
     alloc: Global,
     threads: &(impl Threads + Sync),
     plan: &Plan,
     round: u32,
 ) -> Result<Vec<u8>, Ending> {
-    match lockstep_par(threads, alloc, plan, round) {
-        Ok(config) => Ok(report(alloc, plan, &config)?),
-        Err(fault) => Err(no_report(fault)),
+    let Some(span) = Span::new(round, round, 1) else {
+        return Ok(Vec::new(alloc));
+    };
+    let fields = all_fields(alloc, plan.program())?;
+    let show = Show {
+        format: Format::Report,
+        fields: &fields,
+        labels: &[],
+        changes: false,
+    };
+    match watched(threads, alloc, plan, &span, &show, &mut Silent) {
+        Ok(text) => Ok(text),
+        Err(fault) => Err(no_rounds(fault)),
     }
 }
 

@@ -44,7 +44,7 @@ impl Progress for Telling<'_> {
 }
 
 /// The places of all fields.
-fn all_fields(alloc: Global, program: &Program) -> Result<Vec<u32>, AllocError> {
+pub(crate) fn all_fields(alloc: Global, program: &Program) -> Result<Vec<u32>, AllocError> {
     let mut places = Vec::new(alloc);
     for place in 0..program.field_count() {
         places.push(place)?;
@@ -121,7 +121,7 @@ fn check_headings(
 }
 
 /// The ending where rounds are not watched.
-fn no_rounds(fault: WatchFault) -> Ending {
+pub(crate) fn no_rounds(fault: WatchFault) -> Ending {
     match fault {
         WatchFault::TooManyRounds => Ending::Served(ServeFault::Round(RoundFault::TooManyRounds)),
         WatchFault::RoundsBelowStart => {
