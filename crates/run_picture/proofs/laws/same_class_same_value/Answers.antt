@@ -1,0 +1,5 @@
+use Rattle.run_picture.proofs.Told.{same_class_same_value}
+use Rattle.run_picture.proofs.laws.same_class_same_value.Goals as goal
+
+pub returns : goal.returns
+returns c = record { colours = same_class_same_value }

@@ -1,0 +1,73 @@
+-- Networks as text for Graphviz.
+use Rattle.std.specs.Prelude.{ℕ, ◌+◌, ◌==◌, List, [], ◌∷◌, ◌++◌, codes, if◌then◌else◌, length, nat_lt, slice_get, Option, Some, None}
+use Rattle.std.specs.Char.{encode_utf8}
+use Rattle.std.specs.Fmt.{decimal}
+use Rattle.std.specs.List.{flat_map}
+use Rattle.std.specs.Str.{chars}
+use Rattle.link_net.specs.Neighbours.{Neighbours, degree, neighbour, numbers_below, weight}
+use Rattle.lockstep.specs.Plans.{PlanView}
+use Rattle.run_picture.specs.Frames.{values_after}
+use Rattle.run_picture.specs.Shades.{KeyView, class_of, colour_of, ink_of, key_of}
+use Rattle.run_picture.specs.Sheets.{value_text}
+
+-- a character in a quoted label: `"`, `\` and `&` mean something there
+abbrev pub escaped_char : ℕ → List ℕ
+escaped_char c =
+    if c == 34 then codes "\\\""
+    else if c == 92 then codes "\\\\"
+    else if c == 38 then codes "&amp;"
+    else encode_utf8 c
+
+-- a name in a quoted label
+abbrev pub escaped : List ℕ → List ℕ
+escaped name = flat_map escaped_char (chars name)
+
+-- what a node is called in a quoted label: its name, or where it has none its number
+abbrev pub called : Option (List ℕ) → ℕ → List ℕ
+called (Some name) u = escaped name
+called None u = decimal u
+
+-- the colours of a node: that of a class, and one that is read on it
+unfoldable pub class_text : ℕ → List ℕ
+class_text class = codes "\", fillcolor=\"" ++ (colour_of class ++ (codes "\", fontcolor=\"" ++ (ink_of class ++ codes "\"];\n")))
+
+-- the line of a node: its number, what it is called, its value below that, and its colours
+unfoldable pub node_line : KeyView → Option (List ℕ) → ℕ → ℕ → List ℕ
+node_line key name u v = codes "  " ++ (decimal u ++ (codes " [label=\"" ++ (called name u ++ (codes "\\n" ++ (value_text v ++ class_text (class_of key v))))))
+
+-- the lines of nodes from number u on, called by these names, and past the last by their numbers
+abbrev pub node_lines : KeyView → List (List ℕ) → ℕ → List ℕ → List ℕ
+node_lines key names u [] = []
+node_lines key names u (v ∷ values) = node_line key (slice_get names u) u v ++ node_lines key names (u + 1) values
+
+-- a weight, which is left out where it is 1
+abbrev pub weight_text : ℕ → List ℕ
+weight_text x = if x == 1 then [] else codes " [label=\"" ++ (decimal x ++ codes "\"]")
+
+-- the line of a link
+unfoldable pub link_line : ℕ → ℕ → ℕ → List ℕ
+link_line u w x = codes "  " ++ (decimal u ++ (codes " -- " ++ (decimal w ++ (weight_text x ++ codes ";\n"))))
+
+-- the line of the link at slot j of node u, where the neighbour has the greater number, so that each link has one
+abbrev pub slot_line : Neighbours → ℕ → ℕ → List ℕ
+slot_line network u j = if nat_lt u (neighbour network u j) then link_line u (neighbour network u j) (weight network u j) else []
+
+-- the links of a node that lead to greater numbers
+abbrev pub links_at : Neighbours → ℕ → List ℕ
+links_at network u = flat_map (slot_line network u) (numbers_below (degree network u))
+
+-- all links
+abbrev pub link_lines : Neighbours → List ℕ
+link_lines network = flat_map (links_at network) (numbers_below (length network))
+
+-- the first lines
+unfoldable pub head_text : ℕ → List ℕ
+head_text t = codes "graph run {\n  label=\"round " ++ (decimal t ++ codes "\";\n  node [shape=circle, style=filled];\n")
+
+-- a network with a value at each node, after round t
+abbrev pub graph_text : Neighbours → List (List ℕ) → ℕ → List ℕ → List ℕ
+graph_text network names t values = head_text t ++ (node_lines (key_of values) names 0 values ++ (link_lines network ++ codes "}\n"))
+
+-- the network of a plan with the values of a field after round t
+abbrev pub network_text : PlanView → List (List ℕ) → ℕ → ℕ → List ℕ
+network_text p names t field = graph_text p.network names t (values_after p field t)

@@ -1,0 +1,4 @@
+pub mod Shades
+pub mod Sheets
+pub mod Frames
+pub mod Drawn

@@ -1,0 +1,96 @@
+-- How values are coloured.
+use Rattle.std.specs.Prelude.{◌≡◌, ◌↔◌, ◌≤◌, ℕ, ◌+◌, ◌-◌, ◌*◌, ◌/◌, ◌==◌, ◌||◌, ◌&&◌, max, min, Bool, true, false, List, [], ◌∷◌, codes, if◌then◌else◌, length, nat_le, nat_lt, slice_index, slice_index_or, take}
+use Rattle.std.specs.List.{IsAmong, insert, list_any, prefix_len}
+
+-- the value that says that there is none
+abbrev pub no_value : ℕ
+no_value = 4294967295
+
+-- what the colours of cells follow from
+pub record KeyView : Type 0 where
+  -- the values in the cells, rising, each once and without `no_value`; where there are more than nine, the least nine
+  pub values : List ℕ
+  -- the greatest of them, or 0
+  pub greatest : ℕ
+  -- whether `no_value` is in a cell
+  pub none : Bool
+
+-- the key where there are no cells
+abbrev pub blank_key : KeyView
+blank_key = record { values = []; greatest = 0; none = false }
+
+-- how many of rising values are below this one
+abbrev pub rank : List ℕ → ℕ → ℕ
+rank values v = prefix_len (λ x. nat_lt x v) values
+
+-- the value is one of these
+abbrev pub is_among : List ℕ → ℕ → Bool
+is_among values v = list_any (λ x. x == v) values
+
+-- rising values, and this one at its place among them, once
+abbrev pub with_value : List ℕ → ℕ → List ℕ
+with_value values v = if is_among values v then values else insert values (rank values v) v
+
+-- the key where there is one cell more
+abbrev pub with_cell : KeyView → ℕ → KeyView
+with_cell key v =
+    if v == no_value then record { values = key.values; greatest = key.greatest; none = true }
+    else record { values = take 9 (with_value key.values v); greatest = max key.greatest v; none = key.none }
+
+-- the key where there are these cells more
+abbrev pub key_from : KeyView → List ℕ → KeyView
+key_from key [] = key
+key_from key (v ∷ cells) = key_from (with_cell key v) cells
+
+-- the key of cells
+abbrev pub key_of : List ℕ → KeyView
+key_of cells = key_from blank_key cells
+
+-- there are so few values that each has a colour of its own
+abbrev pub is_few : KeyView → Bool
+is_few key = nat_le (length key.values) 8
+
+-- the least value, or 0
+abbrev pub least_of : KeyView → ℕ
+least_of key = slice_index key.values 0
+
+-- the step of a value, of 16 even ones from the least value to the greatest
+abbrev pub step_of : KeyView → ℕ → ℕ
+step_of key v = min 15 ((v - least_of key) * 16 / (key.greatest - least_of key + 1))
+
+-- The number of a value's colour: 24 for `no_value`; where there is no value but 0 and 1, the value; where there are few values, how many are below this one, 0 to 7;
+-- else 8 and its step, 8 to 23.
+abbrev pub class_of : KeyView → ℕ → ℕ
+class_of key v =
+    if v == no_value then 24
+    else if nat_le key.greatest 1 then v
+    else if is_few key then rank key.values v
+    else 8 + step_of key v
+
+-- how many colours there are
+abbrev pub class_count : ℕ
+class_count = 25
+
+-- The colours of values by their numbers. The first eight can be told apart by those who are colour-blind too (M. Okabe and K. Ito, Color universal design, 2008), but that the first is
+-- nearly white, in place of their reddish purple. The next 16 are even steps of the scale viridis, from dark to bright.
+abbrev pub colours : List (List ℕ)
+colours =
+    codes "#f0f0f0" ∷ codes "#000000" ∷ codes "#e69f00" ∷ codes "#56b4e9" ∷ codes "#009e73" ∷ codes "#f0e442" ∷ codes "#0072b2" ∷ codes "#d55e00"
+    ∷ codes "#440154" ∷ codes "#481a6c" ∷ codes "#472f7d" ∷ codes "#414487" ∷ codes "#39568c" ∷ codes "#31688e" ∷ codes "#2a788e" ∷ codes "#23888e"
+    ∷ codes "#1f988b" ∷ codes "#22a884" ∷ codes "#35b779" ∷ codes "#54c568" ∷ codes "#7ad151" ∷ codes "#a5db36" ∷ codes "#d2e21b" ∷ codes "#fde725" ∷ []
+
+-- the colour of a number; that of `no_value` is grey
+abbrev pub colour_of : ℕ → List ℕ
+colour_of class = slice_index_or colours class (codes "#bbbbbb")
+
+-- black is not read on this colour
+abbrev pub is_dark : ℕ → Bool
+is_dark class = class == 1 || class == 6 || (nat_le 8 class && nat_le class 14)
+
+-- a colour of writing that is read on this colour
+abbrev pub ink_of : ℕ → List ℕ
+ink_of class = if is_dark class then codes "#ffffff" else codes "#000000"
+
+-- In a picture with few values two cells have the same class exactly where they have the same value.
+abbrev pub SameClassSameValue : Type 0
+SameClassSameValue = (cells : List ℕ) (v w : ℕ) → length (key_of cells).values ≤ 8 → IsAmong cells v → IsAmong cells w → (class_of (key_of cells) v ≡ class_of (key_of cells) w) ↔ (v ≡ w)

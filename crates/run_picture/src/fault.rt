@@ -1,0 +1,37 @@
+//! Why there is no picture.
+ghost use Rattle.std.specs.Prelude.{◌≡◌};
+ghost use Rattle.run_picture.specs.declared.fault.PictureFault.TheVariants.{Memory};
+
+use std::alloc::{AllocError, AllocFailed};
+use thiserror::Error;
+
+/// Why there is no picture. Where several hold, the first in this order; `Memory` comes only where no other holds.
+#[derive(Clone, Copy, Debug, PartialEq, Eq, Error)]
+pub enum PictureFault {
+    /// The last round is above 1,000,000,000.
+    #[error("TooManyRounds")]
+    TooManyRounds,
+    /// The first round lies before the plan's start.
+    #[error("RoundsBelowStart")]
+    RoundsBelowStart,
+    /// The program has no field at this place.
+    #[error("NoField")]
+    NoField { place: u32 },
+    /// The rows are to have no cells.
+    #[error("NoWidth")]
+    NoWidth,
+    /// There would be more than 1,000,000 cells.
+    #[error("TooManyCells")]
+    TooManyCells,
+    /// Want of memory.
+    #[error("Memory")]
+    Memory,
+}
+
+impl From<AllocError> for PictureFault {
+    ghost from_gives = { λ _ e. e ≡ Memory };
+
+    fn from(_error: AllocError) -> PictureFault {
+        PictureFault::Memory
+    }
+}

@@ -1,0 +1,124 @@
+//! Which colour stands for which value.
+ghost use Rattle.std.specs.Prelude.{◌≡◌, ◌++◌, ◌≤◌, [], OnOk, codes, length, string_bytes};
+ghost use Rattle.run_picture.specs.Sheets.{legend_lines, legend_text, mark_text, none_text, scale_legend, shades_text, swatch_text, value_lines, value_text, values_legend};
+
+use crate::colour::class_of;
+use crate::key::{Key, NO_VALUE};
+use std::alloc::AllocError;
+
+/// A value in digits, or that there is none.
+pub(crate) fn put_value(out: &mut String, value: u32) -> Result<(), AllocError>
+    ensures text { OnOk result (string_bytes out.new ≡ string_bytes out.old ++ value_text value) }
+{
+    if value == NO_VALUE {
+        return out.push_str("none");
+    }
+    write!(out, "{value}")
+}
+
+/// How many lines of the legend stand for values.
+fn value_lines(key: &Key) -> u32
+    ensures lines { result ≡ value_lines key.now }
+    ensures few { result ≤ 8 }
+{
+    if key.is_few() {
+        return key.values().len() as u32;
+    }
+    2
+}
+
+/// How many lines the legend has.
+pub(crate) fn legend_lines(key: &Key) -> u32
+    ensures lines { result ≡ legend_lines key.now }
+    ensures few { result ≤ 9 }
+{
+    let lines = value_lines(key);
+    if key.has_none() { lines + 1 } else { lines }
+}
+
+/// What a line begins with: a swatch of a class, at a height in pixels.
+#[tactic(auto, unfolding(crate::specs::Sheets::mark_text))]
+fn put_mark(out: &mut String, class: usize, y: u32) -> Result<(), AllocError>
+    requires y { y ≤ 24000200 }
+    ensures text { OnOk result (string_bytes out.new ≡ string_bytes out.old ++ mark_text class y) }
+{
+    let base = y + 10;
+    write!(
+        out,
+        "<path class=\"key c{class}\" d=\"M1 {y}h12v12h-12z\"/><text x=\"20\" y=\"{base}\">"
+    )
+}
+
+/// A line: a swatch of a value's colour, a word, and the value.
+#[tactic(auto, unfolding(crate::specs::Sheets::swatch_text))]
+fn put_swatch(
+    out: &mut String,
+    key: &Key,
+    top: u32,
+    line: u32,
+    word: &str,
+    value: u32,
+) -> Result<(), AllocError>
+    requires top { top ≤ 24000008 }
+    requires line { line ≤ 8 }
+    ensures text { OnOk result (string_bytes out.new ≡ string_bytes out.old ++ swatch_text key.now top line word.now value) }
+{
+    put_mark(out, class_of(key, value), top + 18 * line)?;
+    out.push_str(word)?;
+    put_value(out, value)?;
+    out.push_str("</text>\n")
+}
+
+/// A line for each of few values.
+fn put_values(out: &mut String, key: &Key, top: u32) -> Result<(), AllocError>
+    requires top { top ≤ 24000008 }
+    requires few { length key.now.values ≤ 8 }
+    ensures text { OnOk result (string_bytes out.new ≡ string_bytes out.old ++ values_legend key.now top 0 key.now.values) }
+{
+    for (line, value) in key.values().iter().enumerate() {
+        put_swatch(out, key, top, line as u32, "", *value)?;
+    }
+    Ok(())
+}
+
+/// A line for the least value and one for the greatest.
+fn put_scale(out: &mut String, key: &Key, top: u32) -> Result<(), AllocError>
+    requires top { top ≤ 24000008 }
+    ensures text { OnOk result (string_bytes out.new ≡ string_bytes out.old ++ scale_legend key.now top) }
+{
+    put_swatch(out, key, top, 0, "least ", key.least())?;
+    put_swatch(out, key, top, 1, "greatest ", key.greatest())
+}
+
+/// The lines that stand for values.
+fn put_shades(out: &mut String, key: &Key, top: u32) -> Result<(), AllocError>
+    requires top { top ≤ 24000008 }
+    ensures text { OnOk result (string_bytes out.new ≡ string_bytes out.old ++ shades_text key.now top) }
+{
+    if key.is_few() {
+        put_values(out, key, top)
+    } else {
+        put_scale(out, key, top)
+    }
+}
+
+/// The line that says that there is none, where that is in a cell.
+fn put_none(out: &mut String, key: &Key, top: u32) -> Result<(), AllocError>
+    requires top { top ≤ 24000008 }
+    ensures text { OnOk result (string_bytes out.new ≡ string_bytes out.old ++ none_text key.now top) }
+{
+    if !key.has_none() {
+        return Ok(());
+    }
+    put_swatch(out, key, top, value_lines(key), "", NO_VALUE)
+}
+
+/// The legend of a key.
+#[tactic(auto, unfolding(crate::specs::Sheets::legend_text))]
+pub(crate) fn put_legend(out: &mut String, key: &Key, top: u32) -> Result<(), AllocError>
+    requires top { top ≤ 24000008 }
+    ensures text { OnOk result (string_bytes out.new ≡ string_bytes out.old ++ legend_text key.now top) }
+{
+    put_shades(out, key, top)?;
+    put_none(out, key, top)
+}

@@ -1,0 +1,92 @@
+//! Networks for Graphviz.
+ghost use Rattle.std.specs.Prelude.{◌≡◌, ◌≤◌, ◌++◌, Err, IfOk, IfErr, MatchOption, None, OnOk, length, map, string_bytes};
+ghost use Rattle.run_picture.specs.declared.fault.PictureFault.TheVariants.{Memory};
+ghost use Rattle.run_picture.specs.Drawn.{graph_text, head_text, network_text};
+ghost use Rattle.run_picture.specs.Frames.{refusal_of};
+
+use crate::fault::PictureFault;
+use crate::graph::put_nodes;
+use crate::key::key_of;
+use crate::links::put_network;
+use crate::values::{refusal, values_after};
+use link_net::Network;
+use lockstep::Plan;
+use std::alloc::{AllocError, Global};
+use std::thread::Threads;
+
+/// The first lines.
+#[tactic(auto, unfolding(crate::specs::Drawn::head_text))]
+fn put_head(out: &mut String, round: u32) -> Result<(), AllocError>
+    ensures text { OnOk result (string_bytes out.new ≡ string_bytes out.old ++ head_text round) }
+{
+    write!(
+        out,
+        "graph run {{\n  label=\"round {round}\";\n  node [shape=circle, style=filled];\n"
+    )
+}
+
+/// A network with a value at each node, after a round.
+fn graph_of(
+    alloc: Global,
+    network: &Network,
+    labels: &[String],
+    round: u32,
+    values: &[u32],
+) -> Result<Vec<u8>, AllocError>
+    requires few { length values.now ≤ 65536 }
+    ensures text { IfOk result (λ v. v.items ≡ graph_text network.now (map string_bytes labels.now) round values.now) }
+{
+    let key = key_of(alloc, values)?;
+    let mut out = String::new(alloc);
+    put_head(&mut out, round)?;
+    put_nodes(&mut out, &key, labels, values)?;
+    put_network(&mut out, network)?;
+    out.push_str("}\n")?;
+    Ok(out.into_bytes())
+}
+
+/// The text for Graphviz, where nothing refuses it.
+fn text_of(
+    rt: &(impl Threads + Sync),
+    alloc: Global,
+    plan: &Plan,
+    round: u32,
+    field: u32,
+    labels: &[String],
+) -> Result<Vec<u8>, AllocError>
+    requires fits { refusal_of plan.now round round field ≡ None }
+    ensures text { IfOk result (λ v. v.items ≡ network_text plan.now (map string_bytes labels.now) round field) }
+{
+    // For the proof: how many nodes a plan may have.
+    let _phase = plan.phase();
+    let values = values_after(rt, alloc, plan, round, field)?;
+    graph_of(alloc, plan.network(), labels, round, &values)
+}
+
+/// The network of a plan for Graphviz, with the values of a field after a round: an undirected graph with a line for each
+/// node by rising number, its label the node's name with its value below, coloured as in `time_picture`, and a line for
+/// each link, from the lesser number to the greater, with its weight where that is not 1. A node is called by its label
+/// among these, and past the last label by its number; a value of 4294967295 is shown as `none`.
+///
+/// `TooManyRounds` comes where the round is above 1,000,000,000, else `RoundsBelowStart` where it lies before the plan's
+/// start, and else `NoField` where the program has no field at this place, all before anything is done; `Memory` only
+/// where none of them holds.
+pub fn network_dot(
+    rt: &(impl Threads + Sync),
+    alloc: Global,
+    plan: &Plan,
+    round: u32,
+    field: u32,
+    labels: &[String],
+) -> Result<Vec<u8>, PictureFault>
+    ensures text { IfOk result (λ v. v.items ≡ network_text plan.now (map string_bytes labels.now) round field) }
+    ensures fits { IfOk result (λ _. refusal_of plan.now round round field ≡ None) }
+    ensures refused { IfErr result (λ fault. fault ≡ Memory → refusal_of plan.now round round field ≡ None) }
+    ensures at_once { MatchOption (refusal_of plan.now round round field) (Unit {0}) (λ fault. result ≡ Err fault) }
+{
+    if let Some(fault) = refusal(plan, round, round, field) {
+        return Err(fault);
+    }
+    let text = text_of(rt, alloc, plan, round, field, labels)?;
+    Ok(text)
+}

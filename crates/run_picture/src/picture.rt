@@ -1,0 +1,132 @@
+//! Pictures of rounds.
+ghost use Rattle.std.specs.Prelude.{◌≡◌, Err, IfOk, IfErr, MatchOption, None, length};
+ghost use Rattle.run_picture.specs.declared.fault.PictureFault.TheVariants.{Memory};
+ghost use Rattle.run_picture.specs.Frames.{grid_refusal, time_refusal, values_after, values_in};
+ghost use Rattle.run_picture.specs.Sheets.{picture_text};
+
+use crate::fault::PictureFault;
+use crate::sheet::picture_of;
+use crate::values::{refusal, values_after, values_in};
+use lockstep::Plan;
+use round_watch::{Progress, Span};
+use std::alloc::{AllocError, Global};
+use std::thread::Threads;
+
+/// The most cells of a picture.
+pub const MOST_CELLS: u64 = 1_000_000;
+
+/// Why there is no picture of the rounds of a span, whatever memory there is.
+fn time_refusal(plan: &Plan, span: &Span, field: u32) -> Option<PictureFault>
+    ensures { result ≡ time_refusal plan.now span.now field }
+{
+    if let Some(fault) = refusal(plan, span.first(), span.last(), field) {
+        return Some(fault);
+    }
+    let rounds = span.steps() as u64 + 1;
+    if plan.network().nodes() as u64 * rounds > MOST_CELLS {
+        return Some(PictureFault::TooManyCells);
+    }
+    None
+}
+
+/// Why there is no picture of a round in rows of a width, whatever memory there is.
+fn grid_refusal(plan: &Plan, round: u32, field: u32, width: u32) -> Option<PictureFault>
+    ensures { result ≡ grid_refusal plan.now round field width }
+{
+    if let Some(fault) = refusal(plan, round, round, field) {
+        return Some(fault);
+    }
+    if width == 0 {
+        return Some(PictureFault::NoWidth);
+    }
+    None
+}
+
+/// The picture of the rounds of a span, where nothing refuses it.
+fn time_text<P: Progress>(
+    rt: &(impl Threads + Sync),
+    alloc: Global,
+    plan: &Plan,
+    span: &Span,
+    field: u32,
+    progress: &mut P,
+) -> Result<Vec<u8>, AllocError>
+    requires fits { time_refusal plan.now span.now field ≡ None }
+    ensures text { IfOk result (λ v. v.items ≡ picture_text (length plan.now.network) (values_in plan.now span.now field)) }
+{
+    let values = values_in(rt, alloc, plan, span, field, progress)?;
+    picture_of(alloc, plan.network().nodes(), &values)
+}
+
+/// The picture of a round, where nothing refuses it.
+fn grid_text(
+    rt: &(impl Threads + Sync),
+    alloc: Global,
+    plan: &Plan,
+    round: u32,
+    field: u32,
+    width: u32,
+) -> Result<Vec<u8>, AllocError>
+    requires fits { grid_refusal plan.now round field width ≡ None }
+    ensures text { IfOk result (λ v. v.items ≡ picture_text width (values_after plan.now field round)) }
+{
+    // For the proof: how many nodes a plan may have.
+    let _phase = plan.phase();
+    let values = values_after(rt, alloc, plan, round, field)?;
+    picture_of(alloc, width, &values)
+}
+
+/// The time picture of a field as SVG: the rounds of a span of a plan down the page, one below the other, the nodes across
+/// by rising number, and each value a cell with the colour of its value. Below the cells stands which colour is which
+/// value: each of up to eight values has a colour of its own, more are on a scale of 16 steps, and 4294967295 is grey.
+/// In one pass over the rounds: none is computed twice. Each round is shared among as many threads as there are processors
+/// where it has enough to compute for them.
+///
+/// `TooManyRounds` comes where the last round is above 1,000,000,000, else `RoundsBelowStart` where the first lies before
+/// the plan's start, else `NoField` where the program has no field at this place, and else `TooManyCells` where nodes times
+/// rounds are more than 1,000,000, all before anything is done; `Memory` only where none of them holds.
+pub fn time_picture<P: Progress>(
+    rt: &(impl Threads + Sync),
+    alloc: Global,
+    plan: &Plan,
+    span: &Span,
+    field: u32,
+    progress: &mut P,
+) -> Result<Vec<u8>, PictureFault>
+    ensures text { IfOk result (λ v. v.items ≡ picture_text (length plan.now.network) (values_in plan.now span.now field)) }
+    ensures fits { IfOk result (λ _. time_refusal plan.now span.now field ≡ None) }
+    ensures refused { IfErr result (λ fault. fault ≡ Memory → time_refusal plan.now span.now field ≡ None) }
+    ensures at_once { MatchOption (time_refusal plan.now span.now field) (Unit {0}) (λ fault. result ≡ Err fault) }
+{
+    if let Some(fault) = time_refusal(plan, span, field) {
+        return Err(fault);
+    }
+    let text = time_text(rt, alloc, plan, span, field, progress)?;
+    Ok(text)
+}
+
+/// The picture of a field after a round as SVG: the nodes by rising number in rows of so many cells, the last of which may
+/// be shorter, coloured as in `time_picture`.
+///
+/// `TooManyRounds` comes where the round is above 1,000,000,000, else `RoundsBelowStart` where it lies before the plan's
+/// start, else `NoField` where the program has no field at this place, and else `NoWidth` where the rows are to have no
+/// cells, all before anything is done; `Memory` only where none of them holds.
+pub fn grid_picture(
+    rt: &(impl Threads + Sync),
+    alloc: Global,
+    plan: &Plan,
+    round: u32,
+    field: u32,
+    width: u32,
+) -> Result<Vec<u8>, PictureFault>
+    ensures text { IfOk result (λ v. v.items ≡ picture_text width (values_after plan.now field round)) }
+    ensures fits { IfOk result (λ _. grid_refusal plan.now round field width ≡ None) }
+    ensures refused { IfErr result (λ fault. fault ≡ Memory → grid_refusal plan.now round field width ≡ None) }
+    ensures at_once { MatchOption (grid_refusal plan.now round field width) (Unit {0}) (λ fault. result ≡ Err fault) }
+{
+    if let Some(fault) = grid_refusal(plan, round, field, width) {
+        return Err(fault);
+    }
+    let text = grid_text(rt, alloc, plan, round, field, width)?;
+    Ok(text)
+}

@@ -1,0 +1,163 @@
+//! Cells in rows, as SVG.
+ghost use Rattle.std.specs.Prelude.{◌≡◌, ◌++◌, ◌≤◌, OnOk, IfOk, length, string_bytes};
+ghost use Rattle.std.specs.List.{flat_map};
+ghost use Rattle.link_net.specs.Neighbours.{numbers_below};
+ghost use Rattle.run_picture.specs.Sheets.{cell_text, cells_text, class_style, columns_of, legend_top, opening_text, picture_text, rows_of, rows_text, sheet_height, sheet_text, sheet_width, side_of, style_text};
+
+use crate::colour::{CLASS_COUNT, class_of, colour_of};
+use crate::key::{Key, key_of};
+use crate::legend::{legend_lines, put_legend};
+use std::alloc::{AllocError, Global};
+
+/// How many columns cells fill that stand in rows of a width.
+fn columns_of(width: u32, count: u32) -> u32
+    ensures columns { result ≡ columns_of width count }
+    ensures few { result ≤ count }
+{
+    width.min(count)
+}
+
+/// How many rows they fill.
+fn rows_of(width: u32, count: u32) -> u32
+    requires width { 1 ≤ width }
+    ensures rows { result ≡ rows_of width count }
+    ensures few { result ≤ count }
+{
+    count.div_ceil(width)
+}
+
+/// The side of a cell in pixels.
+fn side_of(width: u32, count: u32) -> u32
+    requires width { 1 ≤ width }
+    ensures side { result ≡ side_of width count }
+    ensures small { result ≤ 24 }
+{
+    let longer = columns_of(width, count).max(rows_of(width, count)).max(1);
+    (960 / longer).min(24).max(1)
+}
+
+/// Where the legend begins.
+fn legend_top(width: u32, count: u32) -> u32
+    requires width { 1 ≤ width }
+    requires count { count ≤ 1000000 }
+    ensures top { result ≡ legend_top width count }
+    ensures small { result ≤ 24000008 }
+{
+    side_of(width, count) * rows_of(width, count) + 8
+}
+
+/// The first line, for a size in pixels.
+#[tactic(auto, unfolding(crate::specs::Sheets::opening_text))]
+fn put_opening(out: &mut String, width: u32, height: u32) -> Result<(), AllocError>
+    ensures text { OnOk result (string_bytes out.new ≡ string_bytes out.old ++ opening_text width height) }
+{
+    write!(
+        out,
+        "<svg xmlns=\"http://www.w3.org/2000/svg\" viewBox=\"0 0 {width} {height}\" width=\"{width}\" height=\"{height}\" shape-rendering=\"crispEdges\">\n"
+    )
+}
+
+/// The size of the whole in pixels across.
+fn sheet_width(width: u32, count: u32) -> u32
+    requires width { 1 ≤ width }
+    requires count { count ≤ 1000000 }
+    ensures { result ≡ sheet_width width count }
+{
+    (side_of(width, count) * columns_of(width, count)).max(120)
+}
+
+/// The size of the whole in pixels from the top to the bottom.
+fn sheet_height(key: &Key, width: u32, count: u32) -> u32
+    requires width { 1 ≤ width }
+    requires count { count ≤ 1000000 }
+    ensures { result ≡ sheet_height key.now width count }
+{
+    legend_top(width, count) + 18 * legend_lines(key)
+}
+
+/// The style of a class.
+#[tactic(auto, unfolding(crate::specs::Sheets::class_style))]
+fn put_class_style(out: &mut String, class: usize) -> Result<(), AllocError>
+    ensures text { OnOk result (string_bytes out.new ≡ string_bytes out.old ++ class_style class) }
+{
+    let colour = colour_of(class);
+    write!(out, ".c{class}{{fill:{colour}}}")
+}
+
+/// The styles of so many classes.
+fn put_styles(out: &mut String, count: usize) -> Result<(), AllocError>
+    ensures text { OnOk result (string_bytes out.new ≡ string_bytes out.old ++ flat_map class_style (numbers_below count)) }
+{
+    for class in 0..count {
+        put_class_style(out, class)?;
+    }
+    Ok(())
+}
+
+/// The styles, and a white ground.
+#[tactic(auto, unfolding(crate::specs::Sheets::style_text))]
+fn put_style(out: &mut String) -> Result<(), AllocError>
+    ensures text { OnOk result (string_bytes out.new ≡ string_bytes out.old ++ style_text) }
+{
+    out.push_str("<style>text{font:12px sans-serif}.key{stroke:#888888}")?;
+    put_styles(out, CLASS_COUNT)?;
+    out.push_str("</style>\n<rect width=\"100%\" height=\"100%\" fill=\"#ffffff\"/>\n")
+}
+
+/// A cell.
+#[tactic(auto, unfolding(crate::specs::Sheets::cell_text))]
+fn put_cell(out: &mut String, class: usize, column: u32, row: u32) -> Result<(), AllocError>
+    ensures text { OnOk result (string_bytes out.new ≡ string_bytes out.old ++ cell_text class column row) }
+{
+    write!(
+        out,
+        "<path class=\"c{class}\" d=\"M{column} {row}h1v1h-1z\"/>\n"
+    )
+}
+
+/// Cells in rows of a width.
+fn put_rows(out: &mut String, key: &Key, width: u32, cells: &[u32]) -> Result<(), AllocError>
+    requires width { 1 ≤ width }
+    requires count { length cells.now ≤ 1000000 }
+    ensures text { OnOk result (string_bytes out.new ≡ string_bytes out.old ++ rows_text key.now width 0 cells.now) }
+{
+    for (place, value) in cells.iter().enumerate() {
+        let place = place as u32;
+        put_cell(out, class_of(key, *value), place % width, place / width)?;
+    }
+    Ok(())
+}
+
+/// The same, as large as they are to be.
+#[tactic(auto, unfolding(crate::specs::Sheets::cells_text))]
+fn put_cells(out: &mut String, key: &Key, width: u32, cells: &[u32]) -> Result<(), AllocError>
+    requires width { 1 ≤ width }
+    requires count { length cells.now ≤ 1000000 }
+    ensures text { OnOk result (string_bytes out.new ≡ string_bytes out.old ++ cells_text key.now width cells.now) }
+{
+    let side = side_of(width, cells.len() as u32);
+    write!(out, "<g transform=\"scale({side})\">\n")?;
+    put_rows(out, key, width, cells)?;
+    out.push_str("</g>\n")
+}
+
+/// The picture of values in rows of a width.
+pub(crate) fn picture_of(alloc: Global, width: u32, values: &[u32]) -> Result<Vec<u8>, AllocError>
+    requires width { 1 ≤ width }
+    requires count { length values.now ≤ 1000000 }
+    ensures text { IfOk result (λ v. v.items ≡ picture_text width values.now) }
+{
+    let key = key_of(alloc, values)?;
+    let count = values.len() as u32;
+    let mut out = String::new(alloc);
+    put_opening(
+        &mut out,
+        sheet_width(width, count),
+        sheet_height(&key, width, count),
+    )?;
+    put_style(&mut out)?;
+    put_cells(&mut out, &key, width, values)?;
+    put_legend(&mut out, &key, legend_top(width, count))?;
+    out.push_str("</svg>\n")?;
+    Ok(out.into_bytes())
+}

@@ -1,0 +1,123 @@
+//! The values of a field, round by round.
+ghost use Rattle.std.specs.Prelude.{◌≡◌, ◌≤◌, ◌<◌, ◌++◌, ◌*◌, None, IfOk, OnOk, length, map, slice_index};
+ghost use Rattle.lockstep.specs.Configs.{most_rounds};
+ghost use Rattle.round_watch.specs.Spans.{count_of};
+ghost use Rattle.run_picture.specs.Frames.{refusal_of, values_after, values_in};
+
+use crate::fault::PictureFault;
+use lockstep::{Course, MOST_ROUNDS, Plan, RoundWalk};
+use round_watch::{Progress, Span};
+use rule_check::State;
+use std::alloc::{AllocError, Global};
+use std::thread::Threads;
+
+/// Why rounds from a first one to a last one have no values of a field.
+pub(crate) fn refusal(plan: &Plan, first: u32, last: u32, field: u32) -> Option<PictureFault>
+    ensures refusal { result ≡ refusal_of plan.now first last field }
+{
+    if last > MOST_ROUNDS {
+        return Some(PictureFault::TooManyRounds);
+    }
+    if first < plan.start() {
+        return Some(PictureFault::RoundsBelowStart);
+    }
+    if field >= plan.program().field_count() {
+        return Some(PictureFault::NoField { place: field });
+    }
+    None
+}
+
+/// A word of a state; 0 past the last.
+fn word(state: &State, place: u32) -> u32
+    ensures { result ≡ slice_index state.now.words place }
+{
+    state.words.get(place as usize).copied().unwrap_or(0)
+}
+
+/// Puts the values of a field in states behind those that are there.
+fn put_values(values: &mut Vec<u32>, states: &[State], field: u32) -> Result<(), AllocError>
+    ensures values { OnOk result (values.new.items ≡ values.old.items ++ map (λ state. slice_index state.words field) states.now) }
+{
+    for state in states {
+        values.push(word(state, field))?;
+    }
+    Ok(())
+}
+
+/// Goes on to a round, and puts the values of a field there behind those that are there.
+fn put_round(
+    rt: &(impl Threads + Sync),
+    alloc: Global,
+    values: &mut Vec<u32>,
+    walk: &mut RoundWalk<'_>,
+    round: u32,
+    field: u32,
+) -> Result<(), AllocError>
+    requires late { walk.old.round ≤ round }
+    requires few { round ≤ most_rounds }
+    ensures values { OnOk result (values.new.items ≡ values.old.items ++ values_after walk.old.plan field round) }
+    ensures walk { OnOk result (walk.new ≡ record { plan = walk.old.plan; round = round }) }
+{
+    walk.go_to_shared(rt, round);
+    let config = walk.config(alloc)?;
+    put_values(values, config.states(), field)
+}
+
+/// Puts the values of a field in the rounds of a span, in one pass.
+fn put_rounds<P: Progress>(
+    rt: &(impl Threads + Sync),
+    alloc: Global,
+    values: &mut Vec<u32>,
+    walk: &mut RoundWalk<'_>,
+    span: &Span,
+    field: u32,
+    progress: &mut P,
+) -> Result<(), AllocError>
+    requires late { walk.old.round ≤ span.now.first }
+    requires few { span.now.last ≤ most_rounds }
+    ensures values { OnOk result (values.new.items ≡ values.old.items ++ values_in walk.old.plan span.now field) }
+{
+    for place in 0..span.steps() + 1 {
+        let round = span.round_at(place);
+        put_round(rt, alloc, values, walk, round, field)?;
+        progress.reached(round);
+    }
+    Ok(())
+}
+
+/// The values of a field in the rounds of a span, round by round.
+pub(crate) fn values_in<P: Progress>(
+    rt: &(impl Threads + Sync),
+    alloc: Global,
+    plan: &Plan,
+    span: &Span,
+    field: u32,
+    progress: &mut P,
+) -> Result<Vec<u32>, AllocError>
+    requires fits { refusal_of plan.now span.now.first span.now.last field ≡ None }
+    ensures values { IfOk result (λ v. v.items ≡ values_in plan.now span.now field) }
+{
+    let course = Course::new(alloc, plan)?;
+    let mut walk = course.shared_walk(rt, alloc)?;
+    let mut values = Vec::new(alloc);
+    put_rounds(rt, alloc, &mut values, &mut walk, span, field, progress)?;
+    Ok(values)
+}
+
+/// The values of a field after a round.
+pub(crate) fn values_after(
+    rt: &(impl Threads + Sync),
+    alloc: Global,
+    plan: &Plan,
+    round: u32,
+    field: u32,
+) -> Result<Vec<u32>, AllocError>
+    requires fits { refusal_of plan.now round round field ≡ None }
+    ensures values { IfOk result (λ v. v.items ≡ values_after plan.now field round) }
+{
+    let course = Course::new(alloc, plan)?;
+    let mut walk = course.shared_walk(rt, alloc)?;
+    let mut values = Vec::new(alloc);
+    put_round(rt, alloc, &mut values, &mut walk, round, field)?;
+    Ok(values)
+}

@@ -1,0 +1,88 @@
+"""What the pages and docstrings show runs, and gives what they say."""
+
+import contextlib
+import doctest
+import importlib
+import io
+import re
+
+from support import PYTHON, ROOT, run_python, skip, wanted
+
+import unison
+
+MODULES = ["", ".faults", ".graphs", ".jobs", ".network", ".program", ".results", ".schedule"]
+
+
+def test_examples_in_docstrings():
+    seen = 0
+    for name in MODULES:
+        told = io.StringIO()
+        with contextlib.redirect_stdout(told):
+            failed, tried = doctest.testmod(importlib.import_module(f"unison{name}"))
+        assert failed == 0, told.getvalue()
+        seen += tried
+    assert seen > 50
+
+
+def test_all_that_is_public_has_words_and_types():
+    for name in unison.__all__:
+        thing = getattr(unison, name)
+        if name != "NONE":
+            assert thing.__doc__, name
+        for part, value in vars(thing).items() if isinstance(thing, type) else ():
+            if not part.startswith("_") and (callable(value) or isinstance(value, (property, classmethod))):
+                assert value.__doc__, f"{name}.{part}"
+                call = value.fget if isinstance(value, property) else getattr(value, "__func__", value)
+                assert "return" in getattr(call, "__annotations__", {"return": None}), f"{name}.{part}"
+    assert (PYTHON / "unison" / "py.typed").is_file()
+
+
+def shown(page):
+    """The pieces of Python that a page shows, each with what it says that they print."""
+    text = page.read_text()
+    return re.findall(r"```python\n(.*?)```(?:\n+```text\n(.*?)```)?", text, re.DOTALL)
+
+
+def run_piece(piece, names):
+    told = io.StringIO()
+    with contextlib.redirect_stdout(told):
+        exec(compile(piece, "page", "exec"), names)
+    return told.getvalue()
+
+
+def test_the_page_of_the_package():
+    """python/README.md: its pieces run one after the other."""
+    names = {}
+    pieces = shown(PYTHON / "README.md")
+    assert len(pieces) > 5
+    for piece, printed in pieces:
+        for module in re.findall(r"import (networkx|pandas|numpy|matplotlib)", piece):
+            wanted(module)
+        found = run_piece(piece, names)
+        assert printed == "" or found == printed, f"{piece}\nprints\n{found}"
+
+
+def test_the_five_lines_of_the_first_page():
+    page = (ROOT / "README.md").read_text()
+    found = re.search(r"```python\n(.*?)```", page, re.DOTALL)
+    if found is None:
+        skip("README.md shows no Python")
+    printed = run_piece(found[1], {})
+    says = re.findall(r"#-> (.*)", found[1])
+    assert says and printed.splitlines() == says, printed
+
+
+def test_the_version_stands_once():
+    assert f'version = "{unison.__version__}"' in (PYTHON / "pyproject.toml").read_text()
+
+
+def test_the_examples_of_the_package():
+    import tempfile
+
+    wanted("networkx")
+    told = run_python(f"import runpy, sys; sys.argv = ['threads.py', '--seconds', '0.2']; runpy.run_path({str(PYTHON / 'examples' / 'threads.py')!r}, run_name='__main__')")
+    assert re.search(r"4 threads: .* times as much", told), told
+    with tempfile.TemporaryDirectory() as folder:
+        path = str(PYTHON / "examples" / "draw_run.py")
+        told = run_python(f"import runpy, sys; sys.argv = ['draw_run.py', {folder!r}]; runpy.run_path({path!r}, run_name='__main__')")
+        assert "karate" in told and "rule 110" in told, told

@@ -1,0 +1,45 @@
+"""Synchronous programs on networks, run by the proved library of Unison.
+
+    import unison
+    program = unison.Program("field dist = 4294967295; next dist = (dist min least (n.dist + 1));")
+    network = unison.Network(["ann", "bob", "cid"], [("ann", "bob"), ("bob", "cid")], set={"dist": {"ann": 0}})
+    print(unison.lockstep(program, network, rounds=2).by_name("dist"))
+
+Values are whole numbers from 0 to 4294967295, which is `unison.NONE`. Rounds are counted from round 0, at which the states are the
+opening ones. Calls give the interpreter's lock back: several threads may call at once.
+"""
+
+from . import schedule
+from ._library import LibraryMissing
+from .faults import NetworkError, PlanError, ProgramError, ReportError, RunError, ScheduleError, UnisonError
+from .jobs import NONE, lockstep, replay, settle, watch, why
+from .network import Network
+from .program import Program
+from .results import Replayed, Rounds, Settling, States, Table
+
+__version__ = "0.1.0"
+
+__all__ = [
+    "NONE",
+    "LibraryMissing",
+    "Network",
+    "NetworkError",
+    "PlanError",
+    "Program",
+    "ProgramError",
+    "Replayed",
+    "ReportError",
+    "Rounds",
+    "RunError",
+    "ScheduleError",
+    "Settling",
+    "States",
+    "Table",
+    "UnisonError",
+    "lockstep",
+    "replay",
+    "schedule",
+    "settle",
+    "watch",
+    "why",
+]

@@ -1,0 +1,186 @@
+"""The library's calls, from bytes to Python's values: room is made, and what is refused is raised."""
+
+from __future__ import annotations
+
+import ctypes
+import operator
+from array import array
+from typing import Any, Callable, List, NamedTuple, Sequence, Tuple
+
+from . import _library, faults
+
+CHECK, LOCKSTEP, REPLAY = 1, 2, 3
+MOST = 4294967295
+assert array("I").itemsize == 4, "unison needs a machine whose C `unsigned int` has four bytes"
+
+
+class Texts(NamedTuple):
+    """What a call reads. An empty report is none."""
+
+    program: bytes
+    network: bytes = b""
+    report: bytes = b""
+    schedule: bytes = b""
+
+    def plan(self) -> Tuple[Any, ...]:
+        """The arguments for program, network and report."""
+        return (self.program, len(self.program), self.network, len(self.network), self.report, len(self.report))
+
+
+class Table(NamedTuple):
+    """Words by nodes and fields: those of a round, or of several, one behind the other."""
+
+    words: "array[int]"
+    nodes: int
+    fields: int
+
+
+def number(value: Any, what: str) -> int:
+    """A whole number for the library, which refuses what is too large by itself."""
+    try:
+        whole = operator.index(value)
+    except TypeError:
+        raise TypeError(f"{what} is no whole number: {value!r}") from None
+    if whole < 0:
+        raise ValueError(f"{what} is negative: {whole}")
+    return min(whole, MOST)
+
+
+def room_for(count: int) -> "array[int]":
+    """Room for so many words; for none there is one, since no pointer may be null."""
+    return array("I", bytes(4 * max(count, 1)))
+
+
+def address(words: "array[int]") -> int:
+    return words.buffer_info()[0]
+
+
+def cut(words: "array[int]", count: int) -> "array[int]":
+    """The first so many words."""
+    del words[count:]
+    return words
+
+
+def refuse(answer: int, job: int, texts: Texts, asked: int) -> None:
+    """Raises the fault that an answer tells, with what the library says of it."""
+    if answer == 0:
+        return
+    diagnosis = "" if answer == faults.MEMORY else diagnosis_of(job, texts, asked)
+    raise faults.fault_of(answer, diagnosis)
+
+
+def diagnosis_of(job: int, texts: Texts, asked: int) -> str:
+    """What `why` tells, or nothing where it cannot tell anything."""
+    try:
+        return why(job, texts, asked)
+    except (MemoryError, faults.UnisonError):
+        return ""
+
+
+def text_of(call: Callable[[Any, int, Any], int], room: int) -> Tuple[int, bytes]:
+    """The answer of a call that writes a text, and the text. It is made again where the text needs more room."""
+    length = ctypes.c_size_t(0)
+    while True:
+        text = ctypes.create_string_buffer(max(room, 1))
+        answer = call(text, room, ctypes.byref(length))
+        if answer != faults.ROOM:
+            return answer, text.raw[: length.value] if answer == 0 else b""
+        room = max(length.value, 2 * room)
+
+
+def table_of(call: Callable[[Any, int, Any, Any], int], rounds: int, room: int) -> Tuple[int, Table]:
+    """The answer of a call that writes words of so many rounds, and the words. It is made again where they need more room."""
+    nodes, fields = ctypes.c_uint32(0), ctypes.c_uint32(0)
+    while True:
+        words = room_for(room)
+        answer = call(address(words), room, ctypes.byref(nodes), ctypes.byref(fields))
+        count = rounds * nodes.value * fields.value
+        if answer != faults.ROOM:
+            return answer, Table(cut(words, count if answer == 0 else 0), nodes.value, fields.value)
+        room = max(count, room + 1)
+
+
+def check(program: bytes) -> bytes:
+    """The canonical spelling of a program."""
+    call = _library.load().unison_check
+    answer, text = text_of(lambda *room: call(program, len(program), *room), 2 * len(program) + 64)
+    refuse(answer, CHECK, Texts(program), 0)
+    return text
+
+
+def sizes(texts: Texts) -> Tuple[int, int]:
+    """How many nodes and fields a program on a network has; no round is computed."""
+    nodes, fields, none = ctypes.c_uint32(0), ctypes.c_uint32(0), room_for(0)
+    answer = _library.load().unison_lockstep(*texts.plan(), 0, address(none), 0, ctypes.byref(nodes), ctypes.byref(fields))
+    if answer != faults.ROOM:
+        refuse(answer, LOCKSTEP, texts, 0)
+    return nodes.value, fields.value
+
+
+def lockstep(texts: Texts, asked: int, room: int) -> Table:
+    """The words of a round; `room` is how many are expected."""
+    call = _library.load().unison_lockstep
+    answer, table = table_of(lambda *rest: call(*texts.plan(), asked, *rest), 1, room)
+    refuse(answer, LOCKSTEP, texts, asked)
+    return table
+
+
+def watch(texts: Texts, rounds: Sequence[int], room: int) -> Table:
+    """The words of some rounds, one round behind the other."""
+    listed = array("I", rounds) if rounds else room_for(0)
+    call = _library.load().unison_watch
+    answer, table = table_of(lambda *rest: call(*texts.plan(), address(listed), len(rounds), *rest), len(rounds), room)
+    refuse(answer, LOCKSTEP, texts, at_fault(answer, rounds))
+    return table
+
+
+def at_fault(answer: int, rounds: Sequence[int]) -> int:
+    """The round of a list at which `why` has to look."""
+    part, name = faults.FAULTS.get(answer, ("", ""))
+    return max(rounds, default=0) if (part, name) == ("run", "TooManyRounds") else min(rounds, default=0)
+
+
+def settle(texts: Texts, limit: int) -> List[int]:
+    """What becomes of the rounds: the manner, the round and the period."""
+    found = [ctypes.c_uint32(0) for _ in range(3)]
+    answer = _library.load().unison_settle(*texts.plan(), limit, *map(ctypes.byref, found))
+    refuse(answer, LOCKSTEP, texts, limit)
+    return [part.value for part in found]
+
+
+class Replay(NamedTuple):
+    """What a replay gives."""
+
+    report: bytes
+    counts: "array[int]"
+    table: Table
+
+
+def replay(texts: Texts, stop: int, rooms: Tuple[int, int, int]) -> Replay:
+    """The replay report, the counts and the words after a schedule; the rooms are those expected for the three."""
+    length, nodes, fields = ctypes.c_size_t(0), ctypes.c_uint32(0), ctypes.c_uint32(0)
+    call = _library.load().unison_replay
+    while True:
+        report, counts, words = ctypes.create_string_buffer(max(rooms[0], 1)), room_for(rooms[1]), room_for(rooms[2])
+        answer = call(
+            *texts.plan(), texts.schedule, len(texts.schedule), stop,
+            report, rooms[0], ctypes.byref(length), address(counts), rooms[1],
+            address(words), rooms[2], ctypes.byref(nodes), ctypes.byref(fields),
+        )  # fmt: skip
+        if answer != faults.ROOM:
+            break
+        needed = (length.value, nodes.value, nodes.value * fields.value)
+        rooms = needed if needed != rooms else (2 * rooms[0], 2 * rooms[1], 2 * rooms[2])
+    refuse(answer, REPLAY, texts, stop)
+    table = Table(cut(words, nodes.value * fields.value), nodes.value, fields.value)
+    return Replay(report.raw[: length.value], cut(counts, nodes.value), table)
+
+
+def why(job: int, texts: Texts, asked: int) -> str:
+    """Why a job is refused, in words."""
+    call = _library.load().unison_why
+    given = (*texts.plan(), texts.schedule, len(texts.schedule), asked)
+    answer, text = text_of(lambda *room: call(job, *given, *room), 4096)
+    if answer != 0:
+        raise faults.fault_of(answer)
+    return text.decode("utf-8", "replace")

@@ -1,0 +1,154 @@
+"""Why a call was refused: the numbers of the library's faults, and the exceptions that they are raised as."""
+
+from __future__ import annotations
+
+import re
+from typing import Dict, Optional, Tuple, Type
+
+MEMORY = 1
+ROOM = 2
+
+#: For each number that the library answers (library/unison.h) the part and the name of the fault, as in docs/formats.md.
+FAULTS: Dict[int, Tuple[str, str]] = {
+    3: ("library", "Never"),
+    4: ("run", "NotRising"),
+    5: ("library", "NoJob"),
+    16: ("program", "TooLong"),
+    17: ("program", "Lex"),
+    18: ("program", "Syntax"),
+    32: ("program", "TooManyFields"),
+    33: ("program", "FieldTwice"),
+    34: ("program", "NextTwice"),
+    35: ("program", "UnknownName"),
+    36: ("program", "NeighbourOutside"),
+    37: ("program", "NestedAggregate"),
+    38: ("program", "TooManyAggregates"),
+    48: ("network", "NotToml"),
+    49: ("network", "UnknownKey"),
+    50: ("network", "BadShape"),
+    51: ("network", "NodeCount"),
+    52: ("network", "BadLink"),
+    53: ("network", "SelfLink"),
+    54: ("network", "LinkTwice"),
+    55: ("network", "TooManyLinks"),
+    56: ("network", "TooManyNeighbours"),
+    57: ("network", "BadPhase"),
+    58: ("network", "BadWeight"),
+    64: ("plan", "UnknownField"),
+    65: ("plan", "BadNode"),
+    66: ("plan", "BadValue"),
+    67: ("plan", "SetTwice"),
+    80: ("run", "TooManyRounds"),
+    81: ("run", "RoundsBelowStart"),
+    96: ("schedule", "BadLine"),
+    97: ("schedule", "TooManySteps"),
+    98: ("run", "StopTooLarge"),
+    99: ("run", "StopBelowStart"),
+    112: ("report", "BadLine"),
+    113: ("report", "TooManyRounds"),
+    128: ("program", "ReadsRound"),
+    129: ("run", "LimitTooLarge"),
+    130: ("run", "LimitBelowStart"),
+}
+
+#: What is told where the library's `unison_why` has no words: it looks at checks, rounds and replays alone.
+MEANINGS = {
+    4: "a round of the list is not above the one before it",
+    80: "the round is above 1000000000",
+    81: "the round lies before that of the report to go on from",
+    98: "the stop is above 1000000000",
+    99: "the stop lies before the round of the report to go on from",
+    128: "the program reads the number of the round, so that equal states need not lead to equal states",
+    129: "the limit is above 1000000000",
+    130: "the limit lies before the round of the report to go on from",
+}
+
+PLACE = re.compile(r"[^:\n]*:([0-9]+):([0-9]+): ")
+
+
+class UnisonError(ValueError):
+    """A text, or a number, that the library refuses. Its subclasses say which part is at fault.
+
+    >>> import unison
+    >>> try:
+    ...     unison.Program("field s = 0; next s = (s + 1;")
+    ... except unison.UnisonError as error:
+    ...     print(error.part, error.name, error.number, error.place)
+    program Syntax 18 (1, 29)
+    """
+
+    #: The part at fault: `program`, `network`, `plan`, `report`, `schedule` or `run`.
+    part: str
+    #: The fault's name, as in docs/formats.md: `Syntax`, `BadLink`, ..
+    name: str
+    #: The fault's number, as in library/unison.h.
+    number: int
+    #: What is wrong, where, and what to do: some lines of text; empty where there is nothing to be told.
+    diagnosis: str
+    #: Line and column of the text at fault, both from 1; None where the fault has no place in a text.
+    place: Optional[Tuple[int, int]]
+
+    def __init__(self, number: int, diagnosis: str = "") -> None:
+        self.number = number
+        self.part, self.name = FAULTS.get(number, ("library", f"Fault{number}"))
+        self.diagnosis = diagnosis
+        found = PLACE.match(diagnosis)
+        self.place = (int(found[1]), int(found[2])) if found else None
+        super().__init__(number, diagnosis)
+
+    def __str__(self) -> str:
+        if self.diagnosis:
+            return self.diagnosis.rstrip("\n")
+        meaning = MEANINGS.get(self.number)
+        return f"{self.part} {self.name}" + (f": {meaning}" if meaning else "")
+
+
+class Missing(KeyError):
+    """There is no node, field or round of this name. The text is shown as it is, where KeyError shows it in quotes."""
+
+    def __str__(self) -> str:
+        return str(self.args[0])
+
+
+class ProgramError(UnisonError):
+    """A program's text is refused."""
+
+
+class NetworkError(UnisonError):
+    """A network is refused."""
+
+
+class PlanError(UnisonError):
+    """The opening values of a network are refused, beside the program that they are for."""
+
+
+class ReportError(UnisonError):
+    """A report to go on from is refused."""
+
+
+class ScheduleError(UnisonError):
+    """A schedule is refused."""
+
+
+class RunError(UnisonError):
+    """A round, a stop or a limit is refused."""
+
+
+KINDS: Dict[str, Type[UnisonError]] = {
+    "program": ProgramError,
+    "network": NetworkError,
+    "plan": PlanError,
+    "report": ReportError,
+    "schedule": ScheduleError,
+    "run": RunError,
+}
+
+
+def fault_of(number: int, diagnosis: str = "") -> Exception:
+    """The exception for an answer of the library. A diagnosis that tells another fault is left out."""
+    if number == MEMORY:
+        return MemoryError("unison: want of memory")
+    part, name = FAULTS.get(number, ("library", ""))
+    first, _, _ = diagnosis.partition("\n")
+    told = diagnosis if re.search(rf"(^|: ){part} {name}\b", first) else ""
+    return KINDS.get(part, UnisonError)(number, told)

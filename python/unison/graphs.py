@@ -1,0 +1,109 @@
+"""Graphs of NetworkX, to and fro. NetworkX is not needed to take a graph in, and is imported to give one back."""
+
+from __future__ import annotations
+
+from fractions import Fraction
+from typing import Any, Dict, FrozenSet, List, Mapping, Optional, Tuple, Type
+
+from .network import Network, Openings
+from .results import Table
+
+KEPT = {"least": min, "most": max, "first": lambda first, _: first}
+
+
+def weight_of(data: Mapping[str, Any], weight: Optional[str], ends: str, scale: Any) -> int:
+    """The weight of an edge, which is 1 where it has none: a whole number, or with `scale` the one that is nearest, half up."""
+    value = data.get(weight, 1) if weight is not None else 1
+    try:
+        number = Fraction(value) * Fraction(1 if scale is None else scale)
+    except (TypeError, ValueError, OverflowError):
+        raise ValueError(f"the weight of the edge {ends} is no number: {value!r}") from None
+    if scale is not None:
+        return int((number + Fraction(1, 2)) // 1)
+    if number.denominator != 1:
+        raise ValueError(f"the weight of the edge {ends} is no whole number: {value!r}; with `scale` weights are multiplied and rounded")
+    return int(number)
+
+
+def merged(edges: List[Tuple[Any, Any, int]], merge_doubles: Optional[str]) -> List[Tuple[Any, Any, int]]:
+    """The edges, where of those between the same two nodes the first one stays, with the weight that is asked for."""
+    if merge_doubles not in (None, *KEPT):
+        raise ValueError(f"merge_doubles is 'least', 'most' or 'first', and not {merge_doubles!r}")
+    kept: Dict[FrozenSet[Any], Tuple[Any, Any, int]] = {}
+    for one, other, weight in edges:
+        ends = frozenset((one, other))
+        if ends not in kept:
+            kept[ends] = (one, other, weight)
+        elif merge_doubles is None:
+            raise ValueError(
+                f"two edges join {one!r} and {other!r}, and a network has one link between two nodes: "
+                "merge_doubles='least', 'most' or 'first' keeps one of them"
+            )
+        else:
+            kept[ends] = (*kept[ends][:2], KEPT[merge_doubles](kept[ends][2], weight))
+    return list(kept.values())
+
+
+def from_networkx(
+    graph: Any,
+    weight: Optional[str] = "weight",
+    *,
+    set: Optional[Mapping[str, Openings]] = None,
+    phase: int = 0,
+    scale: Any = None,
+    undirected: bool = False,
+    drop_loops: bool = False,
+    merge_doubles: Optional[str] = None,
+    kind: Type[Network] = Network,
+) -> Network:
+    """The network of a graph of NetworkX. Nodes are numbered in the graph's order, and called as in the graph.
+
+    - `weight`: the attribute of edges that is the weight of the link, 1 where an edge has none; None: all weights are 1. Weights
+      are whole numbers from 0 to 4294967295.
+    - `set`: opening values by the nodes' names, as in `Network`; `networkx.get_node_attributes(graph, "s")` gives such a dict.
+    - `scale`: weights are multiplied by this number and rounded to the nearest whole number, half up; floats count as what they
+      are in binary: `Fraction("0.1")` and `Decimal("0.1")` are exact.
+    - `undirected`: a directed graph is taken, its edges as links; else it is refused.
+    - `drop_loops`: edges of a node with itself are left out; else they are refused.
+    - `merge_doubles`: of edges between the same two nodes (in a multigraph, or both ways in a directed one) the first stays, with
+      the `least` or the `most` of their weights, or its own (`first`); else they are refused.
+
+    Raises ValueError for what is refused here, NetworkError for what the library refuses.
+
+        import networkx, unison
+        network = unison.Network.from_networkx(networkx.karate_club_graph(), weight=None)
+    """
+    if graph.is_directed() and not undirected:
+        raise ValueError("the graph is directed, and links have no direction: undirected=True takes its edges as links")
+    edges = []
+    for one, other, data in graph.edges(data=True):
+        if one == other and not drop_loops:
+            raise ValueError(f"an edge joins {one!r} with itself, and no link does: drop_loops=True leaves it out")
+        if one != other:
+            edges.append((one, other, weight_of(data, weight, f"({one!r}, {other!r})", scale)))
+    return kind(list(graph), merged(edges, merge_doubles), set=set, phase=phase)
+
+
+def to_networkx(network: Network, values: Optional[Table] = None) -> Any:
+    """The network as a graph of NetworkX: nodes called by their names, in their order, edges with the attribute `weight`.
+
+    With `values`, a result of `lockstep` or `replay` on the network, or the states of one round of `watch`, each node has the value
+    of each field as an attribute.
+
+        graph = network.to_networkx(unison.lockstep(program, network, 5))
+        graph.nodes["ann"]["dist"]
+    """
+    try:
+        import networkx
+    except ImportError:
+        raise ImportError("to_networkx needs NetworkX: install it by `pip install networkx` (Debian: `apt install python3-networkx`)") from None
+    names = network.names
+    graph = networkx.Graph()
+    graph.add_nodes_from(names)
+    graph.add_weighted_edges_from((names[one], names[other], weight) for one, other, weight in network.links)
+    if values is not None:
+        if values.nodes != network.nodes:
+            raise ValueError(f"the values are of {values.nodes} nodes, and the network has {network.nodes}")
+        for field in values.fields:
+            networkx.set_node_attributes(graph, dict(zip(names, values.by_name(field).values())), field)
+    return graph

@@ -1,0 +1,307 @@
+"""Networks."""
+
+from __future__ import annotations
+
+import operator
+import os
+from pathlib import Path
+from typing import Any, Dict, Hashable, Iterable, List, Mapping, Optional, Sequence, Tuple, Union
+
+from . import _calls, faults
+from ._document import Document, Link, Sets, read, write
+
+Name = Hashable
+#: Opening values of a field: one for all nodes, one for each node by rising number, or some by the names of their nodes.
+Openings = Union[int, Sequence[int], Mapping[Any, int]]
+
+LONGEST = 2**63
+
+
+def whole(value: Any, what: str) -> int:
+    """A whole number that a network file can spell; the library refuses what is out of its range."""
+    try:
+        number = operator.index(value)
+    except TypeError:
+        raise TypeError(f"{what} is no whole number: {value!r}") from None
+    if not -LONGEST <= number < LONGEST:
+        raise ValueError(f"{what} is out of range: {number}")
+    return number
+
+
+def is_number(value: Any) -> bool:
+    """Whether a value is one whole number, and no array or list."""
+    return hasattr(value, "__index__") and not hasattr(value, "__len__")
+
+
+def plain(values: Any) -> Any:
+    """An array of numpy as lists, which are read faster; all else as it is."""
+    return values.tolist() if hasattr(values, "tolist") else values
+
+
+class Network:
+    """Nodes, numbered from 0, and undirected links between them, with weights and opening values.
+
+    - `nodes`: how many there are, 1 to 65,536; or their names in order, any values that can be keys of a dict, each once. With names, links
+      and opening values name their nodes by them.
+    - `links`: pairs of nodes, or triples of two nodes and a weight: at most 262,144, and 4,096 of one node; none of a node with
+      itself, none twice. A weight is a whole number from 0 to 4294967295, and 1 where none is given.
+    - `weights`: one for all links, or one for each link in their order; then links are pairs.
+    - `set`: for each field its opening values: one for all nodes, one for each node in order, or a dict from nodes to values.
+      Nodes and fields that are not named open as the program says. A network without `set` serves all programs.
+    - `phase`: the opening phase of the nodes' registers, 0, 1 or 2; no result depends on it.
+
+    Raises `NetworkError` or `PlanError` where the library refuses it, KeyError for a node that has no such name.
+
+    >>> import unison
+    >>> network = unison.Network(["ann", "bob", "cid"], [("ann", "bob", 3), ("bob", "cid")], set={"dist": {"ann": 0}})
+    >>> network.nodes, network.links, network.number("cid"), network.slot("bob", "cid")
+    (3, ((0, 1, 3), (1, 2, 1)), 2, 1)
+    >>> print(network.text, end="")
+    links = [
+        [0, 1, 3],
+        [1, 2],
+    ]
+    nodes = 3
+    phase = 0
+    <BLANKLINE>
+    [set]
+    dist = [[0, 0]]
+    """
+
+    _names: Optional[Tuple[Name, ...]]
+    _numbers: Optional[Dict[Name, int]]
+    _text: str
+    _count: Optional[int]
+    _document: Optional[Document]
+    _rows: Optional[List[Dict[int, int]]]
+
+    def __init__(
+        self,
+        nodes: Union[int, Iterable[Name]],
+        links: Iterable[Sequence[Any]],
+        weights: Union[None, int, Iterable[int]] = None,
+        *,
+        set: Optional[Mapping[str, Openings]] = None,
+        phase: int = 0,
+    ) -> None:
+        self._call_nodes(None if is_number(nodes) else tuple(plain(nodes)))
+        self._count = count = whole(nodes, "the number of nodes") if self._names is None else len(self._names)
+        listed = [self._link(link) for link in plain(links)]
+        if weights is not None:
+            listed = weighted(listed, plain(weights))
+        document = Document(count, listed, whole(phase, "the phase"), {})
+        self._adopt(document._replace(sets=self._sets(set or {}, count)))
+
+    def _call_nodes(self, names: Optional[Tuple[Name, ...]]) -> None:
+        """Takes the nodes' names, where they have any."""
+        self._names = names
+        self._numbers = None if names is None else {name: number for number, name in enumerate(names)}
+        if names is not None and len(self._numbers or {}) < len(names):
+            raise ValueError("two nodes have the same name")
+
+    def _adopt(self, document: Document) -> None:
+        """Takes what the network is, where the library accepts it."""
+        self._document = document
+        self._text = write(document)
+        self._rows = None
+        accept(self._text, document.sets)
+
+    def _link(self, link: Sequence[Any]) -> Link:
+        if len(link) not in (2, 3):
+            raise ValueError(f"a link is a pair of nodes, or two nodes and a weight: {link!r}")
+        weight = whole(link[2], f"the weight of the link {link!r}") if len(link) == 3 else 1
+        return self._end(link[0]), self._end(link[1]), weight
+
+    def _end(self, node: Any) -> int:
+        """The number of a node, which the library looks at where nodes have no names."""
+        return whole(node, "the number of a node") if self._numbers is None else self.number(node)
+
+    def _sets(self, sets: Mapping[str, Openings], count: int) -> Sets:
+        return {str(field): self._pairs(field, openings, count) for field, openings in sets.items()}
+
+    def _pairs(self, field: str, openings: Any, count: int) -> List[Tuple[int, int]]:
+        """The entries of a field, by rising number."""
+        what = f"an opening value of {field}"
+        if isinstance(openings, Mapping):
+            return sorted((self._end(node), whole(value, what)) for node, value in openings.items())
+        if is_number(openings):
+            return [(node, whole(openings, what)) for node in range(count)]
+        values = [whole(value, what) for value in plain(openings)]
+        if len(values) != count:
+            raise ValueError(f"{field} has {len(values)} opening values, and there are {count} nodes")
+        return list(enumerate(values))
+
+    @classmethod
+    def from_text(cls, text: Union[str, bytes], names: Optional[Iterable[Name]] = None) -> Network:
+        """The network of a network file's text (docs/formats.md), whose nodes may be given names, node 0 first.
+
+        >>> import unison
+        >>> unison.Network.from_text("nodes = 2\\nlinks = [[0, 1, 7]]\\n").links
+        ((0, 1, 7),)
+        """
+        network = cls.__new__(cls)
+        network._text = text if isinstance(text, str) else bytes(text).decode("utf-8", "surrogateescape")
+        network._document = None
+        network._rows = None
+        network._call_nodes(None if names is None else tuple(names))
+        try:
+            network._count = accept(network._text, {})
+        except faults.PlanError:  # it is a network, with opening values for fields
+            network._count = network._read().nodes
+            accept(network._text, network._read().sets)
+        if network._names is not None and len(network._names) != network.nodes:
+            raise ValueError(f"{len(network._names)} names are given, and there are {network.nodes} nodes")
+        return network
+
+    @classmethod
+    def from_file(cls, path: Union[str, os.PathLike[str]], names: Union[None, str, os.PathLike[str]] = None) -> Network:
+        """The network in a file; `names` is a file with a name for each node, a line each, as `unison take` writes it.
+
+        `unison.Network.from_file("examples/karate.toml", names="examples/karate.names")`
+        """
+        lines = None if names is None else Path(names).read_text(encoding="utf-8").split("\n")
+        if lines is not None and lines[-1] == "":
+            lines.pop()
+        return cls.from_text(Path(path).read_bytes(), lines)
+
+    @classmethod
+    def from_networkx(cls, graph: Any, weight: Optional[str] = "weight", **how: Any) -> Network:
+        """The network of a graph of NetworkX, whose nodes keep their names: see `unison.graphs.from_networkx`."""
+        from .graphs import from_networkx
+
+        return from_networkx(graph, weight, kind=cls, **how)
+
+    def to_networkx(self, values: Any = None) -> Any:
+        """The network as a graph of NetworkX: see `unison.graphs.to_networkx`."""
+        from .graphs import to_networkx
+
+        return to_networkx(self, values)
+
+    def with_set(self, set: Mapping[str, Openings]) -> Network:
+        """The same nodes and links with these opening values, and no others.
+
+        >>> import unison
+        >>> network = unison.Network(2, [(0, 1)], set={"s": 1})
+        >>> network.with_set({"t": {1: 5}}).set
+        {'t': {1: 5}}
+        """
+        other = type(self).__new__(type(self))
+        other._names, other._numbers, other._count = self._names, self._numbers, self.nodes
+        other._adopt(self._read()._replace(sets=other._sets(set, self.nodes)))
+        return other
+
+    def _read(self) -> Document:
+        if self._document is None:
+            self._document = read(self._text.removeprefix("\ufeff"))
+        return self._document
+
+    @property
+    def text(self) -> str:
+        """The text of the network file. It has numbers, and no names."""
+        return self._text
+
+    @property
+    def _bytes(self) -> bytes:
+        return self._text.encode("utf-8", "surrogateescape")
+
+    @property
+    def nodes(self) -> int:
+        """How many nodes there are."""
+        return self._read().nodes if self._count is None else self._count
+
+    @property
+    def links(self) -> Tuple[Link, ...]:
+        """The links in the order in which they were given: the numbers of both ends, and the weight."""
+        return tuple(self._read().links)
+
+    @property
+    def phase(self) -> int:
+        """The opening phase of the nodes' registers."""
+        return self._read().phase
+
+    @property
+    def set(self) -> Dict[str, Dict[int, int]]:
+        """For each field that is named the opening values by the nodes' numbers."""
+        return {field: dict(pairs) for field, pairs in self._read().sets.items()}
+
+    @property
+    def names(self) -> Sequence[Name]:
+        """What the nodes are called, node 0 first: their numbers where they have no names."""
+        return range(self.nodes) if self._names is None else self._names
+
+    def number(self, name: Name) -> int:
+        """The number of the node of this name; where nodes have no names, the number itself."""
+        if self._numbers is not None:
+            number = self._numbers.get(name)
+        else:
+            number = operator.index(name) if is_number(name) else None  # type: ignore[arg-type]
+        if number is None or not 0 <= number < self.nodes:
+            raise faults.Missing(f"there is no node {name!r}")
+        return number
+
+    def _neighbours(self, name: Name) -> Dict[int, int]:
+        """The neighbours of a node by rising number, each with the weight of the link."""
+        if self._rows is None:
+            rows: List[Dict[int, int]] = [{} for _ in range(self.nodes)]
+            for one, other, weight in self._read().links:
+                rows[one][other] = weight
+                rows[other][one] = weight
+            self._rows = [dict(sorted(row.items())) for row in rows]
+        return self._rows[self.number(name)]
+
+    def neighbours(self, name: Name) -> List[Name]:
+        """The names of a node's neighbours, by rising number: the one at place j is at slot j."""
+        names = self.names
+        return [names[number] for number in self._neighbours(name)]
+
+    def degree(self, name: Name) -> int:
+        """How many neighbours a node has."""
+        return len(self._neighbours(name))
+
+    def slot(self, name: Name, neighbour: Name) -> int:
+        """The slot of a node at which a neighbour is: its place among the neighbours, by rising number, counted from 0."""
+        number = self.number(neighbour)
+        row = self._neighbours(name)
+        if number not in row:
+            raise faults.Missing(f"node {name!r} has no neighbour {neighbour!r}")
+        return list(row).index(number)
+
+    def weight(self, name: Name, neighbour: Name) -> int:
+        """The weight of the link between two nodes."""
+        row = self._neighbours(name)
+        number = self.number(neighbour)
+        if number not in row:
+            raise faults.Missing(f"node {name!r} has no neighbour {neighbour!r}")
+        return row[number]
+
+    def __repr__(self) -> str:
+        return f"<Network of {self.nodes} nodes and {len(self._read().links)} links>"
+
+
+def weighted(links: List[Link], weights: Any) -> List[Link]:
+    """The links with these weights: one for all, or one for each."""
+    if is_number(weights):
+        weights = [weights] * len(links)
+    numbers = [whole(weight, "a weight") for weight in weights]
+    if len(numbers) != len(links):
+        raise ValueError(f"there are {len(links)} links, and {len(numbers)} weights")
+    return [(one, other, weight) for (one, other, _), weight in zip(links, numbers)]
+
+
+def accept(text: str, sets: Sets) -> Optional[int]:
+    """How many nodes a network has, which the library looks at with its opening values, where a program can have fields of these
+    names; else its opening values are looked at when it is used, and None is answered."""
+    network = text.encode("utf-8", "surrogateescape")
+    program = "".join(f"field {name} = 0;\n" for name in sets).encode("utf-8", "surrogateescape")
+    try:
+        return _calls.sizes(_calls.Texts(program, network))[0]
+    except faults.ProgramError:
+        return accept_links(network)
+
+
+def accept_links(network: bytes) -> Optional[int]:
+    """How many nodes a network has, or None where opening values are in the way of being told."""
+    try:
+        return _calls.sizes(_calls.Texts(b"", network))[0]
+    except faults.PlanError:
+        return None

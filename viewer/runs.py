@@ -1,0 +1,135 @@
+"""Networks, names and schedules that the checks and the pictures use, each a text as the programs read it. The same arguments give the same text."""
+
+import random
+
+
+def network(nodes, links, sets=""):
+    """A network file; links are pairs, or triples with a weight."""
+    listed = ",".join(str(list(link)) for link in links)
+    return f"nodes = {nodes}\nlinks = [{listed}]\n[set]\n{sets}\n"
+
+
+def ring(nodes):
+    return [(node, (node + 1) % nodes) for node in range(nodes)]
+
+
+def path(nodes):
+    return [(node, node + 1) for node in range(nodes - 1)]
+
+
+def star(nodes):
+    return [(0, node) for node in range(1, nodes)]
+
+
+def complete(nodes):
+    return [(one, other) for other in range(nodes) for one in range(other)]
+
+
+def bipartite(left, right):
+    return [(one, left + other) for one in range(left) for other in range(right)]
+
+
+def tree(nodes, arity):
+    return [((node - 1) // arity, node) for node in range(1, nodes)]
+
+
+def hypercube(digits):
+    return [(node, node | 1 << digit) for node in range(1 << digits) for digit in range(digits) if not node >> digit & 1]
+
+
+def grid(width, height):
+    across = [(row * width + column, row * width + column + 1) for row in range(height) for column in range(width - 1)]
+    return across + [(node, node + width) for node in range(width * (height - 1))]
+
+
+def torus(width, height, diagonals=False):
+    ways = [(1, 0), (0, 1)] + ([(1, 1), (-1, 1)] if diagonals else [])
+    places = [(column, row) for row in range(height) for column in range(width)]
+    return [
+        (row * width + column, (row + down) % height * width + (column + across) % width) for column, row in places for across, down in ways
+    ]
+
+
+def scattered(nodes, links, seed=1):
+    """So many different links, drawn by a seed."""
+    lot = random.Random(seed)
+    found = set()
+    while len(found) < links:
+        found.add(tuple(sorted(lot.sample(range(nodes), 2))))
+    return sorted(found)
+
+
+def rows_of(nodes, links):
+    """For each node its neighbours by rising number."""
+    rows = [[] for _ in range(nodes)]
+    for one, other in (link[:2] for link in links):
+        rows[one].append(other)
+        rows[other].append(one)
+    return [sorted(row) for row in rows]
+
+
+class Counts:
+    """The count machine of the pages: how often each node has moved, and which slots it has read since."""
+
+    def __init__(self, rows, stop):
+        self.rows, self.stop = rows, stop
+        self.moves = [0] * len(rows)
+        self.marks = [set() for _ in rows]
+
+    def is_open(self, step):
+        """Whether a step would change something."""
+        node, *slot = step
+        if self.moves[node] >= self.stop:
+            return False
+        if not slot:
+            return len(self.marks[node]) == len(self.rows[node])
+        is_behind = self.moves[self.rows[node][slot[0]]] < self.moves[node]
+        return slot[0] not in self.marks[node] and not is_behind
+
+    def make(self, step):
+        node, *slot = step
+        if slot:
+            self.marks[node].add(slot[0])
+        else:
+            self.moves[node] += 1
+            self.marks[node].clear()
+
+    def steps_of(self, node):
+        return [(node, slot) for slot in range(len(self.rows[node]))] + [(node,)]
+
+
+def lines(steps):
+    """The schedule of steps."""
+    return "".join(f"read {step[0]} {step[1]}\n" if len(step) == 2 else f"write {step[0]}\n" for step in steps)
+
+
+def starved(nodes, links, still, stop, refused=15, seed=4):
+    """A schedule by lot in which one node makes no step, up to rest; so many in a hundred of the others' steps are refused."""
+    lot = random.Random(seed)
+    counts = Counts(rows_of(nodes, links), stop)
+    others = [step for node in range(nodes) if node != still for step in counts.steps_of(node)]
+    steps = []
+    while possible := [step for step in others if counts.is_open(step)]:
+        if lot.randrange(100) < refused:
+            step = lot.choice(others)
+            steps += [] if counts.is_open(step) else [step]
+        else:
+            steps.append(lot.choice(possible))
+            counts.make(steps[-1])
+    return lines(steps)
+
+
+def by_lot(nodes, links, many, stop, seed=1):
+    """A schedule of so many steps by lot, refused ones among them, some of nodes and slots that are not there."""
+    lot = random.Random(seed)
+    counts = Counts(rows_of(nodes, links), stop)
+    steps = []
+    while len(steps) < many:
+        node = lot.randrange(nodes)
+        if lot.randrange(60) == 0:
+            steps.append(lot.choice([(nodes + lot.randrange(3),), (nodes, 0), (node, len(counts.rows[node]) + lot.randrange(2))]))
+            continue
+        steps.append(lot.choice(counts.steps_of(node)))
+        if counts.is_open(steps[-1]):
+            counts.make(steps[-1])
+    return lines(steps)
