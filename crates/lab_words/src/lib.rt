@@ -1,9 +1,12 @@
-//! The words of the commands for networks, and of those that watch rounds and make and tell steps.
+//! The words of the commands for networks, of those that watch rounds and make and tell steps, and of those that draw.
 #![tactic(auto)]
 
+mod dot;
+mod image;
 mod make;
 mod names;
 mod open;
+mod page;
 mod parts;
 mod plan_paths;
 mod settle;
@@ -14,9 +17,12 @@ mod tell;
 mod watch;
 mod weights;
 
+pub use dot::{Drawing, dot_command, drawing_of};
+pub use image::{Picturing, image_command, picturing_of};
 pub use make::{Asked, Making, make_command, making_of};
 pub use names::{Naming, names_command, naming_of};
 pub use open::{CellsWord, LotWord, Openings, SetWord, open_command, openings_of};
+pub use page::{PageRun, PageView, Paging, page_command, paging_of};
 pub use plan_paths::PlanPaths;
 pub use settle::{Settlement, settle_command, settlement_of};
 pub use show::{show_command, shown_path};

@@ -33,7 +33,7 @@ pub struct Watching {
 const EXAMPLE: &str =
     "Prints the rounds FIRST, FIRST + K, FIRST + 2 K and so on, up to LAST, in one pass. Reports stand one behind the other; CSV and JSON lines have a record for each node in each round.\nAn example: unison watch examples/distance.rules examples/path.toml --rounds 0..2\nAnother one: unison watch examples/distance.rules examples/path.toml --rounds 0..2 --changes --format csv\n";
 
-/// `--rounds FIRST..LAST`, which has to be there.
+/// `--rounds FIRST..LAST`.
 fn rounds_option<'a>(alloc: Global) -> Arg<'a> {
     option(
         alloc,
@@ -41,17 +41,32 @@ fn rounds_option<'a>(alloc: Global) -> Arg<'a> {
         "FIRST..LAST",
         "The first and the last round, both counted from round 0: 0 to 1000000000",
     )
-    .required(true)
 }
 
-/// The options of the rounds.
-fn with_rounds<'a>(alloc: Global, command: Command<'a>) -> Result<Command<'a>, AllocError> {
-    command.arg(rounds_option(alloc))?.arg(option(
+/// The options of the rounds, which have to be there or not.
+pub(crate) fn with_rounds<'a>(
+    alloc: Global,
+    command: Command<'a>,
+    required: bool,
+) -> Result<Command<'a>, AllocError> {
+    command
+        .arg(rounds_option(alloc).required(required))?
+        .arg(option(
+            alloc,
+            "every",
+            "K",
+            "Show every K-th round alone, from the first on: 1 to 1000000000",
+        ))
+}
+
+/// `--only FIELD,..`.
+pub(crate) fn only_option<'a>(alloc: Global) -> Arg<'a> {
+    option(
         alloc,
-        "every",
-        "K",
-        "Show every K-th round alone, from the first on: 1 to 1000000000",
-    ))
+        "only",
+        "FIELD,..",
+        "Show these fields alone, in this order, with a comma between two",
+    )
 }
 
 /// The options of what is shown.
@@ -63,12 +78,7 @@ fn with_view<'a>(alloc: Global, command: Command<'a>) -> Result<Command<'a>, All
             "FORMAT",
             "report, which is what stands where nothing is asked, csv or json",
         ))?
-        .arg(option(
-            alloc,
-            "only",
-            "FIELD,..",
-            "Show these fields alone, in this order, with a comma between two",
-        ))?
+        .arg(only_option(alloc))?
         .arg(flag(
             alloc,
             "changes",
@@ -88,7 +98,7 @@ pub fn watch_command<'a>(alloc: Global) -> Result<Command<'a>, AllocError> {
         .bin_name("unison watch")?
         .about("Show all rounds from one to another, in one pass")
         .after_help(EXAMPLE);
-    let command = with_rounds(alloc, with_texts(alloc, command)?)?;
+    let command = with_rounds(alloc, with_texts(alloc, command)?, true)?;
     with_from(alloc, with_view(alloc, command)?)
 }
 
@@ -108,7 +118,7 @@ fn no_rounds(alloc: Global, word: &str) -> UsageFault {
 }
 
 /// The rounds that are watched.
-fn span_in(alloc: Global, matches: &ArgMatches<'_>) -> Result<Span, UsageFault> {
+pub(crate) fn span_in(alloc: Global, matches: &ArgMatches<'_>) -> Result<Span, UsageFault> {
     let word = matches.get_str("rounds").unwrap_or("");
     let every = number_or(alloc, matches, "every", (1, MOST_ROUNDS), 1)?;
     let Some((first, last)) = ends_of(word) else {
@@ -142,7 +152,10 @@ fn words_in(alloc: Global, text: &str) -> Result<Vec<String>, AllocError> {
 }
 
 /// The fields that are shown, where not all are.
-fn only_in(alloc: Global, matches: &ArgMatches<'_>) -> Result<Option<Vec<String>>, AllocError> {
+pub(crate) fn only_in(
+    alloc: Global,
+    matches: &ArgMatches<'_>,
+) -> Result<Option<Vec<String>>, AllocError> {
     match matches.get_str("only") {
         Some(text) => Ok(Some(words_in(alloc, text)?)),
         None => Ok(None),

@@ -12,7 +12,7 @@ fn put_command(out: &mut String, name: &str, about: &str) -> Result<(), AllocErr
 type Known = (&'static str, &'static str);
 
 /// The commands of this program, in groups.
-const GROUPS: [(&str, &[Known]); 3] = [
+const GROUPS: [(&str, &[Known]); 4] = [
     (
         "The way of a run",
         &[
@@ -31,6 +31,19 @@ const GROUPS: [(&str, &[Known]); 3] = [
             (
                 "tell",
                 "Tell what each step of a schedule does, and why it is refused",
+            ),
+        ],
+    ),
+    (
+        "Pictures",
+        &[
+            (
+                "image",
+                "Make a picture of rounds, nodes across and rounds down, or of one round as a grid",
+            ),
+            (
+                "dot",
+                "Print a network in a round for Graphviz, coloured and labelled",
             ),
         ],
     ),

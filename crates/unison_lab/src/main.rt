@@ -3,6 +3,7 @@
 
 mod cells;
 mod ending;
+mod fields;
 mod files;
 mod help;
 mod labels;
@@ -10,7 +11,9 @@ mod make;
 mod names;
 mod open;
 mod output;
+mod picture;
 mod plan_texts;
+mod progress;
 mod refusals;
 mod settle;
 mod show;
@@ -27,6 +30,7 @@ use crate::help::help_text;
 use crate::make::make_network;
 use crate::names::name_report;
 use crate::open::open_network;
+use crate::picture::{make_dot, make_image};
 use crate::settle::settle_rounds;
 use crate::show::show_network;
 use crate::steps::make_steps;
@@ -66,6 +70,8 @@ fn run(rt: &HostRuntime, threads: &(impl Threads + Sync)) -> Result<u8, Ending> 
         None => return Err(Ending::Usage(help_text(rt.alloc())?)),
     };
     match command {
+        "dot" => make_dot(rt, threads, &words[1..]),
+        "image" => make_image(rt, threads, &words[1..]),
         "make" => make_network(rt, &words[1..]),
         "names" => name_report(rt, &words[1..]),
         "open" => open_network(rt, &words[1..]),

@@ -1,14 +1,16 @@
 //! `settle PROGRAM NETWORK`: from which round on nothing changes, or all states come again.
 
 use crate::ending::Ending;
+use crate::fields::all_fields;
 use crate::files::{path_in, read_once};
 use crate::output::write_out;
 use crate::plan_texts::plan_at;
-use crate::watch::{all_fields, no_rounds};
+use crate::progress::Silent;
+use crate::watch::no_rounds;
 use lab_words::{Settlement, settlement_of};
 use lockstep::Plan;
 use round_settle::{SettleFault, Settling, settle};
-use round_watch::{Format, Progress, Show, Span, watched};
+use round_watch::{Format, Show, Span, watched};
 use std::alloc::{AllocError, Global};
 use std::thread::Threads;
 
@@ -51,14 +53,6 @@ fn round_of(found: Settling) -> Option<u32> {
         Settling::Repeats { round, .. } => Some(round),
         Settling::Open { .. } => None,
     }
-}
-
-/// Tells nothing.
-#[derive(Drop)]
-struct Silent;
-
-impl Progress for Silent {
-    fn reached(&mut self, _round: u32) {}
 }
 
 /// The report of a round: what is watched where it is the first and the last one.

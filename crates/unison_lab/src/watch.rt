@@ -1,107 +1,20 @@
 //! `watch PROGRAM NETWORK --rounds FIRST..LAST`: all rounds from one to another, in one pass.
 
 use crate::ending::Ending;
+use crate::fields::shown_fields;
 use crate::files::{path_in, read_once};
 use crate::labels::labels_of;
 use crate::names::names_at;
 use crate::output::write_out;
 use crate::plan_texts::plan_at;
+use crate::progress::Telling;
 use lab_words::{View, Watching, watching_of};
 use lockstep::{Plan, RoundFault};
-use round_watch::{Format, Progress, Show, WatchFault, watched};
+use round_watch::{Format, Show, WatchFault, watched};
 use rule_check::Program;
-use std::alloc::{AllocError, Global};
-use std::io::IsTerminal;
+use std::alloc::Global;
 use std::thread::Threads;
 use unison_jobs::ServeFault;
-
-/// How many lines of nodes are long work, so that rounds are told on a terminal while they are made.
-const LONG: u64 = 1_000_000;
-
-/// Tells on standard error which round is reached, where that is a terminal and the work is long: a hundred times in all.
-#[derive(Drop)]
-struct Telling<'a> {
-    rt: &'a HostRuntime,
-    is_told: bool,
-    first: u32,
-    last: u32,
-    /// The round from which on the next one is told.
-    next: u32,
-}
-
-impl Progress for Telling<'_> {
-    fn reached(&mut self, round: u32) {
-        if !self.is_told || round < self.next {
-            return;
-        }
-        let (rt, last) = (self.rt, self.last);
-        let _ = eprint!(rt; "\rround {round} of {last}");
-        self.next = round.saturating_add((last.saturating_sub(self.first) / 100).max(1));
-        if round == last {
-            let _ = eprintln!(rt; "");
-        }
-    }
-}
-
-/// The places of all fields.
-pub(crate) fn all_fields(alloc: Global, program: &Program) -> Result<Vec<u32>, AllocError> {
-    let mut places = Vec::new(alloc);
-    for place in 0..program.field_count() {
-        places.push(place)?;
-    }
-    Ok(places)
-}
-
-/// The names of all fields, with a comma and a blank between two.
-fn field_names(alloc: Global, program: &Program) -> Result<String, AllocError> {
-    let mut out = String::new(alloc);
-    for place in 0..program.field_count() {
-        if place > 0 {
-            out.push_str(", ")?;
-        }
-        out.push_str(program.field_name(place).unwrap_or(""))?;
-    }
-    Ok(out)
-}
-
-/// The ending where a word names no field.
-fn no_field(alloc: Global, program: &Program, word: &str) -> Result<Ending, AllocError> {
-    let names = field_names(alloc, program)?;
-    Ok(Ending::Usage(format!(in alloc;
-        "--only: the program has no field `{word}`; its fields are {names}"
-    )?))
-}
-
-/// Puts the place of the field of this name behind the others.
-fn put_place(
-    alloc: Global,
-    places: &mut Vec<u32>,
-    program: &Program,
-    word: &str,
-) -> Result<(), Ending> {
-    match program.field_index(word) {
-        Some(place) => places.push(place)?,
-        None => return Err(no_field(alloc, program, word)?),
-    }
-    Ok(())
-}
-
-/// The places of the fields of these names.
-fn named_fields(alloc: Global, program: &Program, words: &[String]) -> Result<Vec<u32>, Ending> {
-    let mut places = Vec::new(alloc);
-    for word in words {
-        put_place(alloc, &mut places, program, word.as_str())?;
-    }
-    Ok(places)
-}
-
-/// The places of the fields that are shown.
-fn shown_fields(alloc: Global, program: &Program, view: &View) -> Result<Vec<u32>, Ending> {
-    match &view.only {
-        Some(words) => named_fields(alloc, program, words),
-        None => Ok(all_fields(alloc, program)?),
-    }
-}
 
 /// Refuses CSV and JSON in which a field is called as what stands before the fields.
 fn check_headings(
@@ -131,12 +44,6 @@ pub(crate) fn no_rounds(fault: WatchFault) -> Ending {
     }
 }
 
-/// Whether the rounds have so many lines that they take long.
-fn is_long(plan: &Plan, asked: &Watching) -> bool {
-    let rounds = asked.span.last() as u64;
-    rounds.saturating_mul(plan.network().nodes() as u64) >= LONG
-}
-
 /// What stands for the nodes.
 fn labels_for(rt: &HostRuntime, plan: &Plan, view: &View) -> Result<Vec<String>, Ending> {
     let names = names_at(rt, &view.names)?;
@@ -158,13 +65,7 @@ fn shown_text(
         labels: &labels,
         changes: asked.view.changes,
     };
-    let mut telling = Telling {
-        rt,
-        is_told: is_long(plan, asked) && rt.stderr().is_terminal(),
-        first: asked.span.first(),
-        last: asked.span.last(),
-        next: 0,
-    };
+    let mut telling = Telling::new(rt, &asked.span, plan.network().nodes());
     match watched(threads, rt.alloc(), plan, &asked.span, &show, &mut telling) {
         Ok(text) => Ok(text),
         Err(fault) => Err(no_rounds(fault)),
@@ -178,7 +79,7 @@ fn text_of(
     plan: &Plan,
     asked: &Watching,
 ) -> Result<Vec<u8>, Ending> {
-    let fields = shown_fields(rt.alloc(), plan.program(), &asked.view)?;
+    let fields = shown_fields(rt.alloc(), plan.program(), &asked.view.only)?;
     check_headings(rt.alloc(), plan.program(), asked.view.format, &fields)?;
     shown_text(rt, threads, plan, asked, &fields)
 }
