@@ -1,0 +1,4 @@
+pub mod Pages
+pub mod Refusals
+pub mod Closed
+pub mod Embedding

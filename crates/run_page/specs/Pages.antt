@@ -1,0 +1,126 @@
+-- The data of a page, as JSON. Members stand by rising name; numbers are whole, and text from outside is the array of its bytes.
+use Rattle.std.specs.Prelude.{ℕ, max, List, [], ◌∷◌, map, codes, length, slice_index, slice_index_or, string_bytes, nat_lt, Option, Some, None}
+use Rattle.std.specs.List.{filter, flat_map, fold}
+use Rattle.std.specs.Option.{unwrap_or}
+use Rattle.rule_check.specs.declared.state.State.{State}
+use Rattle.rule_check.specs.Value.{names_of}
+use Rattle.link_net.specs.Neighbours.{Neighbours, numbers_below, row}
+use Rattle.lockstep.specs.Lockstep.{lockstep_states}
+use Rattle.lockstep.specs.Plans.{PlanView}
+use Rattle.round_settle.specs.declared.settling.Settling.{Settling}
+use Rattle.round_settle.specs.declared.settling.Settling.TheVariants.{Settles, Repeats, Open}
+use Rattle.round_watch.specs.Spans.{SpanView, rounds_in}
+use Rattle.serde_json.specs.Data.{Data, unsigned, number, string, array, object, Members, no_members, member}
+use Rattle.serde_json.specs.View.{items_of}
+use Rattle.unison_trace.specs.Histories.{run_of, answers_of}
+use Rattle.unison_world.specs.declared.step.Step.{Step}
+use Rattle.unison_world.specs.declared.step.Step.TheVariants.{Read, Write}
+use Rattle.unison_world.specs.declared.step.Answer.{Answer}
+use Rattle.unison_world.specs.declared.step.Answer.TheVariants.{Taken, Moved, Behind, Already, NotReady, Stopped, NoNode, NoSlot}
+use Rattle.run_page.specs.declared.look.Look.{Look}
+
+-- a number
+abbrev pub whole : ℕ → Data
+whole n = number (unsigned n)
+
+-- an array
+abbrev pub listed : List Data → Data
+listed ds = array (items_of ds)
+
+-- an array of numbers
+abbrev pub numbers : List ℕ → Data
+numbers ns = listed (map whole ns)
+
+-- texts, each as the array of its bytes
+abbrev pub texts : List (List ℕ) → Data
+texts ts = listed (map numbers ts)
+
+-- the links of node u to nodes of greater number, by rising number: each as u, the other node, and the weight
+abbrev pub links_up : ℕ → List (ℕ × ℕ) → List Data
+links_up u neighbours = map (λ a. numbers (u ∷ (a.0 ∷ (a.1 ∷ [])))) (filter (λ a. nat_lt u a.0) neighbours)
+
+-- each link of a network once, by rising numbers of its nodes, the smaller one first
+abbrev pub links_of : Neighbours → List Data
+links_of network = flat_map (λ u. links_up u (row network u)) (numbers_below (length network))
+
+-- the names of the shown fields
+abbrev pub shown_names : PlanView → Look → List (List ℕ)
+shown_names p look = map (λ k. slice_index_or (names_of p.program) k []) look.fields.now
+
+-- the values of a state's shown fields
+abbrev pub shown : List ℕ → State → List ℕ
+shown fields state = map (λ k. slice_index state.words k) fields
+
+-- the shown values of these states, node by node
+abbrev pub shown_values : List ℕ → List State → List ℕ
+shown_values fields states = flat_map (shown fields) states
+
+-- the shown values of all nodes after round t, node by node
+abbrev pub values_at : PlanView → List ℕ → ℕ → List ℕ
+values_at p fields t = shown_values fields (lockstep_states p t (length p.network))
+
+-- those of each of these rounds
+abbrev pub states_of : PlanView → List ℕ → List ℕ → Data
+states_of p fields rounds = listed (map (λ t. numbers (values_at p fields t)) rounds)
+
+-- what each page says first, of the plan and of the way in which it is shown
+abbrev pub headed : PlanView → Look → List ℕ → Members → Members
+headed p look manner rest =
+    member (codes "fields") (texts (shown_names p look))
+    (member (codes "grid") (whole (unwrap_or look.grid 0))
+    (member (codes "links") (listed (links_of p.network))
+    (member (codes "manner") (string manner)
+    (member (codes "names") (texts (map string_bytes look.labels.now))
+    (member (codes "nodes") (whole (length p.network))
+    (member (codes "phase") (whole p.phase) rest))))))
+
+-- what becomes of the rounds, or nothing where it is not known
+abbrev pub settling_data : Option Settling → List Data
+settling_data None = []
+settling_data (Some (Settles round)) = string (codes "settles") ∷ (whole round ∷ [])
+settling_data (Some (Repeats round period)) = string (codes "repeats") ∷ (whole round ∷ (whole period ∷ []))
+settling_data (Some (Open limit)) = string (codes "open") ∷ (whole limit ∷ [])
+
+-- the data of a page of the rounds of a span
+abbrev pub rounds_page : PlanView → SpanView → Look → Option Settling → Data
+rounds_page p span look settling =
+    object
+    (headed p look (codes "rounds")
+    (member (codes "rounds") (numbers (rounds_in span))
+    (member (codes "settling") (listed (settling_data settling))
+    (member (codes "states") (states_of p look.fields.now (rounds_in span)) no_members))))
+
+-- a step: a read as its node and its slot, a write as its node
+abbrev pub step_data : Step → Data
+step_data (Read node slot) = numbers (node ∷ (slot ∷ []))
+step_data (Write node) = numbers (node ∷ [])
+
+-- the number that stands for an answer
+abbrev pub code_of : Answer → ℕ
+code_of Taken = 0
+code_of Moved = 1
+code_of Behind = 2
+code_of Already = 3
+code_of NotReady = 4
+code_of Stopped = 5
+code_of NoNode = 6
+code_of NoSlot = 7
+
+-- each round from the plan's start up to the greatest count after the steps: a node that has moved t times shows its state of round t
+abbrev pub reached : PlanView → ℕ → List Step → SpanView
+reached p stop steps = record { first = p.start; last = fold max p.start (run_of p stop steps).moves; every = 1 }
+
+-- the data of steps with these answers and these rounds
+abbrev pub stepped : PlanView → ℕ → List Step → Look → List ℕ → List ℕ → Data
+stepped p stop steps look answers rounds =
+    object
+    (member (codes "answers") (numbers answers)
+    (headed p look (codes "steps")
+    (member (codes "rounds") (numbers rounds)
+    (member (codes "states") (states_of p look.fields.now rounds)
+    (member (codes "steps") (listed (map step_data steps))
+    (member (codes "stop") (whole stop) no_members))))))
+
+-- the data of a page of steps: their answers, and the rounds that they reach
+abbrev pub steps_page : PlanView → ℕ → List Step → Look → Data
+steps_page p stop steps look = stepped p stop steps look (map code_of (answers_of p stop steps)) (rounds_in (reached p stop steps))

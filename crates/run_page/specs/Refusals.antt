@@ -1,0 +1,60 @@
+-- Why there is no data of a run.
+use Rattle.std.specs.Prelude.{◌≡◌, ℕ, ◌+◌, ◌*◌, max, List, length, nat_lt, Option, Some, None, if◌then◌else◌}
+use Rattle.std.specs.Option.{option_map, option_or}
+use Rattle.lockstep.specs.Configs.{most_rounds}
+use Rattle.lockstep.specs.Plans.{PlanView}
+use Rattle.round_watch.specs.Spans.{SpanView, count_of}
+use Rattle.round_watch.specs.Watching.{missing_of}
+use Rattle.unison_world.specs.declared.fault.OpenFault.{OpenFault}
+use Rattle.unison_world.specs.declared.fault.OpenFault.TheVariants as opening
+use Rattle.unison_world.specs.declared.step.Step.{Step}
+use Rattle.run_page.specs.declared.fault.PageFault.{PageFault}
+use Rattle.run_page.specs.declared.fault.PageFault.TheVariants.{TooManyRounds, RoundsBelowStart, StopTooLarge, StopBelowStart, NoField, TooManyValues, Memory}
+use Rattle.run_page.specs.declared.look.Look.{Look}
+use Rattle.run_page.specs.Pages.{reached}
+
+-- the greatest number of values of a page
+abbrev pub most_values : ℕ
+most_values = 20000000
+
+-- how many values so many rounds have: one for each node and shown field, and one for each node where no field is shown
+abbrev pub values_in : PlanView → Look → ℕ → ℕ
+values_in p look rounds = rounds * length p.network * max (length look.fields.now) 1
+
+-- a field that is to be shown and that the program does not have
+abbrev pub field_refusal : PlanView → Look → Option PageFault
+field_refusal p look = option_map NoField (missing_of (length p.program.fields) look.fields.now)
+
+-- too many values
+abbrev pub values_refusal : ℕ → Option PageFault
+values_refusal values = if nat_lt most_values values then Some TooManyValues else None
+
+-- why there is no data of the rounds of a span, whatever memory there is
+abbrev pub rounds_refusal : PlanView → SpanView → Look → Option PageFault
+rounds_refusal p span look =
+    if nat_lt most_rounds span.last then Some TooManyRounds
+    else if nat_lt span.first p.start then Some RoundsBelowStart
+    else option_or (field_refusal p look) (values_refusal (values_in p look (count_of span)))
+
+-- the same of steps, of what is known before the first
+abbrev pub opening_refusal : PlanView → ℕ → Look → Option PageFault
+opening_refusal p stop look =
+    if nat_lt most_rounds stop then Some StopTooLarge
+    else if nat_lt stop p.start then Some StopBelowStart
+    else field_refusal p look
+
+-- the same of steps: each step is a value too
+abbrev pub steps_refusal : PlanView → ℕ → List Step → Look → Option PageFault
+steps_refusal p stop steps look =
+    option_or (opening_refusal p stop look) (values_refusal (values_in p look (count_of (reached p stop steps)) + length steps))
+
+-- the fault is the one that is defined, or want of memory, where what is known before memory is taken has none
+abbrev pub IsFault : Option PageFault → Option PageFault → PageFault → Type 0
+IsFault early all Memory = early ≡ None
+IsFault early all fault = all ≡ Some fault
+
+-- why no world was opened
+abbrev pub from_opening : OpenFault → PageFault
+from_opening opening.StopTooLarge = StopTooLarge
+from_opening opening.StopBelowStart = StopBelowStart
+from_opening opening.Memory = Memory

@@ -1,0 +1,52 @@
+//! What refuses a look at a run.
+ghost use Rattle.std.specs.Prelude.{◌≡◌, ◌^◌, ◌-◌, ◌+◌, ◌<◌, min};
+ghost use Rattle.round_watch.specs.Watching.{missing_of};
+ghost use Rattle.run_page.specs.Refusals.{field_refusal, values_in, values_refusal};
+
+use crate::fault::PageFault;
+use crate::look::{Look, MOST_VALUES};
+use lockstep::Plan;
+
+/// The first of the places that is none of so many fields.
+fn missing_of(count: u32, places: &[u32]) -> Option<u32>
+    ensures { result ≡ missing_of count places.now }
+{
+    for place in places {
+        if *place >= count {
+            return Some(*place);
+        }
+    }
+    None
+}
+
+/// A shown field that the program does not have.
+pub(crate) fn field_refusal(plan: &Plan, look: &Look<'_>) -> Option<PageFault>
+    ensures { result ≡ field_refusal plan.now look.now }
+{
+    let place = missing_of(plan.program().field_count(), look.fields)?;
+    Some(PageFault::NoField { place })
+}
+
+/// How many values so many rounds have, at most the greatest `u64`.
+fn values_in(plan: &Plan, look: &Look<'_>, rounds: u32) -> u64
+    ensures { result ≡ min (values_in plan.now look.now rounds) (2 ^ 64 - 1) }
+{
+    let nodes = plan.network().nodes() as u64;
+    let fields = look.fields.len().max(1) as u64;
+    (rounds as u64 * nodes).saturating_mul(fields)
+}
+
+/// Too many values, those of so many rounds and so many others.
+pub(crate) fn values_refusal(
+    plan: &Plan,
+    look: &Look<'_>,
+    rounds: u32,
+    others: usize,
+) -> Option<PageFault>
+    ensures { result ≡ values_refusal (values_in plan.now look.now rounds + others) }
+{
+    if values_in(plan, look, rounds).saturating_add(others as u64) > MOST_VALUES {
+        return Some(PageFault::TooManyValues);
+    }
+    None
+}

@@ -1,0 +1,116 @@
+//! Pages of rounds.
+ghost use Rattle.std.specs.Prelude.{◌≡◌, ◌≢◌, All, IfOk, IfErr, None, Some};
+ghost use Rattle.serde_json.specs.Read.{read};
+ghost use Rattle.serde_json.specs.View.{view};
+ghost use Rattle.serde_json.specs.Written.{compact_text};
+ghost use Rattle.run_page.specs.Pages.{rounds_page};
+ghost use Rattle.run_page.specs.Refusals.{IsFault, rounds_refusal};
+
+use crate::fault::PageFault;
+use crate::head::head;
+use crate::look::Look;
+use crate::refusals::{field_refusal, values_refusal};
+use crate::settled::settled;
+use crate::states::{round_numbers, states};
+use crate::text::text_of;
+use lockstep::{MOST_ROUNDS, Plan};
+use round_settle::Settling;
+use round_watch::{Progress, Span};
+use serde_json::{Value, put};
+use std::alloc::{AllocError, Global};
+use std::thread::Threads;
+
+/// Why there is no data, whatever memory there is.
+fn refusal(plan: &Plan, span: &Span, look: &Look<'_>) -> Option<PageFault>
+    ensures { result ≡ rounds_refusal plan.now span.now look.now }
+{
+    if span.last() > MOST_ROUNDS {
+        return Some(PageFault::TooManyRounds);
+    }
+    if span.first() < plan.start() {
+        return Some(PageFault::RoundsBelowStart);
+    }
+    match field_refusal(plan, look) {
+        Some(fault) => Some(fault),
+        None => values_refusal(plan, look, span.steps() + 1, 0),
+    }
+}
+
+/// The data, where nothing refuses it.
+fn page<P: Progress>(
+    rt: &(impl Threads + Sync),
+    alloc: Global,
+    plan: &Plan,
+    span: &Span,
+    look: &Look<'_>,
+    settling: Option<Settling>,
+    progress: &mut P,
+) -> Result<Value, AllocError>
+    requires fits { rounds_refusal plan.now span.now look.now ≡ None }
+    ensures { IfOk result (λ v. view v ≡ rounds_page plan.now span.now look.now settling) }
+{
+    let mut members = head(alloc, plan, look, "rounds")?;
+    let rounds = round_numbers(alloc, span)?;
+    put(&mut members, alloc, "rounds", rounds)?;
+    let settling = settled(alloc, settling)?;
+    put(&mut members, alloc, "settling", settling)?;
+    let states = states(rt, alloc, plan, span, look.fields, progress)?;
+    put(&mut members, alloc, "states", states)?;
+    Ok(Value::Object(members))
+}
+
+/// Its text.
+fn text<P: Progress>(
+    rt: &(impl Threads + Sync),
+    alloc: Global,
+    plan: &Plan,
+    span: &Span,
+    look: &Look<'_>,
+    settling: Option<Settling>,
+    progress: &mut P,
+) -> Result<Vec<u8>, AllocError>
+    requires fits { rounds_refusal plan.now span.now look.now ≡ None }
+    ensures text { IfOk result (λ v. v.items ≡ compact_text (rounds_page plan.now span.now look.now settling)) }
+    ensures reads_back { IfOk result (λ v. read v.items ≡ Some (rounds_page plan.now span.now look.now settling)) }
+    ensures closed { IfOk result (λ v. All (λ b. b ≢ 60) v.items) }
+{
+    let page = page(rt, alloc, plan, span, look, settling, progress)?;
+    text_of(alloc, &page)
+}
+
+/// The data of a page that shows the rounds of a span of a plan, in one pass over the rounds, each shared among as many
+/// threads as there are processors where it has enough to compute for them.
+///
+/// The data is a JSON object with these members, by rising name: `fields`, the names of the shown fields in the order shown;
+/// `grid`, how many nodes stand in a row, 0 where they are not drawn as a grid; `links`, each link once as its two nodes, the
+/// smaller one first, and its weight, by rising numbers; `manner`, the text `rounds`; `names`, the names of the nodes; `nodes`, how
+/// many there are; `phase`, at which they open; `rounds`, the rounds of the span; `settling`, what becomes of the rounds, as
+/// `["settles", round]`, `["repeats", round, period]` or `["open", limit]`, and empty where it is not known; and `states`, for each of
+/// these rounds the values of the shown fields, node by node. Names stand as the arrays of their bytes, so that no byte of the
+/// data is a `<`.
+///
+/// `TooManyRounds` comes where the last round is above 1,000,000,000, else `RoundsBelowStart` where the first lies before the
+/// plan's start, else `NoField` with the first place of those that are to be shown at which the program has no field, and else
+/// `TooManyValues` where the rounds have more than 20,000,000 values, one for each node and shown field (where none is shown, for
+/// each node), all before anything is done; `Memory` only where none of them holds.
+pub fn rounds_data<P: Progress>(
+    rt: &(impl Threads + Sync),
+    alloc: Global,
+    plan: &Plan,
+    span: &Span,
+    look: &Look<'_>,
+    settling: Option<Settling>,
+    progress: &mut P,
+) -> Result<Vec<u8>, PageFault>
+    ensures text { IfOk result (λ v. v.items ≡ compact_text (rounds_page plan.now span.now look.now settling)) }
+    ensures reads_back { IfOk result (λ v. read v.items ≡ Some (rounds_page plan.now span.now look.now settling)) }
+    ensures closed { IfOk result (λ v. All (λ b. b ≢ 60) v.items) }
+    ensures fits { IfOk result (λ _. rounds_refusal plan.now span.now look.now ≡ None) }
+    ensures refused { IfErr result (IsFault (rounds_refusal plan.now span.now look.now) (rounds_refusal plan.now span.now look.now)) }
+{
+    if let Some(fault) = refusal(plan, span, look) {
+        return Err(fault);
+    }
+    let text = text(rt, alloc, plan, span, look, settling, progress)?;
+    Ok(text)
+}

@@ -1,0 +1,231 @@
+//! Pages of steps.
+ghost use Rattle.std.specs.Prelude.{◌≡◌, ◌≢◌, ◌≤◌, ◌<◌, ℕ, List, All, IfOk, IfErr, None, OnOk, Some, fold, length, map, max};
+ghost use Rattle.std.specs.Arc.{arc_value};
+ghost use Rattle.lockstep.specs.Configs.{most_rounds};
+ghost use Rattle.round_watch.specs.Spans.{rounds_in};
+ghost use Rattle.serde_json.specs.Read.{read};
+ghost use Rattle.serde_json.specs.View.{view};
+ghost use Rattle.serde_json.specs.Written.{compact_text};
+ghost use Rattle.unison_world.specs.Counting.{answers, moves_of, run};
+ghost use Rattle.unison_world.specs.View.{opened, with_counts};
+ghost use Rattle.run_page.specs.Pages.{code_of, listed, numbers as numbers_data, reached, step_data, stepped, steps_page};
+ghost use Rattle.run_page.specs.Refusals.{IsFault, opening_refusal, steps_refusal};
+
+use crate::fault::PageFault;
+use crate::head::head;
+use crate::look::Look;
+use crate::parts::numbers;
+use crate::refusals::{field_refusal, values_refusal};
+use crate::states::{round_numbers, states};
+use crate::text::text_of;
+use lockstep::{MOST_ROUNDS, Plan};
+use round_watch::{Progress, Span};
+use serde_json::{Value, put};
+use std::alloc::{AllocError, Global};
+use std::sync::Arc;
+use std::thread::Threads;
+use unison_world::{Answer, Step, World};
+
+/// Nobody is told how far the rounds are.
+#[derive(Drop)]
+struct Untold;
+
+impl Progress for Untold {
+    fn reached(&mut self, _round: u32) {}
+}
+
+/// Why there is no data, whatever memory there is, by what is known before the first step.
+fn refusal(plan: &Plan, stop: u32, look: &Look<'_>) -> Option<PageFault>
+    ensures { result ≡ opening_refusal plan.now stop look.now }
+{
+    if stop > MOST_ROUNDS {
+        return Some(PageFault::StopTooLarge);
+    }
+    if stop < plan.start() {
+        return Some(PageFault::StopBelowStart);
+    }
+    field_refusal(plan, look)
+}
+
+/// The number that stands for an answer.
+fn code_of(answer: Answer) -> u32
+    ensures { result ≡ code_of answer }
+{
+    match answer {
+        Answer::Taken => 0,
+        Answer::Moved => 1,
+        Answer::Behind => 2,
+        Answer::Already => 3,
+        Answer::NotReady => 4,
+        Answer::Stopped => 5,
+        Answer::NoNode => 6,
+        Answer::NoSlot => 7,
+    }
+}
+
+/// Makes the steps; the numbers of their answers.
+fn make(alloc: Global, world: &mut World, steps: &[Step]) -> Result<Value, AllocError>
+    ensures answers { IfOk result (λ v. view v ≡ numbers_data (map code_of (answers world.old.plan.network world.old.stop world.old.counts steps.now))) }
+    ensures made { OnOk result (world.new ≡ with_counts world.old (run world.old.plan.network world.old.stop world.old.counts steps.now)) }
+{
+    let mut items = Vec::with_capacity(alloc, steps.len())?;
+    for step in steps {
+        let answer = world.step(*step);
+        items.push(Value::from(code_of(answer)))?;
+    }
+    Ok(Value::Array(items))
+}
+
+/// How often a node has moved.
+fn moves(world: &World, node: u32) -> u32
+    ensures count { result ≡ moves_of world.now.counts node }
+    ensures limit { result ≤ most_rounds }
+{
+    // For the proof alone: the calls tell what holds of every world.
+    let _nodes = world.nodes();
+    let _stop = world.stop();
+    world.moves(node).unwrap_or(0)
+}
+
+/// The greatest count, from the plan's start on.
+fn greatest_count(world: &World) -> u32
+    ensures count { result ≡ fold max world.now.plan.start world.now.counts.moves }
+    ensures late { world.now.plan.start ≤ result }
+    ensures limit { result ≤ most_rounds }
+{
+    // For the proof alone: the call tells what holds of every plan.
+    let _phase = world.plan().phase();
+    let mut greatest = world.plan().start();
+    for node in 0..world.nodes() {
+        greatest = greatest.max(moves(world, node));
+    }
+    greatest
+}
+
+/// The rounds that the nodes have reached.
+fn reached(world: &World) -> Span
+    ensures span { result ≡ record { first = world.now.plan.start; last = fold max world.now.plan.start world.now.counts.moves; every = 1 } }
+    ensures limit { result.last ≤ most_rounds }
+{
+    Span::new(world.plan().start(), greatest_count(world), 1).unwrap()
+}
+
+/// A step.
+fn step_value(alloc: Global, step: Step) -> Result<Value, AllocError>
+    ensures { IfOk result (λ v. view v ≡ step_data step) }
+{
+    match step {
+        Step::Read { node, slot } => numbers(alloc, &[node, slot]),
+        Step::Write { node } => numbers(alloc, &[node]),
+    }
+}
+
+/// The steps.
+fn step_values(alloc: Global, steps: &[Step]) -> Result<Value, AllocError>
+    ensures { IfOk result (λ v. view v ≡ listed (map step_data steps.now)) }
+{
+    let mut items = Vec::with_capacity(alloc, steps.len())?;
+    for step in steps {
+        let value = step_value(alloc, *step)?;
+        items.push(value)?;
+    }
+    Ok(Value::Array(items))
+}
+
+/// The data of a plan's steps up to a stop, with these answers and the rounds of this span.
+fn page(
+    rt: &(impl Threads + Sync),
+    alloc: Global,
+    plan: &Plan,
+    stop: u32,
+    steps: &[Step],
+    look: &Look<'_>,
+    answers: Value,
+    span: &Span,
+) -> Result<Value, AllocError>
+    requires fields { All (λ place. place < length plan.now.program.fields) look.now.fields.now }
+    requires late { plan.now.start ≤ span.now.first }
+    requires few { span.now.last ≤ most_rounds }
+    ensures { IfOk result (λ v. (codes : List ℕ) → view answers ≡ numbers_data codes → view v ≡ stepped plan.now stop steps.now look.now codes (rounds_in span.now)) }
+{
+    let mut members = head(alloc, plan, look, "steps")?;
+    put(&mut members, alloc, "answers", answers)?;
+    let rounds = round_numbers(alloc, span)?;
+    put(&mut members, alloc, "rounds", rounds)?;
+    let states = states(rt, alloc, plan, span, look.fields, &mut Untold)?;
+    put(&mut members, alloc, "states", states)?;
+    let steps = step_values(alloc, steps)?;
+    put(&mut members, alloc, "steps", steps)?;
+    put(&mut members, alloc, "stop", Value::from(stop))?;
+    Ok(Value::Object(members))
+}
+
+/// The text of steps that are made on a world before any step.
+fn text(
+    rt: &(impl Threads + Sync),
+    alloc: Global,
+    mut world: World,
+    steps: &[Step],
+    look: &Look<'_>,
+) -> Result<Vec<u8>, PageFault>
+    requires opened { world ≡ opened world.plan world.stop }
+    requires fits { opening_refusal world.plan world.stop look.now ≡ None }
+    ensures text { IfOk result (λ v. v.items ≡ compact_text (steps_page world.plan world.stop steps.now look.now)) }
+    ensures reads_back { IfOk result (λ v. read v.items ≡ Some (steps_page world.plan world.stop steps.now look.now)) }
+    ensures closed { IfOk result (λ v. All (λ b. b ≢ 60) v.items) }
+    ensures fits { IfOk result (λ _. steps_refusal world.plan world.stop steps.now look.now ≡ None) }
+    ensures refused { IfErr result (IsFault (opening_refusal world.plan world.stop look.now) (steps_refusal world.plan world.stop steps.now look.now)) }
+{
+    let answers = make(alloc, &mut world, steps)?;
+    let span = reached(&world);
+    if let Some(fault) = values_refusal(world.plan(), look, span.steps() + 1, steps.len()) {
+        return Err(fault);
+    }
+    let page = page(
+        rt,
+        alloc,
+        world.plan(),
+        world.stop(),
+        steps,
+        look,
+        answers,
+        &span,
+    )?;
+    let text = text_of(alloc, &page)?;
+    Ok(text)
+}
+
+/// The data of a page that shows steps, made in order on a world of the plan whose nodes move up to a stop. Answers that change
+/// nothing do not stop it.
+///
+/// The data is a JSON object with the members of `rounds_data` but for `settling`, and three more, by rising name: `answers`, the
+/// number of the answer to each step: 0 `Taken`, 1 `Moved`, 2 `Behind`, 3 `Already`, 4 `NotReady`, 5 `Stopped`, 6 `NoNode`,
+/// 7 `NoSlot`; `manner` is the text `steps`; `rounds` are those from the plan's start up to the greatest count after the steps, and
+/// `states` the states of the lockstep rounds: a node that has moved so many times shows its state of that round; `steps`, each
+/// read as `[node, slot]` and each write as `[node]`; and `stop`. No byte of the data is a `<`.
+///
+/// `StopTooLarge` comes where the stop is above 1,000,000,000, else `StopBelowStart` where it lies before the plan's start, and
+/// else `NoField` with the first place of those that are to be shown at which the program has no field, all before anything is
+/// done; `TooManyValues` after the steps, where the steps and the values of the rounds are more than 20,000,000 together; `Memory`
+/// where memory was wanted and none of the first three holds.
+pub fn steps_data(
+    rt: &(impl Threads + Sync),
+    alloc: Global,
+    plan: Arc<Plan>,
+    stop: u32,
+    steps: &[Step],
+    look: &Look<'_>,
+) -> Result<Vec<u8>, PageFault>
+    ensures text { IfOk result (λ v. v.items ≡ compact_text (steps_page (arc_value plan) stop steps.now look.now)) }
+    ensures reads_back { IfOk result (λ v. read v.items ≡ Some (steps_page (arc_value plan) stop steps.now look.now)) }
+    ensures closed { IfOk result (λ v. All (λ b. b ≢ 60) v.items) }
+    ensures fits { IfOk result (λ _. steps_refusal (arc_value plan) stop steps.now look.now ≡ None) }
+    ensures refused { IfErr result (IsFault (opening_refusal (arc_value plan) stop look.now) (steps_refusal (arc_value plan) stop steps.now look.now)) }
+{
+    if let Some(fault) = refusal(&plan, stop, look) {
+        return Err(fault);
+    }
+    let world = World::new(alloc, plan, stop)?;
+    let text = text(rt, alloc, world, steps, look)?;
+    Ok(text)
+}
