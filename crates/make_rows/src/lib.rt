@@ -2,6 +2,8 @@
 #![tactic(auto)]
 
 #[cfg(test)]
+mod draw_words;
+#[cfg(test)]
 mod facts;
 #[cfg(test)]
 mod lots;

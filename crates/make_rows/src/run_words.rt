@@ -9,7 +9,7 @@ use std::test::Fail;
 use unison_words::UsageFault;
 
 /// The words as owned texts.
-fn owned(alloc: Global, words: &[&str]) -> Result<Vec<String>, AllocError> {
+pub(crate) fn owned(alloc: Global, words: &[&str]) -> Result<Vec<String>, AllocError> {
     let mut all = Vec::new(alloc);
     for word in words {
         all.push(String::from_str(alloc, word)?)?;
@@ -18,7 +18,7 @@ fn owned(alloc: Global, words: &[&str]) -> Result<Vec<String>, AllocError> {
 }
 
 /// What is told of wrong words.
-fn told(fault: UsageFault) -> Option<String> {
+pub(crate) fn told(fault: UsageFault) -> Option<String> {
     match fault {
         UsageFault::Usage { text } => Some(text),
         _ => None,

@@ -38,6 +38,10 @@ const GROUPS: [(&str, &[Known]); 4] = [
         "Pictures",
         &[
             (
+                "page",
+                "Make an HTML page on which rounds, or single steps, are stepped through",
+            ),
+            (
                 "image",
                 "Make a picture of rounds, nodes across and rounds down, or of one round as a grid",
             ),

@@ -11,6 +11,8 @@ mod make;
 mod names;
 mod open;
 mod output;
+mod page;
+mod page_size;
 mod picture;
 mod plan_texts;
 mod progress;
@@ -30,6 +32,7 @@ use crate::help::help_text;
 use crate::make::make_network;
 use crate::names::name_report;
 use crate::open::open_network;
+use crate::page::make_page;
 use crate::picture::{make_dot, make_image};
 use crate::settle::settle_rounds;
 use crate::show::show_network;
@@ -75,6 +78,7 @@ fn run(rt: &HostRuntime, threads: &(impl Threads + Sync)) -> Result<u8, Ending> 
         "make" => make_network(rt, &words[1..]),
         "names" => name_report(rt, &words[1..]),
         "open" => open_network(rt, &words[1..]),
+        "page" => make_page(rt, threads, &words[1..]),
         "settle" => settle_rounds(rt, threads, &words[1..]),
         "show" => show_network(rt, &words[1..]),
         "steps" => make_steps(rt, &words[1..]),

@@ -47,7 +47,7 @@ fn text_of(alloc: Global, plan: Plan, steps: &[Step], asked: &Telling) -> Result
 }
 
 /// The steps of the schedule at a path.
-fn steps_at(rt: &HostRuntime, path: &str) -> Result<Vec<Step>, Ending> {
+pub(crate) fn steps_at(rt: &HostRuntime, path: &str) -> Result<Vec<Step>, Ending> {
     let schedule = text_at(rt, path)?;
     steps_in(rt.alloc(), &schedule.bytes)
 }
