@@ -61,7 +61,15 @@ fn rounds_text(
     check_size(rt.alloc(), nodes, span, look.fields.len())?;
     let settling = settling_of(rt.alloc(), plan, span.last())?;
     let mut telling = Telling::new(rt, span, nodes);
-    match rounds_data(threads, rt.alloc(), plan, span, look, settling, &mut telling) {
+    match rounds_data(
+        threads,
+        rt.alloc(),
+        plan,
+        span,
+        look,
+        settling,
+        &mut telling,
+    ) {
         Ok(data) => Ok(data),
         Err(fault) => Err(no_data(rt.alloc(), fault)),
     }

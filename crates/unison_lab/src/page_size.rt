@@ -19,7 +19,10 @@ fn rounds_too_many(
         "page TooManyValues\n{rounds} rounds of {cells} values are more than the {MOST_VALUES} of a page; --every {every} fits"
     )?;
     if fields > 0 {
-        write!(&mut text, ", and so does --only with at most {fields} of the fields")?;
+        write!(
+            &mut text,
+            ", and so does --only with at most {fields} of the fields"
+        )?;
     }
     Ok(Ending::Refused(text))
 }
