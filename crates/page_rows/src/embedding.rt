@@ -23,7 +23,9 @@ fn pages(rt: HostRuntime) -> Result<(), Fail> {
     let alloc = rt.alloc();
     assert_page(&rt, alloc, "<p>@RUN@</p>", "[1,2]", "<p>[1,2]</p>")?;
     assert_page(&rt, alloc, "@RUN@ at @run@", "", " at @run@")?;
-    assert_page(&rt, alloc, "@@RUN@", "@RUN@", "@@RUN@")?;
+    assert_page(&rt, alloc, "<p>@RUN@", "7", "<p>7")?;
+    assert_page(&rt, alloc, "@@RUN@", "[@RUN@]", "@[@RUN@]")?;
+    assert_page(&rt, alloc, "@RUN@RUN", "1", "1RUN")?;
     assert_page(&rt, alloc, "@RUN@", "{}", "{}")
 }
 
@@ -39,8 +41,10 @@ fn files_with_no_mark_or_two(rt: HostRuntime) -> Result<(), Fail> {
     assert_refused(&rt, alloc, "", EmbedFault::NoMark);
     assert_refused(&rt, alloc, "@RUN", EmbedFault::NoMark);
     assert_refused(&rt, alloc, "RUN@RUN", EmbedFault::NoMark);
+    assert_refused(&rt, alloc, "@RUN @run@ @RU@N@", EmbedFault::NoMark);
     assert_refused(&rt, alloc, "@RUN@ and @RUN@", EmbedFault::MarkTwice);
     assert_refused(&rt, alloc, "@RUN@RUN@", EmbedFault::MarkTwice);
+    assert_refused(&rt, alloc, "@RUN@@RUN@", EmbedFault::MarkTwice);
     assert_refused(&rt, alloc, "@RUN@@RUN@@RUN@", EmbedFault::MarkTwice);
     Ok(())
 }

@@ -2,12 +2,12 @@
 //! request for memory was refused, be it the plan's; see `.ci/refuse_memory`. Anything else fails it.
 
 use crate::shown::Reached;
+use round_watch::Span;
 use row_plans::plan_of;
 use row_texts::networks::PAIR;
 use row_texts::programs::SWAP;
 use row_worlds::{read, shared_plan, write};
 use run_page::{EmbedFault, Look, PageFault, embedded, rounds_data, steps_data};
-use round_watch::Span;
 use std::process::Abort;
 use std::test::Fail;
 use unison_world::Step;
@@ -35,7 +35,7 @@ fn rounds_where_memory_is_refused(rt: HostRuntime) -> Result<(), Fail> {
         grid: None,
     };
     let span = Span::new(1, 1, 1).ok_or("a span")?;
-    let mut seen = Reached { count: 0 };
+    let mut seen = Reached { count: 0, last: 0 };
     match rounds_data(&rt, rt.alloc(), &plan, &span, &look, None, &mut seen) {
         Err(fault) => {
             assert_eq!(rt; fault, PageFault::Memory);

@@ -46,7 +46,7 @@ fn assert_rounds<R: Threads + Abort + Sync>(
         labels: &[],
         grid: None,
     };
-    let mut seen = Reached { count: 0 };
+    let mut seen = Reached { count: 0, last: 0 };
     let found = rounds_data(rt, alloc, plan, &span, &look, None, &mut seen);
     assert_eq!(rt; found.err(), Some(want), "{first} {last}");
     assert_eq!(rt; seen.count, 0);
@@ -83,10 +83,7 @@ fn assert_steps<R: Threads + Abort + Sync>(
 
 /// The plan of the path from round 1 on, to be shared.
 fn path_after_one(alloc: Global) -> Result<Arc<Plan>, Fail> {
-    Ok(Arc::new(
-        alloc,
-        resumed(alloc, DISTANCE, PATH, PATH_AFTER_ONE)?,
-    )?)
+    Ok(Arc::new(alloc, resumed(alloc, DISTANCE, PATH, PATH_AFTER_ONE)?)?)
 }
 
 #[test]

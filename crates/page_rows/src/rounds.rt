@@ -22,8 +22,8 @@ struct Row {
     fields: &'static [u32],
     grid: Option<u32>,
     settling: Option<Settling>,
-    /// How many rounds there are.
-    count: u32,
+    /// How many rounds there are, and the last of them.
+    told: (u32, u32),
     data: &'static str,
 }
 
@@ -33,8 +33,8 @@ const ON_THE_PATH: Row = Row {
     fields: &[0],
     grid: None,
     settling: Some(Settling::Settles { round: 2 }),
-    count: 3,
-    data: "{\"fields\":[[100,105,115,116]],\"grid\":0,\"links\":[[0,1,1],[1,2,1]],\"manner\":\"rounds\",\"names\":[[97],[60,47,115,99,114,105,112,116,62],[34]],\"nodes\":3,\"phase\":0,\"rounds\":[0,1,2],\"settling\":[\"settles\",2],\"states\":[[0,4294967295,4294967295],[0,1,4294967295],[0,1,2]]}",
+    told: (3, 2),
+    data: "{\"fields\":[[100,105,115,116]],\"grid\":0,\"links\":[[0,1,1],[1,2,1]],\"manner\":\"rounds\",\"names\":[[226,128,174,215,144],[60,47,115,99,114,105,112,116,62],[34,92]],\"nodes\":3,\"phase\":0,\"rounds\":[0,1,2],\"settling\":[\"settles\",2],\"states\":[[0,4294967295,4294967295],[0,1,4294967295],[0,1,2]]}",
 };
 
 /// Two nodes that swap 5 and 7 and count their rounds from 4 on, the counts shown first.
@@ -43,7 +43,7 @@ const COUNTED: Row = Row {
     fields: &[1, 0],
     grid: Some(2),
     settling: Some(Settling::Open { limit: 5 }),
-    count: 3,
+    told: (3, 4),
     data: "{\"fields\":[[116],[115]],\"grid\":2,\"links\":[[0,1,1]],\"manner\":\"rounds\",\"names\":[],\"nodes\":2,\"phase\":2,\"rounds\":[0,2,4],\"settling\":[\"open\",5],\"states\":[[4,5,4,7],[6,5,6,7],[8,5,8,7]]}",
 };
 
@@ -56,7 +56,7 @@ const SWAPPED: Row = Row {
         round: 0,
         period: 2,
     }),
-    count: 1,
+    told: (1, 1),
     data: "{\"fields\":[[115]],\"grid\":0,\"links\":[[0,1,1]],\"manner\":\"rounds\",\"names\":[],\"nodes\":2,\"phase\":0,\"rounds\":[1],\"settling\":[\"repeats\",0,2],\"states\":[[7,5]]}",
 };
 
@@ -66,7 +66,7 @@ const LINKED: Row = Row {
     fields: &[],
     grid: None,
     settling: None,
-    count: 2,
+    told: (2, 1),
     data: "{\"fields\":[],\"grid\":0,\"links\":[[0,1,2],[0,3,7],[1,2,1]],\"manner\":\"rounds\",\"names\":[],\"nodes\":4,\"phase\":0,\"rounds\":[0,1],\"settling\":[],\"states\":[[],[]]}",
 };
 
@@ -85,10 +85,10 @@ fn assert_row<R: Threads + Abort + Sync>(
         labels,
         grid: row.grid,
     };
-    let mut seen = Reached { count: 0 };
+    let mut seen = Reached { count: 0, last: 0 };
     let data = rounds_data(rt, alloc, plan, &span, &look, row.settling, &mut seen)?;
     assert_eq!(rt; str::from_utf8(&data), Ok(row.data));
-    assert_eq!(rt; seen.count, row.count);
+    assert_eq!(rt; (seen.count, seen.last), row.told);
     Ok(())
 }
 
