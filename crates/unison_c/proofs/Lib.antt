@@ -1,0 +1,4 @@
+mod ListFaults
+mod Listed
+mod Passing
+mod Shown

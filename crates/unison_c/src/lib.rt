@@ -1,0 +1,183 @@
+//! Unison for C: from texts to answers in the caller's memory, with no state and no threads. Each call answers 0 where it was
+//! done, else the number of the first fault on the way (`fault.rt`). `library/unison.h` declares them.
+#![tactic(auto)]
+
+ghost use Rattle.std.specs.Prelude.{◌≡◌, ◌≢◌, length, true};
+ghost use Rattle.unison_c.specs.Answers.{HasPlanWith, HasReplay, HasRoundWords, HasSettling, HaveRoundWords, IsSpelled, IsText, told_by};
+ghost use Rattle.unison_c.specs.Numbers.{IsNumberOf};
+ghost use Rattle.unison_c.specs.Refusals.{AreNoRounds, IsNoReplay, IsNoRound, IsNoSettling, IsRefusedPlan, IsUnspelled, IsUntold, is_job};
+
+mod fault;
+mod plans;
+mod reasons;
+mod replays;
+mod rounds;
+mod settling;
+mod spelling;
+#[cfg(test)]
+mod tests;
+mod words;
+
+use crate::reasons::write_reason;
+use crate::replays::write_replay;
+use crate::rounds::{write_round, write_rounds};
+use crate::settling::write_settling;
+use crate::spelling::write_spelling;
+use std::alloc::Global;
+
+/// The number of the fault of too little room.
+const ROOM: u32 = 2;
+
+/// Writes the canonical spelling of a program to the front of the text, and how long it is; where there is too little room,
+/// how long it is alone.
+#[unsafe(no_mangle)]
+pub extern "C" fn unison_check(
+    alloc: Global,
+    program: &[u8],
+    text: &mut [u8],
+    text_len: &mut usize,
+) -> u32
+    ensures written { result ≡ 0 → IsSpelled program.now text.old text.new text_len.new }
+    ensures kept { result ≢ 0 → text.new ≡ text.old }
+    ensures sized { result ≢ 0 → result ≢ ROOM → text_len.new ≡ text_len.old }
+    ensures refused { result ≢ 0 → IsNumberOf (IsUnspelled program.now (length text.old) text_len.new) result }
+{
+    match write_spelling(alloc, program, text, text_len) {
+        Ok(()) => 0,
+        Err(fault) => fault.number(),
+    }
+}
+
+/// Writes the words of all fields of all nodes after a round, node by node, to the front of the words, and how many nodes and
+/// fields there are; where there is too little room, these numbers alone, and then no round is computed.
+#[unsafe(no_mangle)]
+pub extern "C" fn unison_lockstep(
+    alloc: Global,
+    program: &[u8],
+    network: &[u8],
+    from: &[u8],
+    round: u32,
+    words: &mut [u32],
+    nodes: &mut u32,
+    fields: &mut u32,
+) -> u32
+    ensures written { result ≡ 0 → HasPlanWith program.now network.now from.now (λ p. HasRoundWords p round words.old words.new nodes.new fields.new) }
+    ensures kept { result ≢ 0 → words.new ≡ words.old }
+    ensures sized { result ≢ 0 → result ≢ ROOM → (nodes.new ≡ nodes.old) × (fields.new ≡ fields.old) }
+    ensures refused { result ≢ 0 → IsNumberOf (IsRefusedPlan program.now network.now from.now (IsNoRound round (length words.old) nodes.new fields.new)) result }
+{
+    match write_round(alloc, program, network, from, round, words, nodes, fields) {
+        Ok(()) => 0,
+        Err(fault) => fault.number(),
+    }
+}
+
+/// Writes the words after each of the rounds, of which each is above the one before it, one round behind the other, to the
+/// front of the words, and how many nodes and fields there are; where there is too little room, these numbers alone, and then
+/// no round is computed. All is done in one pass over the rounds.
+#[unsafe(no_mangle)]
+pub extern "C" fn unison_watch(
+    alloc: Global,
+    program: &[u8],
+    network: &[u8],
+    from: &[u8],
+    rounds: &[u32],
+    words: &mut [u32],
+    nodes: &mut u32,
+    fields: &mut u32,
+) -> u32
+    ensures written { result ≡ 0 → HasPlanWith program.now network.now from.now (λ p. HaveRoundWords p rounds.now words.old words.new nodes.new fields.new) }
+    ensures kept { result ≢ 0 → words.new ≡ words.old }
+    ensures sized { result ≢ 0 → result ≢ ROOM → (nodes.new ≡ nodes.old) × (fields.new ≡ fields.old) }
+    ensures refused { result ≢ 0 → IsNumberOf (IsRefusedPlan program.now network.now from.now (AreNoRounds rounds.now (length words.old) nodes.new fields.new)) result }
+{
+    match write_rounds(alloc, program, network, from, rounds, words, nodes, fields) {
+        Ok(()) => 0,
+        Err(fault) => fault.number(),
+    }
+}
+
+/// Writes what becomes of the rounds up to a limit: the manner is 1 where they settle at the round, 2 where they repeat from
+/// the round on, every so many rounds as the period says, and 3 where neither shows up to the round. Where there is no period
+/// it is 0.
+#[unsafe(no_mangle)]
+pub extern "C" fn unison_settle(
+    alloc: Global,
+    program: &[u8],
+    network: &[u8],
+    from: &[u8],
+    limit: u32,
+    manner: &mut u32,
+    round: &mut u32,
+    period: &mut u32,
+) -> u32
+    ensures written { result ≡ 0 → HasPlanWith program.now network.now from.now (λ p. HasSettling p limit manner.new round.new period.new) }
+    ensures kept { result ≢ 0 → (manner.new ≡ manner.old) × (round.new ≡ round.old) × (period.new ≡ period.old) }
+    ensures refused { result ≢ 0 → IsNumberOf (IsRefusedPlan program.now network.now from.now (IsNoSettling limit)) result }
+{
+    match write_settling(alloc, program, network, from, limit, manner, round, period) {
+        Ok(()) => 0,
+        Err(fault) => fault.number(),
+    }
+}
+
+/// Writes what stands there after the steps of a schedule: the replay report to the front of the report, how often each node
+/// has moved to the front of the counts, and the words that the nodes show to the front of the words, node by node; and how long
+/// the report is, and how many nodes and fields there are. Where there is too little room for one of the three, these numbers
+/// alone.
+#[unsafe(no_mangle)]
+pub extern "C" fn unison_replay(
+    alloc: Global,
+    program: &[u8],
+    network: &[u8],
+    from: &[u8],
+    schedule: &[u8],
+    stop: u32,
+    report: &mut [u8],
+    report_len: &mut usize,
+    counts: &mut [u32],
+    words: &mut [u32],
+    nodes: &mut u32,
+    fields: &mut u32,
+) -> u32
+    ensures written { result ≡ 0 → HasPlanWith program.now network.now from.now (λ p. HasReplay p stop schedule.now (told_by report.old counts.old words.old) (told_by report.new counts.new words.new) report_len.new nodes.new fields.new) }
+    ensures kept { result ≢ 0 → (report.new ≡ report.old) × (counts.new ≡ counts.old) × (words.new ≡ words.old) }
+    ensures sized { result ≢ 0 → result ≢ ROOM → (report_len.new ≡ report_len.old) × (nodes.new ≡ nodes.old) × (fields.new ≡ fields.old) }
+    ensures refused { result ≢ 0 → IsNumberOf (IsRefusedPlan program.now network.now from.now (IsNoReplay stop schedule.now (told_by report.old counts.old words.old) report_len.new nodes.new fields.new)) result }
+{
+    let done = write_replay(
+        alloc, program, network, from, schedule, stop, report, report_len, counts, words, nodes,
+        fields,
+    );
+    match done {
+        Ok(()) => 0,
+        Err(fault) => fault.number(),
+    }
+}
+
+/// Writes what is told of a job on these texts, its round or stop being `number`, to the front of the text, and how long it is:
+/// why it is not done, or that nothing is wrong; where there is too little room, how long it is alone. Job 1 is the spelling of
+/// the program, 2 the lockstep rounds, 3 the replay.
+#[unsafe(no_mangle)]
+pub extern "C" fn unison_why(
+    alloc: Global,
+    job: u32,
+    program: &[u8],
+    network: &[u8],
+    from: &[u8],
+    schedule: &[u8],
+    number: u32,
+    text: &mut [u8],
+    text_len: &mut usize,
+) -> u32
+    ensures job { result ≡ 0 → is_job job ≡ true }
+    ensures written { result ≡ 0 → IsText text.old text.new text_len.new }
+    ensures kept { result ≢ 0 → text.new ≡ text.old }
+    ensures sized { result ≢ 0 → result ≢ ROOM → text_len.new ≡ text_len.old }
+    ensures refused { result ≢ 0 → IsNumberOf (IsUntold job (length text.old) text_len.new) result }
+{
+    match write_reason(alloc, job, program, network, from, schedule, number, text, text_len) {
+        Ok(()) => 0,
+        Err(fault) => fault.number(),
+    }
+}

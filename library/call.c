@@ -1,0 +1,218 @@
+/* Shows each call, on files: what it asks for, and how the answer is printed.
+ *
+ *     call check PROGRAM                          the canonical spelling
+ *     call lockstep PROGRAM NETWORK ROUND [FROM]  a line for each node: its number and its words
+ *     call watch PROGRAM NETWORK ROUND..          the same for each round, behind a line with its number
+ *     call settle PROGRAM NETWORK LIMIT           settles ROUND, repeats ROUND PERIOD, or open LIMIT
+ *     call replay PROGRAM NETWORK SCHEDULE STOP   the replay report, and a line for each node: its number, its count and its words
+ *     call why JOB PROGRAM [NETWORK NUMBER [SCHEDULE]]
+ *
+ * Where a call is not done it prints the number of its fault, and ends with status 3. */
+#include "unison.h"
+
+#include <errno.h>
+#include <stdio.h>
+#include <stdlib.h>
+#include <string.h>
+
+struct text {
+    uint8_t *bytes;
+    size_t len;
+};
+
+/* A text that is not there: its pointer is not null. */
+static struct text no_text(void) {
+    static uint8_t none[1];
+    struct text text = {none, 0};
+    return text;
+}
+
+static void *room_for(size_t count, size_t size) {
+    void *room = calloc(count ? count : 1, size);
+    if (!room) {
+        fputs("call: not enough memory\n", stderr);
+        exit(1);
+    }
+    return room;
+}
+
+/* The bytes of a file. */
+static struct text read_file(const char *path) {
+    FILE *file = fopen(path, "rb");
+    long len = -1;
+    if (file && fseek(file, 0, SEEK_END) == 0) len = ftell(file);
+    if (len < 0) {
+        fprintf(stderr, "call: %s: %s\n", path, strerror(errno));
+        exit(1);
+    }
+    rewind(file);
+    struct text text = {room_for((size_t)len, 1), (size_t)len};
+    if (fread(text.bytes, 1, text.len, file) != text.len) {
+        fprintf(stderr, "call: %s: not read\n", path);
+        exit(1);
+    }
+    fclose(file);
+    return text;
+}
+
+static uint32_t number(const char *word) { return (uint32_t)strtoul(word, NULL, 10); }
+
+static int fault(uint32_t answer) {
+    printf("fault %u\n", (unsigned)answer);
+    return 3;
+}
+
+static void print_words(const uint32_t *words, uint32_t nodes, uint32_t fields) {
+    for (uint32_t node = 0; node < nodes; node++) {
+        printf("%u", (unsigned)node);
+        for (uint32_t field = 0; field < fields; field++) printf(" %u", (unsigned)words[(size_t)node * fields + field]);
+        putchar('\n');
+    }
+}
+
+static int show_check(const char *path) {
+    struct text program = read_file(path);
+    size_t len = 0;
+    uint8_t *spelling = room_for(0, 1);
+    /* With no room at first: the answer tells how long the text is. */
+    uint32_t answer = unison_check(program.bytes, program.len, spelling, 0, &len);
+    if (answer == UNISON_ROOM) {
+        free(spelling);
+        spelling = room_for(len, 1);
+        answer = unison_check(program.bytes, program.len, spelling, len, &len);
+    }
+    if (answer) return fault(answer);
+    fwrite(spelling, 1, len, stdout);
+    free(spelling);
+    free(program.bytes);
+    return 0;
+}
+
+static int show_lockstep(char **words) {
+    struct text program = read_file(words[0]), network = read_file(words[1]);
+    struct text from = words[3] ? read_file(words[3]) : no_text();
+    uint32_t round = number(words[2]), nodes = 0, fields = 0;
+    uint32_t *states = room_for(0, sizeof *states);
+    uint32_t answer = unison_lockstep(program.bytes, program.len, network.bytes, network.len, from.bytes, from.len, round,
+                                      states, 0, &nodes, &fields);
+    if (answer == UNISON_ROOM) {
+        size_t room = (size_t)nodes * fields;
+        free(states);
+        states = room_for(room, sizeof *states);
+        answer = unison_lockstep(program.bytes, program.len, network.bytes, network.len, from.bytes, from.len, round, states,
+                                 room, &nodes, &fields);
+    }
+    if (answer) return fault(answer);
+    print_words(states, nodes, fields);
+    free(states);
+    free(network.bytes);
+    free(program.bytes);
+    return 0;
+}
+
+static int show_watch(char **words, size_t count) {
+    struct text program = read_file(words[0]), network = read_file(words[1]), from = no_text();
+    uint32_t *rounds = room_for(count, sizeof *rounds), *states = room_for(0, sizeof *states), nodes = 0, fields = 0;
+    for (size_t i = 0; i < count; i++) rounds[i] = number(words[2 + i]);
+    uint32_t answer = unison_watch(program.bytes, program.len, network.bytes, network.len, from.bytes, from.len, rounds, count,
+                                   states, 0, &nodes, &fields);
+    if (answer == UNISON_ROOM) {
+        size_t room = count * nodes * fields;
+        free(states);
+        states = room_for(room, sizeof *states);
+        answer = unison_watch(program.bytes, program.len, network.bytes, network.len, from.bytes, from.len, rounds, count,
+                              states, room, &nodes, &fields);
+    }
+    if (answer) return fault(answer);
+    for (size_t i = 0; i < count; i++) {
+        printf("round %u\n", (unsigned)rounds[i]);
+        print_words(states + i * nodes * fields, nodes, fields);
+    }
+    free(states);
+    free(rounds);
+    free(network.bytes);
+    free(program.bytes);
+    return 0;
+}
+
+static int show_settle(char **words) {
+    struct text program = read_file(words[0]), network = read_file(words[1]), from = no_text();
+    uint32_t manner = 0, round = 0, period = 0;
+    uint32_t answer = unison_settle(program.bytes, program.len, network.bytes, network.len, from.bytes, from.len,
+                                    number(words[2]), &manner, &round, &period);
+    if (answer) return fault(answer);
+    if (manner == UNISON_SETTLES) printf("settles %u\n", (unsigned)round);
+    if (manner == UNISON_REPEATS) printf("repeats %u %u\n", (unsigned)round, (unsigned)period);
+    if (manner == UNISON_OPEN) printf("open %u\n", (unsigned)round);
+    free(network.bytes);
+    free(program.bytes);
+    return 0;
+}
+
+static int show_replay(char **words) {
+    struct text program = read_file(words[0]), network = read_file(words[1]), schedule = read_file(words[2]), from = no_text();
+    uint32_t stop = number(words[3]), nodes = 0, fields = 0;
+    uint8_t *report = room_for(0, 1);
+    uint32_t *counts = room_for(0, sizeof *counts), *states = room_for(0, sizeof *states);
+    size_t len = 0, room = 0;
+    uint32_t answer = unison_replay(program.bytes, program.len, network.bytes, network.len, from.bytes, from.len, schedule.bytes,
+                                    schedule.len, stop, report, 0, &len, counts, 0, states, 0, &nodes, &fields);
+    if (answer == UNISON_ROOM) {
+        free(report);
+        free(counts);
+        free(states);
+        room = (size_t)nodes * fields;
+        report = room_for(len, 1);
+        counts = room_for(nodes, sizeof *counts);
+        states = room_for(room, sizeof *states);
+        answer = unison_replay(program.bytes, program.len, network.bytes, network.len, from.bytes, from.len, schedule.bytes,
+                               schedule.len, stop, report, len, &len, counts, nodes, states, room, &nodes, &fields);
+    }
+    if (answer) return fault(answer);
+    fwrite(report, 1, len, stdout);
+    for (uint32_t node = 0; node < nodes; node++) {
+        printf("%u %u", (unsigned)node, (unsigned)counts[node]);
+        for (uint32_t field = 0; field < fields; field++) printf(" %u", (unsigned)states[(size_t)node * fields + field]);
+        putchar('\n');
+    }
+    free(states);
+    free(counts);
+    free(report);
+    free(schedule.bytes);
+    free(network.bytes);
+    free(program.bytes);
+    return 0;
+}
+
+static int show_why(char **words, size_t count) {
+    struct text program = read_file(words[1]), from = no_text();
+    struct text network = count > 2 ? read_file(words[2]) : no_text();
+    struct text schedule = count > 4 ? read_file(words[4]) : no_text();
+    uint32_t job = number(words[0]), limit = count > 3 ? number(words[3]) : 0;
+    size_t len = 0;
+    uint8_t *told = room_for(0, 1);
+    uint32_t answer = unison_why(job, program.bytes, program.len, network.bytes, network.len, from.bytes, from.len,
+                                 schedule.bytes, schedule.len, limit, told, 0, &len);
+    if (answer == UNISON_ROOM) {
+        free(told);
+        told = room_for(len, 1);
+        answer = unison_why(job, program.bytes, program.len, network.bytes, network.len, from.bytes, from.len, schedule.bytes,
+                            schedule.len, limit, told, len, &len);
+    }
+    if (answer) return fault(answer);
+    fwrite(told, 1, len, stdout);
+    free(told);
+    return 0;
+}
+
+int main(int count, char **words) {
+    const char *call = count > 2 ? words[1] : "";
+    if (strcmp(call, "check") == 0 && count == 3) return show_check(words[2]);
+    if (strcmp(call, "lockstep") == 0 && (count == 5 || count == 6)) return show_lockstep(words + 2);
+    if (strcmp(call, "watch") == 0 && count >= 4) return show_watch(words + 2, (size_t)count - 4);
+    if (strcmp(call, "settle") == 0 && count == 5) return show_settle(words + 2);
+    if (strcmp(call, "replay") == 0 && count == 6) return show_replay(words + 2);
+    if (strcmp(call, "why") == 0 && count >= 4) return show_why(words + 2, (size_t)count - 2);
+    fputs("call: check, lockstep, watch, settle, replay or why, and its files and numbers (call.c tells them)\n", stderr);
+    return 2;
+}

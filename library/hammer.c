@@ -1,0 +1,387 @@
+/* Calls all exports on texts drawn by a seed, whole and damaged, with rooms of all sizes, in one process.
+ *
+ *     hammer SEED CALLS FILE..
+ *
+ * The files are programs (.rules) and networks (.toml). After each call it looks at the answer, which has to be 0 or a number of
+ * enum unison_fault; at the bytes before and behind each memory that was given, which have to be as they were; at what a call that
+ * was not done may not write; and at what stands behind what a call that was done wrote. At the end it prints how often each answer
+ * came, and how much memory the process has after a tenth of the calls and after all of them. Its status is 0 where all was right. */
+#include "unison.h"
+
+#include <stdio.h>
+#include <stdlib.h>
+#include <string.h>
+
+enum { GUARD = 64, MOST_TEXTS = 64, MOST_BYTES = 4096, MOST_WORDS = 4096, MOST_ROUNDS = 8, PATTERN = 0xA5 };
+
+static uint64_t state;
+
+/* The next number of the seed (xorshift64*). */
+static uint64_t draw(void) {
+    state ^= state >> 12;
+    state ^= state << 25;
+    state ^= state >> 27;
+    return state * UINT64_C(2685821657736338717);
+}
+
+static size_t below(size_t bound) { return bound ? (size_t)(draw() % bound) : 0; }
+
+static int chance(size_t of) { return below(of) == 0; }
+
+struct text {
+    uint8_t *bytes;
+    size_t len;
+};
+
+static struct text programs[MOST_TEXTS], networks[MOST_TEXTS];
+static size_t program_count, network_count;
+static uint64_t seen[256];
+static unsigned long long call_number;
+
+static void fail(const char *what, const char *call) {
+    printf("FAILED: call %llu, %s: %s\n", call_number, call, what);
+    exit(1);
+}
+
+static struct text read_file(const char *path) {
+    static uint8_t bytes[1 << 16];
+    FILE *file = fopen(path, "rb");
+    if (!file) {
+        perror(path);
+        exit(2);
+    }
+    struct text text = {NULL, fread(bytes, 1, sizeof bytes, file)};
+    fclose(file);
+    text.bytes = malloc(text.len + 1);
+    if (!text.bytes) exit(2);
+    memcpy(text.bytes, bytes, text.len);
+    return text;
+}
+
+/* A memory between two guards: its bytes are the pattern before the call. */
+struct guarded {
+    uint8_t *block;
+    size_t len;
+};
+
+static struct guarded guarded(size_t len) {
+    struct guarded memory = {malloc(len + 2 * GUARD), len};
+    if (!memory.block) exit(2);
+    memset(memory.block, PATTERN, len + 2 * GUARD);
+    return memory;
+}
+
+/* A text to read from, of exactly its length, so that valgrind sees what reads past it. */
+static struct guarded copied(struct text text) {
+    struct guarded memory = guarded(text.len);
+    memcpy(memory.block + GUARD, text.bytes, text.len);
+    return memory;
+}
+
+static uint8_t *inside(struct guarded memory) { return memory.block + GUARD; }
+
+static int is_pattern(const uint8_t *bytes, size_t len) {
+    for (size_t i = 0; i < len; i++)
+        if (bytes[i] != PATTERN) return 0;
+    return 1;
+}
+
+/* The guards are as they were, and so is what stands behind the first `written` bytes. */
+static void check_memory(struct guarded memory, size_t written, const char *call) {
+    if (!is_pattern(memory.block, GUARD)) fail("wrote before a memory", call);
+    if (written > memory.len) fail("a size above the room", call);
+    if (!is_pattern(inside(memory) + written, memory.len - written + GUARD)) fail("wrote behind its answer", call);
+    free(memory.block);
+}
+
+/* The text is as it was. */
+static void check_text(struct guarded memory, struct text text, const char *call) {
+    if (memcmp(inside(memory), text.bytes, text.len) != 0) fail("wrote into a text", call);
+    check_memory(memory, text.len, call);
+}
+
+/* The answer is one that the header names. */
+static void check_answer(uint32_t answer, const char *call) {
+    static const uint8_t named[] = {
+        0, UNISON_ROOM, UNISON_NOT_RISING, UNISON_NO_JOB, UNISON_PROGRAM_TOO_LONG, UNISON_PROGRAM_LEX, UNISON_PROGRAM_SYNTAX,
+        UNISON_PROGRAM_TOO_MANY_FIELDS, UNISON_PROGRAM_FIELD_TWICE, UNISON_PROGRAM_NEXT_TWICE, UNISON_PROGRAM_UNKNOWN_NAME,
+        UNISON_PROGRAM_NEIGHBOUR_OUTSIDE, UNISON_PROGRAM_NESTED_AGGREGATE, UNISON_PROGRAM_TOO_MANY_AGGREGATES,
+        UNISON_NETWORK_NOT_TOML, UNISON_NETWORK_UNKNOWN_KEY, UNISON_NETWORK_BAD_SHAPE, UNISON_NETWORK_NODE_COUNT,
+        UNISON_NETWORK_BAD_LINK, UNISON_NETWORK_SELF_LINK, UNISON_NETWORK_LINK_TWICE, UNISON_NETWORK_TOO_MANY_LINKS,
+        UNISON_NETWORK_TOO_MANY_NEIGHBOURS, UNISON_NETWORK_BAD_PHASE, UNISON_NETWORK_BAD_WEIGHT, UNISON_PLAN_UNKNOWN_FIELD,
+        UNISON_PLAN_BAD_NODE, UNISON_PLAN_BAD_VALUE, UNISON_PLAN_SET_TWICE, UNISON_RUN_TOO_MANY_ROUNDS,
+        UNISON_RUN_ROUNDS_BELOW_START, UNISON_SCHEDULE_BAD_LINE, UNISON_SCHEDULE_TOO_MANY_STEPS, UNISON_RUN_STOP_TOO_LARGE,
+        UNISON_RUN_STOP_BELOW_START, UNISON_REPORT_BAD_LINE, UNISON_REPORT_TOO_MANY_ROUNDS, UNISON_PROGRAM_READS_ROUND,
+        UNISON_LIMIT_TOO_LARGE, UNISON_LIMIT_BELOW_START};
+    for (size_t i = 0; i < sizeof named; i++) {
+        if (answer == named[i]) {
+            seen[answer]++;
+            return;
+        }
+    }
+    fail("an answer with no name", call);
+}
+
+/* The text, in two of three calls whole, else with some bytes changed, cut out, put in or cut off. */
+static struct text damaged(struct text text, int whole) {
+    static const char bytes[] = "0123456789[](){};,=.nxid \n#\"+-*<>&|ABCmost\377";
+    struct text made = {malloc(text.len + 64), text.len};
+    if (!made.bytes) exit(2);
+    memcpy(made.bytes, text.bytes, text.len);
+    if (whole) return made;
+    for (size_t times = 1 + below(4); times; times--) {
+        size_t at = below(made.len + 1);
+        size_t left = made.len - at;
+        uint8_t byte = (uint8_t)bytes[below(sizeof bytes - 1)];
+        switch (below(5)) {
+        case 0:
+            if (left) made.bytes[at] = byte;
+            break;
+        case 1:
+            memmove(made.bytes + at + 1, made.bytes + at, left);
+            made.bytes[at] = byte;
+            made.len++;
+            break;
+        case 2:
+            if (left) {
+                size_t out = 1 + below(left < 8 ? left : 8);
+                memmove(made.bytes + at, made.bytes + at + out, left - out);
+                made.len -= out;
+            }
+            break;
+        case 3:
+            if (chance(4)) made.len = at;
+            break;
+        default:
+            if (left) made.bytes[at] = (uint8_t)draw();
+        }
+    }
+    return made;
+}
+
+/* Lines of a schedule, most of them sound. */
+static struct text schedule(void) {
+    struct text made = {malloc(MOST_BYTES), 0};
+    if (!made.bytes) exit(2);
+    for (size_t lines = below(40); lines; lines--) {
+        char *at = (char *)made.bytes + made.len;
+        unsigned node = (unsigned)below(chance(20) ? 70000 : 6), slot = (unsigned)below(chance(20) ? 5000 : 4);
+        if (chance(2))
+            made.len += (size_t)sprintf(at, "read %u %u\n", node, slot);
+        else
+            made.len += (size_t)sprintf(at, "write %u\n", node);
+        if (chance(400)) made.len += (size_t)sprintf((char *)made.bytes + made.len, "raed 0 0\n");
+    }
+    return made;
+}
+
+/* The report of a round with some fields of some nodes, that may be the report of the plan. */
+static struct text report(uint32_t round, uint32_t nodes, const char *field) {
+    struct text made = {malloc(MOST_BYTES), 0};
+    if (!made.bytes) exit(2);
+    made.len = (size_t)sprintf((char *)made.bytes, "round %u\n", (unsigned)round);
+    for (uint32_t node = 0; node < nodes && made.len + 64 < MOST_BYTES; node++)
+        made.len += (size_t)sprintf((char *)made.bytes + made.len, "%u %s=%u\n", (unsigned)node, field, (unsigned)below(9));
+    return made;
+}
+
+/* A round: mostly a small one, else one at the limit or above it, where the text is one that refuses it. */
+static uint32_t some_round(void) {
+    if (chance(40)) return (uint32_t)(1000000001 + below(1000));
+    if (chance(40)) return UINT32_MAX;
+    return (uint32_t)below(24);
+}
+
+/* The room for an answer: none, too little, or enough in most cases. */
+static size_t some_room(size_t most) {
+    if (chance(8)) return 0;
+    return chance(3) ? below(64) : below(most);
+}
+
+struct texts {
+    struct text program, network, from, schedule;
+    struct guarded program_memory, network_memory, from_memory, schedule_memory;
+};
+
+static struct texts draw_texts(void) {
+    struct texts texts;
+    struct text none = {NULL, 0};
+    texts.program = damaged(programs[below(program_count)], !chance(3));
+    texts.network = damaged(networks[below(network_count)], !chance(3));
+    texts.from = none;
+    if (chance(4)) {
+        static const char *const fields[] = {"dist", "s", "known", "vote", "leader"};
+        struct text whole = report((uint32_t)below(chance(30) ? 4000000000u : 9), (uint32_t)(1 + below(8)), fields[below(5)]);
+        texts.from = damaged(whole, !chance(6));
+        free(whole.bytes);
+    }
+    texts.schedule = schedule();
+    texts.program_memory = copied(texts.program);
+    texts.network_memory = copied(texts.network);
+    texts.from_memory = copied(texts.from);
+    texts.schedule_memory = copied(texts.schedule);
+    return texts;
+}
+
+static void drop_texts(struct texts *texts, const char *call) {
+    check_text(texts->program_memory, texts->program, call);
+    check_text(texts->network_memory, texts->network, call);
+    if (texts->from.bytes) check_text(texts->from_memory, texts->from, call);
+    else check_memory(texts->from_memory, 0, call);
+    check_text(texts->schedule_memory, texts->schedule, call);
+    free(texts->program.bytes);
+    free(texts->network.bytes);
+    free(texts->from.bytes);
+    free(texts->schedule.bytes);
+}
+
+#define PROGRAM inside(texts.program_memory), texts.program.len
+#define NETWORK inside(texts.network_memory), texts.network.len
+#define FROM inside(texts.from_memory), texts.from.len
+#define SCHEDULE inside(texts.schedule_memory), texts.schedule.len
+
+/* A size that is no answer's. */
+static const size_t UNSET = 0x5eed5eed;
+
+/* Sizes are set exactly where the answer is 0 or too little room. */
+static void check_size(uint32_t answer, size_t size, const char *call) {
+    if (answer && answer != UNISON_ROOM && size != UNSET) fail("set a size", call);
+    if ((!answer || answer == UNISON_ROOM) && size == UNSET) fail("did not set a size", call);
+}
+
+static void hit_check(void) {
+    struct texts texts = draw_texts();
+    struct guarded text = guarded(some_room(2048));
+    size_t len = UNSET;
+    uint32_t answer = unison_check(PROGRAM, inside(text), text.len, &len);
+    check_answer(answer, "check");
+    check_size(answer, len, "check");
+    if (answer == UNISON_ROOM && len <= text.len) fail("had room", "check");
+    check_memory(text, answer ? 0 : len, "check");
+    drop_texts(&texts, "check");
+}
+
+static void hit_lockstep(void) {
+    struct texts texts = draw_texts();
+    struct guarded words = guarded(sizeof(uint32_t) * some_room(MOST_WORDS));
+    uint32_t nodes = UNSET, fields = UNSET;
+    uint32_t answer = unison_lockstep(PROGRAM, NETWORK, FROM, some_round(), (uint32_t *)(void *)inside(words),
+                                      words.len / sizeof(uint32_t), &nodes, &fields);
+    check_answer(answer, "lockstep");
+    check_size(answer, nodes, "lockstep");
+    check_size(answer, fields, "lockstep");
+    if (answer == UNISON_ROOM && sizeof(uint32_t) * nodes * fields <= words.len) fail("had room", "lockstep");
+    check_memory(words, answer ? 0 : sizeof(uint32_t) * nodes * fields, "lockstep");
+    drop_texts(&texts, "lockstep");
+}
+
+static void hit_watch(void) {
+    struct texts texts = draw_texts();
+    uint32_t rounds[MOST_ROUNDS], nodes = UNSET, fields = UNSET;
+    size_t count = below(MOST_ROUNDS + 1);
+    uint32_t round = (uint32_t)below(6);
+    for (size_t i = 0; i < count; i++) {
+        rounds[i] = chance(60) ? some_round() : round;
+        round += 1 + (uint32_t)below(4);
+    }
+    struct guarded words = guarded(sizeof(uint32_t) * some_room(MOST_WORDS));
+    uint32_t answer = unison_watch(PROGRAM, NETWORK, FROM, rounds, count, (uint32_t *)(void *)inside(words),
+                                   words.len / sizeof(uint32_t), &nodes, &fields);
+    check_answer(answer, "watch");
+    check_size(answer, nodes, "watch");
+    check_size(answer, fields, "watch");
+    if (answer == UNISON_ROOM && sizeof(uint32_t) * count * nodes * fields <= words.len) fail("had room", "watch");
+    check_memory(words, answer ? 0 : sizeof(uint32_t) * count * nodes * fields, "watch");
+    drop_texts(&texts, "watch");
+}
+
+static void hit_settle(void) {
+    struct texts texts = draw_texts();
+    uint32_t manner = UNSET, round = UNSET, period = UNSET;
+    uint32_t answer = unison_settle(PROGRAM, NETWORK, FROM, some_round(), &manner, &round, &period);
+    check_answer(answer, "settle");
+    if (answer == UNISON_ROOM) fail("asked for room", "settle");
+    check_size(answer, manner, "settle");
+    check_size(answer, round, "settle");
+    check_size(answer, period, "settle");
+    if (!answer && (manner < 1 || manner > 3 || (manner == UNISON_REPEATS) != (period > 0))) fail("a manner", "settle");
+    drop_texts(&texts, "settle");
+}
+
+static void hit_replay(void) {
+    struct texts texts = draw_texts();
+    struct guarded told = guarded(some_room(MOST_BYTES));
+    struct guarded counts = guarded(sizeof(uint32_t) * some_room(256));
+    struct guarded words = guarded(sizeof(uint32_t) * some_room(MOST_WORDS));
+    size_t len = UNSET;
+    uint32_t nodes = UNSET, fields = UNSET;
+    uint32_t answer = unison_replay(PROGRAM, NETWORK, FROM, SCHEDULE, some_round(), inside(told), told.len, &len,
+                                    (uint32_t *)(void *)inside(counts), counts.len / sizeof(uint32_t),
+                                    (uint32_t *)(void *)inside(words), words.len / sizeof(uint32_t), &nodes, &fields);
+    check_answer(answer, "replay");
+    check_size(answer, len, "replay");
+    check_size(answer, nodes, "replay");
+    check_size(answer, fields, "replay");
+    if (answer == UNISON_ROOM && len <= told.len && sizeof(uint32_t) * nodes <= counts.len &&
+        sizeof(uint32_t) * nodes * fields <= words.len)
+        fail("had room", "replay");
+    check_memory(told, answer ? 0 : len, "replay");
+    check_memory(counts, answer ? 0 : sizeof(uint32_t) * nodes, "replay");
+    check_memory(words, answer ? 0 : sizeof(uint32_t) * nodes * fields, "replay");
+    drop_texts(&texts, "replay");
+}
+
+static void hit_why(void) {
+    struct texts texts = draw_texts();
+    struct guarded text = guarded(some_room(2048));
+    size_t len = UNSET;
+    uint32_t job = chance(20) ? (uint32_t)draw() : (uint32_t)(1 + below(3));
+    uint32_t answer = unison_why(job, PROGRAM, NETWORK, FROM, SCHEDULE, some_round(), inside(text), text.len, &len);
+    check_answer(answer, "why");
+    check_size(answer, len, "why");
+    if ((answer == UNISON_NO_JOB) != (job < 1 || job > 3)) fail("a job", "why");
+    if (answer == UNISON_ROOM && len <= text.len) fail("had room", "why");
+    check_memory(text, answer ? 0 : len, "why");
+    drop_texts(&texts, "why");
+}
+
+/* How much memory the process has, in KiB. */
+static unsigned long resident(void) {
+    unsigned long pages = 0, all = 0;
+    FILE *file = fopen("/proc/self/statm", "r");
+    if (file) {
+        if (fscanf(file, "%lu %lu", &all, &pages) != 2) pages = 0;
+        fclose(file);
+    }
+    return pages * 4;
+}
+
+int main(int count, char **words) {
+    static void (*const hits[])(void) = {hit_check, hit_lockstep, hit_watch, hit_settle, hit_replay, hit_why};
+    if (count < 5) {
+        fputs("hammer: SEED CALLS FILE..\n", stderr);
+        return 2;
+    }
+    state = strtoull(words[1], NULL, 10) * 2 + 1;
+    unsigned long long calls = strtoull(words[2], NULL, 10);
+    for (int i = 3; i < count; i++) {
+        const char *ending = strrchr(words[i], '.');
+        if (ending && strcmp(ending, ".rules") == 0 && program_count < MOST_TEXTS) programs[program_count++] = read_file(words[i]);
+        if (ending && strcmp(ending, ".toml") == 0 && network_count < MOST_TEXTS) networks[network_count++] = read_file(words[i]);
+    }
+    if (!program_count || !network_count) return 2;
+    unsigned long warm = 0;
+    for (call_number = 1; call_number <= calls; call_number++) {
+        hits[below(sizeof hits / sizeof *hits)]();
+        if (call_number == calls / 10) warm = resident();
+    }
+    unsigned long last = resident();
+    for (size_t i = 0; i < sizeof seen / sizeof *seen; i++)
+        if (seen[i]) printf("answer %zu: %llu\n", i, (unsigned long long)seen[i]);
+    printf("%llu calls, %lu KiB after a tenth of them, %lu KiB after all\n", calls, warm, last);
+    if (last > warm + 1024) {
+        puts("FAILED: the memory grows");
+        return 1;
+    }
+    return 0;
+}

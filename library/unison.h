@@ -1,0 +1,142 @@
+/* Unison for C: synchronous programs on networks. Each call goes from texts to an answer, keeps nothing, and starts no
+ * thread; several threads may call at once.
+ *
+ * A call answers 0 where it was done, else the number of the first fault on the way (enum unison_fault). What each call
+ * writes, and that nothing else is written, is proved: docs/library.md has the clauses in plain words.
+ *
+ * What a text is stands in docs/language.md (programs) and docs/formats.md (networks, reports, schedules). A text is so many
+ * bytes; no byte needs to end it.
+ *
+ * What a caller owes, and nothing checks:
+ *   - no pointer is null, also where the length behind it is 0;
+ *   - each pointer to read from has so many bytes (of uint32_t: so many numbers) as the length behind it says, each pointer to
+ *     write to so many as the room behind it says, and a pointer without a length one value;
+ *   - nothing that is written overlaps anything else that is given to the call;
+ *   - while a call runs no other thread writes what is given to it, or reads what the call writes;
+ *   - no call is made from a signal handler, or in the forked child of a process with threads;
+ *   - malloc, realloc and free of the process are of one allocator. */
+#ifndef UNISON_H
+#define UNISON_H
+
+#include <stddef.h>
+#include <stdint.h>
+
+#ifdef __cplusplus
+extern "C" {
+#endif
+
+/* Why a call was not done: the first fault on the way from the texts to the answer. The names behind UNISON_ are those of the
+ * fault lines in docs/formats.md, part and name. */
+enum unison_fault {
+    UNISON_MEMORY = 1, /* want of memory, which may come anywhere */
+    UNISON_ROOM = 2,   /* there is too little room for an answer; its sizes are set */
+    UNISON_NEVER = 3,  /* proved: never comes */
+    UNISON_NOT_RISING = 4, /* a round of the list is not above the one before it */
+    UNISON_NO_JOB = 5,     /* there is no job of this number */
+
+    UNISON_PROGRAM_TOO_LONG = 16,
+    UNISON_PROGRAM_LEX = 17,
+    UNISON_PROGRAM_SYNTAX = 18,
+    UNISON_PROGRAM_TOO_MANY_FIELDS = 32,
+    UNISON_PROGRAM_FIELD_TWICE = 33,
+    UNISON_PROGRAM_NEXT_TWICE = 34,
+    UNISON_PROGRAM_UNKNOWN_NAME = 35,
+    UNISON_PROGRAM_NEIGHBOUR_OUTSIDE = 36,
+    UNISON_PROGRAM_NESTED_AGGREGATE = 37,
+    UNISON_PROGRAM_TOO_MANY_AGGREGATES = 38,
+
+    UNISON_NETWORK_NOT_TOML = 48,
+    UNISON_NETWORK_UNKNOWN_KEY = 49,
+    UNISON_NETWORK_BAD_SHAPE = 50,
+    UNISON_NETWORK_NODE_COUNT = 51,
+    UNISON_NETWORK_BAD_LINK = 52,
+    UNISON_NETWORK_SELF_LINK = 53,
+    UNISON_NETWORK_LINK_TWICE = 54,
+    UNISON_NETWORK_TOO_MANY_LINKS = 55,
+    UNISON_NETWORK_TOO_MANY_NEIGHBOURS = 56,
+    UNISON_NETWORK_BAD_PHASE = 57,
+    UNISON_NETWORK_BAD_WEIGHT = 58,
+
+    UNISON_PLAN_UNKNOWN_FIELD = 64,
+    UNISON_PLAN_BAD_NODE = 65,
+    UNISON_PLAN_BAD_VALUE = 66,
+    UNISON_PLAN_SET_TWICE = 67,
+
+    UNISON_RUN_TOO_MANY_ROUNDS = 80,
+    UNISON_RUN_ROUNDS_BELOW_START = 81,
+
+    UNISON_SCHEDULE_BAD_LINE = 96,
+    UNISON_SCHEDULE_TOO_MANY_STEPS = 97,
+    UNISON_RUN_STOP_TOO_LARGE = 98,
+    UNISON_RUN_STOP_BELOW_START = 99,
+
+    UNISON_REPORT_BAD_LINE = 112,
+    UNISON_REPORT_TOO_MANY_ROUNDS = 113,
+
+    UNISON_PROGRAM_READS_ROUND = 128, /* unison_settle alone */
+    UNISON_LIMIT_TOO_LARGE = 129,
+    UNISON_LIMIT_BELOW_START = 130
+};
+
+/* What becomes of the rounds (unison_settle). */
+enum unison_manner {
+    UNISON_SETTLES = 1, /* from *round on no state changes, and before it each round changed one */
+    UNISON_REPEATS = 2, /* from *round on the states come again after *period rounds, two or more, and no earlier */
+    UNISON_OPEN = 3     /* up to *round, the limit, all states of a round are other than those of any round before */
+};
+
+/* What unison_why looks at. */
+enum unison_job {
+    UNISON_JOB_CHECK = 1,    /* the program alone */
+    UNISON_JOB_LOCKSTEP = 2, /* program, network, report to go on from; number is the round */
+    UNISON_JOB_REPLAY = 3    /* the same and the schedule; number is the stop */
+};
+
+/* The canonical spelling of a program, at the front of text; *text_len is how many bytes it has, which is set where the answer
+ * is 0 or UNISON_ROOM. */
+uint32_t unison_check(const uint8_t *program, size_t program_len, uint8_t *text, size_t text_room, size_t *text_len);
+
+/* The words of all fields of all nodes after a round, node by node, at the front of words: *nodes times *fields of them, the
+ * word of field k of node u at u * *fields + k. *nodes and *fields are set where the answer is 0 or UNISON_ROOM; where there is
+ * too little room no round is computed, so a first call with words_room 0 asks for the sizes.
+ * from is the text of a report to go on from; with from_len 0 the rounds begin at round 0. round counts from round 0, up to
+ * 1,000,000,000. */
+uint32_t unison_lockstep(const uint8_t *program, size_t program_len, const uint8_t *network, size_t network_len,
+                         const uint8_t *from, size_t from_len, uint32_t round, uint32_t *words, size_t words_room,
+                         uint32_t *nodes, uint32_t *fields);
+
+/* The words of each of these rounds, one round behind the other, at the front of words: rounds_len times *nodes times *fields
+ * of them, all in one pass over the rounds. Each round of the list is above the one before it. All else is as with
+ * unison_lockstep; with rounds_len 0 no words are written, and *nodes and *fields are set. */
+uint32_t unison_watch(const uint8_t *program, size_t program_len, const uint8_t *network, size_t network_len,
+                      const uint8_t *from, size_t from_len, const uint32_t *rounds, size_t rounds_len, uint32_t *words,
+                      size_t words_room, uint32_t *nodes, uint32_t *fields);
+
+/* What becomes of the rounds up to a limit, a round counted from round 0: *manner is one of enum unison_manner, which says what
+ * *round and *period are; where there is no period it is 0. The three are set where the answer is 0 alone. */
+uint32_t unison_settle(const uint8_t *program, size_t program_len, const uint8_t *network, size_t network_len,
+                       const uint8_t *from, size_t from_len, uint32_t limit, uint32_t *manner, uint32_t *round,
+                       uint32_t *period);
+
+/* What stands there after the steps of a schedule, made in order, where no node moves past the stop: the replay report at the
+ * front of report; how often each node has moved, the rounds before the start included, node by node at the front of counts,
+ * *nodes of them; and the words that the nodes show, as unison_lockstep lays them out, at the front of words. *report_len,
+ * *nodes and *fields are set where the answer is 0 or UNISON_ROOM, which comes where one of the three rooms is too small: then
+ * none of the three is written. */
+uint32_t unison_replay(const uint8_t *program, size_t program_len, const uint8_t *network, size_t network_len,
+                       const uint8_t *from, size_t from_len, const uint8_t *schedule, size_t schedule_len, uint32_t stop,
+                       uint8_t *report, size_t report_room, size_t *report_len, uint32_t *counts, size_t counts_room,
+                       uint32_t *words, size_t words_room, uint32_t *nodes, uint32_t *fields);
+
+/* Why a job (enum unison_job) is not done on these texts, told for people as `unison why` tells it, in UTF-8: what is wrong,
+ * where, and what to do; or that nothing is wrong. Texts that the job does not read are not looked at. The texts are called
+ * program, network, report and schedule. *text_len is set where the answer is 0 or UNISON_ROOM. */
+uint32_t unison_why(uint32_t job, const uint8_t *program, size_t program_len, const uint8_t *network, size_t network_len,
+                    const uint8_t *from, size_t from_len, const uint8_t *schedule, size_t schedule_len, uint32_t number,
+                    uint8_t *text, size_t text_room, size_t *text_len);
+
+#ifdef __cplusplus
+}
+#endif
+
+#endif
