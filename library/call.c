@@ -20,13 +20,6 @@ struct text {
     size_t len;
 };
 
-/* A text that is not there: its pointer is not null. */
-static struct text no_text(void) {
-    static uint8_t none[1];
-    struct text text = {none, 0};
-    return text;
-}
-
 static void *room_for(size_t count, size_t size) {
     void *room = calloc(count ? count : 1, size);
     if (!room) {
@@ -34,6 +27,12 @@ static void *room_for(size_t count, size_t size) {
         exit(1);
     }
     return room;
+}
+
+/* A text that is not there: its pointer is not null. */
+static struct text no_text(void) {
+    struct text text = {room_for(0, 1), 0};
+    return text;
 }
 
 /* The bytes of a file. */
@@ -105,6 +104,7 @@ static int show_lockstep(char **words) {
     if (answer) return fault(answer);
     print_words(states, nodes, fields);
     free(states);
+    free(from.bytes);
     free(network.bytes);
     free(program.bytes);
     return 0;
@@ -130,6 +130,7 @@ static int show_watch(char **words, size_t count) {
     }
     free(states);
     free(rounds);
+    free(from.bytes);
     free(network.bytes);
     free(program.bytes);
     return 0;
@@ -144,6 +145,7 @@ static int show_settle(char **words) {
     if (manner == UNISON_SETTLES) printf("settles %u\n", (unsigned)round);
     if (manner == UNISON_REPEATS) printf("repeats %u %u\n", (unsigned)round, (unsigned)period);
     if (manner == UNISON_OPEN) printf("open %u\n", (unsigned)round);
+    free(from.bytes);
     free(network.bytes);
     free(program.bytes);
     return 0;
@@ -179,6 +181,7 @@ static int show_replay(char **words) {
     free(counts);
     free(report);
     free(schedule.bytes);
+    free(from.bytes);
     free(network.bytes);
     free(program.bytes);
     return 0;
@@ -202,6 +205,10 @@ static int show_why(char **words, size_t count) {
     if (answer) return fault(answer);
     fwrite(told, 1, len, stdout);
     free(told);
+    free(schedule.bytes);
+    free(from.bytes);
+    free(network.bytes);
+    free(program.bytes);
     return 0;
 }
 

@@ -5,14 +5,15 @@
  * The files are programs (.rules) and networks (.toml). After each call it looks at the answer, which has to be 0 or a number of
  * enum unison_fault; at the bytes before and behind each memory that was given, which have to be as they were; at what a call that
  * was not done may not write; and at what stands behind what a call that was done wrote. At the end it prints how often each answer
- * came, and how much memory the process has after a tenth of the calls and after all of them. Its status is 0 where all was right. */
+ * came, and how much memory the process has after a tenth of the calls and after all of them, which may be little more where there
+ * were many calls. Its status is 0 where all was right. */
 #include "unison.h"
 
 #include <stdio.h>
 #include <stdlib.h>
 #include <string.h>
 
-enum { GUARD = 64, MOST_TEXTS = 64, MOST_BYTES = 4096, MOST_WORDS = 4096, MOST_ROUNDS = 8, PATTERN = 0xA5 };
+enum { GUARD = 64, MOST_TEXTS = 64, MOST_BYTES = 4096, MOST_WORDS = 4096, MOST_ROUNDS = 8, MANY_CALLS = 100000, PATTERN = 0xA5 };
 
 static uint64_t state;
 
@@ -379,7 +380,7 @@ int main(int count, char **words) {
     for (size_t i = 0; i < sizeof seen / sizeof *seen; i++)
         if (seen[i]) printf("answer %zu: %llu\n", i, (unsigned long long)seen[i]);
     printf("%llu calls, %lu KiB after a tenth of them, %lu KiB after all\n", calls, warm, last);
-    if (last > warm + 1024) {
+    if (calls >= MANY_CALLS && last > warm + 1024) {
         puts("FAILED: the memory grows");
         return 1;
     }

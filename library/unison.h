@@ -30,7 +30,7 @@ extern "C" {
 enum unison_fault {
     UNISON_MEMORY = 1, /* want of memory, which may come anywhere */
     UNISON_ROOM = 2,   /* there is too little room for an answer; its sizes are set */
-    UNISON_NEVER = 3,  /* proved: never comes */
+    UNISON_NEVER = 3,  /* never: the proved clauses leave no fault of this number */
     UNISON_NOT_RISING = 4, /* a round of the list is not above the one before it */
     UNISON_NO_JOB = 5,     /* there is no job of this number */
 

@@ -71,7 +71,7 @@ CASES = [
     (80, watch([1, 1000000001]), None, "run TooManyRounds: "),
     (81, lockstep(SWAP, PAIR, 6, from_=LATER), None, "run RoundsBelowStart: round 6 was asked for, and the report to go on from is of round 7\n"),
     (81, watch([6, 8], from_=LATER), None, "run RoundsBelowStart: round 6 was asked for, and the report to go on from is of round 7\n"),
-    (96, replay("read 0 0\nwrite\n"), (2, 6), "schedule:2:6: schedule BadLine: "),
+    (96, replay("read 0 0\nwrite x\n"), (2, 7), "schedule:2:7: schedule BadLine: "),
     (97, replay("write 0\n" * 1000001), None, "schedule"),
     (98, replay("", stop=1000000001), None, "run StopTooLarge: "),
     (99, replay("", stop=6, from_=LATER), None, "run StopBelowStart: round 6 was asked for, and the report to go on from is of round 7\n"),
@@ -156,5 +156,5 @@ def test_why_tells_the_first_fault_of_texts():
 
 def test_long_names_are_told_whole_or_cut_as_the_library_does():
     """What is told needs more room than is made at first, or the library shortens it: the package takes either."""
-    name = "x" * 30000
+    name = "x" * 20000
     assert "UnknownName" in unison.why(f"field {name} = 0; next {name} = {name}y;")

@@ -1,6 +1,5 @@
 -- Lists of rounds that a plan has, and how many words they have.
-use Rattle.std.proofs.Common.{◌≡◌, ◌∙◌, ℕ, suc, ◌+◌, ◌*◌, ◌≤◌, ◌<◌, ◌++◌, Bool, true, false, List, [], ◌∷◌, Option, Some, None, Result, Ok, Err, nat_lt, if◌then◌else◌, ap, arith, append_assoc, drop, length, refl, slice_index, subst, sym}
-use Rattle.std.specs.List.{flat_map}
+use Rattle.std.proofs.Common.{◌≡◌, ◌∙◌, ℕ, suc, ◌+◌, ◌*◌, ◌≤◌, ◌<◌, ◌++◌, Bool, true, false, List, ◌∷◌, Option, Some, None, Result, Ok, Err, nat_lt, if◌then◌else◌, ap, arith, append_assoc, drop, length, refl, slice_index, subst, sym}
 use Rattle.std.specs.Option.{option_or}
 use Rattle.std.proofs.Math.Nat.{suc-mul}
 use Rattle.std.proofs.Math.Seq.{drop-cons}

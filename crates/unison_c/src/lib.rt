@@ -176,7 +176,9 @@ pub extern "C" fn unison_why(
     ensures sized { result ≢ 0 → result ≢ ROOM → text_len.new ≡ text_len.old }
     ensures refused { result ≢ 0 → IsNumberOf (IsUntold job (length text.old) text_len.new) result }
 {
-    match write_reason(alloc, job, program, network, from, schedule, number, text, text_len) {
+    match write_reason(
+        alloc, job, program, network, from, schedule, number, text, text_len,
+    ) {
         Ok(()) => 0,
         Err(fault) => fault.number(),
     }

@@ -188,7 +188,5 @@ pub(crate) fn write_replay(
     ensures refused { IfErr result (IsRefusedPlan program.now network.now from.now (IsNoReplay stop schedule.now (told_by report.old counts.old words.old) report_len.new nodes.new fields.new)) }
 {
     let told = replay_of_texts(alloc, program, network, from, schedule, stop)?;
-    put_told(
-        &told, report, report_len, counts, words, nodes, fields,
-    )
+    put_told(&told, report, report_len, counts, words, nodes, fields)
 }

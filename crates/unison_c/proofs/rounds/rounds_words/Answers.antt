@@ -1,4 +1,4 @@
-use Rattle.std.proofs.Common.{◌≡◌, ◌∙◌, ◌≤◌, ◌+◌, ◌<◌, ◌++◌, ℕ, List, ap, arith, length, slice_index, sym}
+use Rattle.std.proofs.Common.{◌≡◌, ◌∙◌, ◌+◌, ◌<◌, ◌++◌, ap, arith, length, slice_index, sym}
 use Rattle.lockstep.specs.Lockstep.{lockstep_config}
 use Rattle.lockstep.specs.Plans.{PlanView}
 use Rattle.lockstep.specs.Walking.{RoundView}
