@@ -1,6 +1,12 @@
 """Networks, names and schedules that the checks and the pictures use, each a text as the programs read it. The same arguments give the same text."""
 
 import random
+from pathlib import Path
+
+
+def missing(program, command):
+    """What is told where a program, which has this command, is not there; else None."""
+    return None if Path(program).is_file() else f"{program} is not there: ./unison {command} --help proves and builds it"
 
 
 def network(nodes, links, sets=""):
