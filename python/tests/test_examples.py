@@ -9,9 +9,9 @@ from unison import schedule
 
 
 def lists():
-    """The first lists of `examples/check`: programs, networks and rounds of the examples and of the cookbook, and replays."""
+    """The first three lists of `examples/check`: programs, networks and rounds of the examples and of the cookbook, and replays; the fourth one has pictures."""
     found = re.findall(r"<<LIST\n(.*?)\nLIST\n", (EXAMPLES / "check").read_text(), re.DOTALL)
-    assert len(found) >= 3, "examples/check has other lists"
+    assert len(found) == 4, "examples/check has other lists"
     return [[line.split() for line in text.splitlines()] for text in found[:3]]
 
 
