@@ -10,12 +10,12 @@ use Rattle.block_rounds.specs.Nears.{IsDue}
 use Rattle.block_rounds.specs.Walks.{HoldsOfDue}
 
 module _ (P Q : ℕ → Type 0) (task : Task) (first at : ℕ) (weaker : (u : ℕ) → P u → Q u) (before : HoldsOfDue P task first at)
-    (here : (d : Batch) → IsDue task.due.now at → All Q (slice_index_or task.batches.now at d).nodes.items) where
-  due_at : (i : ℕ) (d : Batch) → first ≤ i → i < at + 1 → IsDue task.due.now i → ((i < at) ⊎ (at ≤ i)) → All Q (slice_index_or task.batches.now i d).nodes.items
-  due_at i d low high is (inl h) = All-weaker P Q weaker (slice_index_or task.batches.now i d).nodes.items (before i d low h is)
+    (here : (d : Batch) → IsDue task.due.now at → All Q (slice_index_or task.batches.now at d).nodes) where
+  due_at : (i : ℕ) (d : Batch) → first ≤ i → i < at + 1 → IsDue task.due.now i → ((i < at) ⊎ (at ≤ i)) → All Q (slice_index_or task.batches.now i d).nodes
+  due_at i d low high is (inl h) = All-weaker P Q weaker (slice_index_or task.batches.now i d).nodes (before i d low h is)
   due_at i d low high is (inr h) =
       let same : i ≡ at = omega (arith, h, high) in
-      subst (λ (j : ℕ). All Q (slice_index_or task.batches.now j d).nodes.items) (sym same) (here d (subst (IsDue task.due.now) same is))
+      subst (λ (j : ℕ). All Q (slice_index_or task.batches.now j d).nodes) (sym same) (here d (subst (IsDue task.due.now) same is))
 
   -- one batch more
   pub due_more : HoldsOfDue Q task first (at + 1)
@@ -29,7 +29,7 @@ module _ (P Q : ℕ → Type 0) (task : Task) (shares : List Share) (n : ℕ) (s
     (before : (s : ℕ) (d : Share) → s < n → HoldsOfDue P task (slice_index_or shares s d).first (slice_index_or shares s d).behind)
     (here : HoldsOfDue Q task share.first share.behind) where
   share_at : (s : ℕ) (d : Share) → s < n + 1 → ((s < n) ⊎ (n ≤ s)) → HoldsOfDue Q task (slice_index_or shares s d).first (slice_index_or shares s d).behind
-  share_at s d high (inl h) = λ i e low up marked. All-weaker P Q weaker (slice_index_or task.batches.now i e).nodes.items (before s d h i e low up marked)
+  share_at s d high (inl h) = λ i e low up marked. All-weaker P Q weaker (slice_index_or task.batches.now i e).nodes (before s d h i e low up marked)
   share_at s d high (inr h) =
       let same : n ≡ s = omega (arith, h, high) in
       subst (λ (j : ℕ). HoldsOfDue Q task (slice_index_or shares j d).first (slice_index_or shares j d).behind) same

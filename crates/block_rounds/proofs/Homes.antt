@@ -6,25 +6,25 @@ use Rattle.std.proofs.Math.ListN.{get_or-append}
 use Rattle.std.proofs.lemmas.List.{get_or_default, get_or-append_right}
 use Rattle.std.proofs.lemmas.List.Elements.{All-append, Contains-get_or}
 use Rattle.link_net.specs.Neighbours.{Neighbours, degree, neighbour, IsNetwork}
-use Rattle.block_rounds.specs.declared.batch.Slot.{Slot}
+use Rattle.row_code.specs.declared.slot.Slot.{Slot}
 use Rattle.block_rounds.specs.declared.batch.Batch.{Batch}
 use Rattle.block_rounds.specs.Batches.{IsBatch, IsSlot, nodes_of}
 use Rattle.block_rounds.specs.Nears.{IsDue, StandsIn, AreHomes, IsAmong, AreNear}
-use Rattle.block_rounds.proofs.Slots.{near_in}
+use Rattle.block_rounds.proofs.Slots.{neighbour_in}
 use Rattle.block_rounds.proofs.Steps.{nodes_so_far}
 use Rattle.std.proofs.lemmas.Bool.{cases_lt}
 
 module _ (batches : List Batch) (n : ℕ) (batch : Batch) (old new : List ℕ) (inside : n < length batches) (is : batch ≡ slice_index_or batches n batch)
-    (others : (u : ℕ) → (slice_index new u ≡ slice_index old u) ⊎ ((slice_index new u ≡ n) × Contains batch.nodes.items u))
-    (here : All (λ u. slice_index new u ≡ n) batch.nodes.items)
+    (others : (u : ℕ) → (slice_index new u ≡ slice_index old u) ⊎ ((slice_index new u ≡ n) × Contains batch.nodes u))
+    (here : All (λ u. slice_index new u ≡ n) batch.nodes)
     (before : All (λ u. StandsIn batches u (slice_index old u)) (nodes_of (take n batches))) where
-  stands_here : (u : ℕ) → Contains batch.nodes.items u → StandsIn batches u n
+  stands_here : (u : ℕ) → Contains batch.nodes u → StandsIn batches u n
   stands_here u has = record {
     there = inside;
-    stands = λ d. subst (λ (b : Batch). Contains b.nodes.items u) (is ∙ get_or_default batches n batch d inside) has;
+    stands = λ d. subst (λ (b : Batch). Contains b.nodes u) (is ∙ get_or_default batches n batch d inside) has;
   }
 
-  stands_still : (u : ℕ) → StandsIn batches u (slice_index old u) → ((slice_index new u ≡ slice_index old u) ⊎ ((slice_index new u ≡ n) × Contains batch.nodes.items u)) → StandsIn batches u (slice_index new u)
+  stands_still : (u : ℕ) → StandsIn batches u (slice_index old u) → ((slice_index new u ≡ slice_index old u) ⊎ ((slice_index new u ≡ n) × Contains batch.nodes u)) → StandsIn batches u (slice_index new u)
   stands_still u stands (inl same) = subst (StandsIn batches u) (sym same) stands
   stands_still u stands (inr now) = subst (StandsIn batches u) (sym now.0) (stands_here u now.1)
 
@@ -34,23 +34,23 @@ module _ (batches : List Batch) (n : ℕ) (batch : Batch) (old new : List ℕ) (
       let P = λ (u : ℕ). StandsIn batches u (slice_index new u) in
       let first = nodes_of (take n batches) in
       subst (All P) (sym (nodes_so_far batches n batch inside is))
-      (All-append P first batch.nodes.items
+      (All-append P first batch.nodes
       (λ k d h. stands_still (slice_index_or first k d) (before k d h) (others (slice_index_or first k d)))
-      (λ k d h. subst (StandsIn batches (slice_index_or batch.nodes.items k d)) (sym (here k d h)) (stands_here (slice_index_or batch.nodes.items k d) (Contains-get_or batch.nodes.items k d h))))
+      (λ k d h. subst (StandsIn batches (slice_index_or batch.nodes k d)) (sym (here k d h)) (stands_here (slice_index_or batch.nodes k d) (Contains-get_or batch.nodes k d h))))
 
 some_slot : (slots : List Slot) (j : ℕ) → j < length slots → Slot
 some_slot [] j inside = absurd (omega (arith, inside))
 some_slot (x ∷ xs) j inside = x
 
 place_in : (network : Neighbours) (nodes : List ℕ) (j : ℕ) (slot : Slot) (i : ℕ) → IsSlot network nodes j slot → i < length nodes → j < degree network (slice_index nodes i)
-    → ((i < length slot.neighbours.items) ⊎ (length slot.neighbours.items ≤ i)) → i < length slot.neighbours.items
+    → ((i < length slot.neighbours) ⊎ (length slot.neighbours ≤ i)) → i < length slot.neighbours
 place_in network nodes j slot i is inside has (inl h) = h
 place_in network nodes j slot i is inside has (inr h) = absurd (omega (arith, is.lack i h inside, has))
 
 module _ (network : Neighbours) (batches : List Batch) (batch : Batch) (homes near : List ℕ) (marks : List Bool) (whole : IsNetwork network) (made : IsBatch network batch)
     (homes_are : AreHomes batches (length network) homes) (listed : (i : ℕ) → IsDue marks i → Contains near i)
-    (own : All (λ u. IsDue marks (slice_index homes u)) batch.nodes.items)
-    (slots : (j : ℕ) (d : Slot) → j < length batch.slots.items → All (λ u. IsDue marks (slice_index homes u)) (slice_index_or batch.slots.items j d).neighbours.items) where
+    (own : All (λ u. IsDue marks (slice_index homes u)) batch.nodes)
+    (slots : (j : ℕ) (d : Slot) → j < length batch.slots.items → All (λ u. IsDue marks (slice_index homes u)) (slice_index_or batch.slots.items j d).neighbours) where
   among : (u : ℕ) → u < length network → IsDue marks (slice_index homes u) → IsAmong batches near u
   among u inside marked = record {
     home = slice_index homes u;
@@ -59,24 +59,24 @@ module _ (network : Neighbours) (batches : List Batch) (batch : Batch) (homes ne
   }
 
   -- the node at this place has a neighbour in the slot
-  marked_near : (i j d : ℕ) → i < length batch.nodes.items → j < degree network (slice_index batch.nodes.items i) → (low : j < length batch.slots.items) → IsDue marks (slice_index homes (neighbour network (slice_index batch.nodes.items i) j))
+  marked_near : (i j d : ℕ) → i < length batch.nodes → j < degree network (slice_index batch.nodes i) → (low : j < length batch.slots.items) → IsDue marks (slice_index homes (neighbour network (slice_index batch.nodes i) j))
   marked_near i j d inside has low =
       let e = some_slot batch.slots.items j low in
       let slot = slice_index_or batch.slots.items j e in
       let slot_is = made.slots j e low in
-      let place : i < length slot.neighbours.items = place_in network batch.nodes.items j slot i slot_is inside has (cases_lt i (length slot.neighbours.items)) in
-      subst (λ (w : ℕ). IsDue marks (slice_index homes w)) (near_in network batch.nodes.items j slot i d slot_is place) (slots j e low i d place)
+      let place : i < length slot.neighbours = place_in network batch.nodes j slot i slot_is inside has (cases_lt i (length slot.neighbours)) in
+      subst (λ (w : ℕ). IsDue marks (slice_index homes w)) (neighbour_in network batch.nodes j slot i d slot_is place) (slots j e low i d place)
 
   -- the marked batches are near
   pub near_made : AreNear network batches batch near
   near_made = record {
-    own = λ k d h. among (slice_index_or batch.nodes.items k d) (made.within k d h) (own k d h);
+    own = λ k d h. among (slice_index_or batch.nodes k d) (made.within k d h) (own k d h);
     neighbours = λ k d h j has.
-        let same : slice_index_or batch.nodes.items k d ≡ slice_index batch.nodes.items k = get_or_default batch.nodes.items k d 0 h in
+        let same : slice_index_or batch.nodes k d ≡ slice_index batch.nodes k = get_or_default batch.nodes k d 0 h in
         let low : j < length batch.slots.items = omega (arith, made.whole k d h, has) in
-        let here : j < degree network (slice_index batch.nodes.items k) = omega (arith, has, ap (degree network) same) in
+        let here : j < degree network (slice_index batch.nodes k) = omega (arith, has, ap (degree network) same) in
         subst (λ (u : ℕ). IsAmong batches near (neighbour network u j)) (sym same)
-        (among (neighbour network (slice_index batch.nodes.items k) j) (whole.within (slice_index batch.nodes.items k) j here) (marked_near k j d h here low));
+        (among (neighbour network (slice_index batch.nodes k) j) (whole.within (slice_index batch.nodes k) j here) (marked_near k j d h here low));
   }
 
 module _ (network : Neighbours) (batches : List Batch) (old new : List (Vec ℕ)) (near : Vec ℕ) (batch : Batch) (n : ℕ) (are : new ≡ old ++ near ∷ []) (count : length old ≡ n)

@@ -2,6 +2,7 @@ pub mod Looks
 pub mod Ranges
 pub mod Slots
 pub mod Sums
+pub mod Groups
 pub mod Words
 pub mod Steps
 pub mod States

@@ -35,10 +35,10 @@ each_number P n nodes once all u inside =
     subst P (get_or-range_with_len 0 n u 0 inside ∙ zero-add u) (back u 0 place)
 
 -- the nodes of one batch more
-pub nodes_more : (batches : List Batch) (batch : Batch) (rest front back nodes : List ℕ) → nodes_of batches ++ rest ≡ nodes → front ++ back ≡ rest → batch.nodes.items ≡ front → nodes_of (batches ++ batch ∷ []) ++ back ≡ nodes
+pub nodes_more : (batches : List Batch) (batch : Batch) (rest front back nodes : List ℕ) → nodes_of batches ++ rest ≡ nodes → front ++ back ≡ rest → batch.nodes ≡ front → nodes_of (batches ++ batch ∷ []) ++ back ≡ nodes
 nodes_more batches batch rest front back nodes all parts are =
-    ap (λ ns. ns ++ back) (flat_map-append (λ (b : Batch). b.nodes.items) batches (batch ∷ []))
-    ∙ ap (λ ns. (nodes_of batches ++ ns) ++ back) (append-nil batch.nodes.items ∙ are)
+    ap (λ ns. ns ++ back) (flat_map-append (λ (b : Batch). b.nodes) batches (batch ∷ []))
+    ∙ ap (λ ns. (nodes_of batches ++ ns) ++ back) (append-nil batch.nodes ∙ are)
     ∙ append_assoc (nodes_of batches) front back
     ∙ ap (λ ns. nodes_of batches ++ ns) parts
     ∙ all

@@ -4,7 +4,7 @@ use Rattle.std.specs.Global.{Vec}
 use Rattle.std.proofs.lemmas.List.{length-map, length-take-le, get_or-map, get_or-take, get_or_default}
 use Rattle.link_net.specs.Neighbours.{Neighbours, degree, neighbour, weight, IsNetwork}
 use Rattle.row_code.specs.Block.{Covers}
-use Rattle.block_rounds.specs.declared.batch.Slot.{Slot}
+use Rattle.row_code.specs.declared.slot.Slot.{Slot}
 use Rattle.block_rounds.specs.declared.batch.Batch.{Batch}
 use Rattle.block_rounds.specs.Batches.{AreFalling, IsSlot, IsBatch}
 use Rattle.block_rounds.specs.Rounds.{HaveWords}
@@ -25,11 +25,11 @@ falling_degrees network nodes degrees are falling i j le inside =
 -- a slot as it is made
 pub made_slot : (network : Neighbours) (nodes degrees : List ℕ) (j count : ℕ) (slot : Slot) → degrees ≡ map (degree network) nodes → count ≤ length degrees
     → ((i : ℕ) → i < count → j < slice_index degrees i) → ((i : ℕ) → count ≤ i → i < length degrees → slice_index degrees i ≤ j)
-    → slot.neighbours.items ≡ map (λ u. neighbour network u j) (take count nodes) → slot.weights.items ≡ map (λ u. weight network u j) (take count nodes)
+    → slot.neighbours ≡ map (λ u. neighbour network u j) (take count nodes) → slot.weights.items ≡ map (λ u. weight network u j) (take count nodes)
     → IsSlot network nodes j slot
 made_slot network nodes degrees j count slot are fits have lack neighbours weights =
     let many = as_many network nodes degrees are in
-    let long : length slot.neighbours.items ≡ count = ap length neighbours ∙ length-map (take count nodes) (λ u. neighbour network u j) ∙ length-take-le count nodes (omega (arith, fits, many)) in
+    let long : length slot.neighbours ≡ count = ap length neighbours ∙ length-map (take count nodes) (λ u. neighbour network u j) ∙ length-take-le count nodes (omega (arith, fits, many)) in
     record {
       few = omega (arith, long, fits, many);
       neighbours = neighbours ∙ ap (λ n. map (λ u. neighbour network u j) (take n nodes)) (sym long);
@@ -39,7 +39,7 @@ made_slot network nodes degrees j count slot are fits have lack neighbours weigh
     }
 
 -- a batch as it is made
-pub made_batch : (network : Neighbours) (nodes : List ℕ) (batch : Batch) → batch.nodes.items ≡ nodes → length nodes ≤ 256 → All (λ u. u < length network) nodes → AreFalling network nodes
+pub made_batch : (network : Neighbours) (nodes : List ℕ) (batch : Batch) → batch.nodes ≡ nodes → length nodes ≤ 256 → All (λ u. u < length network) nodes → AreFalling network nodes
     → batch.degrees.items ≡ map (degree network) nodes → ((j : ℕ) (d : Slot) → j < length batch.slots.items → IsSlot network nodes j (slice_index_or batch.slots.items j d))
     → slice_index batch.degrees.items 0 ≡ length batch.slots.items → IsBatch network batch
 made_batch network nodes batch same few within falling degrees slots most =
@@ -56,27 +56,27 @@ made_batch network nodes batch same few within falling degrees slots most =
     }
 
 -- the neighbour of a lane
-pub near_in : (network : Neighbours) (nodes : List ℕ) (j : ℕ) (slot : Slot) (i d : ℕ) → IsSlot network nodes j slot → i < length slot.neighbours.items → slice_index_or slot.neighbours.items i d ≡ neighbour network (slice_index nodes i) j
-near_in network nodes j slot i d is inside =
-    let n = length slot.neighbours.items in
+pub neighbour_in : (network : Neighbours) (nodes : List ℕ) (j : ℕ) (slot : Slot) (i d : ℕ) → IsSlot network nodes j slot → i < length slot.neighbours → slice_index_or slot.neighbours i d ≡ neighbour network (slice_index nodes i) j
+neighbour_in network nodes j slot i d is inside =
+    let n = length slot.neighbours in
     let place : i < length (take n nodes) = omega (arith, inside, length-take-le n nodes is.few) in
     ap (λ ns. slice_index_or ns i d) is.neighbours
     ∙ get_or-map (λ u. neighbour network u j) (take n nodes) i 0 d place
     ∙ ap (λ u. neighbour network u j) (get_or-take n nodes i 0 inside)
 
 -- the weight of a lane
-pub weight_in : (network : Neighbours) (nodes : List ℕ) (j : ℕ) (slot : Slot) (i d : ℕ) → IsSlot network nodes j slot → i < length slot.neighbours.items → slice_index_or slot.weights.items i d ≡ weight network (slice_index nodes i) j
+pub weight_in : (network : Neighbours) (nodes : List ℕ) (j : ℕ) (slot : Slot) (i d : ℕ) → IsSlot network nodes j slot → i < length slot.neighbours → slice_index_or slot.weights.items i d ≡ weight network (slice_index nodes i) j
 weight_in network nodes j slot i d is inside =
-    let n = length slot.neighbours.items in
+    let n = length slot.neighbours in
     let place : i < length (take n nodes) = omega (arith, inside, length-take-le n nodes is.few) in
     ap (λ ns. slice_index_or ns i d) is.weights
     ∙ get_or-map (λ u. weight network u j) (take n nodes) i 0 d place
     ∙ ap (λ u. weight network u j) (get_or-take n nodes i 0 inside)
 
 -- the neighbours in a slot are nodes
-pub slot_within : (network : Neighbours) (nodes : List ℕ) (j : ℕ) (slot : Slot) → IsNetwork network → IsSlot network nodes j slot → All (λ w. w < length network) slot.neighbours.items
+pub slot_within : (network : Neighbours) (nodes : List ℕ) (j : ℕ) (slot : Slot) → IsNetwork network → IsSlot network nodes j slot → All (λ w. w < length network) slot.neighbours
 slot_within network nodes j slot whole is i d inside =
-    omega (arith, whole.within (slice_index nodes i) j (is.have i inside), near_in network nodes j slot i d is inside)
+    omega (arith, whole.within (slice_index nodes i) j (is.have i inside), neighbour_in network nodes j slot i d is inside)
 
 -- nodes are places of columns
 pub nodes_covered : (n : ℕ) (columns : List (Vec ℕ)) (places : List ℕ) → HaveWords n columns → All (λ w. w < n) places → Covers columns places

@@ -1,48 +1,20 @@
 -- What aggregates have gathered over a node's neighbours.
-use Rattle.std.proofs.Common.{◌≡◌, ◌<◌, ◌≤◌, ◌+◌, ◌-◌, ℕ, List, [], ◌∷◌, ◌++◌, length, map, take, replicate, Bool, true, false, Option, Some, None, refl, sym, ap, ◌∙◌, arith, slice_index, slice_index_or, append-nil, length-append}
-use Rattle.std.specs.Prelude.{if◌then◌else◌, nat_lt}
-use Rattle.std.specs.List.{list_any}
+use Rattle.std.proofs.Common.{◌≡◌, ◌<◌, ◌≤◌, ℕ, List, length, map, take, refl, sym, ap, subst, ◌∙◌, arith, slice_index, slice_index_or}
 use Rattle.std.specs.Global.{Vec}
-use Rattle.std.proofs.lemmas.List.{same_lists, length-map, length-take-le, get_or-map, take_more, take_all}
-use Rattle.rule_check.specs.declared.fault.CheckFault.{CheckFault}
-use Rattle.rule_check.specs.declared.fault.CheckFault.TheVariants.{TooManyFields, FieldTwice, NextTwice, UnknownName, NeighbourOutside, NestedAggregate}
+use Rattle.std.proofs.lemmas.List.{same_lists, length-map, get_or-map, take_all}
 use Rattle.rule_check.specs.declared.state.State.{State}
 use Rattle.rule_check.specs.declared.state.Near.{Near}
 use Rattle.rule_check.specs.declared.state.Sums.{Sums}
-use Rattle.rule_check.specs.Value.{Rules, here_at, names_of, next_at}
-use Rattle.rule_check.specs.WellFormed.{first_fault, has_twice, next_names, is_unknown, looks_outside, nests, all_parts}
-use Rattle.rule_check.specs.Gathering.{sums_at, taken}
-use Rattle.rule_check.proofs.Flat.{flat_from_all}
-use Rattle.rule_check.proofs.Takes.{updated_anywhere}
-use Rattle.rule_check.proofs.Programs.{finished_all, sums_from}
-use Rattle.link_net.specs.Neighbours.{Neighbours, row, degree, neighbour, weight}
-use Rattle.row_code.specs.Block.{Lane, state_at, near_at as column_near, with_neighbour, next_of}
+use Rattle.rule_check.specs.Value.{Rules, here_at, next_at}
+use Rattle.rule_check.specs.Gathering.{sums_at}
+use Rattle.rule_check.proofs.Programs.{finished_all}
+use Rattle.link_net.specs.Neighbours.{Neighbours, row, degree}
+use Rattle.row_code.specs.Block.{Lane, IsSameNode, HasGathered, state_at, next_of}
 use Rattle.block_rounds.specs.Rounds.{near_at, nears_in, round_from}
 use Rattle.block_rounds.specs.Gathered.{gathered_first, gathered}
 
-passes : (b : Bool) (fault : CheckFault) (rest : Option CheckFault) → (if b then Some fault else rest) ≡ None → (b ≡ false) × (rest ≡ None)
-passes true fault rest h = cc
-passes false fault rest h = (refl, h)
-
--- in a program without a fault no aggregate stands in an aggregate
-flat_rules : (rules : Rules) → first_fault rules ≡ None → list_any (λ n. nests n.body) rules.nexts ≡ false
-flat_rules rules h =
-    let a = passes (nat_lt 8 (length rules.fields)) TooManyFields _ h in
-    let b = passes (has_twice (names_of rules)) FieldTwice _ a.1 in
-    let c = passes (has_twice (next_names rules)) NextTwice _ b.1 in
-    let d = passes (list_any (is_unknown (names_of rules)) rules.nexts) UnknownName _ c.1 in
-    let e = passes (list_any (λ n. looks_outside n.body) rules.nexts) NeighbourOutside _ d.1 in
-    (passes (list_any (λ n. nests n.body) rules.nexts) NestedAggregate _ e.1).0
-
--- the aggregates with one neighbour more are those over one neighbour more
-taken_more : (rules : Rules) (round id degree : ℕ) (own : State) (front : List Near) (near : Near) → first_fault rules ≡ None → length front < 4096
-    → taken rules (here_at rules round id degree own front) near (sums_at rules (here_at rules round id degree own front)) ≡ sums_at rules (here_at rules round id degree own (front ++ near ∷ []))
-taken_more rules round id degree own front near sound few =
-    ap sums_from (updated_anywhere (here_at rules round id degree own front) front [] near (all_parts rules.nexts) (replicate (16 - length (all_parts rules.nexts)) 0)
-    (sym (append-nil front)) (flat_from_all rules.nexts (flat_rules rules sound)) (omega (arith, few, length-append front [])))
-
 -- as many neighbours as the degree
-nears_count : (network : Neighbours) (at : ℕ → State) (u : ℕ) → length (nears_in network at u) ≡ degree network u
+pub nears_count : (network : Neighbours) (at : ℕ → State) (u : ℕ) → length (nears_in network at u) ≡ degree network u
 nears_count network at u = length-map (row network u) (near_at at)
 
 abbrev lane_with : ℕ → ℕ → State → ℕ → Sums → Lane
@@ -51,33 +23,56 @@ lane_with u degree own round sums = record { id = u; degree = degree; own = own;
 abbrev sums_over : Rules → Neighbours → ℕ → List (Vec ℕ) → ℕ → List Near → Sums
 sums_over rules network round columns u nears = sums_at rules (here_at rules round u (degree network u) (state_at columns u) nears)
 
--- a node with the next neighbour more
-pub gathered_more : (rules : Rules) (network : Neighbours) (round : ℕ) (columns : List (Vec ℕ)) (j u : ℕ) → first_fault rules ≡ None → degree network u ≤ 4096 → j < degree network u
-    → with_neighbour rules (take j (nears_in network (state_at columns) u)) (column_near columns (neighbour network u j) (weight network u j)) (gathered_first rules network round columns j u)
-    ≡ gathered_first rules network round columns (j + 1) u
-gathered_more rules network round columns j u sound few inside =
-    let at = state_at columns in
-    let nears = nears_in network at u in
-    let count = nears_count network at u in
-    let near = column_near columns (neighbour network u j) (weight network u j) in
-    let place : j < length nears = omega (arith, inside, count) in
-    let is : slice_index_or nears j near ≡ near = get_or-map (near_at at) (row network u) j (0, 0) near inside in
-    let more : take j nears ++ near ∷ [] ≡ take (j + 1) nears = ap (λ n. take j nears ++ n ∷ []) (sym is) ∙ sym (take_more nears j near place) in
-    let short : length (take j nears) < 4096 = omega (arith, few, inside, length-take-le j nears (omega (arith, place))) in
-    ap (lane_with u (degree network u) (at u) round)
-    (taken_more rules round u (degree network u) (at u) (take j nears) near sound short
-    ∙ ap (sums_over rules network round columns u) more)
-
 same_sums : (rules : Rules) (network : Neighbours) (round : ℕ) (columns : List (Vec ℕ)) (u : ℕ) (xs ys : List Near) → xs ≡ ys
     → lane_with u (degree network u) (state_at columns u) round (sums_over rules network round columns u xs) ≡ lane_with u (degree network u) (state_at columns u) round (sums_over rules network round columns u ys)
 same_sums rules network round columns u xs ys same = ap (λ ns. lane_with u (degree network u) (state_at columns u) round (sums_over rules network round columns u ns)) same
 
+lane_is : (lane : Lane) (u degree : ℕ) (own : State) (round : ℕ) (sums : Sums) → lane.id ≡ u → lane.degree ≡ degree → lane.own ≡ own → lane.round ≡ round → lane.sums ≡ sums → lane ≡ lane_with u degree own round sums
+lane_is lane u degree own round sums id_is degree_is own_is round_is sums_are =
+    ap (λ (v : ℕ). lane_with v lane.degree lane.own lane.round lane.sums) id_is
+    ∙ ap (λ (v : ℕ). lane_with u v lane.own lane.round lane.sums) degree_is
+    ∙ ap (λ (v : State). lane_with u degree v lane.round lane.sums) own_is
+    ∙ ap (λ (v : ℕ). lane_with u degree own v lane.sums) round_is
+    ∙ ap (λ (v : Sums). lane_with u degree own round v) sums_are
+
+sums_here : (rules own : Rules) (lane : Lane) (u degree : ℕ) (state : State) (round : ℕ) (xs ys : List Near) → own ≡ rules → lane.id ≡ u → lane.degree ≡ degree → lane.own ≡ state → lane.round ≡ round → xs ≡ ys → HasGathered own xs lane
+    → lane.sums ≡ sums_at rules (here_at rules round u degree state ys)
+sums_here rules own lane u degree state round xs ys same id_is degree_is own_is round_is are has =
+    has
+    ∙ ap (λ (r : Rules). sums_at r (here_at r lane.round lane.id lane.degree lane.own xs)) same
+    ∙ ap (λ (v : ℕ). sums_at rules (here_at rules v lane.id lane.degree lane.own xs)) round_is
+    ∙ ap (λ (v : ℕ). sums_at rules (here_at rules round v lane.degree lane.own xs)) id_is
+    ∙ ap (λ (v : ℕ). sums_at rules (here_at rules round u v lane.own xs)) degree_is
+    ∙ ap (λ (v : State). sums_at rules (here_at rules round u degree v xs)) own_is
+    ∙ ap (λ (ns : List Near). sums_at rules (here_at rules round u degree state ns)) are
+
+-- what a node has gathered over its first neighbours
+pub first_gathered : (rules own : Rules) (network : Neighbours) (round : ℕ) (columns : List (Vec ℕ)) (j u : ℕ) (lane : Lane) → own ≡ rules → lane ≡ gathered_first rules network round columns j u
+    → HasGathered own (take j (nears_in network (state_at columns) u)) lane
+first_gathered rules own network round columns j u lane same is =
+    let nears = take j (nears_in network (state_at columns) u) in
+    subst (HasGathered own nears) (sym is) (subst (λ (r : Rules). HasGathered r nears (gathered_first rules network round columns j u)) (sym same) refl)
+
+-- a node that has gathered over more of its neighbours
+pub gathered_more : (rules own : Rules) (network : Neighbours) (round : ℕ) (columns : List (Vec ℕ)) (j k u : ℕ) (old new : Lane) (nears : List Near) → own ≡ rules → old ≡ gathered_first rules network round columns j u
+    → IsSameNode old new → nears ≡ take k (nears_in network (state_at columns) u) → HasGathered own nears new → new ≡ gathered_first rules network round columns k u
+gathered_more rules own network round columns j k u old new nears same is kept are has =
+    let d = degree network u in
+    let state = state_at columns u in
+    let firsts = take k (nears_in network (state_at columns) u) in
+    let id_is = kept.id ∙ ap (λ (l : Lane). l.id) is in
+    let degree_is = kept.degree ∙ ap (λ (l : Lane). l.degree) is in
+    let own_is = kept.own ∙ ap (λ (l : Lane). l.own) is in
+    let round_is = kept.round ∙ ap (λ (l : Lane). l.round) is in
+    lane_is new u d state round (sums_over rules network round columns u firsts) id_is degree_is own_is round_is
+    (sums_here rules own new u d state round nears firsts same id_is degree_is own_is round_is are has)
+
 -- past its neighbours a node stays
-pub gathered_past : (rules : Rules) (network : Neighbours) (round : ℕ) (columns : List (Vec ℕ)) (j u : ℕ) → degree network u ≤ j → gathered_first rules network round columns j u ≡ gathered_first rules network round columns (j + 1) u
-gathered_past rules network round columns j u past =
+pub gathered_past : (rules : Rules) (network : Neighbours) (round : ℕ) (columns : List (Vec ℕ)) (j k u : ℕ) → degree network u ≤ j → j ≤ k → gathered_first rules network round columns j u ≡ gathered_first rules network round columns k u
+gathered_past rules network round columns j k u past on =
     let nears = nears_in network (state_at columns) u in
     let count = nears_count network (state_at columns) u in
-    same_sums rules network round columns u (take j nears) (take (j + 1) nears) (take_all j nears (omega (arith, past, count)) ∙ sym (take_all (j + 1) nears (omega (arith, past, count))))
+    same_sums rules network round columns u (take j nears) (take k nears) (take_all j nears (omega (arith, past, count)) ∙ sym (take_all k nears (omega (arith, past, on, count))))
 
 -- with all its neighbours
 pub gathered_whole : (rules : Rules) (network : Neighbours) (round : ℕ) (columns : List (Vec ℕ)) (j u : ℕ) → degree network u ≤ j → gathered_first rules network round columns j u ≡ gathered rules network round columns u

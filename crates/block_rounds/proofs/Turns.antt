@@ -19,7 +19,7 @@ use Rattle.block_rounds.proofs.Walks.{all_next, mark_cases, same_all, still_rest
 pub record IsWritten (rules : Rules) (network : Neighbours) (batches : List Batch) (due : List Bool) (round : ℕ) (from old new : List (Vec ℕ)) : Type 0 where
   pub wide : length new ≡ length rules.fields
   pub long : HaveWords (length network) new
-  pub done : (i : ℕ) (d : Batch) → i < length batches → IsDue due i → All (IsNext rules network round from new) (slice_index_or batches i d).nodes.items
+  pub done : (i : ℕ) (d : Batch) → i < length batches → IsDue due i → All (IsNext rules network round from new) (slice_index_or batches i d).nodes
   pub kept : (u : ℕ) → IsNext rules network round from old u → IsNext rules network round from new u
 
 -- what is noted of it
@@ -29,7 +29,7 @@ pub record IsLookedAt (batches : List Batch) (old new : Activity) (from to : Lis
   pub flags : length new.due.items ≡ length batches
   pub changes : length new.changed.items ≡ length batches
   pub all : old.settles ≡ false → (i : ℕ) → i < length batches → IsDue new.due.items i
-  pub noted : old.settles ≡ true → (i : ℕ) (d : Batch) → i < length batches → Sleeps new.changed.items i → IsDue old.due.items i → All (IsAsBefore from to) (slice_index_or batches i d).nodes.items
+  pub noted : old.settles ≡ true → (i : ℕ) (d : Batch) → i < length batches → Sleeps new.changed.items i → IsDue old.due.items i → All (IsAsBefore from to) (slice_index_or batches i d).nodes
   pub awake : old.settles ≡ true → (i : ℕ) (d : Vec ℕ) → i < length batches → Sleeps new.due.items i → All (Sleeps new.changed.items) (slice_index_or old.nears.now i d).items
   pub some : moved ≡ true → old.settles ≡ true → HasMoved batches from to
   pub none : moved ≡ false → (old.settles ≡ true) × ((i : ℕ) → i < length batches → Sleeps new.changed.items i)
@@ -61,7 +61,7 @@ module _ (rules : Rules) (network : Neighbours) (batches : List Batch) (active n
       let found = looked.some some (walk.settles unread) in
       let stands = found.stands in
       let none = some_batch batches found.home stands.there in
-      let nodes = (slice_index_or batches found.home none).nodes.items in
+      let nodes = (slice_index_or batches found.home none).nodes in
       (found.node, All-contains (λ u. u < length network) nodes found.node (walk.layout.each found.home none stands.there).within (stands.stands none), found.moved)
 
   sleepers : ((active.settles ≡ true) ⊎ (active.settles ≡ false)) → SleepersRest rules network batches next.due.items new from
@@ -75,7 +75,6 @@ module _ (rules : Rules) (network : Neighbours) (batches : List Batch) (active n
   walked = record {
     whole = walk.whole;
     layout = walk.layout;
-    sound = walk.sound;
     few = walk.few;
     shared = walk.shared;
     active = record {
@@ -155,7 +154,6 @@ pub with_shares : (rules : Rules) (network : Neighbours) (batches : List Batch) 
 with_shares rules network batches active old new from to walk shared = record {
   whole = walk.whole;
   layout = walk.layout;
-  sound = walk.sound;
   few = walk.few;
   shared = shared;
   active = walk.active;

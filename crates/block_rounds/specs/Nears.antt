@@ -16,7 +16,7 @@ Sleeps due i = slice_index_or due i false ≡ false
 -- the node stands in the batch of this number
 pub record StandsIn (batches : List Batch) (u i : ℕ) : Type 0 where
   pub there : i < length batches
-  pub stands : (d : Batch) → Contains (slice_index_or batches i d).nodes.items u
+  pub stands : (d : Batch) → Contains (slice_index_or batches i d).nodes u
 
 -- for each of the nodes the number of a batch in which it stands
 abbrev pub AreHomes : List Batch → ℕ → List ℕ → Type 0
@@ -30,8 +30,8 @@ pub record IsAmong (batches : List Batch) (near : List ℕ) (u : ℕ) : Type 0 w
 
 -- these batches have the nodes of a batch, and all their neighbours
 pub record AreNear (network : Neighbours) (batches : List Batch) (batch : Batch) (near : List ℕ) : Type 0 where
-  pub own : All (IsAmong batches near) batch.nodes.items
-  pub neighbours : All (λ u. (j : ℕ) → j < degree network u → IsAmong batches near (neighbour network u j)) batch.nodes.items
+  pub own : All (IsAmong batches near) batch.nodes
+  pub neighbours : All (λ u. (j : ℕ) → j < degree network u → IsAmong batches near (neighbour network u j)) batch.nodes
 
 -- for each batch those that are near it
 pub record HaveNear (network : Neighbours) (batches : List Batch) (nears : List (Vec ℕ)) : Type 0 where

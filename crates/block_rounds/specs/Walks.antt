@@ -1,11 +1,10 @@
 -- Rounds in which only some batches are computed.
-use Rattle.std.specs.Prelude.{ℕ, ◌≡◌, ◌≢◌, ◌<◌, ◌≤◌, List, length, map, All, None, Bool, true, false, slice_index_or}
+use Rattle.std.specs.Prelude.{ℕ, ◌≡◌, ◌≢◌, ◌<◌, ◌≤◌, List, length, map, All, Bool, true, false, slice_index_or}
 use Rattle.std.specs.Global.{Vec}
 use Rattle.std.specs.List.{range_with_len}
 use Rattle.rule_check.specs.declared.state.State.{State}
 use Rattle.rule_check.specs.Value.{Rules}
 use Rattle.rule_check.specs.Rounds.{reads_round}
-use Rattle.rule_check.specs.WellFormed.{first_fault}
 use Rattle.link_net.specs.Neighbours.{Neighbours, IsNetwork, degree, neighbour}
 use Rattle.row_code.specs.Steps.{lane}
 use Rattle.row_code.specs.Block.{state_at}
@@ -54,7 +53,6 @@ pub record IsTask (rules : Rules) (task : Task) : Type 0 where
   pub network : IsNetwork task.network.now
   pub each : All (IsBatch task.network.now) task.batches.now
   pub flags : length task.due.now ≡ length task.batches.now
-  pub sound : first_fault rules ≡ None
   pub fields : length task.from.now ≡ length rules.fields
   pub nodes : HaveWords (length task.network.now) task.from.now
 
@@ -64,7 +62,7 @@ HasNext rules task to u = IsNext rules task.network.now task.round task.from.now
 
 -- it holds of the nodes of each marked batch, from the first one on to the one behind the last
 abbrev pub HoldsOfDue : (ℕ → Type 0) → Task → ℕ → ℕ → Type 0
-HoldsOfDue P task first behind = (i : ℕ) (d : Batch) → first ≤ i → i < behind → IsDue task.due.now i → All P (slice_index_or task.batches.now i d).nodes.items
+HoldsOfDue P task first behind = (i : ℕ) (d : Batch) → first ≤ i → i < behind → IsDue task.due.now i → All P (slice_index_or task.batches.now i d).nodes
 
 -- a thread's part of each round: the batches from the first one on to the one behind the last, what computes a program's rules, and a column for each field
 pub record IsShare (rules : Rules) (nodes batches : ℕ) (share : Share) : Type 0 where
@@ -91,7 +89,7 @@ pub record Rests (rules : Rules) (network : Neighbours) (from to : List (Vec ℕ
 
 -- the nodes of batches that are not marked rest
 abbrev pub SleepersRest : Rules → Neighbours → List Batch → List Bool → List (Vec ℕ) → List (Vec ℕ) → Type 0
-SleepersRest rules network batches due from to = (i : ℕ) (d : Batch) → i < length batches → Sleeps due i → All (Rests rules network from to) (slice_index_or batches i d).nodes.items
+SleepersRest rules network batches due from to = (i : ℕ) (d : Batch) → i < length batches → Sleeps due i → All (Rests rules network from to) (slice_index_or batches i d).nodes
 
 -- which batches have to be computed: where the program reads the number of the round, all of them
 pub record IsActivity (network : Neighbours) (batches : List Batch) (activity : Activity) : Type 0 where
@@ -104,7 +102,6 @@ pub record IsActivity (network : Neighbours) (batches : List Batch) (activity : 
 pub record IsWalk (rules : Rules) (network : Neighbours) (batches : List Batch) (activity : Activity) (shares : List Share) (from to : List (Vec ℕ)) : Type 0 where
   pub whole : IsNetwork network
   pub layout : IsLayout network batches
-  pub sound : first_fault rules ≡ None
   pub few : length rules.fields ≤ 8
   pub shared : AreShares rules (length network) (length batches) shares
   pub active : IsActivity network batches activity

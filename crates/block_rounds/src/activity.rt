@@ -60,12 +60,12 @@ fn states_differ(left: &[Vec<u32>], right: &[Vec<u32>], nodes: &[u32]) -> bool
 fn has_changed(batch: &Batch, was_due: bool, from: &[Vec<u32>], to: &[Vec<u32>]) -> bool
     requires few { length from.now ≤ 8 }
     requires fields { length to.now ≡ length from.now }
-    requires within { Covers from.now batch.now.nodes.items }
-    requires within_next { Covers to.now batch.now.nodes.items }
-    ensures same { result ≡ false → was_due ≡ true → All (IsAsBefore from.now to.now) batch.now.nodes.items }
-    ensures moved { result ≡ true → (u : ℕ) × Contains batch.now.nodes.items u × Moved from.now to.now u }
+    requires within { Covers from.now batch.now.nodes }
+    requires within_next { Covers to.now batch.now.nodes }
+    ensures same { result ≡ false → was_due ≡ true → All (IsAsBefore from.now to.now) batch.now.nodes }
+    ensures moved { result ≡ true → (u : ℕ) × Contains batch.now.nodes u × Moved from.now to.now u }
 {
-    was_due && states_differ(to, from, &batch.nodes)
+    was_due && states_differ(to, from, batch.nodes.as_slice())
 }
 
 /// Notes of each batch whether a node of it changed, as far as it was computed, and answers whether any did.
@@ -80,9 +80,9 @@ fn note(
     requires changes { length changed.old ≡ length batches.now }
     requires few { length from.now ≤ 8 }
     requires fields { length to.now ≡ length from.now }
-    requires within { All (λ batch. Covers from.now batch.nodes.items) batches.now }
-    requires within_next { All (λ batch. Covers to.now batch.nodes.items) batches.now }
-    ensures noted { (i : ℕ) (d : Batch) → i < length batches.now → Sleeps changed.new i → IsDue due.now i → All (IsAsBefore from.now to.now) (slice_index_or batches.now i d).nodes.items }
+    requires within { All (λ batch. Covers from.now batch.nodes) batches.now }
+    requires within_next { All (λ batch. Covers to.now batch.nodes) batches.now }
+    ensures noted { (i : ℕ) (d : Batch) → i < length batches.now → Sleeps changed.new i → IsDue due.now i → All (IsAsBefore from.now to.now) (slice_index_or batches.now i d).nodes }
     ensures none { result ≡ false → (i : ℕ) → i < length batches.now → Sleeps changed.new i }
     ensures some { result ≡ true → HasMoved batches.now from.now to.now }
 {
@@ -148,14 +148,14 @@ impl Activity<'_> {
         requires activity { (network : Neighbours) × IsActivity network batches.now self.old }
         requires few { length from.now ≤ 8 }
         requires fields { length to.now ≡ length from.now }
-        requires within { All (λ batch. Covers from.now batch.nodes.items) batches.now }
-        requires within_next { All (λ batch. Covers to.now batch.nodes.items) batches.now }
+        requires within { All (λ batch. Covers from.now batch.nodes) batches.now }
+        requires within_next { All (λ batch. Covers to.now batch.nodes) batches.now }
         ensures nears { self.new.nears.now ≡ self.old.nears.now }
         ensures settles { self.new.settles ≡ self.old.settles }
         ensures flags { length self.new.due.items ≡ length batches.now }
         ensures changes { length self.new.changed.items ≡ length batches.now }
         ensures all { self.old.settles ≡ false → (i : ℕ) → i < length batches.now → IsDue self.new.due.items i }
-        ensures noted { self.old.settles ≡ true → (i : ℕ) (d : Batch) → i < length batches.now → Sleeps self.new.changed.items i → IsDue self.old.due.items i → All (IsAsBefore from.now to.now) (slice_index_or batches.now i d).nodes.items }
+        ensures noted { self.old.settles ≡ true → (i : ℕ) (d : Batch) → i < length batches.now → Sleeps self.new.changed.items i → IsDue self.old.due.items i → All (IsAsBefore from.now to.now) (slice_index_or batches.now i d).nodes }
         ensures awake { self.old.settles ≡ true → (i : ℕ) (d : Vec ℕ) → i < length batches.now → Sleeps self.new.due.items i → All (Sleeps self.new.changed.items) (slice_index_or self.old.nears.now i d).items }
         ensures some { result ≡ true → self.old.settles ≡ true → HasMoved batches.now from.now to.now }
         ensures none { result ≡ false → (self.old.settles ≡ true) × ((i : ℕ) → i < length batches.now → Sleeps self.new.changed.items i) }

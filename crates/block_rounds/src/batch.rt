@@ -5,20 +5,14 @@ ghost use Rattle.block_rounds.specs.Batches.{AreFalling, IsSlot, IsBatch};
 
 use crate::nodes::{degree_of, neighbour_of, weight_of};
 use link_net::Network;
+use row_code::{Places, Slot};
 use std::alloc::{AllocError, Global};
 
-/// What stands in one slot of the nodes of a batch: a neighbour and the weight of the link to it, for each of the
-/// first nodes, which are those that have so many neighbours.
-#[derive(Drop)]
-pub struct Slot {
-    pub neighbours: Vec<u32>,
-    pub weights: Vec<u32>,
-}
-
-/// Up to 256 nodes by falling number of their neighbours, with these numbers, and what stands in their slots.
+/// Up to 256 nodes by falling number of their neighbours, with these numbers, and what stands in their slots: in each a
+/// neighbour, and the weight of the link to it, of each of the first nodes, which are those that have so many neighbours.
 #[derive(Drop)]
 pub struct Batch {
-    pub nodes: Vec<u32>,
+    pub nodes: Places,
     pub degrees: Vec<u32>,
     pub slots: Vec<Slot>,
     /// How many neighbours its nodes have together.
@@ -86,8 +80,9 @@ fn slot_of(
     let front = &nodes[..count];
     let neighbours = neighbours_in(alloc, network, front, slot)?;
     let weights = weights_in(alloc, network, front, slot)?;
+    let places = Places::new(alloc, neighbours)?;
     Ok(Slot {
-        neighbours,
+        neighbours: places,
         weights,
     })
 }
@@ -126,7 +121,7 @@ pub fn batch_of(alloc: Global, network: &Network, nodes: &[u32]) -> Result<Batch
     requires few { length nodes.now ≤ 256 }
     requires within { All (λ u. u < length network.now) nodes.now }
     requires falling { AreFalling network.now nodes.now }
-    ensures nodes { IfOk result (λ batch. batch.nodes.items ≡ nodes.now) }
+    ensures nodes { IfOk result (λ batch. batch.nodes ≡ nodes.now) }
     ensures whole { IfOk result (IsBatch network.now) }
 {
     let degrees = degrees_of(alloc, network, nodes)?;
@@ -135,7 +130,7 @@ pub fn batch_of(alloc: Global, network: &Network, nodes: &[u32]) -> Result<Batch
     for slot in 0..most {
         slots.push(slot_of(alloc, network, nodes, &degrees, slot)?)?;
     }
-    let nodes = nodes.to_vec(alloc)?;
+    let nodes = Places::new(alloc, nodes.to_vec(alloc)?)?;
     let ends = sum_of(&degrees);
     Ok(Batch {
         nodes,

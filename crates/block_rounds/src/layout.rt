@@ -6,13 +6,18 @@ ghost use Rattle.block_rounds.specs.Batches.{AreFalling, IsBatch, IsLayout, node
 
 use crate::batch::{Batch, batch_of};
 use crate::near::nears_of;
+use crate::nodes::degree_of;
 use crate::order::by_falling_degree;
 use link_net::Network;
 use std::alloc::{AllocError, Global};
 use std::marker::Model;
 
-/// How many nodes a batch has, but for the last one.
+/// How many nodes a batch has at most.
 const BATCH: usize = 256;
+
+/// How many neighbours the nodes of a batch have together at most, so that threads can share the work of hubs. A node
+/// with more of them would stand in a batch of its own.
+const ENDS: u32 = 65_536;
 
 /// The nodes of a network in batches, with all that a round reads of the network. A contract sees the network.
 #[derive(Drop)]
@@ -35,6 +40,24 @@ impl<'a> Model for Layout<'a> {
     ghost invariant = { λ layout. IsLayout layout.network.now layout.batches.items × HaveNear layout.network.now layout.batches.items layout.nears.items };
 }
 
+/// How many of these nodes, from the first one on, stand in one batch: as many as it may have.
+fn next_batch(network: &Network, nodes: &[u32]) -> usize
+    requires some { 0 < length nodes.now }
+    ensures some { 0 < result }
+    ensures few { result ≤ 256 }
+    ensures inside { result ≤ length nodes.now }
+{
+    let most = nodes.len().min(BATCH);
+    let mut ends = degree_of(network, nodes[0]);
+    for at in 1..most {
+        ends = ends.saturating_add(degree_of(network, nodes[at]));
+        if ends > ENDS {
+            return at;
+        }
+    }
+    most
+}
+
 /// These nodes in batches.
 fn batches_of(alloc: Global, network: &Network, nodes: &[u32]) -> Result<Vec<Batch>, AllocError>
     requires within { All (λ u. u < length network.now) nodes.now }
@@ -45,7 +68,7 @@ fn batches_of(alloc: Global, network: &Network, nodes: &[u32]) -> Result<Vec<Bat
     let mut batches = Vec::new(alloc);
     let mut rest = nodes;
     while !rest.is_empty() {
-        let (front, back) = rest.split_at(rest.len().min(BATCH));
+        let (front, back) = rest.split_at(next_batch(network, rest));
         batches.push(batch_of(alloc, network, front)?)?;
         rest = back;
     }

@@ -4,6 +4,7 @@
 mod activity;
 mod batch;
 mod columns;
+mod group;
 mod laws;
 mod layout;
 mod merge;

@@ -48,17 +48,17 @@ fn copy_where(task: &Task<'_>, at: usize, source: &[Vec<u32>], to: &mut [Vec<u32
     requires long_source { HaveWords (length task.now.network.now) source.now }
     ensures long { HaveWords (length task.now.network.now) to.new }
     ensures copied { (words : ℕ → ℕ → ℕ) (d : Batch) → IsDue task.now.due.now at
-        → All (HasWords words source.now) (slice_index_or task.now.batches.now at d).nodes.items
-        → All (HasWords words to.new) (slice_index_or task.now.batches.now at d).nodes.items }
+        → All (HasWords words source.now) (slice_index_or task.now.batches.now at d).nodes
+        → All (HasWords words to.new) (slice_index_or task.now.batches.now at d).nodes }
     ensures kept { (words : ℕ → ℕ → ℕ) (u : ℕ)
-        → (IsDue task.now.due.now at → (d : Batch) → All (HasWords words source.now) (slice_index_or task.now.batches.now at d).nodes.items)
+        → (IsDue task.now.due.now at → (d : Batch) → All (HasWords words source.now) (slice_index_or task.now.batches.now at d).nodes)
         → HasWords words to.old u → HasWords words to.new u }
 {
     if task.due[at] {
         copy_nodes(
             to,
             source,
-            &task.batches[at].nodes,
+            task.batches[at].nodes.as_slice(),
             task.network.nodes() as usize,
         );
     }

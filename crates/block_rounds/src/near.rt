@@ -3,7 +3,7 @@ ghost use Rattle.std.specs.Prelude.{◌≡◌, ◌<◌, ◌⊎◌, ℕ, All, IfO
 ghost use Rattle.std.specs.List.{Contains};
 ghost use Rattle.std.specs.List.Sorted.{IsPermutation};
 ghost use Rattle.link_net.specs.Neighbours.{numbers_below, IsNetwork};
-ghost use Rattle.block_rounds.specs.declared.batch.Slot.{Slot};
+ghost use Rattle.row_code.specs.declared.slot.Slot.{Slot};
 ghost use Rattle.block_rounds.specs.Batches.{IsBatch, IsLayout, nodes_of};
 ghost use Rattle.block_rounds.specs.Nears.{AreHomes, AreNear, HaveNear, IsDue};
 
@@ -24,14 +24,14 @@ fn settle(homes: &mut [usize], nodes: &[u32], batch: usize)
 
 /// For each of so many nodes the batch in which it stands.
 fn homes_of(alloc: Global, nodes: usize, batches: &[Batch]) -> Result<Vec<usize>, AllocError>
-    requires within { All (λ batch. All (λ u. u < nodes) batch.nodes.items) batches.now }
+    requires within { All (λ batch. All (λ u. u < nodes) batch.nodes) batches.now }
     requires once { IsPermutation (numbers_below nodes) (nodes_of batches.now) }
     ensures count { IfOk result (λ homes. length homes.items ≡ nodes) }
     ensures homes { IfOk result (λ homes. AreHomes batches.now nodes homes.items) }
 {
     let mut homes = vec![in alloc; 0; nodes]?;
     for (i, batch) in batches.iter().enumerate() {
-        settle(&mut homes, &batch.nodes, i);
+        settle(&mut homes, batch.nodes.as_slice(), i);
     }
     Ok(homes)
 }
@@ -54,12 +54,12 @@ fn mark_batch(marks: &mut [bool], homes: &[usize], network: &Network, batch: &Ba
     requires network { IsNetwork network.now }
     requires count { length homes.now ≡ length network.now }
     requires there { (u : ℕ) → u < length homes.now → slice_index homes.now u < length marks.old }
-    ensures own { All (λ u. IsDue marks.new (slice_index homes.now u)) batch.now.nodes.items }
-    ensures slots { (j : ℕ) (d : Slot) → j < length batch.now.slots.items → All (λ u. IsDue marks.new (slice_index homes.now u)) (slice_index_or batch.now.slots.items j d).neighbours.items }
+    ensures own { All (λ u. IsDue marks.new (slice_index homes.now u)) batch.now.nodes }
+    ensures slots { (j : ℕ) (d : Slot) → j < length batch.now.slots.items → All (λ u. IsDue marks.new (slice_index homes.now u)) (slice_index_or batch.now.slots.items j d).neighbours }
 {
-    mark_homes(marks, homes, &batch.nodes);
+    mark_homes(marks, homes, batch.nodes.as_slice());
     for slot in &batch.slots {
-        mark_homes(marks, homes, &slot.neighbours);
+        mark_homes(marks, homes, slot.neighbours.as_slice());
     }
 }
 

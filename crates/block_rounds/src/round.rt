@@ -1,6 +1,5 @@
 //! A round over batches.
-ghost use Rattle.std.specs.Prelude.{◌≡◌, ◌<◌, ◌≤◌, ℕ, All, None, length, slice_index, slice_index_or};
-ghost use Rattle.rule_check.specs.WellFormed.{first_fault};
+ghost use Rattle.std.specs.Prelude.{◌≡◌, ◌<◌, ◌≤◌, ℕ, All, length, slice_index, slice_index_or};
 ghost use Rattle.link_net.specs.Neighbours.{IsNetwork};
 ghost use Rattle.row_code.specs.Block.{Lane};
 ghost use Rattle.block_rounds.specs.declared.batch.Batch.{Batch};
@@ -11,6 +10,7 @@ ghost use Rattle.block_rounds.specs.Walks.{IsTask, HasNext, HoldsOfDue};
 ghost use Rattle.block_rounds.specs.Gathered.{gathered};
 
 use crate::batch::Batch;
+use crate::group::group_end;
 use crate::task::Task;
 use link_net::Network;
 use row_code::Block;
@@ -19,17 +19,20 @@ use row_code::Block;
 fn gather(network: &Network, batch: &Batch, block: &mut Block<'_>, round: u32, from: &[Vec<u32>])
     requires batch { IsBatch network.now batch.now }
     requires network { IsNetwork network.now }
-    requires sound { first_fault block.old.rules ≡ None }
     requires fields { length from.now ≡ length block.old.rules.fields }
     requires nodes { HaveWords (length network.now) from.now }
     ensures rules { block.new.rules ≡ block.old.rules }
-    ensures count { length block.new.lanes ≡ length batch.now.nodes.items }
-    ensures lanes { (i : ℕ) (d : Lane) → i < length batch.now.nodes.items
-        → slice_index_or block.new.lanes i d ≡ gathered block.old.rules network.now round from.now (slice_index batch.now.nodes.items i) }
+    ensures count { length block.new.lanes ≡ length batch.now.nodes }
+    ensures lanes { (i : ℕ) (d : Lane) → i < length batch.now.nodes
+        → slice_index_or block.new.lanes i d ≡ gathered block.old.rules network.now round from.now (slice_index batch.now.nodes i) }
 {
     block.enter(round, &batch.nodes, &batch.degrees, from);
-    for slot in &batch.slots {
-        block.take(&slot.neighbours, &slot.weights, from);
+    let mut at = 0;
+    while at < batch.slots.len() {
+        let count = batch.slots[at].neighbours.count();
+        let behind = group_end(&batch.slots, at, count);
+        block.take_slots(&batch.slots[at..behind], count, from);
+        at = behind;
     }
 }
 
@@ -44,14 +47,13 @@ fn step(
 )
     requires batch { IsBatch network.now batch.now }
     requires network { IsNetwork network.now }
-    requires sound { first_fault block.old.rules ≡ None }
     requires fields { length from.now ≡ length block.old.rules.fields }
     requires next_fields { length to.old ≡ length block.old.rules.fields }
     requires nodes { HaveWords (length network.now) from.now }
     requires next_nodes { HaveWords (length network.now) to.old }
     ensures rules { block.new.rules ≡ block.old.rules }
     ensures nodes { HaveWords (length network.now) to.new }
-    ensures done { All (IsNext block.old.rules network.now round from.now to.new) batch.now.nodes.items }
+    ensures done { All (IsNext block.old.rules network.now round from.now to.new) batch.now.nodes }
     ensures kept { (u : ℕ) → IsNext block.old.rules network.now round from.now to.old u → IsNext block.old.rules network.now round from.now to.new u }
 {
     gather(network, batch, block, round, from);
@@ -66,7 +68,7 @@ fn step_where(task: &Task<'_>, at: usize, block: &mut Block<'_>, to: &mut [Vec<u
     requires next_nodes { HaveWords (length task.now.network.now) to.old }
     ensures rules { block.new.rules ≡ block.old.rules }
     ensures nodes { HaveWords (length task.now.network.now) to.new }
-    ensures done { (d : Batch) → IsDue task.now.due.now at → All (HasNext block.old.rules task.now to.new) (slice_index_or task.now.batches.now at d).nodes.items }
+    ensures done { (d : Batch) → IsDue task.now.due.now at → All (HasNext block.old.rules task.now to.new) (slice_index_or task.now.batches.now at d).nodes }
     ensures kept { (u : ℕ) → HasNext block.old.rules task.now to.old u → HasNext block.old.rules task.now to.new u }
 {
     if task.due[at] {

@@ -25,12 +25,13 @@ pub struct Costs {
     pub least_saving: u64,
 }
 
-/// As how many neighbours of a node a slot of a batch counts, beside those that stand in it.
-const SLOT: u64 = 16;
+/// As how many neighbours of a node a slot of a batch counts, beside those that stand in it. They are few, since slots
+/// that are as long as those beside them share their rows.
+const SLOT: u64 = 4;
 
 /// What it costs to compute a batch.
 fn cost_of(batch: &Batch, costs: &Costs) -> u64 {
-    let nodes = batch.nodes.len() as u64;
+    let nodes = batch.nodes.count() as u64;
     let slots = (batch.slots.len() as u64).saturating_mul(SLOT);
     let ends = batch.ends.saturating_add(slots);
     nodes

@@ -17,7 +17,7 @@ loop-i-preserved c =
     let room : l.i < length l.changed = omega (arith, c.loop-i-test.true, l.auto.changed, c.requires.changes) in
     record {
       noted = λ j d high is due.
-          holds_more l.changed l.i has room (λ (k : ℕ). IsDue c.args.due.now k → All (IsAsBefore from to) (slice_index_or batches k d).nodes.items)
+          holds_more l.changed l.i has room (λ (k : ℕ). IsDue c.args.due.now k → All (IsAsBefore from to) (slice_index_or batches k d).nodes)
           (λ k h sleeps marked. l.invariant.noted k d h sleeps marked)
           (λ not marked. same_here batches from to l.i d c.index-batches-i.result c.loop-i-test.true c.index-batches-i.is (c.has_changed-has_moved.ensures.same not marked))
           j high is due;

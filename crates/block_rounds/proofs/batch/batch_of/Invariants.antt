@@ -1,5 +1,5 @@
 use Rattle.std.proofs.Common.{◌≡◌, ◌<◌, ℕ, length, slice_index_or}
-use Rattle.block_rounds.specs.declared.batch.Slot.{Slot}
+use Rattle.row_code.specs.declared.slot.Slot.{Slot}
 use Rattle.block_rounds.specs.Batches.{IsSlot}
 use Rattle.block_rounds.proofs.batch.batch_of.Given as goal
 

@@ -11,7 +11,7 @@ loop-rest-preserved c =
     let rest = l.rest.now in
     let front = c.split_at.result.0.now in
     let back = c.split_at.result.1.now in
-    let n = c.min.result in
+    let n = c.next_batch.result in
     let parts : front ++ back ≡ rest = ap (λ xs. xs ++ back) c.split_at.ensures.front ∙ ap (λ ys. take n rest ++ ys) c.split_at.ensures.back ∙ take-append-drop n rest in
     record {
       all = ap (λ bs. nodes_of bs ++ back) c.in_ok-push.ensures.items ∙ nodes_more l.batches.items c.in_ok-batch_of.field-0 rest front back c.args.nodes.now l.invariant.all parts c.in_ok-batch_of.ensures.nodes;

@@ -18,13 +18,13 @@ loop-at-preserved c =
     record {
       long = c.copy_where.ensures.long;
       copied = λ words all.
-          let there = λ (d : Batch) (is : IsDue task.due.now l.at). subst (λ (source : List (Vec ℕ)). All (HasWords words source) (slice_index_or task.batches.now l.at d).nodes.items) (sym c.deref.ensures.value) (all l.at d low c.loop-at-test.true is) in
+          let there = λ (d : Batch) (is : IsDue task.due.now l.at). subst (λ (source : List (Vec ℕ)). All (HasWords words source) (slice_index_or task.batches.now l.at d).nodes) (sym c.deref.ensures.value) (all l.at d low c.loop-at-test.true is) in
           due_more (HasWords words old) (HasWords words new) task share.first l.at
           (λ u here. c.copy_where.ensures.kept words u (λ is d. there d is) here)
           (l.invariant.copied words all)
           (λ d is. c.copy_where.ensures.copied words d is (there d is));
       kept = λ words u all here.
-          let there = λ (d : Batch) (is : IsDue task.due.now l.at). subst (λ (source : List (Vec ℕ)). All (HasWords words source) (slice_index_or task.batches.now l.at d).nodes.items) (sym c.deref.ensures.value) (all l.at d low c.loop-at-test.true is) in
+          let there = λ (d : Batch) (is : IsDue task.due.now l.at). subst (λ (source : List (Vec ℕ)). All (HasWords words source) (slice_index_or task.batches.now l.at d).nodes) (sym c.deref.ensures.value) (all l.at d low c.loop-at-test.true is) in
           c.copy_where.ensures.kept words u (λ is d. there d is) (l.invariant.kept words u all here);
     }
 

@@ -19,8 +19,8 @@ loop-i-preserved c =
       count = ap length made ∙ c.settle.auto.homes ∙ ap length c.deref_mut.ensures.value ∙ l.invariant.count;
       settled = subst (λ (homes : List ℕ). All (λ u. StandsIn batches u (slice_index homes u)) (nodes_of (take (l.i + 1) batches))) (sym made)
           (homes_more batches l.i batch c.deref_mut.result.now c.settle.new.homes c.loop-i-test.true c.index-batches-i.is
-          (subst (λ (nodes : List ℕ). (u : ℕ) → (slice_index c.settle.new.homes u ≡ slice_index c.deref_mut.result.now u) ⊎ ((slice_index c.settle.new.homes u ≡ l.i) × Contains nodes u)) c.deref.ensures.value c.settle.ensures.others)
-          (subst (All (λ u. slice_index c.settle.new.homes u ≡ l.i)) c.deref.ensures.value c.settle.ensures.here)
+          (subst (λ (nodes : List ℕ). (u : ℕ) → (slice_index c.settle.new.homes u ≡ slice_index c.deref_mut.result.now u) ⊎ ((slice_index c.settle.new.homes u ≡ l.i) × Contains nodes u)) c.as_slice.ensures.exact c.settle.ensures.others)
+          (subst (All (λ u. slice_index c.settle.new.homes u ≡ l.i)) c.as_slice.ensures.exact c.settle.ensures.here)
           (subst (λ (homes : List ℕ). All (λ u. StandsIn batches u (slice_index homes u)) (nodes_of (take l.i batches))) (sym c.deref_mut.ensures.value) l.invariant.settled));
     }
 

@@ -13,7 +13,7 @@ mark_homes-requires-in-loop-slot-clause-within c =
     let are = c.deref-slot-items.ensures.value in
     let here : j < length batch.slots.items = omega (arith, c.loop-slot-test.true, ap length are) in
     let same : slice_index_or batch.slots.items j slot ≡ slot = ap (λ xs. slice_index_or xs j slot) (sym are) ∙ sym c.slot-item.is in
-    let is : IsSlot network batch.nodes.items j slot = subst (IsSlot network batch.nodes.items j) same (c.requires.batch.slots j slot here) in
-    let within = slot_within network batch.nodes.items j slot c.requires.network is in
-    subst (All (λ w. w < length c.args.homes.now)) (sym c.deref-in-loop-slot.ensures.value)
-    (subst (λ (n : ℕ). All (λ w. w < n) slot.neighbours.items) (sym c.requires.count) within)
+    let is : IsSlot network batch.nodes j slot = subst (IsSlot network batch.nodes j) same (c.requires.batch.slots j slot here) in
+    let within = slot_within network batch.nodes j slot c.requires.network is in
+    subst (All (λ w. w < length c.args.homes.now)) (sym c.as_slice-in-loop-slot.ensures.exact)
+    (subst (λ (n : ℕ). All (λ w. w < n) slot.neighbours) (sym c.requires.count) within)

@@ -14,7 +14,7 @@ loop-at-preserved c =
     let rules = a.block.now.rules in
     let new = c.step_where.new.to in
     let kept = subst (λ (r : Rules). (u : ℕ) → HasNext r task l.to u → HasNext r task new u) l.invariant.rules c.step_where.ensures.kept in
-    let done = subst (λ (r : Rules). (d : Batch) → IsDue task.due.now l.at → All (HasNext r task new) (slice_index_or task.batches.now l.at d).nodes.items) l.invariant.rules c.step_where.ensures.done in
+    let done = subst (λ (r : Rules). (d : Batch) → IsDue task.due.now l.at → All (HasNext r task new) (slice_index_or task.batches.now l.at d).nodes) l.invariant.rules c.step_where.ensures.done in
     record {
       rules = c.step_where.ensures.rules ∙ l.invariant.rules;
       nodes = c.step_where.ensures.nodes;

@@ -1,4 +1,4 @@
-use Rattle.std.proofs.Common.{◌≡◌, ◌≤◌, ◌<◌, ◌∙◌, ℕ, List, ap, arith, length, subst, sym}
+use Rattle.std.proofs.Common.{◌≡◌, ◌≤◌, ◌∙◌, ℕ, List, ap, arith, length, subst, sym}
 use Rattle.rule_check.specs.Value.{Rules}
 use Rattle.link_net.specs.Neighbours.{Neighbours}
 use Rattle.row_code.specs.Block.{column_words}

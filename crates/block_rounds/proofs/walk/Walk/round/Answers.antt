@@ -28,7 +28,7 @@ written c =
       wide = c.step_due.auto.to ∙ ap length c.deref_mut.ensures.value ∙ c.self.invariant.next_wide;
       long = c.step_due.ensures.nodes;
       done = λ i d h is.
-          subst (λ (from : List (Vec ℕ)). All (IsNext rules network c.args.round from new) (slice_index_or s.batches.now i d).nodes.items) c.deref-2.ensures.value
+          subst (λ (from : List (Vec ℕ)). All (IsNext rules network c.args.round from new) (slice_index_or s.batches.now i d).nodes) c.deref-2.ensures.value
           (c.step_due.ensures.done i d (omega arith) h (subst (λ (due : List Bool). IsDue due i) (sym c.deref.ensures.value) is));
       kept = λ u here.
           subst (λ (from : List (Vec ℕ)). IsNext rules network c.args.round from new u) c.deref-2.ensures.value
@@ -54,8 +54,8 @@ looked c =
       changes = e.changes;
       all = e.all;
       noted =
-          subst (λ (from : List (Vec ℕ)). s.activity.settles ≡ true → (i : ℕ) (d : Batch) → i < length batches → Sleeps changed i → IsDue s.activity.due.items i → All (IsAsBefore from c.step_due.new.to) (slice_index_or batches i d).nodes.items) c.deref-3.ensures.value
-          (subst (λ (to : List (Vec ℕ)). s.activity.settles ≡ true → (i : ℕ) (d : Batch) → i < length batches → Sleeps changed i → IsDue s.activity.due.items i → All (IsAsBefore c.deref-3.result.now to) (slice_index_or batches i d).nodes.items) made e.noted);
+          subst (λ (from : List (Vec ℕ)). s.activity.settles ≡ true → (i : ℕ) (d : Batch) → i < length batches → Sleeps changed i → IsDue s.activity.due.items i → All (IsAsBefore from c.step_due.new.to) (slice_index_or batches i d).nodes) c.deref-3.ensures.value
+          (subst (λ (to : List (Vec ℕ)). s.activity.settles ≡ true → (i : ℕ) (d : Batch) → i < length batches → Sleeps changed i → IsDue s.activity.due.items i → All (IsAsBefore c.deref-3.result.now to) (slice_index_or batches i d).nodes) made e.noted);
       awake = e.awake;
       some = some;
       none = e.none;
