@@ -10,21 +10,10 @@ ghost use Rattle.block_rounds.specs.Walks.{HoldsOfDue};
 
 use crate::share::Share;
 use crate::task::Task;
-
-/// Copies the words of these nodes.
-fn copy_words(column: &mut [u32], source: &[u32], nodes: &[u32])
-    requires within { All (λ u. u < length column.old) nodes.now }
-    requires within_source { All (λ u. u < length source.now) nodes.now }
-    ensures exact { column.new ≡ scattered nodes.now (map (slice_index source.now) nodes.now) column.old }
-{
-    for node in nodes {
-        let place = *node as usize;
-        column[place] = source[place];
-    }
-}
+use row_code::Places;
 
 /// Copies the words of these nodes in all columns.
-fn copy_nodes(columns: &mut [Vec<u32>], source: &[Vec<u32>], nodes: &[u32], count: usize)
+fn copy_nodes(columns: &mut [Vec<u32>], source: &[Vec<u32>], nodes: &Places, count: usize)
     requires fields { length source.now ≡ length columns.old }
     requires long { HaveWords count columns.old }
     requires long_source { HaveWords count source.now }
@@ -34,7 +23,7 @@ fn copy_nodes(columns: &mut [Vec<u32>], source: &[Vec<u32>], nodes: &[u32], coun
         ≡ scattered nodes.now (map (slice_index (slice_index_or source.now k e).items) nodes.now) (slice_index_or columns.old k d).items }
 {
     for k in 0..columns.len() {
-        copy_words(&mut columns[k], &source[k], nodes);
+        nodes.copy(&mut columns[k], &source[k]);
     }
 }
 
@@ -58,7 +47,7 @@ fn copy_where(task: &Task<'_>, at: usize, source: &[Vec<u32>], to: &mut [Vec<u32
         copy_nodes(
             to,
             source,
-            task.batches[at].nodes.as_slice(),
+            &task.batches[at].nodes,
             task.network.nodes() as usize,
         );
     }
