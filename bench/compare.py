@@ -162,6 +162,23 @@ def threads():
         line(name, kind, f"{rounds}", long(one), long(shared), f"{shared / one:.2f}")
 
 
+def processors():
+    """How many times one processor's work the machine does when four calls in one piece are made at once: what threads can gain at most."""
+    name, rounds, calls = "heavy", ROUNDS["heavy"], 4
+    table("program", "network", "one call alone", f"{calls} calls at once", "processors' worth")
+    for kind in ("torus", "path"):
+        call = [worlds, "rounds", f"{work}/{name}.rules", f"{work}/{kind}.toml", str(rounds), "0"]
+        alone, together = [], []
+        for _ in range(3):
+            alone.append(called(call)[1])
+            start = time.perf_counter()
+            made = [subprocess.Popen(call, stdout=subprocess.DEVNULL) for _ in range(calls)]
+            if any(process.wait() for process in made):
+                sys.exit(f"{worlds} failed")
+            together.append(time.perf_counter() - start)
+        line(name, kind, long(min(alone)), long(min(together)), f"{calls * min(alone) / min(together):.1f}")
+
+
 def by_turns(program, network, rounds):
     """The seconds of rounds in one piece and by threads, the least of calls that are made by turns."""
     jobs = [("rounds", rounds), ("parallel", rounds), ("rounds", 0)]
@@ -276,6 +293,7 @@ def main():
     lockstep()
     little()
     threads()
+    processors()
     small()
     settled()
     memory()
