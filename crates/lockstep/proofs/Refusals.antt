@@ -7,8 +7,11 @@ use Rattle.rule_check.specs.Value.{names_of}
 use Rattle.rule_check.specs.WellFormed.{IsFieldName}
 use Rattle.lockstep.specs.declared.fault.ReportFault.{ReportFault}
 use Rattle.lockstep.specs.declared.fault.ReportFault.TheVariants.{BadLine, TooManyRounds, Memory}
+use Rattle.lockstep.specs.declared.fault.RoundFault.{RoundFault}
+use Rattle.lockstep.specs.declared.fault.RoundFault.TheVariants as round
 use Rattle.lockstep.specs.Configs.{Configuration, most_rounds}
 use Rattle.lockstep.specs.Plans.{PlanView}
+use Rattle.lockstep.specs.Lockstep.{rounds_of, lockstep_config}
 use Rattle.lockstep.specs.Report.{round_line}
 use Rattle.lockstep.specs.ReadReport.{IsReportOf, IsRefusedReport, within_limit}
 use Rattle.lockstep.specs.Answer.{IsAnswer}
@@ -67,3 +70,15 @@ module _ (p : PlanView) (few : length p.program.fields ≤ 8) (text lines : List
   pub err_refused : length p.network ≤ 65536 → All IsFieldName (names_of p.program) → (r : Result Configuration ReportFault) (fault : ReportFault) → IsErrAnd r (λ e. e ≡ fault) → IsStopped (names_of p.program) (length p.program.fields) (length p.network) lines fault → IfErr r (IsRefusedReport p text)
   err_refused narrow names (Ok config) fault is stop = tt
   err_refused narrow names (Err e) fault is stop = subst (IsRefusedReport p text) (sym is) (refused narrow names fault stop)
+
+-- a round within the limits is there
+pub round_there : (p : PlanView) (t : ℕ) → p.start ≤ t → t ≤ most_rounds → rounds_of p t ≡ Ok (lockstep_config p t)
+round_there p t late few =
+    let no : nat_lt most_rounds t ≡ false = grind (arith, nat_tests) in
+    let not : nat_lt t p.start ≡ false = grind (arith, nat_tests) in
+    rw no (rw not refl)
+
+-- want of memory alone is an answer whatever is defined
+pub memory_answer : {A : Type 0} (defined r : Result A RoundFault) → IsErrAnd r (λ f. f ≡ round.Memory) → IsAnswer round.Memory defined r
+memory_answer defined (Ok x) is = absurd is
+memory_answer defined (Err f) is = λ apart. absurd (apart is)

@@ -1,0 +1,17 @@
+use Rattle.std.proofs.Common.{◌≡◌, ap, sym, ◌∙◌}
+use Rattle.std.specs.Prelude.{Ok}
+use Rattle.lockstep.specs.Configs.{Configuration}
+use Rattle.lockstep.specs.Lockstep.{lockstep_config}
+use Rattle.lockstep.specs.Plans.{PlanView}
+use Rattle.lockstep.specs.Walking.{RoundView}
+use Rattle.lockstep.proofs.Refusals.{round_there}
+use Rattle.lockstep.proofs.rounds.lockstep.Goals as goal
+
+pub returns-clause-exact : goal.returns-clause-exact
+returns-clause-exact c =
+    let a = c.args in
+    let config = λ (v : RoundView). lockstep_config v.plan v.round in
+    let from : c.in_ok-walk.walk.plan ≡ a.plan.now = ap (λ (v : RoundView). v.plan) c.in_ok-walk.ensures.start ∙ c.in_ok-course.ensures.plan in
+    let is : c.in_ok-config.field-0 ≡ lockstep_config a.plan.now a.rounds =
+    c.in_ok-config.ensures.exact ∙ ap config c.go_to.ensures.there ∙ ap (λ (p : PlanView). lockstep_config p a.rounds) from in
+    round_there a.plan.now a.rounds c.in_ok-check_round.ensures.there.0 c.in_ok-check_round.ensures.there.1 ∙ ap Ok (sym is)
