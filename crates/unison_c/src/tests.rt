@@ -269,20 +269,15 @@ fn why_answer(
 fn told(rt: HostRuntime) -> Result<(), Fail> {
     let program = b"field dist = 4294967295;\nnext dist = (dist min least (n.dist + 1;\n";
     let whole =
-        "program:2:40: program Syntax: expected `)`, found `;`\n  2 | next dist = (dist min least (n.dist + 1;\n    |                                        ^\n  an operator stands between two parts in brackets: (A + B)\n";
+        "program:2:40: program Syntax: expected `)`, found `;`\n  2 | next dist = (dist min least (n.dist + 1;\n    |                                        ^\n  an operator stands between two parts in brackets: (A + B)\n..";
+    let len = whole.len() - 2;
     let texts = on_path(program);
-    let mut text = [b'.'; 400];
+    let mut text = [b'.'; 210];
     assert_eq!(rt; why_answer(&rt, 4, &texts, 0, &mut text), (5, 9, 9));
-    assert_eq!(rt;
-        why_answer(&rt, 1, &texts, 0, &mut text[..9]),
-        (2, 9, whole.len())
-    );
-    assert_eq!(rt; text, [b'.'; 400]);
-    assert_eq!(rt;
-        why_answer(&rt, 1, &texts, 0, &mut text),
-        (0, 18, whole.len())
-    );
-    assert_eq!(rt; &text[..whole.len()], whole.as_bytes());
+    assert_eq!(rt; why_answer(&rt, 1, &texts, 0, &mut text[..9]), (2, 9, len));
+    assert_eq!(rt; text, [b'.'; 210]);
+    assert_eq!(rt; why_answer(&rt, 1, &texts, 0, &mut text), (0, 18, len));
+    assert_eq!(rt; text.as_slice(), whole.as_bytes());
     Ok(())
 }
 
