@@ -187,10 +187,16 @@ def test_there_is_no_first_fault_where_nothing_is_wrong():
 
 def test_first_faults_are_those_that_are_raised():
     """The exception of a call on made texts, and `first_fault` of the same texts."""
-    for text, rounds, from_ in [(PAIR, 1000000001, None), (PAIR, 6, LATER), (PAIR, 9, "round 7\n0 s=1\n"), (PAIR + "[set]\nt = [[0, 1]]\n", 1, None)]:
-        error = raised(unison.UnisonError, lockstep(SWAP, text, rounds, from_=from_))
+    cases = [
+        (unison.RunError, PAIR, 1000000001, None),
+        (unison.RunError, PAIR, 6, LATER),
+        (unison.ReportError, PAIR, 9, "round 7\n0 s=1\n"),
+        (unison.PlanError, PAIR + "[set]\nt = [[0, 1]]\n", 1, None),
+    ]
+    for kind, text, rounds, from_ in cases:
+        error = raised(kind, lockstep(SWAP, text, rounds, from_=from_))
         found = unison.first_fault(SWAP, text, rounds=rounds, from_=from_)
-        assert (type(found), found.number, str(found)) == (type(error), error.number, str(error))
+        assert (type(found), found.number, str(found)) == (kind, error.number, str(error))
 
 
 def test_long_names_are_told_whole_or_cut_as_the_library_does():
