@@ -6,6 +6,7 @@
  *     call settle PROGRAM NETWORK LIMIT           settles ROUND, repeats ROUND PERIOD, or open LIMIT
  *     call replay PROGRAM NETWORK SCHEDULE STOP   the replay report, and a line for each node: its number, its count and its words
  *     call why JOB PROGRAM [NETWORK NUMBER [SCHEDULE]]
+ *                                                 the number of the first fault, or 0, and what is told of it
  *
  * Where a call is not done it prints the number of its fault, and ends with status 3. */
 #include "unison.h"
@@ -192,17 +193,19 @@ static int show_why(char **words, size_t count) {
     struct text network = count > 2 ? read_file(words[2]) : no_text();
     struct text schedule = count > 4 ? read_file(words[4]) : no_text();
     uint32_t job = number(words[0]), limit = count > 3 ? number(words[3]) : 0;
+    uint32_t first = 0;
     size_t len = 0;
     uint8_t *told = room_for(0, 1);
     uint32_t answer = unison_why(job, program.bytes, program.len, network.bytes, network.len, from.bytes, from.len,
-                                 schedule.bytes, schedule.len, limit, told, 0, &len);
+                                 schedule.bytes, schedule.len, limit, &first, told, 0, &len);
     if (answer == UNISON_ROOM) {
         free(told);
         told = room_for(len, 1);
         answer = unison_why(job, program.bytes, program.len, network.bytes, network.len, from.bytes, from.len, schedule.bytes,
-                            schedule.len, limit, told, len, &len);
+                            schedule.len, limit, &first, told, len, &len);
     }
     if (answer) return fault(answer);
+    printf("first fault %u\n", (unsigned)first);
     fwrite(told, 1, len, stdout);
     free(told);
     free(schedule.bytes);

@@ -4,9 +4,10 @@
  *
  * The files are programs (.rules) and networks (.toml). After each call it looks at the answer, which has to be 0 or a number of
  * enum unison_fault; at the bytes before and behind each memory that was given, which have to be as they were; at what a call that
- * was not done may not write; and at what stands behind what a call that was done wrote. At the end it prints how often each answer
- * came, and how much memory the process has after a tenth of the calls and after all of them, which may be little more where there
- * were many calls. Its status is 0 where all was right. */
+ * was not done may not write; at what stands behind what a call that was done wrote; and whether the fault that unison_why tells
+ * is the answer of the job itself. At the end it prints how often each answer came, and how much memory the process has after a
+ * tenth of the calls and after all of them, which may be little more where there were many calls. Its status is 0 where all was
+ * right. */
 #include "unison.h"
 
 #include <stdio.h>
@@ -332,14 +333,28 @@ static void hit_replay(void) {
     drop_texts(&texts, "replay");
 }
 
+/* What the job of the number answers by itself, with no room: 0 where it is done, or would be with more room. */
+static uint32_t job_answer(uint32_t job, struct texts texts, uint32_t number) {
+    struct guarded none = guarded(0);
+    uint32_t *words = (uint32_t *)(void *)inside(none), nodes, fields, answer;
+    size_t len;
+    if (job == UNISON_JOB_CHECK) answer = unison_check(PROGRAM, inside(none), 0, &len);
+    else if (job == UNISON_JOB_LOCKSTEP) answer = unison_lockstep(PROGRAM, NETWORK, FROM, number, words, 0, &nodes, &fields);
+    else answer = unison_replay(PROGRAM, NETWORK, FROM, SCHEDULE, number, inside(none), 0, &len, words, 0, words, 0, &nodes, &fields);
+    check_memory(none, 0, "the job of why");
+    return answer == UNISON_ROOM ? 0 : answer;
+}
+
 static void hit_why(void) {
     struct texts texts = draw_texts();
     struct guarded text = guarded(some_room(2048));
     size_t len = UNSET;
-    uint32_t job = chance(20) ? (uint32_t)draw() : (uint32_t)(1 + below(3));
-    uint32_t answer = unison_why(job, PROGRAM, NETWORK, FROM, SCHEDULE, some_round(), inside(text), text.len, &len);
+    uint32_t job = chance(20) ? (uint32_t)draw() : (uint32_t)(1 + below(3)), number = some_round(), fault = UNSET;
+    uint32_t answer = unison_why(job, PROGRAM, NETWORK, FROM, SCHEDULE, number, &fault, inside(text), text.len, &len);
     check_answer(answer, "why");
     check_size(answer, len, "why");
+    if (answer && fault != UNSET) fail("set a fault", "why");
+    if (!answer && fault != job_answer(job, texts, number)) fail("another fault than its job's", "why");
     if ((answer == UNISON_NO_JOB) != (job < 1 || job > 3)) fail("a job", "why");
     if (answer == UNISON_ROOM && len <= text.len) fail("had room", "why");
     check_memory(text, answer ? 0 : len, "why");

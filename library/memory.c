@@ -43,7 +43,7 @@ void __wrap_free(void *block) {
 struct room {
     uint8_t text[400];
     size_t text_len;
-    uint32_t words[8], counts[8], nodes, fields, manner, round, period;
+    uint32_t words[8], counts[8], nodes, fields, manner, round, period, fault;
 };
 
 #define BYTES(text) (const uint8_t *)(text), sizeof(text) - 1
@@ -72,7 +72,7 @@ static uint32_t replay(struct room *it) {
 }
 
 static uint32_t why(struct room *it) {
-    return unison_why(UNISON_JOB_CHECK, BROKEN, NOTHING, NOTHING, NOTHING, 0, it->text, sizeof it->text, &it->text_len);
+    return unison_why(UNISON_JOB_CHECK, BROKEN, NOTHING, NOTHING, NOTHING, 0, &it->fault, it->text, sizeof it->text, &it->text_len);
 }
 
 static int has_text(const struct room *it, const char *text) { return it->text_len == strlen(text) && memcmp(it->text, text, it->text_len) == 0; }
@@ -90,7 +90,8 @@ static int is_right(const char *name, const struct room *it) {
     if (!strcmp(name, "replay"))
         return has_shape && has_text(it, "0 moves 0 dist=0\n1 moves 1 dist=1\n2 moves 0 dist=4294967295\n") &&
                has_numbers(it->counts, counts, 3) && has_numbers(it->words, shown, 3);
-    return has_text(it, "program:2:40: program Syntax: expected `)`, found `;`\n  2 | next dist = (dist min least (n.dist + 1;\n"
+    return it->fault == UNISON_PROGRAM_SYNTAX &&
+           has_text(it, "program:2:40: program Syntax: expected `)`, found `;`\n  2 | next dist = (dist min least (n.dist + 1;\n"
                         "    |                                        ^\n  an operator stands between two parts in brackets: (A + B)\n");
 }
 

@@ -128,12 +128,14 @@ uint32_t unison_replay(const uint8_t *program, size_t program_len, const uint8_t
                        uint8_t *report, size_t report_room, size_t *report_len, uint32_t *counts, size_t counts_room,
                        uint32_t *words, size_t words_room, uint32_t *nodes, uint32_t *fields);
 
-/* Why a job (enum unison_job) is not done on these texts, told for people as `unison why` tells it, in UTF-8: what is wrong,
- * where, and what to do; or that nothing is wrong. Texts that the job does not read are not looked at. The texts are called
- * program, network, report and schedule. *text_len is set where the answer is 0 or UNISON_ROOM. */
+/* Why a job (enum unison_job) is not done on these texts: *fault is the number (enum unison_fault) of the first fault with which
+ * the job would end, and 0 where nothing refuses it; at the front of text stands what is told people of it, as `unison why` tells
+ * it, in UTF-8: what is wrong, where, and what to do; or that nothing is wrong. No round is computed, and no step made. Texts that
+ * the job does not read are not looked at. The texts are called program, network, report and schedule. *fault is set where the
+ * answer is 0 alone, *text_len where it is 0 or UNISON_ROOM. */
 uint32_t unison_why(uint32_t job, const uint8_t *program, size_t program_len, const uint8_t *network, size_t network_len,
                     const uint8_t *from, size_t from_len, const uint8_t *schedule, size_t schedule_len, uint32_t number,
-                    uint8_t *text, size_t text_room, size_t *text_len);
+                    uint32_t *fault, uint8_t *text, size_t text_room, size_t *text_len);
 
 #ifdef __cplusplus
 }

@@ -154,6 +154,51 @@ def test_why_tells_the_first_fault_of_texts():
     assert unison.why(DISTANCE, PAIR, rounds=5, from_="round 07\n").startswith("report:1:")
 
 
+def test_the_first_fault_has_its_number():
+    """With its number, its kind and its place, and not raised."""
+    late = "round 7\n0 dist=0\n1 dist=1\n"
+    cases = [
+        (18, (1, 6), lambda: unison.first_fault("field")),
+        (18, (1, 6), lambda: unison.first_fault("field", "nodes = 0\n")),
+        (51, (1, 9), lambda: unison.first_fault(DISTANCE, "nodes = 0\nlinks = []\n")),
+        (64, (4, 1), lambda: unison.first_fault(DISTANCE, PAIR + "[set]\ndits = [[0, 1]]\n", rounds=3)),
+        (80, None, lambda: unison.first_fault(DISTANCE, PAIR, rounds=1000000001)),
+        (81, None, lambda: unison.first_fault(DISTANCE, PAIR, rounds=6, from_=late)),
+        (96, (1, 1), lambda: unison.first_fault(DISTANCE, PAIR, schedule="move 0\n", stop=5)),
+        (98, None, lambda: unison.first_fault(DISTANCE, PAIR, schedule="", stop=1000000001)),
+        (99, None, lambda: unison.first_fault(DISTANCE, PAIR, schedule="", stop=6, from_=late)),
+        (112, (3, 1), lambda: unison.first_fault(DISTANCE, PAIR, rounds=9, from_="round 7\n0 dist=1\n")),
+        (113, (1, 7), lambda: unison.first_fault(DISTANCE, PAIR, rounds=9, from_="round 1000000001\n0 dist=1\n1 dist=2\n")),
+    ]
+    for number, place, find in cases:
+        error, (part, name) = find(), faults.FAULTS[number]
+        assert type(error) is faults.KINDS[part], error
+        assert (error.number, error.part, error.name, error.place) == (number, part, name, place), error
+        assert f"{part} {name}" in error.diagnosis.partition("\n")[0], error
+
+
+def test_there_is_no_first_fault_where_nothing_is_wrong():
+    assert unison.first_fault(DISTANCE) is None
+    assert unison.first_fault(unison.Program(DISTANCE), PAIR, rounds=5) is None
+    assert unison.first_fault(DISTANCE, unison.Network.from_text(PAIR), schedule="write 0\n", stop=5) is None
+    assert unison.first_fault(DISTANCE, schedule="no schedule", rounds=1000000001) is None, "a program alone is looked at by itself"
+    assert unison.first_fault("field s = 0; next s = round;", PAIR, rounds=5) is None
+
+
+def test_first_faults_are_those_that_are_raised():
+    """The exception of a call on made texts, and `first_fault` of the same texts."""
+    cases = [
+        (unison.RunError, PAIR, 1000000001, None),
+        (unison.RunError, PAIR, 6, LATER),
+        (unison.ReportError, PAIR, 9, "round 7\n0 s=1\n"),
+        (unison.PlanError, PAIR + "[set]\nt = [[0, 1]]\n", 1, None),
+    ]
+    for kind, text, rounds, from_ in cases:
+        error = raised(kind, lockstep(SWAP, text, rounds, from_=from_))
+        found = unison.first_fault(SWAP, text, rounds=rounds, from_=from_)
+        assert (type(found), found.number, str(found)) == (kind, error.number, str(error))
+
+
 def test_long_names_are_told_whole_or_cut_as_the_library_does():
     """What is told needs more room than is made at first, or the library shortens it: the package takes either."""
     name = "x" * 20000

@@ -12,7 +12,7 @@ opening ones. Calls give the interpreter's lock back: several threads may call a
 from . import schedule
 from ._library import LibraryMissing
 from .faults import NetworkError, PlanError, ProgramError, ReportError, RunError, ScheduleError, UnisonError
-from .jobs import NONE, lockstep, replay, settle, watch, why
+from .jobs import NONE, first_fault, lockstep, replay, settle, watch, why
 from .network import Network
 from .program import Program
 from .results import Replayed, Rounds, Settling, States, Table
@@ -36,6 +36,7 @@ __all__ = [
     "States",
     "Table",
     "UnisonError",
+    "first_fault",
     "lockstep",
     "replay",
     "schedule",

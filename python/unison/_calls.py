@@ -63,18 +63,19 @@ def cut(words: "array[int]", count: int) -> "array[int]":
 
 def refuse(answer: int, job: int, texts: Texts, asked: int) -> None:
     """Raises the fault that an answer tells, with what the library says of it."""
-    if answer == 0:
-        return
-    diagnosis = "" if answer == faults.MEMORY else diagnosis_of(job, texts, asked)
-    raise faults.fault_of(answer, diagnosis)
+    if answer != 0:
+        raise faults.fault_of(answer, diagnosis_of(answer, job, texts, asked))
 
 
-def diagnosis_of(job: int, texts: Texts, asked: int) -> str:
-    """What `why` tells, or nothing where it cannot tell anything."""
+def diagnosis_of(answer: int, job: int, texts: Texts, asked: int) -> str:
+    """What `why` tells of the fault of an answer; nothing where it cannot tell anything, or finds another fault."""
+    if answer == faults.MEMORY:
+        return ""
     try:
-        return why(job, texts, asked)
+        told = why(job, texts, asked)
     except (MemoryError, faults.UnisonError):
         return ""
+    return told.text if told.fault == answer else ""
 
 
 def text_of(call: Callable[[Any, int, Any], int], room: int) -> Tuple[int, bytes]:
@@ -176,11 +177,18 @@ def replay(texts: Texts, stop: int, rooms: Tuple[int, int, int]) -> Replay:
     return Replay(report.raw[: length.value], cut(counts, nodes.value), table)
 
 
-def why(job: int, texts: Texts, asked: int) -> str:
-    """Why a job is refused, in words."""
-    call = _library.load().unison_why
-    given = (*texts.plan(), texts.schedule, len(texts.schedule), asked)
+class Told(NamedTuple):
+    """What is told of a job."""
+
+    fault: int  # the number of the first fault with which it would end; 0 where nothing refuses it
+    text: str
+
+
+def why(job: int, texts: Texts, asked: int) -> Told:
+    """Why a job is refused, as a number and in words."""
+    call, fault = _library.load().unison_why, ctypes.c_uint32(0)
+    given = (*texts.plan(), texts.schedule, len(texts.schedule), asked, ctypes.byref(fault))
     answer, text = text_of(lambda *room: call(job, *given, *room), 4096)
     if answer != 0:
         raise faults.fault_of(answer)
-    return text.decode("utf-8", "replace")
+    return Told(fault.value, text.decode("utf-8", "replace"))

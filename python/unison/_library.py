@@ -24,7 +24,7 @@ CALLS = {
     "unison_watch": PLAN + [POINTER, SIZE] + WORDS,
     "unison_settle": PLAN + [U32, POINTER, POINTER, POINTER],
     "unison_replay": PLAN + TEXT + [U32, POINTER, SIZE, POINTER, POINTER, SIZE] + WORDS,
-    "unison_why": [U32] + PLAN + TEXT + [U32, POINTER, SIZE, POINTER],
+    "unison_why": [U32] + PLAN + TEXT + [U32, POINTER, POINTER, SIZE, POINTER],
 }
 
 

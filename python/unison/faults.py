@@ -51,7 +51,7 @@ FAULTS: Dict[int, Tuple[str, str]] = {
     130: ("run", "LimitBelowStart"),
 }
 
-#: What is told where the library's `unison_why` has no words: it looks at checks, rounds and replays alone.
+#: What is told where the library's `unison_why` finds no such fault: it looks at checks, rounds and replays alone.
 MEANINGS = {
     4: "a round of the list is not above the one before it",
     80: "the round is above 1000000000",
@@ -144,11 +144,12 @@ KINDS: Dict[str, Type[UnisonError]] = {
 }
 
 
+def error_of(number: int, diagnosis: str = "") -> UnisonError:
+    """The exception for the number of a fault."""
+    part, _ = FAULTS.get(number, ("library", ""))
+    return KINDS.get(part, UnisonError)(number, diagnosis)
+
+
 def fault_of(number: int, diagnosis: str = "") -> Exception:
-    """The exception for an answer of the library. A diagnosis that tells another fault is left out."""
-    if number == MEMORY:
-        return MemoryError("unison: want of memory")
-    part, name = FAULTS.get(number, ("library", ""))
-    first, _, _ = diagnosis.partition("\n")
-    told = diagnosis if re.search(rf"(^|: ){part} {name}\b", first) else ""
-    return KINDS.get(part, UnisonError)(number, told)
+    """The exception for an answer of the library."""
+    return MemoryError("unison: want of memory") if number == MEMORY else error_of(number, diagnosis)

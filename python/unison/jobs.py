@@ -2,9 +2,9 @@
 
 from __future__ import annotations
 
-from typing import Any, Iterable, Optional, Union
+from typing import Any, Iterable, Optional, Tuple, Union
 
-from . import _calls
+from . import _calls, faults
 from ._calls import Texts
 from .network import Network
 from .program import Program
@@ -129,12 +129,34 @@ def replay(
     return Replayed(found.report.decode("ascii"), found.counts, program.fields, table.nodes, table.words, network._names)
 
 
+TextOrProgram = Union[Program, str, bytes]
+TextOrNetwork = Union[None, Network, str, bytes]
+TextOrSteps = Union[None, str, bytes, Iterable[Step]]
+
+
+def asked_of(
+    program: TextOrProgram, network: TextOrNetwork, rounds: Optional[int], schedule: TextOrSteps, stop: Optional[int], from_: From
+) -> Tuple[int, Texts, int]:
+    """The job that `why` looks at, its texts, and its round or stop."""
+    whole = Texts(
+        program.text if isinstance(program, Program) else bytes_of(program),
+        b"" if network is None else network._bytes if isinstance(network, Network) else bytes_of(network),
+        report_bytes(from_),
+        b"" if schedule is None else schedule_bytes(schedule),
+    )
+    if network is None:
+        return _calls.CHECK, whole, 0
+    if schedule is None:
+        return _calls.LOCKSTEP, whole, _calls.number(rounds or 0, "the round")
+    return _calls.REPLAY, whole, _calls.number(1_000_000_000 if stop is None else stop, "the stop")
+
+
 def why(
-    program: Union[Program, str, bytes],
-    network: Union[None, Network, str, bytes] = None,
+    program: TextOrProgram,
+    network: TextOrNetwork = None,
     *,
     rounds: Optional[int] = None,
-    schedule: Union[None, str, bytes, Iterable[Step]] = None,
+    schedule: TextOrSteps = None,
     stop: Optional[int] = None,
     from_: From = None,
 ) -> str:
@@ -147,14 +169,25 @@ def why(
     >>> print(unison.why("field s = 0; next s = s;"), end="")
     nothing is wrong
     """
-    whole = Texts(
-        program.text if isinstance(program, Program) else bytes_of(program),
-        b"" if network is None else network._bytes if isinstance(network, Network) else bytes_of(network),
-        report_bytes(from_),
-        b"" if schedule is None else schedule_bytes(schedule),
-    )
-    if network is None:
-        return _calls.why(_calls.CHECK, whole, 0)
-    if schedule is None:
-        return _calls.why(_calls.LOCKSTEP, whole, _calls.number(rounds or 0, "the round"))
-    return _calls.why(_calls.REPLAY, whole, _calls.number(1_000_000_000 if stop is None else stop, "the stop"))
+    return _calls.why(*asked_of(program, network, rounds, schedule, stop, from_)).text
+
+
+def first_fault(
+    program: TextOrProgram,
+    network: TextOrNetwork = None,
+    *,
+    rounds: Optional[int] = None,
+    schedule: TextOrSteps = None,
+    stop: Optional[int] = None,
+    from_: From = None,
+) -> Optional[faults.UnisonError]:
+    """The error with which texts are refused, which is not raised; None where nothing refuses them. It looks at what `why` looks at.
+
+    >>> import unison
+    >>> unison.first_fault("field s = 0; next s = s;") is None
+    True
+    >>> unison.first_fault("field s = 0; next s = (s + 1;").name
+    'Syntax'
+    """
+    told = _calls.why(*asked_of(program, network, rounds, schedule, stop, from_))
+    return faults.error_of(told.fault, told.text) if told.fault else None

@@ -2,3 +2,5 @@ mod ListFaults
 mod Listed
 mod Passing
 mod Shown
+mod FirstNumbers
+mod Unread

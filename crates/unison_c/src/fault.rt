@@ -1,6 +1,7 @@
 //! Why a call was not done, and the numbers of the faults.
-ghost use Rattle.std.specs.Prelude.{◌≡◌, ◌<◌};
+ghost use Rattle.std.specs.Prelude.{◌≡◌, ◌<◌, IfSome, IsNone};
 ghost use Rattle.unison_c.specs.declared.fault.Fault.TheVariants.{Texts, Round, Replay, Settle, Memory};
+ghost use Rattle.unison_c.specs.Jobs.{ending_of};
 ghost use Rattle.unison_c.specs.Numbers.{check_number, lang_number, net_number, number_of, opening_number, plan_number, replay_number, report_number, round_number, schedule_number, settle_number, texts_number};
 
 use link_net::NetFault;
@@ -83,6 +84,24 @@ impl From<SettleFault> for Fault {
 }
 
 impl Fault {
+    /// The fault with which a job ends, as a fault of the calls.
+    fn of_job(fault: ServeFault) -> Fault
+        ensures ending { result ≡ ending_of fault }
+    {
+        match fault {
+            ServeFault::Round(fault) => Fault::Round(fault),
+            ServeFault::Replay(fault) => Fault::Replay(fault),
+            ServeFault::Lang(_)
+            | ServeFault::Check(_)
+            | ServeFault::Net(_)
+            | ServeFault::Plan(_)
+            | ServeFault::Report(_)
+            | ServeFault::Run(_)
+            | ServeFault::Write { .. }
+            | ServeFault::Memory => Fault::Texts(fault),
+        }
+    }
+
     /// The number of the fault, from 1 on. 3 stands for faults that no call answers.
     pub(crate) fn number(&self) -> u32
         ensures number { result ≡ number_of self.now }
@@ -98,6 +117,18 @@ impl Fault {
             Fault::Room => 2,
             Fault::Memory => 1,
         }
+    }
+}
+
+/// The number of the fault with which a job ends: 0 where it has none.
+pub(crate) fn ending_number(fault: Option<ServeFault>) -> u32
+    ensures none { IsNone fault → result ≡ 0 }
+    ensures number { IfSome fault (λ f. result ≡ number_of (ending_of f)) }
+    ensures some { IfSome fault (λ f. 0 < result) }
+{
+    match fault {
+        None => 0,
+        Some(fault) => Fault::of_job(fault).number(),
     }
 }
 

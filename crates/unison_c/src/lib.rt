@@ -2,8 +2,10 @@
 //! done, else the number of the first fault on the way (`fault.rt`). `library/unison.h` declares them.
 #![tactic(auto)]
 
-ghost use Rattle.std.specs.Prelude.{◌≡◌, ◌≢◌, length, true};
-ghost use Rattle.unison_c.specs.Answers.{HasPlanWith, HasReplay, HasRoundWords, HasSettling, HaveRoundWords, IsSpelled, IsText, told_by};
+ghost use Rattle.std.specs.Prelude.{◌≡◌, ◌≢◌, ◌≤◌, length, true};
+ghost use Rattle.unison_why.specs.FirstFault.{IsUnrefused};
+ghost use Rattle.unison_c.specs.Answers.{HasPlanWith, HasReplay, HasRoundWords, HasSettling, HaveRoundWords, IsSpelled, IsText, report_in, told_by};
+ghost use Rattle.unison_c.specs.Jobs.{HasJobWith, IsFirstNumber};
 ghost use Rattle.unison_c.specs.Numbers.{IsNumberOf};
 ghost use Rattle.unison_c.specs.Refusals.{AreNoRounds, IsNoReplay, IsNoRound, IsNoSettling, IsRefusedPlan, IsUnspelled, IsUntold, is_job};
 
@@ -155,9 +157,10 @@ pub extern "C" fn unison_replay(
     }
 }
 
-/// Writes what is told of a job on these texts, its round or stop being `number`, to the front of the text, and how long it is:
-/// why it is not done, or that nothing is wrong; where there is too little room, how long it is alone. Job 1 is the spelling of
-/// the program, 2 the lockstep rounds, 3 the replay.
+/// Writes the number of the first fault with which a job on these texts would end, its round or stop being `number`, or 0 where
+/// nothing refuses it; and what is told of it to the front of the text, and how long that is: why the job is not done, or that
+/// nothing is wrong. Where there is too little room, how long it is alone. Job 1 is the spelling of the program, 2 the lockstep
+/// rounds, 3 the replay.
 #[unsafe(no_mangle)]
 pub extern "C" fn unison_why(
     alloc: Global,
@@ -167,18 +170,23 @@ pub extern "C" fn unison_why(
     from: &[u8],
     schedule: &[u8],
     number: u32,
+    fault: &mut u32,
     text: &mut [u8],
     text_len: &mut usize,
 ) -> u32
     ensures job { result ≡ 0 → is_job job ≡ true }
+    ensures accepted { result ≡ 0 → fault.new ≡ 0 → HasJobWith job number (λ asked. IsUnrefused asked program.now network.now (report_in from.now) schedule.now) }
+    ensures first { result ≡ 0 → fault.new ≢ 0 → HasJobWith job number (λ asked. IsFirstNumber asked program.now network.now (report_in from.now) schedule.now fault.new) }
+    ensures named { result ≡ 0 → fault.new ≢ 0 → 16 ≤ fault.new }
     ensures written { result ≡ 0 → IsText text.old text.new text_len.new }
-    ensures kept { result ≢ 0 → text.new ≡ text.old }
+    ensures kept { result ≢ 0 → (fault.new ≡ fault.old) × (text.new ≡ text.old) }
     ensures sized { result ≢ 0 → result ≢ ROOM → text_len.new ≡ text_len.old }
     ensures refused { result ≢ 0 → IsNumberOf (IsUntold job (length text.old) text_len.new) result }
 {
-    match write_reason(
-        alloc, job, program, network, from, schedule, number, text, text_len,
-    ) {
+    let done = write_reason(
+        alloc, job, program, network, from, schedule, number, fault, text, text_len,
+    );
+    match done {
         Ok(()) => 0,
         Err(fault) => fault.number(),
     }

@@ -220,32 +220,125 @@ fn replayed(rt: HostRuntime) -> Result<(), Fail> {
     Ok(())
 }
 
+/// The texts of a job.
+#[derive(Clone, Copy)]
+struct JobTexts<'a> {
+    program: &'a [u8],
+    network: &'a [u8],
+    from: &'a [u8],
+    schedule: &'a [u8],
+}
+
+/// A program on the path, from round 0 on, with no schedule.
+fn on_path<'a>(program: &'a [u8]) -> JobTexts<'a> {
+    JobTexts {
+        program,
+        network: PATH,
+        from: b"",
+        schedule: b"",
+    }
+}
+
+/// The answer to why a job is not done, the number of its fault and the length of the text, which are 9 where they are not set.
+fn why_answer(
+    rt: &impl AllocGlobal,
+    job: u32,
+    texts: &JobTexts,
+    number: u32,
+    text: &mut [u8],
+) -> (u32, u32, usize) {
+    let mut fault = 9;
+    let mut len = 9;
+    let alloc = rt.alloc();
+    let answer = unison_why(
+        alloc,
+        job,
+        texts.program,
+        texts.network,
+        texts.from,
+        texts.schedule,
+        number,
+        &mut fault,
+        text,
+        &mut len,
+    );
+    (answer, fault, len)
+}
+
 #[test]
 fn told(rt: HostRuntime) -> Result<(), Fail> {
     let program = b"field dist = 4294967295;\nnext dist = (dist min least (n.dist + 1;\n";
     let whole =
-        "program:2:40: program Syntax: expected `)`, found `;`\n  2 | next dist = (dist min least (n.dist + 1;\n    |                                        ^\n  an operator stands between two parts in brackets: (A + B)\n";
-    let mut text = [b'.'; 400];
-    let mut len = 9;
-    let alloc = rt.alloc();
-    let answer = unison_why(alloc, 4, program, b"", b"", b"", 0, &mut text, &mut len);
-    assert_eq!(rt; (answer, len), (5, 9));
-    let answer = unison_why(
-        alloc,
-        1,
-        program,
-        b"",
-        b"",
-        b"",
-        0,
-        &mut text[..9],
-        &mut len,
-    );
-    assert_eq!(rt; (answer, len), (2, whole.len()));
-    assert_eq!(rt; text, [b'.'; 400]);
-    let answer = unison_why(alloc, 1, program, b"", b"", b"", 0, &mut text, &mut len);
-    assert_eq!(rt; (answer, len), (0, whole.len()));
-    assert_eq!(rt; &text[..len], whole.as_bytes());
+        "program:2:40: program Syntax: expected `)`, found `;`\n  2 | next dist = (dist min least (n.dist + 1;\n    |                                        ^\n  an operator stands between two parts in brackets: (A + B)\n..";
+    let len = whole.len() - 2;
+    let texts = on_path(program);
+    let mut text = [b'.'; 210];
+    assert_eq!(rt; why_answer(&rt, 4, &texts, 0, &mut text), (5, 9, 9));
+    assert_eq!(rt; why_answer(&rt, 1, &texts, 0, &mut text[..9]), (2, 9, len));
+    assert_eq!(rt; text, [b'.'; 210]);
+    assert_eq!(rt; why_answer(&rt, 1, &texts, 0, &mut text), (0, 18, len));
+    assert_eq!(rt; text.as_slice(), whole.as_bytes());
+    Ok(())
+}
+
+#[test]
+fn told_where_nothing_is_wrong(rt: HostRuntime) -> Result<(), Fail> {
+    let texts = on_path(DISTANCE);
+    let mut text = [b'.'; 20];
+    assert_eq!(rt; why_answer(&rt, 2, &texts, 2, &mut text), (0, 0, 17));
+    assert_eq!(rt; text.as_slice(), b"nothing is wrong\n...".as_slice());
+    Ok(())
+}
+
+/// The answer to why a job is not done, with ample room, and the number of its fault.
+fn told_fault(rt: &impl AllocGlobal, job: u32, texts: &JobTexts, number: u32) -> (u32, u32) {
+    let (answer, fault, _len) = why_answer(rt, job, texts, number, &mut [0; 800]);
+    (answer, fault)
+}
+
+#[test]
+fn told_faults_of_rounds(rt: HostRuntime) -> Result<(), Fail> {
+    let loose = JobTexts {
+        network: b"nodes = 2\nlinks = [[0, 0]]\n",
+        ..on_path(DISTANCE)
+    };
+    let late = JobTexts {
+        from: FIVE,
+        ..on_path(DISTANCE)
+    };
+    let short = JobTexts {
+        from: b"round 5\n",
+        ..on_path(DISTANCE)
+    };
+    assert_eq!(rt; told_fault(&rt, 2, &on_path(b"field"), 2), (0, 18));
+    assert_eq!(rt; told_fault(&rt, 2, &loose, 2), (0, 53));
+    assert_eq!(rt; told_fault(&rt, 2, &on_path(BLINK), 2), (0, 64));
+    assert_eq!(rt; told_fault(&rt, 2, &on_path(DISTANCE), 1000000001), (0, 80));
+    assert_eq!(rt; told_fault(&rt, 2, &late, 4), (0, 81));
+    assert_eq!(rt; told_fault(&rt, 2, &late, 5), (0, 0));
+    assert_eq!(rt; told_fault(&rt, 2, &short, 9), (0, 112));
+    // A check reads the program alone.
+    assert_eq!(rt; told_fault(&rt, 1, &loose, 2), (0, 0));
+    Ok(())
+}
+
+#[test]
+fn told_faults_of_replays(rt: HostRuntime) -> Result<(), Fail> {
+    let bad = JobTexts {
+        schedule: b"raed 0 0\n",
+        ..on_path(DISTANCE)
+    };
+    let late = JobTexts {
+        from: FIVE,
+        schedule: MIDDLE,
+        ..on_path(DISTANCE)
+    };
+    assert_eq!(rt; told_fault(&rt, 3, &bad, 2), (0, 96));
+    assert_eq!(rt; told_fault(&rt, 3, &on_path(DISTANCE), 1000000001), (0, 98));
+    assert_eq!(rt; told_fault(&rt, 3, &late, 4), (0, 99));
+    assert_eq!(rt; told_fault(&rt, 3, &late, 6), (0, 0));
+    // Rounds read no schedule.
+    assert_eq!(rt; told_fault(&rt, 2, &bad, 2), (0, 0));
     Ok(())
 }
 
