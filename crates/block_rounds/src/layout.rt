@@ -15,9 +15,9 @@ use std::marker::Model;
 /// How many nodes a batch has at most.
 const BATCH: usize = 256;
 
-/// How many neighbours the nodes of a batch have together at most, so that threads can share the work of hubs. A node
-/// with more of them would stand in a batch of its own.
-const ENDS: u32 = 65_536;
+/// How many neighbours the nodes of a batch have together at most, half of the most of a network, so that two threads can share the
+/// work of the largest hubs. Smaller batches cost light programs more than they save: what is done slot by slot is done anew for each.
+const ENDS: u32 = 262_144;
 
 /// The nodes of a network in batches, with all that a round reads of the network. A contract sees the network.
 #[derive(Drop)]
