@@ -14,3 +14,4 @@ pub mod Due
 pub mod Covers
 pub mod Homes
 pub mod Turns
+pub mod OneByOne

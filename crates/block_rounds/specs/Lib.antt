@@ -3,3 +3,4 @@ pub mod Batches
 pub mod Gathered
 pub mod Nears
 pub mod Walks
+pub mod InLine

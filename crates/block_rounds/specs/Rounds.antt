@@ -33,6 +33,10 @@ IsNext rules network round from columns u =
 abbrev pub IsPlain : ℕ → State → Type 0
 IsPlain fields state = (k : ℕ) → fields ≤ k → slice_index state.words k ≡ 0
 
+-- the column has this word for a node
+abbrev pub HasWord : (ℕ → ℕ) → List ℕ → ℕ → Type 0
+HasWord word column u = slice_index column u ≡ word u
+
 -- the columns have these words for a node, field by field
 abbrev pub HasWords : (ℕ → ℕ → ℕ) → List (Vec ℕ) → ℕ → Type 0
 HasWords words columns u = (k : ℕ) → k < length columns → lane (column_words columns) u k ≡ words u k

@@ -14,7 +14,7 @@ use Rattle.block_rounds.specs.declared.share.Share.{Share}
 use Rattle.block_rounds.specs.declared.activity.Activity.{Activity}
 use Rattle.block_rounds.specs.Batches.{IsBatch, IsLayout}
 use Rattle.block_rounds.specs.Nears.{HaveNear, IsDue, Sleeps, StandsIn}
-use Rattle.block_rounds.specs.Rounds.{HaveWords, IsNext, round_from}
+use Rattle.block_rounds.specs.Rounds.{HaveWords, HasWord, IsNext, round_from}
 
 -- a program on a network, and the words of all nodes by fields
 pub record Walked : Type 0 where
@@ -81,6 +81,14 @@ pub record IsShared (shares : List Share) (i s : ℕ) : Type 0 where
 pub record AreShares (rules : Rules) (nodes batches : ℕ) (shares : List Share) : Type 0 where
   pub each : All (IsShare rules nodes batches) shares
   pub covered : 0 < length shares → (i : ℕ) → i < batches → (s : ℕ) × IsShared shares i s
+
+-- a field's column before and after: it has the words that the shares' columns have for the nodes of those of their batches that had to be computed, and keeps all others
+pub record IsCopied (task : Task) (shares : List Share) (field : ℕ) (before after : List ℕ) : Type 0 where
+  pub long : length after ≡ length before
+  pub copied : (word : ℕ → ℕ) (d : Vec ℕ) → All (λ share. HoldsOfDue (HasWord word (slice_index_or share.columns.items field d).items) task share.first share.behind) shares
+      → All (λ share. HoldsOfDue (HasWord word after) task share.first share.behind) shares
+  pub kept : (word : ℕ → ℕ) (d : Vec ℕ) (u : ℕ) → All (λ share. HoldsOfDue (HasWord word (slice_index_or share.columns.items field d).items) task share.first share.behind) shares
+      → HasWord word before u → HasWord word after u
 
 -- a node that the next round leaves as it is, and whose next words stand there already
 pub record Rests (rules : Rules) (network : Neighbours) (from to : List (Vec ℕ)) (u : ℕ) : Type 0 where

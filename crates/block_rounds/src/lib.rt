@@ -7,6 +7,7 @@ mod columns;
 mod group;
 mod laws;
 mod layout;
+mod line;
 mod merge;
 mod near;
 mod nodes;

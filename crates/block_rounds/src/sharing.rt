@@ -6,9 +6,9 @@ ghost use Rattle.block_rounds.specs.Rounds.{HaveWords};
 ghost use Rattle.block_rounds.specs.Walks.{IsTask, IsShare, IsShared, AreShares, HasNext, HoldsOfDue};
 
 use crate::batch::Batch;
+use crate::line::each_in_line;
 use crate::share::{Share, work};
 use crate::task::Task;
-use rayon::prelude::*;
 use row_code::{Block, RowCode};
 use std::alloc::{AllocError, Global};
 use std::thread::Threads;
@@ -158,10 +158,12 @@ pub fn work_all(rt: &(impl Threads + Sync), task: &Task<'_>, shares: &mut [Share
     ensures behind { (s : ℕ) (d : Share) → s < length shares.old → (slice_index_or shares.new s d).behind ≡ (slice_index_or shares.old s d).behind }
     ensures done { (rules : Rules) → All (IsShare rules (length task.now.network.now) (length task.now.batches.now)) shares.old → All (λ share. HoldsOfDue (HasNext rules task.now share.columns.items) task.now share.first share.behind) shares.new }
 {
-    par_for_each_mut(
+    let threads = shares.len();
+    each_in_line(
         rt,
         shares,
-        |_place: usize, share: &mut Share<'_>|
+        threads,
+        &|_place: usize, share: &mut Share<'_>|
             requires { IsTask share.now.block.rules task.now × IsShare share.now.block.rules (length task.now.network.now) (length task.now.batches.now) share.now }
             ensures { IsShare share.entry.now.block.rules (length task.entry.now.network.now) (length task.entry.now.batches.now) share.exit.now
                 × (share.exit.now.first ≡ share.entry.now.first) × (share.exit.now.behind ≡ share.entry.now.behind)

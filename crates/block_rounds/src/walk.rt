@@ -161,7 +161,7 @@ impl<'a> Walk<'a> {
             from: &self.from,
         };
         work_all(rt, &task, &mut self.shares);
-        copy_shares(&task, &self.shares, &mut self.to);
+        copy_shares(rt, &task, &self.shares, &mut self.to);
         let moved = self.activity.look(self.batches, &self.from, &self.to);
         mem::swap(&mut self.from, &mut self.to);
         moved
