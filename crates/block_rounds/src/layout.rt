@@ -15,10 +15,6 @@ use std::marker::Model;
 /// How many nodes a batch has at most.
 const BATCH: usize = 256;
 
-/// How many neighbours the nodes of a batch have together at most, half of the most of a network, so that two threads can share the
-/// work of the largest hubs. Smaller batches cost light programs more than they save: what is done slot by slot is done anew for each.
-const ENDS: u32 = 262_144;
-
 /// The nodes of a network in batches, with all that a round reads of the network. A contract sees the network.
 #[derive(Drop)]
 pub struct Layout<'a> {
@@ -40,8 +36,9 @@ impl<'a> Model for Layout<'a> {
     ghost invariant = { λ layout. IsLayout layout.network.now layout.batches.items × HaveNear layout.network.now layout.batches.items layout.nears.items };
 }
 
-/// How many of these nodes, from the first one on, stand in one batch: as many as it may have.
-fn next_batch(network: &Network, nodes: &[u32]) -> usize
+/// How many of these nodes, from the first one on, stand in one batch: as many as it may have, with so many neighbours together at most, or
+/// the first one alone.
+fn next_batch(network: &Network, nodes: &[u32], most_ends: u32) -> usize
     requires some { 0 < length nodes.now }
     ensures some { 0 < result }
     ensures few { result ≤ 256 }
@@ -51,15 +48,20 @@ fn next_batch(network: &Network, nodes: &[u32]) -> usize
     let mut ends = degree_of(network, nodes[0]);
     for at in 1..most {
         ends = ends.saturating_add(degree_of(network, nodes[at]));
-        if ends > ENDS {
+        if ends > most_ends {
             return at;
         }
     }
     most
 }
 
-/// These nodes in batches.
-fn batches_of(alloc: Global, network: &Network, nodes: &[u32]) -> Result<Vec<Batch>, AllocError>
+/// These nodes in batches, whose nodes have so many neighbours together at most.
+fn batches_of(
+    alloc: Global,
+    network: &Network,
+    nodes: &[u32],
+    most_ends: u32,
+) -> Result<Vec<Batch>, AllocError>
     requires within { All (λ u. u < length network.now) nodes.now }
     requires falling { AreFalling network.now nodes.now }
     ensures each { IfOk result (λ batches. All (IsBatch network.now) batches.items) }
@@ -68,7 +70,7 @@ fn batches_of(alloc: Global, network: &Network, nodes: &[u32]) -> Result<Vec<Bat
     let mut batches = Vec::new(alloc);
     let mut rest = nodes;
     while !rest.is_empty() {
-        let (front, back) = rest.split_at(next_batch(network, rest));
+        let (front, back) = rest.split_at(next_batch(network, rest, most_ends));
         batches.push(batch_of(alloc, network, front)?)?;
         rest = back;
     }
@@ -76,12 +78,17 @@ fn batches_of(alloc: Global, network: &Network, nodes: &[u32]) -> Result<Vec<Bat
 }
 
 impl<'a> Layout<'a> {
-    /// The layout of a network.
-    pub fn new(alloc: Global, network: &'a Network) -> Result<Layout<'a>, AllocError>
+    /// The layout of a network, in batches whose nodes have so many neighbours together at most, but for nodes that stand alone. How many
+    /// they are changes no state.
+    pub fn new(
+        alloc: Global,
+        network: &'a Network,
+        most_ends: u32,
+    ) -> Result<Layout<'a>, AllocError>
         ensures network { IfOk result (λ layout. layout ≡ network.now) }
     {
         let nodes = by_falling_degree(alloc, network)?;
-        let batches = batches_of(alloc, network, &nodes)?;
+        let batches = batches_of(alloc, network, &nodes, most_ends)?;
         let nears = nears_of(alloc, network, &batches)?;
         Ok(Layout {
             network,

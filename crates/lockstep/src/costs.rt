@@ -12,6 +12,16 @@ use rule_check::{Gatherer, Program, Rule};
 /// has the figures.
 const LEAST_SAVING: u64 = 5_898_240;
 
+/// How many neighbours the nodes of a block have together at most: half of the most of a network, so that two threads can share the work of
+/// the largest hubs. Smaller blocks cost light programs more than they save, since what is done slot by slot is done anew for each block.
+pub(crate) const MOST_ENDS: u32 = 262_144;
+
+/// The same for rounds that threads share, of programs with long aggregates: these have more to share, and to them a slot more is little.
+const MOST_ENDS_TO_SHARE: u32 = 131_072;
+
+/// From how many instructions on the aggregates of a program are long.
+const LONG: u64 = 64;
+
 /// How many instructions the rules have.
 fn rules_length(rules: &[Rule]) -> u64 {
     let mut sum: u64 = 0;
@@ -36,6 +46,15 @@ pub(crate) fn costs_of(program: &Program) -> Costs {
         node: rules_length(program.rules()),
         end: aggregates_length(program.aggregates()),
         least_saving: LEAST_SAVING,
+    }
+}
+
+/// How many neighbours the nodes of a block have together at most, where threads share the rounds of a program.
+pub(crate) fn most_ends_to_share(program: &Program) -> u32 {
+    if aggregates_length(program.aggregates()) < LONG {
+        MOST_ENDS
+    } else {
+        MOST_ENDS_TO_SHARE
     }
 }
 

@@ -30,7 +30,7 @@ pub fn lockstep_par(
         return lockstep(alloc, plan, rounds);
     }
     check_round(plan, rounds)?;
-    let course = Course::new(alloc, plan)?;
+    let course = Course::to_share(alloc, plan)?;
     let mut walk = course.shared_walk(rt, alloc)?;
     walk.go_to_shared(rt, rounds);
     Ok(walk.config(alloc)?)

@@ -7,7 +7,7 @@ ghost use Rattle.lockstep.specs.Plans.{IsPlan};
 ghost use Rattle.lockstep.specs.Walking.{AreAlike};
 
 use crate::config::Config;
-use crate::costs::{costs_of, is_worth_sharing};
+use crate::costs::{MOST_ENDS, costs_of, is_worth_sharing, most_ends_to_share};
 use crate::plan::Plan;
 use crate::steps::{InThreads, InTurn, walk_to};
 use block_rounds::{Layout, Walk};
@@ -46,10 +46,26 @@ impl<'a> Course<'a> {
     pub fn new(alloc: Global, plan: &'a Plan) -> Result<Course<'a>, AllocError>
         ensures plan { IfOk result (λ course. course ≡ plan.now) }
     {
+        let course = Course::in_blocks(alloc, plan, MOST_ENDS)?;
+        Ok(course)
+    }
+
+    /// The course of a plan whose rounds are to be shared among threads, so that these can part the work of hubs.
+    pub(crate) fn to_share(alloc: Global, plan: &'a Plan) -> Result<Course<'a>, AllocError>
+        ensures plan { IfOk result (λ course. course ≡ plan.now) }
+    {
+        let course = Course::in_blocks(alloc, plan, most_ends_to_share(plan.program()))?;
+        Ok(course)
+    }
+
+    /// The course of a plan, in blocks whose nodes have so many neighbours together at most.
+    fn in_blocks(alloc: Global, plan: &'a Plan, most_ends: u32) -> Result<Course<'a>, AllocError>
+        ensures plan { IfOk result (λ course. course ≡ plan.now) }
+    {
         // For the proof: what holds of every plan.
         let _phase = plan.phase();
         let code = RowCode::new(alloc, plan.program())?;
-        let layout = Layout::new(alloc, plan.network())?;
+        let layout = Layout::new(alloc, plan.network(), most_ends)?;
         Ok(Course { plan, code, layout })
     }
 

@@ -1,6 +1,5 @@
 use Rattle.std.proofs.Common.{◌≡◌, ap, sym, ◌∙◌}
 use Rattle.std.specs.Prelude.{Ok}
-use Rattle.lockstep.specs.Configs.{Configuration}
 use Rattle.lockstep.specs.Lockstep.{lockstep_config}
 use Rattle.lockstep.specs.Plans.{PlanView}
 use Rattle.lockstep.specs.Walking.{RoundView}

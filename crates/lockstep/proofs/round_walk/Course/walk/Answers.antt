@@ -1,4 +1,4 @@
-use Rattle.std.proofs.Common.{◌≡◌, ◌∙◌, ℕ, ap, arith, length, subst, sym}
+use Rattle.std.proofs.Common.{◌∙◌, ℕ, ap, arith, length, subst, sym}
 use Rattle.link_net.specs.Neighbours.{Neighbours}
 use Rattle.lockstep.specs.Walking.{HasRound}
 use Rattle.lockstep.proofs.Held.{opening_held}

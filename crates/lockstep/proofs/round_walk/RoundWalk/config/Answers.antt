@@ -1,8 +1,7 @@
-use Rattle.std.proofs.Common.{◌≡◌, ◌∙◌, ap, length, map, refl, subst, sym}
+use Rattle.std.proofs.Common.{◌≡◌, ◌∙◌, ap, length, map, refl, subst}
 use Rattle.std.proofs.lemmas.List.FromFn.{length-map-range_with_len}
 use Rattle.link_net.specs.Neighbours.{Neighbours, numbers_below}
 use Rattle.block_rounds.specs.Walks.{state_by}
-use Rattle.lockstep.specs.Configs.{Configuration}
 use Rattle.lockstep.specs.Lockstep.{lockstep_config}
 use Rattle.lockstep.specs.Walking.{RoundView}
 use Rattle.lockstep.proofs.Held.{held_states, config_is}

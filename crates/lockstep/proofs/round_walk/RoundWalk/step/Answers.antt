@@ -1,5 +1,5 @@
 use Rattle.std.proofs.Common.{◌≡◌, ◌<◌, ◌+◌, ◌∙◌, ap, arith, length, subst, sym}
-use Rattle.std.specs.Prelude.{false, true}
+use Rattle.std.specs.Prelude.{false}
 use Rattle.rule_check.specs.Value.{Rules}
 use Rattle.rule_check.specs.Rounds.{reads_round}
 use Rattle.lockstep.specs.Walking.{AreAlike, HasRound, RoundView}
