@@ -37,14 +37,14 @@ const KEEPS_ONE: &str = "field a = 11; field b = 0; next b = ((b + a) + most n.b
 /// already.
 const ALWAYS_THE_SAME: &str = "field a = 3; field b = 5; field c = 0;
     next a = (a + total (((((n.a min 3) + (n.b min 4)) > 7) | (((n.a max 9) - (n.b min 3)) < 6)) + ((((n.a min 3) * (n.b min 4)) > 12) max (n.c & 7))));
-    next b = (b ^ most ((((n.a min 9) / n.b) > 9) + ((((n.a min 9) % n.c) > 9) + ((((n.a & 3) ^ (n.b & 4)) > 7) max (if ((n.a | 16) < 16) then n.b else (n.c + id))))));
-    next c = ((c + count ((n.a + ((n.b min 3) == 4)) > 5)) + (if not (a max 1) then a else (if (b & 0) then b else ((c - 4294967295) + degree))));";
+    next b = (b ^ most ((((n.a min 9) / n.b) > 9) + ((((n.a min 9) % n.c) > 9) + ((((n.a & 3) ^ (n.b & 4)) > 7) max if ((n.a | 16) < 16) then n.b else (n.c + id)))));
+    next c = ((c + count ((n.a + ((n.b min 3) == 4)) > 5)) + if not (a max 1) then a else if (b & 0) then b else ((c - 4294967295) + degree));";
 
 /// The same with each bound one further, so that values reach it.
 const ALMOST_THE_SAME: &str = "field a = 3; field b = 5; field c = 0;
     next a = (a + total (((((n.a min 3) + (n.b min 4)) > 6) | (((n.a max 9) - (n.b min 3)) < 7)) + ((((n.a min 3) * (n.b min 4)) > 11) max (n.c & 7))));
-    next b = (b ^ most ((((n.a min 9) / n.b) > 8) + ((((n.a min 9) % n.c) > 8) + ((((n.a & 3) ^ (n.b & 4)) > 6) max (if ((n.a | 16) < 17) then n.b else (n.c + id))))));
-    next c = ((c + count ((n.a + ((n.b min 3) == 3)) > 5)) + (if not (a max 0) then a else (if (b & 1) then b else ((c - 4294967294) + degree))));";
+    next b = (b ^ most ((((n.a min 9) / n.b) > 8) + ((((n.a min 9) % n.c) > 8) + ((((n.a & 3) ^ (n.b & 4)) > 6) max if ((n.a | 16) < 17) then n.b else (n.c + id)))));
+    next c = ((c + count ((n.a + ((n.b min 3) == 3)) > 5)) + if not (a max 0) then a else if (b & 1) then b else ((c - 4294967294) + degree));";
 
 /// The programs whose rounds are compared.
 const PROGRAMS: [&str; 7] = [
