@@ -7,6 +7,9 @@ import time
 top, work, worlds = sys.argv[1:4]
 KINDS = ("random", "torus", "path", "hubs")
 LAST_ROUND = 1_000_000_000
+# So many turns at most have calls that are compared, and fewer where those before took so many seconds.
+TURNS = 5
+ENOUGH = 30.0
 ROUNDS = {"distance": 1000, "rule_110": 1000, "majority": 1000, "heavy": 40}
 # Each program has, where a one is wanted, this word, which reads the round: so no round is left out where states stay as they are.
 ONE = "(round < 4294967295)"
@@ -91,13 +94,17 @@ def rounds_of(job, program, network, rounds):
     return taken - seconds_of(job, program, network, 0)[0], answer
 
 
-def by_hand(job, name, network, rounds):
-    """The seconds of a loop written for one program, and what it gave."""
-    call = [f"{work}/loops", job, name, network, str(rounds)]
-    made = [called(call)[0].split()]
-    while len(made) < 3 and sum(float(seconds) for seconds, _, _ in made) < 15:
-        made.append(called(call)[0].split())
-    return min(float(seconds) for seconds, _, _ in made), int(made[0][1])
+def by_turns(*calls):
+    """What each of these calls prints in each turn, and its seconds. By turns all have the same share of what disturbs the machine."""
+    start, turns = time.perf_counter(), []
+    while len(turns) < TURNS and (not turns or time.perf_counter() - start < ENOUGH):
+        turns.append([called(call)[:2] for call in calls])
+    return list(zip(*turns))
+
+
+def least(made):
+    """The least seconds of a call in its turns."""
+    return min(seconds for _, seconds in made)
 
 
 def network_of(kind, sets):
@@ -122,25 +129,25 @@ def long(seconds):
     return f"{seconds:.3f} s"
 
 
-def beside(kind, program, network, rounds, loop):
-    """Rounds in one piece and by threads, beside a loop that took and gave this: the cells of a line, from the network's kind on."""
-    by_loop, wanted = loop
-    one, found = rounds_of("rounds", program, network, rounds)
-    shared, found_shared = rounds_of("parallel", program, network, rounds)
-    if not wanted == found == found_shared:
-        sys.exit(f"{program} on {kind}: the product and the loop differ")
-    ratios = f"{one / by_loop:.2f}", f"{shared / one:.2f}"
-    return kind, f"{rounds:,}", long(by_loop), long(one), ratios[0], long(shared), ratios[1]
+def beside(job, name, kind, network, program, rounds):
+    """Rounds in one piece and by threads, beside a loop that is written by hand and tells its own seconds, all by turns: the cells of a line."""
+    ours = ([worlds, way, program, network, str(stop), "0"] for way, stop in (("rounds", rounds), ("parallel", rounds), ("rounds", 0)))
+    by_hand, one, shared, none = by_turns([f"{work}/loops", job, name, network, str(rounds)], *ours)
+    told = [output.split() for output, _ in by_hand]
+    if not int(told[0][1]) == int(one[0][0]) == int(shared[0][0]):
+        sys.exit(f"{name} on {kind}: the product and the loop differ")
+    loop = min(float(seconds) for seconds, _, _ in told)
+    seconds, seconds_shared = least(one) - least(none), least(shared) - least(none)
+    ratios = f"{seconds / loop:.2f}", f"{seconds_shared / seconds:.2f}"
+    return name, kind, f"{rounds:,}", long(loop), long(seconds), ratios[0], long(seconds_shared), ratios[1]
 
 
 def lockstep():
     """Rounds in one piece and by threads, beside a loop that is written by hand for the one program."""
     table("program", "network", "rounds", "by hand", "one piece", "ratio", "threads", "to one piece")
     for name, rounds in ROUNDS.items():
-        for kind in KINDS:
-            network = network_of(kind, SETS.get(name))
-            loop = by_hand("run", name, network, rounds)
-            line(name, *beside(kind, f"{work}/{name}.rules", network, rounds, loop))
+        for kind in (*KINDS, "hub") if name == "heavy" else KINDS:
+            line(*beside("run", name, kind, network_of(kind, SETS.get(name)), f"{work}/{name}.rules", rounds))
 
 
 def little():
@@ -148,18 +155,7 @@ def little():
     table("what moves little", "network", "rounds", "by hand", "one piece", "ratio", "threads", "to one piece", "wanted")
     for name, kind, rounds, wanted in LITTLE:
         text, sets = little_program(name)
-        network = network_of(kind, sets)
-        loop = by_hand("settle", name, network, rounds)
-        line(name, *beside(kind, written("little.rules", text), network, rounds, loop), wanted)
-
-
-def threads():
-    """The heavy program in one piece and by threads, by turns, on each network and on one with a single hub."""
-    table("program", "network", "rounds", "one piece", "threads", "to one piece")
-    name, rounds = "heavy", ROUNDS["heavy"]
-    for kind in (*KINDS, "hub"):
-        one, shared = by_turns(f"{work}/{name}.rules", f"{work}/{kind}.toml", rounds)
-        line(name, kind, f"{rounds}", long(one), long(shared), f"{shared / one:.2f}")
+        line(*beside("settle", name, kind, network_of(kind, sets), written("little.rules", text), rounds), wanted)
 
 
 def processors():
@@ -177,19 +173,6 @@ def processors():
                 sys.exit(f"{worlds} failed")
             together.append(time.perf_counter() - start)
         line(name, kind, long(min(alone)), long(min(together)), f"{calls * min(alone) / min(together):.1f}")
-
-
-def by_turns(program, network, rounds):
-    """The seconds of rounds in one piece and by threads, the least of calls that are made by turns."""
-    jobs = [("rounds", rounds), ("parallel", rounds), ("rounds", 0)]
-    least, answers = {}, {}
-    for job, stop in jobs * 3:
-        output, seconds, _ = called([worlds, job, program, network, str(stop), "0"])
-        least[job, stop] = min(seconds, least.get((job, stop), seconds))
-        answers[job, stop] = output
-    if answers["rounds", rounds] != answers["parallel", rounds]:
-        sys.exit(f"{program} on {network}: threads differ")
-    return least["rounds", rounds] - least["rounds", 0], least["parallel", rounds] - least["rounds", 0]
 
 
 def small():
@@ -292,7 +275,6 @@ def main():
         written(f"{name}.rules", text)
     lockstep()
     little()
-    threads()
     processors()
     small()
     settled()
