@@ -102,6 +102,11 @@ def by_turns(*calls):
     return list(zip(*turns))
 
 
+def ours(program, network, rounds):
+    """The calls of the product for rounds in one piece, for rounds by threads, and for none."""
+    return [[worlds, way, program, network, str(stop), "0"] for way, stop in (("rounds", rounds), ("parallel", rounds), ("rounds", 0))]
+
+
 def least(made):
     """The least seconds of a call in its turns."""
     return min(seconds for _, seconds in made)
@@ -131,8 +136,7 @@ def long(seconds):
 
 def beside(job, name, kind, network, program, rounds):
     """Rounds in one piece and by threads, beside a loop that is written by hand and tells its own seconds, all by turns: the cells of a line."""
-    ours = ([worlds, way, program, network, str(stop), "0"] for way, stop in (("rounds", rounds), ("parallel", rounds), ("rounds", 0)))
-    by_hand, one, shared, none = by_turns([f"{work}/loops", job, name, network, str(rounds)], *ours)
+    by_hand, one, shared, none = by_turns([f"{work}/loops", job, name, network, str(rounds)], *ours(program, network, rounds))
     told = [output.split() for output, _ in by_hand]
     if not int(told[0][1]) == int(one[0][0]) == int(shared[0][0]):
         sys.exit(f"{name} on {kind}: the product and the loop differ")
@@ -176,16 +180,16 @@ def processors():
 
 
 def small():
-    """Rounds in one piece and by threads where a round is small."""
-    table("program", "nodes", "rounds", "one piece", "threads", "ratio")
+    """Rounds in one piece and by threads, by turns, where a round is small."""
+    table("program", "nodes", "rounds", "one piece", "threads", "to one piece")
     for name in ("distance", "heavy"):
         for side, rounds in ((16, 4000), (32, 2000), (64, 1000), (96, 500)):
             network = written("small.toml", torus(side))
-            one, found = rounds_of("rounds", f"{work}/{name}.rules", network, rounds)
-            shared, found_shared = rounds_of("parallel", f"{work}/{name}.rules", network, rounds)
-            if found != found_shared:
+            one, shared, none = by_turns(*ours(f"{work}/{name}.rules", network, rounds))
+            if one[0][0] != shared[0][0]:
                 sys.exit(f"{name} on {side * side} nodes: threads differ")
-            line(name, f"{side * side:,}", f"{rounds}", long(one), long(shared), f"{shared / one:.2f}")
+            seconds, seconds_shared = least(one) - least(none), least(shared) - least(none)
+            line(name, f"{side * side:,}", f"{rounds}", long(seconds), long(seconds_shared), f"{seconds_shared / seconds:.2f}")
 
 
 def torus(side):
