@@ -3,7 +3,7 @@ use Rattle.std.proofs.Common.{◌≡◌, ◌<◌, ◌≤◌, ◌+◌, ◌-◌, �
 use Rattle.std.specs.Global.{Vec}
 use Rattle.std.proofs.lemmas.List.{same_lists, length-map, length-take-le, length-drop, get_or-map, get_or-take, get_or-drop, take-append-drop, take-take, drop-take}
 use Rattle.rule_check.specs.declared.state.Near.{Near}
-use Rattle.link_net.specs.Neighbours.{Neighbours, row, degree, neighbour, IsNetwork}
+use Rattle.link_net.specs.Neighbours.{Neighbours, row, degree, neighbour, AreRows}
 use Rattle.row_code.specs.declared.slot.Slot.{Slot}
 use Rattle.row_code.specs.Block.{Covers, state_at, near_in, near_at as column_near}
 use Rattle.block_rounds.specs.declared.batch.Batch.{Batch}
@@ -52,7 +52,7 @@ module _ (network : Neighbours) (batch : Batch) (at behind count : ℕ) (group :
   slot_long k d h = ap (λ (s : Slot). length s.neighbours) (is.are k d h) ∙ is.alike (at + k) d (omega arith) (omega (arith, h, is.many))
 
   -- their neighbours are places of columns
-  pub group_within : (from : List (Vec ℕ)) → IsNetwork network → HaveWords (length network) from → All (λ slot. Covers from slot.neighbours) group
+  pub group_within : (from : List (Vec ℕ)) → AreRows network → HaveWords (length network) from → All (λ slot. Covers from slot.neighbours) group
   group_within from whole long k d h =
       let slot = slice_index_or group k d in
       nodes_covered (length network) from slot.neighbours long (slot_within network batch.nodes (at + k) slot whole (slot_is k d h))

@@ -5,7 +5,7 @@ use Rattle.std.specs.List.{Contains}
 use Rattle.std.proofs.Math.ListN.{get_or-append}
 use Rattle.std.proofs.lemmas.List.{get_or_default, get_or-append_right}
 use Rattle.std.proofs.lemmas.List.Elements.{All-append, Contains-get_or}
-use Rattle.link_net.specs.Neighbours.{Neighbours, degree, neighbour, IsNetwork}
+use Rattle.link_net.specs.Neighbours.{Neighbours, degree, neighbour, AreRows}
 use Rattle.row_code.specs.declared.slot.Slot.{Slot}
 use Rattle.block_rounds.specs.declared.batch.Batch.{Batch}
 use Rattle.block_rounds.specs.Batches.{IsBatch, IsSlot, nodes_of}
@@ -47,7 +47,7 @@ place_in : (network : Neighbours) (nodes : List ℕ) (j : ℕ) (slot : Slot) (i 
 place_in network nodes j slot i is inside has (inl h) = h
 place_in network nodes j slot i is inside has (inr h) = absurd (omega (arith, is.lack i h inside, has))
 
-module _ (network : Neighbours) (batches : List Batch) (batch : Batch) (homes near : List ℕ) (marks : List Bool) (whole : IsNetwork network) (made : IsBatch network batch)
+module _ (network : Neighbours) (batches : List Batch) (batch : Batch) (homes near : List ℕ) (marks : List Bool) (whole : AreRows network) (made : IsBatch network batch)
     (homes_are : AreHomes batches (length network) homes) (listed : (i : ℕ) → IsDue marks i → Contains near i)
     (own : All (λ u. IsDue marks (slice_index homes u)) batch.nodes)
     (slots : (j : ℕ) (d : Slot) → j < length batch.slots.items → All (λ u. IsDue marks (slice_index homes u)) (slice_index_or batch.slots.items j d).neighbours) where

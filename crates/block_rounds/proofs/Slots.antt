@@ -2,7 +2,7 @@
 use Rattle.std.proofs.Common.{◌≡◌, ◌<◌, ◌≤◌, ℕ, List, length, map, take, All, sym, ap, ◌∙◌, arith, subst, slice_index, slice_index_or}
 use Rattle.std.specs.Global.{Vec}
 use Rattle.std.proofs.lemmas.List.{length-map, length-take-le, get_or-map, get_or-take, get_or_default}
-use Rattle.link_net.specs.Neighbours.{Neighbours, degree, neighbour, weight, IsNetwork}
+use Rattle.link_net.specs.Neighbours.{Neighbours, degree, neighbour, weight, AreRows}
 use Rattle.row_code.specs.Block.{Covers}
 use Rattle.row_code.specs.declared.slot.Slot.{Slot}
 use Rattle.block_rounds.specs.declared.batch.Batch.{Batch}
@@ -74,7 +74,7 @@ weight_in network nodes j slot i d is inside =
     ∙ ap (λ u. weight network u j) (get_or-take n nodes i 0 inside)
 
 -- the neighbours in a slot are nodes
-pub slot_within : (network : Neighbours) (nodes : List ℕ) (j : ℕ) (slot : Slot) → IsNetwork network → IsSlot network nodes j slot → All (λ w. w < length network) slot.neighbours
+pub slot_within : (network : Neighbours) (nodes : List ℕ) (j : ℕ) (slot : Slot) → AreRows network → IsSlot network nodes j slot → All (λ w. w < length network) slot.neighbours
 slot_within network nodes j slot whole is i d inside =
     omega (arith, whole.within (slice_index nodes i) j (is.have i inside), neighbour_in network nodes j slot i d is inside)
 

@@ -5,7 +5,7 @@ use Rattle.std.proofs.lemmas.List.{take_more, length-take-le}
 use Rattle.std.proofs.lemmas.Grind.{flat_map-append}
 use Rattle.rule_check.specs.declared.state.Near.{Near}
 use Rattle.rule_check.specs.Value.{Rules}
-use Rattle.link_net.specs.Neighbours.{Neighbours, degree, IsNetwork}
+use Rattle.link_net.specs.Neighbours.{Neighbours, degree, AreRows}
 use Rattle.row_code.specs.declared.slot.Slot.{Slot}
 use Rattle.row_code.specs.Block.{Lane, IsSameNode, HasGathered, state_at, near_in, next_of, scattered}
 use Rattle.block_rounds.specs.declared.batch.Batch.{Batch}
@@ -17,9 +17,9 @@ use Rattle.block_rounds.proofs.Sums.{nears_count, first_gathered, gathered_more,
 
 module _ (rules own : Rules) (network : Neighbours) (round : ℕ) (from : List (Vec ℕ)) (same : own ≡ rules) where
   -- a lane after one group of slots more
-  pub lane_step : (batch : Batch) (at behind count : ℕ) (group : List Slot) (none : Slot) (old new : List Lane) (i : ℕ) (d : Lane) → IsNetwork network → IsGroup network batch at behind count group
+  pub lane_step : (batch : Batch) (at behind count : ℕ) (group : List Slot) (none : Slot) (old new : List Lane) (i : ℕ) (d : Lane) → AreRows network → IsGroup network batch at behind count group
       → ((i : ℕ) (d : Lane) → IsSameNode (slice_index_or old i d) (slice_index_or new i d))
-      → ((i : ℕ) (d : Lane) (nears : List Near) → i < count → length nears + length group ≤ 4096
+      → ((i : ℕ) (d : Lane) (nears : List Near) → i < count → length nears + length group ≤ 4294967295
       → HasGathered own nears (slice_index_or old i d) → HasGathered own (nears ++ map (near_in from i) group) (slice_index_or new i d))
       → ((i : ℕ) (d : Lane) → count ≤ i → slice_index_or new i d ≡ slice_index_or old i d)
       → slice_index_or old i d ≡ gathered_first rules network round from at (slice_index batch.nodes i) → i < length batch.nodes → ((i < count) ⊎ (count ≤ i))

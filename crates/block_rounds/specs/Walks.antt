@@ -5,7 +5,7 @@ use Rattle.std.specs.List.{range_with_len}
 use Rattle.rule_check.specs.declared.state.State.{State}
 use Rattle.rule_check.specs.Value.{Rules}
 use Rattle.rule_check.specs.Rounds.{reads_round}
-use Rattle.link_net.specs.Neighbours.{Neighbours, IsNetwork, degree, neighbour}
+use Rattle.link_net.specs.Neighbours.{Neighbours, AreRows, degree, neighbour}
 use Rattle.row_code.specs.Steps.{lane}
 use Rattle.row_code.specs.Block.{state_at}
 use Rattle.block_rounds.specs.declared.batch.Batch.{Batch}
@@ -50,7 +50,7 @@ pub record HasMoved (batches : List Batch) (from to : List (Vec ℕ)) : Type 0 w
 
 -- what a round is made of, for a program with these rules
 pub record IsTask (rules : Rules) (task : Task) : Type 0 where
-  pub network : IsNetwork task.network.now
+  pub network : AreRows task.network.now
   pub each : All (IsBatch task.network.now) task.batches.now
   pub flags : length task.due.now ≡ length task.batches.now
   pub fields : length task.from.now ≡ length rules.fields
@@ -108,7 +108,7 @@ pub record IsActivity (network : Neighbours) (batches : List Batch) (activity : 
 
 -- a program's states on the batches of a network, and how far each round has to look
 pub record IsWalk (rules : Rules) (network : Neighbours) (batches : List Batch) (activity : Activity) (shares : List Share) (from to : List (Vec ℕ)) : Type 0 where
-  pub whole : IsNetwork network
+  pub whole : AreRows network
   pub layout : IsLayout network batches
   pub few : length rules.fields ≤ 8
   pub shared : AreShares rules (length network) (length batches) shares

@@ -4,7 +4,7 @@ ghost use Rattle.link_net.specs.Neighbours.{degree, neighbour, weight};
 ghost use Rattle.block_rounds.specs.Batches.{AreFalling, IsSlot, IsBatch};
 
 use crate::nodes::{degree_of, neighbour_of, weight_of};
-use link_net::Network;
+use link_net::NetRows;
 use row_code::{Places, Slot};
 use std::alloc::{AllocError, Global};
 
@@ -37,7 +37,7 @@ fn count_in(degrees: &[u32], slot: u32) -> usize
 /// The neighbours in a slot of these nodes.
 fn neighbours_in(
     alloc: Global,
-    network: &Network,
+    network: &NetRows<'_>,
     nodes: &[u32],
     slot: u32,
 ) -> Result<Vec<u32>, AllocError>
@@ -52,7 +52,7 @@ fn neighbours_in(
 /// The weights in a slot of these nodes.
 fn weights_in(
     alloc: Global,
-    network: &Network,
+    network: &NetRows<'_>,
     nodes: &[u32],
     slot: u32,
 ) -> Result<Vec<u32>, AllocError>
@@ -67,7 +67,7 @@ fn weights_in(
 /// What stands in a slot of these nodes.
 fn slot_of(
     alloc: Global,
-    network: &Network,
+    network: &NetRows<'_>,
     nodes: &[u32],
     degrees: &[u32],
     slot: u32,
@@ -88,7 +88,7 @@ fn slot_of(
 }
 
 /// The degrees of these nodes.
-fn degrees_of(alloc: Global, network: &Network, nodes: &[u32]) -> Result<Vec<u32>, AllocError>
+fn degrees_of(alloc: Global, network: &NetRows<'_>, nodes: &[u32]) -> Result<Vec<u32>, AllocError>
     ensures exact { IfOk result (λ degrees. degrees.items ≡ map (degree network.now) nodes.now) }
 {
     nodes
@@ -117,7 +117,7 @@ fn sum_of(degrees: &[u32]) -> u64 {
 }
 
 /// These nodes as a batch.
-pub fn batch_of(alloc: Global, network: &Network, nodes: &[u32]) -> Result<Batch, AllocError>
+pub fn batch_of(alloc: Global, network: &NetRows<'_>, nodes: &[u32]) -> Result<Batch, AllocError>
     requires few { length nodes.now ≤ 256 }
     requires within { All (λ u. u < length network.now) nodes.now }
     requires falling { AreFalling network.now nodes.now }

@@ -8,7 +8,7 @@ use crate::batch::{Batch, batch_of};
 use crate::near::nears_of;
 use crate::nodes::degree_of;
 use crate::order::by_falling_degree;
-use link_net::Network;
+use link_net::NetRows;
 use std::alloc::{AllocError, Global};
 use std::marker::Model;
 
@@ -18,7 +18,7 @@ const BATCH: usize = 256;
 /// The nodes of a network in batches, with all that a round reads of the network. A contract sees the network.
 #[derive(Drop)]
 pub struct Layout<'a> {
-    pub(crate) network: &'a Network,
+    pub(crate) network: NetRows<'a>,
     pub(crate) batches: Vec<Batch>,
     /// For each batch those in which its nodes and their neighbours stand.
     pub(crate) nears: Vec<Vec<usize>>,
@@ -31,14 +31,14 @@ impl<'a> Model for Layout<'a> {
 
     ghost Value = { Neighbours };
 
-    ghost view = { λ layout. layout.network.now };
+    ghost view = { λ layout. layout.network };
 
-    ghost invariant = { λ layout. IsLayout layout.network.now layout.batches.items × HaveNear layout.network.now layout.batches.items layout.nears.items };
+    ghost invariant = { λ layout. IsLayout layout.network layout.batches.items × HaveNear layout.network layout.batches.items layout.nears.items };
 }
 
 /// How many of these nodes, from the first one on, stand in one batch: as many as it may have, with so many neighbours together at most, or
 /// the first one alone.
-fn next_batch(network: &Network, nodes: &[u32], most_ends: u32) -> usize
+fn next_batch(network: &NetRows<'_>, nodes: &[u32], most_ends: u32) -> usize
     requires some { 0 < length nodes.now }
     ensures some { 0 < result }
     ensures few { result ≤ 256 }
@@ -58,7 +58,7 @@ fn next_batch(network: &Network, nodes: &[u32], most_ends: u32) -> usize
 /// These nodes in batches, whose nodes have so many neighbours together at most.
 fn batches_of(
     alloc: Global,
-    network: &Network,
+    network: &NetRows<'_>,
     nodes: &[u32],
     most_ends: u32,
 ) -> Result<Vec<Batch>, AllocError>
@@ -82,14 +82,14 @@ impl<'a> Layout<'a> {
     /// they are changes no state.
     pub fn new(
         alloc: Global,
-        network: &'a Network,
+        network: NetRows<'a>,
         most_ends: u32,
     ) -> Result<Layout<'a>, AllocError>
-        ensures network { IfOk result (λ layout. layout ≡ network.now) }
+        ensures network { IfOk result (λ layout. layout ≡ network.entry) }
     {
-        let nodes = by_falling_degree(alloc, network)?;
-        let batches = batches_of(alloc, network, &nodes, most_ends)?;
-        let nears = nears_of(alloc, network, &batches)?;
+        let nodes = by_falling_degree(alloc, &network)?;
+        let batches = batches_of(alloc, &network, &nodes, most_ends)?;
+        let nears = nears_of(alloc, &network, &batches)?;
         Ok(Layout {
             network,
             batches,

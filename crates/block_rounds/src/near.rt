@@ -2,13 +2,13 @@
 ghost use Rattle.std.specs.Prelude.{◌≡◌, ◌<◌, ◌⊎◌, ℕ, All, IfOk, length, slice_index, slice_index_or};
 ghost use Rattle.std.specs.List.{Contains};
 ghost use Rattle.std.specs.List.Sorted.{IsPermutation};
-ghost use Rattle.link_net.specs.Neighbours.{numbers_below, IsNetwork};
+ghost use Rattle.link_net.specs.Neighbours.{numbers_below, AreRows};
 ghost use Rattle.row_code.specs.declared.slot.Slot.{Slot};
 ghost use Rattle.block_rounds.specs.Batches.{IsBatch, IsLayout, nodes_of};
 ghost use Rattle.block_rounds.specs.Nears.{AreHomes, AreNear, HaveNear, IsDue};
 
 use crate::batch::Batch;
-use link_net::Network;
+use link_net::NetRows;
 use std::alloc::{AllocError, Global};
 
 /// Notes the batch of these nodes.
@@ -49,9 +49,9 @@ fn mark_homes(marks: &mut [bool], homes: &[usize], nodes: &[u32])
 }
 
 /// Marks the batches in which a batch's nodes and their neighbours stand.
-fn mark_batch(marks: &mut [bool], homes: &[usize], network: &Network, batch: &Batch)
+fn mark_batch(marks: &mut [bool], homes: &[usize], network: &NetRows<'_>, batch: &Batch)
     requires batch { IsBatch network.now batch.now }
-    requires network { IsNetwork network.now }
+    requires network { AreRows network.now }
     requires count { length homes.now ≡ length network.now }
     requires there { (u : ℕ) → u < length homes.now → slice_index homes.now u < length marks.old }
     ensures own { All (λ u. IsDue marks.new (slice_index homes.now u)) batch.now.nodes }
@@ -80,13 +80,13 @@ fn marked_places(alloc: Global, marks: &[bool]) -> Result<Vec<usize>, AllocError
 /// The batches in which a batch's nodes and their neighbours stand, each once.
 fn near_of(
     alloc: Global,
-    network: &Network,
+    network: &NetRows<'_>,
     batches: &[Batch],
     batch: &Batch,
     homes: &[usize],
 ) -> Result<Vec<usize>, AllocError>
     requires batch { IsBatch network.now batch.now }
-    requires network { IsNetwork network.now }
+    requires network { AreRows network.now }
     requires count { length homes.now ≡ length network.now }
     requires homes { AreHomes batches.now (length network.now) homes.now }
     ensures within { IfOk result (λ near. All (λ i. i < length batches.now) near.items) }
@@ -101,7 +101,7 @@ fn near_of(
 /// For each batch those in which its nodes and their neighbours stand, each once.
 pub fn nears_of(
     alloc: Global,
-    network: &Network,
+    network: &NetRows<'_>,
     batches: &[Batch],
 ) -> Result<Vec<Vec<usize>>, AllocError>
     requires layout { IsLayout network.now batches.now }

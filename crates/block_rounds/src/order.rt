@@ -5,14 +5,14 @@ ghost use Rattle.link_net.specs.Neighbours.{numbers_below, degree};
 ghost use Rattle.block_rounds.specs.Batches.{AreFalling};
 
 use crate::nodes::degree_of;
-use link_net::Network;
+use link_net::NetRows;
 use std::alloc::{AllocError, Global};
 
 /// The most neighbours of a node.
-const MOST_NEIGHBOURS: u32 = 4096;
+const MOST_NEIGHBOURS: u32 = u32::MAX;
 
 /// All nodes by rising number.
-fn all_nodes(alloc: Global, network: &Network) -> Result<Vec<u32>, AllocError>
+fn all_nodes(alloc: Global, network: &NetRows<'_>) -> Result<Vec<u32>, AllocError>
     ensures all { IfOk result (λ nodes. nodes.items ≡ numbers_below (length network.now)) }
 {
     let count = network.nodes();
@@ -24,14 +24,14 @@ fn all_nodes(alloc: Global, network: &Network) -> Result<Vec<u32>, AllocError>
 }
 
 /// How many neighbours a node lacks of the most that it may have.
-fn lack_of(network: &Network, node: u32) -> u32
-    ensures exact { result ≡ 4096 - degree network.now node }
+fn lack_of(network: &NetRows<'_>, node: u32) -> u32
+    ensures exact { result ≡ 4294967295 - degree network.now node }
 {
     MOST_NEIGHBOURS - degree_of(network, node)
 }
 
 /// All nodes by falling number of their neighbours.
-pub fn by_falling_degree(alloc: Global, network: &Network) -> Result<Vec<u32>, AllocError>
+pub fn by_falling_degree(alloc: Global, network: &NetRows<'_>) -> Result<Vec<u32>, AllocError>
     ensures once { IfOk result (λ nodes. IsPermutation (numbers_below (length network.now)) nodes.items) }
     ensures falling { IfOk result (λ nodes. AreFalling network.now nodes.items) }
 {

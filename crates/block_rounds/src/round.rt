@@ -1,6 +1,6 @@
 //! A round over batches.
 ghost use Rattle.std.specs.Prelude.{◌≡◌, ◌<◌, ◌≤◌, ℕ, All, length, slice_index, slice_index_or};
-ghost use Rattle.link_net.specs.Neighbours.{IsNetwork};
+ghost use Rattle.link_net.specs.Neighbours.{AreRows};
 ghost use Rattle.row_code.specs.Block.{Lane};
 ghost use Rattle.block_rounds.specs.declared.batch.Batch.{Batch};
 ghost use Rattle.block_rounds.specs.Batches.{IsBatch};
@@ -12,13 +12,13 @@ ghost use Rattle.block_rounds.specs.Gathered.{gathered};
 use crate::batch::Batch;
 use crate::group::group_end;
 use crate::task::Task;
-use link_net::Network;
+use link_net::NetRows;
 use row_code::Block;
 
 /// Gathers the aggregates of a batch's nodes over all their neighbours.
-fn gather(network: &Network, batch: &Batch, block: &mut Block<'_>, round: u32, from: &[Vec<u32>])
+fn gather(network: &NetRows<'_>, batch: &Batch, block: &mut Block<'_>, round: u32, from: &[Vec<u32>])
     requires batch { IsBatch network.now batch.now }
-    requires network { IsNetwork network.now }
+    requires network { AreRows network.now }
     requires fields { length from.now ≡ length block.old.rules.fields }
     requires nodes { HaveWords (length network.now) from.now }
     ensures rules { block.new.rules ≡ block.old.rules }
@@ -38,7 +38,7 @@ fn gather(network: &Network, batch: &Batch, block: &mut Block<'_>, round: u32, f
 
 /// Writes the next states of a batch's nodes.
 fn step(
-    network: &Network,
+    network: &NetRows<'_>,
     batch: &Batch,
     block: &mut Block<'_>,
     round: u32,
@@ -46,7 +46,7 @@ fn step(
     to: &mut [Vec<u32>],
 )
     requires batch { IsBatch network.now batch.now }
-    requires network { IsNetwork network.now }
+    requires network { AreRows network.now }
     requires fields { length from.now ≡ length block.old.rules.fields }
     requires next_fields { length to.old ≡ length block.old.rules.fields }
     requires nodes { HaveWords (length network.now) from.now }

@@ -1,13 +1,13 @@
 //! What a round is made of.
 
 use crate::batch::Batch;
-use link_net::Network;
+use link_net::NetRows;
 
 /// A round: the network in batches, which of the batches have to be computed, the number of the round, and the states
 /// before it by columns.
 #[derive(Drop)]
 pub struct Task<'a> {
-    pub network: &'a Network,
+    pub network: &'a NetRows<'a>,
     pub batches: &'a [Batch],
     pub due: &'a [bool],
     pub round: u32,

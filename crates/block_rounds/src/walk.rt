@@ -16,7 +16,7 @@ use crate::round::step_due;
 use crate::share::Share;
 use crate::sharing::{Costs, cost_all, saved_by, shares_of, work_all};
 use crate::task::Task;
-use link_net::Network;
+use link_net::NetRows;
 use row_code::{Block, RowCode};
 use rule_check::{Program, State};
 use std::alloc::{AllocError, Global};
@@ -32,7 +32,7 @@ use std::thread::Threads;
 /// the next round would write, since its nodes did not change.
 #[derive(Drop)]
 pub struct Walk<'a> {
-    network: &'a Network,
+    network: &'a NetRows<'a>,
     batches: &'a [Batch],
     block: Block<'a>,
     costs: Costs,
@@ -81,7 +81,7 @@ impl<'a> Walk<'a> {
         // For the proof: what holds of every network.
         let _nodes = layout.network.nodes();
         Ok(Walk {
-            network: layout.network,
+            network: &layout.network,
             batches: &layout.batches,
             block,
             costs: Costs {

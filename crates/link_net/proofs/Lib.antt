@@ -21,3 +21,4 @@ mod DraftRefusals
 mod Crowds
 mod ShapeRefusals
 mod Documents
+mod LentRows

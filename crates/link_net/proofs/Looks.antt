@@ -31,7 +31,7 @@ module _ (offsets ns ws : List ℕ) where
       (links.0, links.1, links.2 ∙ rows_sum laid.paired laid.placed)
 
 -- the value in a `Some` that is a column of a row
-column : {Y : Type 0} (f : ℕ × ℕ → ℕ) (xs : List ℕ) (net : Neighbours) (u : ℕ) → Some xs ≡ option_map (λ row. map f row) (slice_get net u)
+pub column : {Y : Type 0} (f : ℕ × ℕ → ℕ) (xs : List ℕ) (net : Neighbours) (u : ℕ) → Some xs ≡ option_map (λ row. map f row) (slice_get net u)
     → ((row : List (ℕ × ℕ)) → slice_get net u ≡ Some row → xs ≡ map f row → Y) → Y
 column {Y} f xs net u is use_row = at (slice_get net u) refl is where
   at : (o : Option (List (ℕ × ℕ))) → slice_get net u ≡ o → Some xs ≡ option_map (λ row. map f row) o → Y

@@ -2,7 +2,7 @@
 use Rattle.std.specs.Prelude.{◌≡◌, ℕ, ◌+◌, ◌-◌, ◌≤◌, List, length, map, slice_index}
 use Rattle.std.specs.List.{slice_range, zip}
 use Rattle.std.specs.List.Sorted.{IsNonDecreasing}
-use Rattle.link_net.specs.Neighbours.{Neighbours, numbers_below, IsNetwork}
+use Rattle.link_net.specs.Neighbours.{Neighbours, numbers_below, IsNetwork, AreRows}
 
 -- the part of the items that belongs to u: from its offset up to the next one
 abbrev pub part : {X : Type 0} → List ℕ → List X → ℕ → List X
@@ -24,3 +24,9 @@ pub record IsLaidOut (offsets neighbours weights : List ℕ) : Type 0 where
   pub placed : AreOffsets offsets (length neighbours)
   pub paired : length weights ≡ length neighbours
   pub network : IsNetwork (rows_of offsets neighbours weights)
+
+-- the three lists hold rows that a round can go over
+pub record HoldRows (offsets neighbours weights : List ℕ) : Type 0 where
+  pub placed : AreOffsets offsets (length neighbours)
+  pub paired : length weights ≡ length neighbours
+  pub rows : AreRows (rows_of offsets neighbours weights)

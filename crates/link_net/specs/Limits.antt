@@ -16,3 +16,7 @@ most_neighbours = 4096
 -- the greatest weight of a link
 abbrev pub most_weight : ℕ
 most_weight = 4294967295
+
+-- rows, and neighbours in one of them, that a round can go over
+abbrev pub most_rows : ℕ
+most_rows = 4294967295

@@ -1,7 +1,7 @@
 -- A network as its nodes' neighbours, and what makes such lists a network.
 use Rattle.std.specs.Prelude.{◌≡◌, ◌≢◌, ℕ, ◌*◌, ◌<◌, ◌≤◌, List, [], length, slice_get, slice_index_or, Option, option_map, option_and_then}
 use Rattle.std.specs.List.{range_with_len, sum_by}
-use Rattle.link_net.specs.Limits.{most_nodes, most_links, most_neighbours}
+use Rattle.link_net.specs.Limits.{most_nodes, most_links, most_neighbours, most_rows}
 
 -- a network: for each node by rising number, its neighbours by rising number, each with the weight of the link to it
 abbrev pub Neighbours : Type 0
@@ -50,3 +50,9 @@ pub record IsNetwork (network : Neighbours) : Type 0 where
   pub both_ways : (u j : ℕ) → j < degree network u
       → (k : ℕ) × (k < degree network (neighbour network u j)) × (neighbour network (neighbour network u j) k ≡ u) × (weight network (neighbour network u j) k ≡ weight network u j)
   pub links : (k : ℕ) × (k ≤ most_links) × (2 * k ≡ sum_by length network)
+
+-- lists that a round can go over: their numbers are words, each neighbour is a node, and no node has more neighbours than a word can say
+pub record AreRows (network : Neighbours) : Type 0 where
+  pub nodes : length network ≤ most_rows
+  pub degrees : (u : ℕ) → degree network u ≤ most_rows
+  pub within : (u j : ℕ) → j < degree network u → neighbour network u j < length network

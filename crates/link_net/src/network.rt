@@ -5,6 +5,7 @@ ghost use Rattle.std.specs.List.Sorted.{IsStrictlyIncreasing};
 ghost use Rattle.link_net.specs.Neighbours.{IsNetwork, slot_at, neighbour_at, weight_at};
 ghost use Rattle.link_net.specs.Layout.{part, rows_of, AreOffsets, IsLaidOut};
 
+use crate::lent::NetRows;
 use std::marker::Model;
 
 /// A network: undirected links between nodes that are numbered from 0, each link with a weight.
@@ -32,7 +33,7 @@ impl Model for Network {
 }
 
 /// The part of the items that belongs to a node.
-fn part_of<'a>(offsets: &[usize], items: &'a [u32], node: u32) -> Option<&'a [u32]>
+pub(crate) fn part_of<'a>(offsets: &[usize], items: &'a [u32], node: u32) -> Option<&'a [u32]>
     requires { AreOffsets offsets.now (length items.now) }
     ensures { option_map (λ s. s.now) result ≡ (if nat_lt node (length offsets.now - 1) then Some (part offsets.now items.now node) else None) }
 {
@@ -55,6 +56,17 @@ impl Network {
             neighbours,
             weights,
         }
+    }
+
+    /// The rows of the network, lent.
+    pub fn rows(&self) -> NetRows<'_>
+        ensures { result ≡ self.now }
+    {
+        NetRows::new(
+            self.offsets.as_slice(),
+            self.neighbours.as_slice(),
+            self.weights.as_slice(),
+        )
     }
 
     /// How many nodes there are, from 1 to 65,536.

@@ -65,7 +65,7 @@ impl<'a> Course<'a> {
         // For the proof: what holds of every plan.
         let _phase = plan.phase();
         let code = RowCode::new(alloc, plan.program())?;
-        let layout = Layout::new(alloc, plan.network(), most_ends)?;
+        let layout = Layout::new(alloc, plan.network().rows(), most_ends)?;
         Ok(Course { plan, code, layout })
     }
 

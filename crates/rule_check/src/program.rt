@@ -156,7 +156,7 @@ impl Program {
     /// There may be no neighbour, and at most 4,096. Their number is the degree, and their order
     /// plays no part.
     pub fn next(&self, id: u32, own: State, round: u32, neighbours: &[Near]) -> State
-        requires few { length neighbours.now ≤ 4096 }
+        requires few { length neighbours.now ≤ 4294967295 }
         ensures exact { next_state self.now round id own neighbours.now ≡ result }
         ensures rest_is_zero { (k : ℕ) → length self.now.fields ≤ k → slice_index result.words k ≡ 0 }
     {
@@ -189,7 +189,7 @@ impl Program {
     /// `degree`, `own` and `round`; `degree` is the number of all neighbours.
     pub fn take(&self, sums: &mut Sums, id: u32, degree: u32, own: State, round: u32, near: &Near)
         ensures step { (nears : List Near) → sums.new ≡ taken self.now (here_at self.now round id degree own nears) near.now sums.old }
-        ensures anywhere { (front back : List Near) → length (front ++ back) < 4096
+        ensures anywhere { (front back : List Near) → length (front ++ back) < 4294967295
             → sums.old ≡ sums_at self.now (here_at self.now round id degree own (front ++ back))
             → sums.new ≡ sums_at self.now (here_at self.now round id degree own (front ++ near.now ∷ back)) }
     {
@@ -225,7 +225,7 @@ impl Program {
     /// `take`, on a stack that is lent.
     fn take_on(&self, stack: &mut [u32; DEPTH], sums: &mut Sums, node: &Node, near: &Near)
         ensures step { (nears : List Near) → sums.new ≡ taken self.now (standing self.now node.now nears) near.now sums.old }
-        ensures anywhere { (front back : List Near) → length (front ++ back) < 4096
+        ensures anywhere { (front back : List Near) → length (front ++ back) < 4294967295
             → sums.old ≡ sums_at self.now (standing self.now node.now (front ++ back))
             → sums.new ≡ sums_at self.now (standing self.now node.now (front ++ near.now ∷ back)) }
     {

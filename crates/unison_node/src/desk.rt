@@ -78,7 +78,7 @@ impl Desk {
         ensures answer { result ≡ answer_to self.old slot (look_by_phases seat.phase register.now) }
         ensures after { self.new ≡ after_offer program.now seat slot nid weight self.old (look_by_phases seat.phase register.now) }
         ensures sums { (state : State) (front back : List Near) → result ≡ Taken → given (look_by_phases seat.phase register.now) ≡ Some state
-            → length (front ++ back) < 4096 → self.old.sums ≡ sums_over program.now seat (length self.old.marks) (front ++ back)
+            → length (front ++ back) < 4294967295 → self.old.sums ≡ sums_over program.now seat (length self.old.marks) (front ++ back)
             → self.new.sums ≡ sums_over program.now seat (length self.old.marks) (front ++ record { id = nid; weight = weight; state = state } ∷ back) }
     {
         let place = slot as usize;

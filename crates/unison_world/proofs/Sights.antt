@@ -114,7 +114,7 @@ seat-sums plan u node nears p =
 pub record IsOffered (rules : Rules) (seat : Seat) (j w k : ℕ) (desk : DeskView) (l : Look) (left : DeskView) (answer : Offer) : Type 0 where
   pub answered : answer ≡ answer_to desk j l
   pub changed : left ≡ after_offer rules seat j w k desk l
-  pub summed : (state : State) (front back : List Near) → answer ≡ offer.Taken → given l ≡ Some state → length (front ++ back) < 4096
+  pub summed : (state : State) (front back : List Near) → answer ≡ offer.Taken → given l ≡ Some state → length (front ++ back) < 4294967295
       → desk.sums ≡ sums_over rules seat (length desk.marks) (front ++ back)
       → left.sums ≡ sums_over rules seat (length desk.marks) (front ++ record { id = w; weight = k; state = state } ∷ back)
 

@@ -7,6 +7,6 @@ pub returns-clause-falling : goal.returns-clause-falling
 returns-clause-falling c = λ i j le inside.
     let network = c.args.network.now in
     let nodes = c.sort_by_key.new.self.items in
-    let rising = IsNonDecreasingBy-from_sort_by_key (λ u. 4096 - degree network u) nodes c.in_ok-sort_by_key.ensures.sorted (λ a r f k. search (rules, of_calls)) in
+    let rising = IsNonDecreasingBy-from_sort_by_key (λ u. 4294967295 - degree network u) nodes c.in_ok-sort_by_key.ensures.sorted (λ a r f k. search (rules, of_calls)) in
     let whole = c.nodes-nodes.ensures.whole in
     omega (arith, rising i j 0 le inside, whole.degrees (slice_index nodes i), whole.degrees (slice_index nodes j))

@@ -6,5 +6,5 @@ use Rattle.block_rounds.proofs.layout.Layout.new.Goals as goal
 
 pub batches_of-requires-clause-within : goal.batches_of-requires-clause-within
 batches_of-requires-clause-within c =
-    let n = length c.args.network.now in
+    let n = length c.args.network in
     subst (All (λ u. u < n)) (sym c.deref.ensures.value) (All-permutation (λ u. u < n) (numbers_below n) c.in_ok-nodes.nodes.items c.in_ok-nodes.ensures.once (numbers_within n))

@@ -15,7 +15,7 @@ loop-near-preserved c =
     let ns = a.neighbours.now in
     let i = c.loop-near.near-index in
     let sums_over = λ (nears : List Near). sums_at a.self.now (here_at a.self.now a.round a.id (length ns) a.own nears) in
-    let few : length (take i ns ++ []) < 4096 = rw append-nil (simp length-take (omega (arith, c.requires))) in
+    let few : length (take i ns ++ []) < 4294967295 = rw append-nil (simp length-take (omega (arith, c.requires))) in
     c.take_on.ensures.anywhere (take i ns) [] few (c.loop-near.invariant ∙ ap sums_over (sym (append-nil (take i ns))))
     ∙ ap sums_over (sym (take_more ns i _ c.loop-near-test.true))
 

@@ -1,0 +1,95 @@
+//! The rows of a network, lent.
+ghost use Rattle.std.specs.Prelude.{◌≡◌, ◌≤◌, length, map, slice_get, option_map, IfSome};
+ghost use Rattle.link_net.specs.Neighbours.{AreRows, neighbour_at, weight_at};
+ghost use Rattle.link_net.specs.Layout.{rows_of, HoldRows};
+
+use crate::network::part_of;
+use std::marker::Model;
+
+/// What rounds read of a network that stands elsewhere: for each node its neighbours, and the weights of the links to them.
+#[derive(Debug, Drop)]
+pub struct NetRows<'a> {
+    /// Where each node's part of the two lists below begins, and last where they end.
+    offsets: &'a [usize],
+    /// The neighbours of all nodes, node by node.
+    neighbours: &'a [u32],
+    /// The weights of the links to these neighbours.
+    weights: &'a [u32],
+}
+
+impl<'a> Model for NetRows<'a> {
+    ghost use Rattle.link_net.specs.Neighbours.{Neighbours};
+
+    ghost Value = { Neighbours };
+
+    ghost use Rattle.link_net.specs.Layout.{rows_of, HoldRows};
+
+    ghost view = { λ a. rows_of a.offsets.now a.neighbours.now a.weights.now };
+
+    ghost invariant = { λ a. HoldRows a.offsets.now a.neighbours.now a.weights.now };
+}
+
+impl<'a> NetRows<'a> {
+    /// The rows that are laid out in these lists: row u goes from offset u up to the next one.
+    pub(crate) fn new(
+        offsets: &'a [usize],
+        neighbours: &'a [u32],
+        weights: &'a [u32],
+    ) -> NetRows<'a>
+        requires { HoldRows offsets.now neighbours.now weights.now }
+        ensures { result ≡ rows_of offsets.now neighbours.now weights.now }
+    {
+        NetRows {
+            offsets,
+            neighbours,
+            weights,
+        }
+    }
+
+    /// How many nodes there are.
+    pub fn nodes(&self) -> u32
+        ensures count { result ≡ length self.now }
+        ensures whole { AreRows self.now }
+    {
+        (self.offsets.len() - 1) as u32
+    }
+
+    /// The neighbours of a node, or `None` where there is no such node.
+    pub fn neighbours(&self, node: u32) -> Option<&[u32]>
+        ensures value { option_map (λ s. s.now) result ≡ option_map (λ row. map (λ a. a.0) row) (slice_get self.now node) }
+        ensures bound { IfSome result (λ s. length s.now ≤ 4294967295) }
+    {
+        part_of(self.offsets, self.neighbours, node)
+    }
+
+    /// The weights of the links to the neighbours of a node, or `None` where there is no such node.
+    pub fn weights(&self, node: u32) -> Option<&[u32]>
+        ensures value { option_map (λ s. s.now) result ≡ option_map (λ row. map (λ a. a.1) row) (slice_get self.now node) }
+    {
+        part_of(self.offsets, self.weights, node)
+    }
+
+    /// How many neighbours a node has, or `None` where there is no such node.
+    pub fn degree(&self, node: u32) -> Option<u32>
+        ensures value { result ≡ option_map length (slice_get self.now node) }
+    {
+        let neighbours = self.neighbours(node)?;
+        Some(neighbours.len() as u32)
+    }
+
+    /// The neighbour at a slot of a node, or `None` where there is no such node or slot.
+    pub fn neighbour(&self, node: u32, slot: u32) -> Option<u32>
+        ensures value { result ≡ neighbour_at self.now node slot }
+    {
+        let neighbours = self.neighbours(node)?;
+        neighbours.get(slot as usize).copied()
+    }
+
+    /// The weight of the link to the neighbour at a slot of a node, or `None` where there is no such node or slot.
+    pub fn weight(&self, node: u32, slot: u32) -> Option<u32>
+        ensures value { result ≡ weight_at self.now node slot }
+    {
+        let weights = self.weights(node)?;
+        weights.get(slot as usize).copied()
+    }
+}
