@@ -24,8 +24,6 @@ mod take;
 mod tell;
 mod watch;
 mod why;
-#[cfg(test)]
-mod word_tests;
 
 use crate::ending::{Ending, refused};
 use crate::help::help_text;
