@@ -1,6 +1,7 @@
 //! Command lines of `why`: what is told of wrong words.
 
 use crate::ending::Ending;
+use crate::usage::around_advice;
 use crate::why::request_of;
 use std::alloc::{AllocError, Global};
 use std::test::Fail;
@@ -54,6 +55,28 @@ fn numbers_out_of_range(rt: HostRuntime) -> Result<(), Fail> {
             None => return Err(Fail::new(format_args!("{wanted}"))),
         }
     }
+    Ok(())
+}
+
+/// A word that is no option is told without the advice to pass it behind `--`, and a misspelt one with the option.
+#[test]
+fn advice_that_helps_nobody(rt: HostRuntime) -> Result<(), Fail> {
+    let words = ["why", "lockstep", "p", "n", "--rounds", "1", "--x"];
+    let text = usage(rt.alloc(), &words)?.unwrap_or(String::new(rt.alloc()));
+    assert_eq!(rt;
+        around_advice(text.as_str()),
+        Some((
+            "error: unexpected argument '--x' found",
+            "Usage: unison why lockstep --rounds <T> <PROGRAM> <NETWORK>\n\nFor more information, try '--help'.\n"
+        ))
+    );
+    let words = ["why", "lockstep", "p", "n", "--round", "1"];
+    let text = usage(rt.alloc(), &words)?.unwrap_or(String::new(rt.alloc()));
+    assert!(rt;
+        text.as_str()
+            .contains("a similar argument exists: '--rounds'")
+    );
+    assert_eq!(rt; around_advice(text.as_str()), None);
     Ok(())
 }
 
