@@ -22,6 +22,8 @@ pub(crate) enum Ending {
     Served(ServeFault),
     /// Standard output refused.
     Output,
+    /// Nobody reads standard output any more.
+    Unread,
     Memory,
 }
 
@@ -34,7 +36,7 @@ impl Ending {
             Ending::Refused(_) => 3,
             Ending::Network(fault) => ServeFault::Net(*fault).status(),
             Ending::Served(fault) => fault.status(),
-            Ending::File(_) | Ending::Output | Ending::Memory => 1,
+            Ending::File(_) | Ending::Output | Ending::Unread | Ending::Memory => 1,
         }
     }
 }

@@ -22,6 +22,7 @@ mod show;
 mod steps;
 mod take;
 mod tell;
+mod usage;
 mod watch;
 mod why;
 
@@ -37,6 +38,7 @@ use crate::show::show_network;
 use crate::steps::make_steps;
 use crate::take::take_network;
 use crate::tell::tell_steps;
+use crate::usage::around_advice;
 use crate::watch::watch_rounds;
 use crate::why::{print_fault, why_command};
 use std::process::ExitCode;
@@ -112,11 +114,19 @@ fn print_served(rt: &HostRuntime, fault: &ServeFault) -> io::Result<()> {
     eprintln!(rt; "{hint}")
 }
 
+/// Prints the line of wrong words, and what is told of them.
+fn print_usage(rt: &HostRuntime, text: &str) -> io::Result<()> {
+    match around_advice(text) {
+        Some((front, back)) => eprintln!(rt; "fault: usage\n{front}\n\n{back}"),
+        None => eprintln!(rt; "fault: usage\n{text}"),
+    }
+}
+
 /// Prints the help, or the fault's line on standard error.
 fn print_ending(rt: &HostRuntime, ending: &Ending) -> io::Result<()> {
     match ending {
         Ending::Help(text) => print!(rt; "{text}"),
-        Ending::Usage(text) => eprintln!(rt; "fault: usage\n{text}"),
+        Ending::Usage(text) => print_usage(rt, text.as_str()),
         Ending::File(text) => eprintln!(rt; "fault: file\n{text}"),
         Ending::Network(fault) => eprintln!(rt;
             "fault: network {fault}\nunison why tells where: unison why lockstep PROGRAM NETWORK --rounds 0"
@@ -124,6 +134,7 @@ fn print_ending(rt: &HostRuntime, ending: &Ending) -> io::Result<()> {
         Ending::Served(fault) => print_served(rt, fault),
         Ending::Refused(text) => eprintln!(rt; "fault: {text}"),
         Ending::Output => eprintln!(rt; "fault: device Write"),
+        Ending::Unread => Ok(()),
         Ending::Memory => eprintln!(rt; "fault: memory Memory"),
     }
 }

@@ -2,8 +2,22 @@
 
 use crate::ending::{Ending, refused};
 use crate::files::unserved;
-use std::io::{BufWriter, Write};
+use std::io::{BufWriter, ErrorKind, Write};
 use std::{fs, io};
+
+/// The ending where standard output refused. A reader that has closed its pipe, as `head` does, has what it wants.
+fn unwritten(error: &io::Error) -> Ending {
+    match error.kind() {
+        ErrorKind::BrokenPipe => Ending::Unread,
+        _ => Ending::Output,
+    }
+}
+
+/// Writes a text, and hands the buffer's last bytes on.
+fn put_whole(output: &mut impl Write, text: &[u8]) -> io::Result<()> {
+    output.write_all(text)?;
+    output.flush()
+}
 
 /// Writes a text on standard output, whole.
 pub(crate) fn write_out(rt: &HostRuntime, text: &[u8]) -> Result<(), Ending> {
@@ -11,10 +25,7 @@ pub(crate) fn write_out(rt: &HostRuntime, text: &[u8]) -> Result<(), Ending> {
         Ok(output) => output,
         Err(error) => return Err(refused(&error, Ending::Output)),
     };
-    if output.write_all(text).is_err() || output.flush().is_err() {
-        return Err(Ending::Output);
-    }
-    Ok(())
+    put_whole(&mut output, text).map_err(|error| unwritten(&error))
 }
 
 /// Writes a file, whole.

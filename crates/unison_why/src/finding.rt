@@ -7,6 +7,7 @@ ghost use Rattle.unison_why.specs.FirstFault.{IsFirstFault, IsUnrefused, is_show
 ghost use Rattle.unison_why.specs.Given.{network_of, report_of, schedule_of};
 
 use crate::first::{answer, first_fault, network_cause};
+use crate::kinds::with_kind;
 use crate::lexical::tell_lexical;
 use crate::lines::{tell_report_line, tell_step};
 use crate::network::tell_network;
@@ -200,7 +201,7 @@ fn tell_replay(
 /// What is told of a fault.
 fn tell(alloc: Global, texts: &Texts, job: &Job, fault: ServeFault) -> Result<Told, AllocError> {
     match fault {
-        ServeFault::Lang(_) => tell_program(alloc, texts.program.text),
+        ServeFault::Lang(_) => with_kind(alloc, texts, tell_program(alloc, texts.program.text)?),
         ServeFault::Check(_) => tell_check(alloc, texts.program.text),
         ServeFault::Plan(_) => tell_set(alloc, texts),
         ServeFault::Report(fault) => tell_report(alloc, texts, fault),
@@ -223,7 +224,11 @@ fn found_in_network(alloc: Global, texts: &Texts, cause: &NetCause) -> Result<Fi
     ensures fault { IfOk result (λ finding. (finding.fault ≡ Some (fault.Net (fault_of cause.now))) × (is_shown (fault.Net (fault_of cause.now)) ≡ true)) }
 {
     let fault = answer(ServeFault::Net(cause.fault()))?;
-    let told = tell_network(alloc, network_text(texts), cause)?;
+    let told = with_kind(
+        alloc,
+        texts,
+        tell_network(alloc, network_text(texts), cause)?,
+    )?;
     let (part, name) = ServeFault::Net(cause.fault()).part_and_name();
     let text = shown(alloc, texts, &told, part, name)?;
     Ok(Finding { text, fault })

@@ -20,6 +20,18 @@ pub(crate) fn item_tokens<'t, 'a>(lexemes: &'t [Lexeme<'a>], item: usize) -> &'t
     &[]
 }
 
+/// Whether a `field` item declares this name.
+pub(crate) fn declares(lexemes: &[Lexeme], name: &str) -> bool {
+    let mut opens = false;
+    for lexeme in lexemes {
+        match lexeme.token {
+            Token::Word(word) if opens && word == name => return true,
+            token => opens = matches!(keyword(Some(token)), Some(Keyword::Field)),
+        }
+    }
+    false
+}
+
 /// Where the name of an item begins: its second token.
 pub(crate) fn name_place(item: &[Lexeme]) -> Option<u32> {
     Some(item.get(1)?.at)

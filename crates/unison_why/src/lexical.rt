@@ -1,8 +1,13 @@
 //! Why no token begins at a place.
 
+use crate::foreign::word_hint;
 use crate::found::front_text;
 use crate::told::{Part, Told};
 use std::alloc::{AllocError, Global};
+use std::str;
+
+/// How a choice is written.
+const CHOICE: &str = "a choice is written: if A then B else C";
 
 /// What stands before a byte in a text, blanks left out.
 fn before(text: &[u8], at: usize) -> &[u8] {
@@ -45,6 +50,52 @@ fn foreign_hint(rest: &[u8]) -> &'static str {
     "outside comments a program is ASCII: names are of letters, digits and `_`"
 }
 
+/// Where the last bracket opens that is not closed, in the item in which the bytes end.
+fn open_bracket(front: &[u8]) -> Option<usize> {
+    let mut depth = 0usize;
+    for (at, byte) in front.iter().enumerate().rev() {
+        match *byte {
+            b';' => return None,
+            b'(' if depth == 0 => return Some(at),
+            b'(' => depth = depth.saturating_sub(1),
+            b')' => depth = depth.saturating_add(1),
+            _ => {}
+        }
+    }
+    None
+}
+
+/// The word with which the bytes end.
+fn last_word(front: &[u8]) -> &[u8] {
+    let before = front
+        .iter()
+        .rposition(|byte| !byte.is_ascii_alphanumeric())
+        .map_or(0, |at| at.saturating_add(1));
+    &front[before.min(front.len())..]
+}
+
+/// The word before the brackets in which the bytes end.
+fn called_word(front: &[u8]) -> Option<&str> {
+    let at = open_bracket(front)?;
+    str::from_utf8(last_word(before(front, at))).ok()
+}
+
+/// What to do about a `,`, by the word before the brackets in which it stands.
+fn comma_hint(front: &[u8]) -> &'static str {
+    if let Some(hint) = called_word(front).and_then(word_hint) {
+        return hint;
+    }
+    "items end with `;`, and no list has commas"
+}
+
+/// What to do about a `:`.
+fn colon_hint(rest: &[u8]) -> &'static str {
+    if rest.starts_with(b":=") {
+        return "a rule is written: next NAME = EXPRESSION;";
+    }
+    CHOICE
+}
+
 /// What to do about a byte with which no token begins.
 fn byte_hint(text: &[u8], at: usize) -> &'static str {
     let rest = &text[at.min(text.len())..];
@@ -53,9 +104,10 @@ fn byte_hint(text: &[u8], at: usize) -> &'static str {
         Some(b'.') => dot_hint(before(text, at)),
         Some(b'"' | b'\'' | b'`') => "names and numbers stand without quotes",
         Some(b'{' | b'}' | b'[' | b']') => "brackets are round: (A + B)",
-        Some(b',') => "items end with `;`, and no list has commas",
+        Some(b',') => comma_hint(before(text, at)),
         Some(b'_') => "a name begins with a letter",
-        Some(b'?' | b':') => "a choice is written: if A then B else C",
+        Some(b'?') => CHOICE,
+        Some(b':') => colon_hint(rest),
         Some(b'~') => "`not A` is 1 where A is 0; (4294967295 - A) turns all bits of A",
         Some(0x80..) => foreign_hint(rest),
         Some(0) => "the file is no plain text: save it as UTF-8",

@@ -4,8 +4,10 @@
 mod entries;
 mod finding;
 mod first;
+mod foreign;
 mod found;
 mod items;
+mod kinds;
 mod lexical;
 mod lines;
 mod near;

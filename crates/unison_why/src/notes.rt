@@ -99,6 +99,33 @@ fn is_used(items: &[Item], field: &str) -> bool {
     false
 }
 
+/// Whether some rule changes the field of this name.
+fn is_changed(items: &[Item], field: &str) -> bool {
+    for item in items {
+        if let Item::Next { name, .. } = item {
+            if name.as_str() == field {
+                return true;
+            }
+        }
+    }
+    false
+}
+
+/// The first field that some rule changes, or the first one at all, with the number with which it opens.
+fn first_field(items: &[Item]) -> Option<(&str, u32)> {
+    let mut first = None;
+    for item in items {
+        if let Item::Field { name, value } = item {
+            let field = Some((name.as_str(), *value));
+            if is_changed(items, name.as_str()) {
+                return field;
+            }
+            first = first.or(field);
+        }
+    }
+    first
+}
+
 /// Adds a note for each field that no rule changes and none reads.
 fn put_unused(out: &mut String, items: &[Item]) -> Result<(), AllocError> {
     for item in items {
@@ -151,6 +178,18 @@ fn stay_alike(alloc: Global, texts: &Texts, items: &[Item]) -> Result<bool, Allo
     }
 }
 
+/// Adds the note that all nodes stay alike, with an opening value that tells one of them apart.
+fn put_alike(out: &mut String, items: &[Item]) -> Result<(), AllocError> {
+    let Some((name, value)) = first_field(items) else {
+        return Ok(());
+    };
+    let other = if value == 0 { 1 } else { 0 };
+    write!(
+        out,
+        "note: all nodes open alike and the program never tells them apart: set a field in the network, as in [set] and {name} = [[0, {other}]]\n"
+    )
+}
+
 /// What is told where nothing refuses a job: that it is so, and notes on what is accepted and rarely meant.
 pub(crate) fn notes(alloc: Global, texts: &Texts) -> Result<String, AllocError> {
     let mut out = String::from_str(alloc, "nothing is wrong\n")?;
@@ -159,9 +198,7 @@ pub(crate) fn notes(alloc: Global, texts: &Texts) -> Result<String, AllocError> 
     };
     put_program_notes(&mut out, source.items())?;
     if stay_alike(alloc, texts, source.items())? {
-        out.push_str(
-            "note: all nodes open alike and the program never tells them apart: set a field in the network, as in [set] and dist = [[0, 0]]\n",
-        )?;
+        put_alike(&mut out, source.items())?;
     }
     Ok(out)
 }

@@ -1,5 +1,6 @@
 //! Why a program is not well formed.
 
+use crate::foreign::value_hint;
 use crate::items::{
     item_tokens, mention_place, name_of, name_place, nested_place, outside_place, seventeenth_place,
 };
@@ -85,6 +86,14 @@ fn unknown_hint(alloc: Global, source: &Source, name: &str) -> Result<String, Al
     }
 }
 
+/// What to do about a name in an expression that is declared nowhere.
+fn value_text(alloc: Global, source: &Source, name: &str) -> Result<String, AllocError> {
+    match value_hint(name) {
+        Some(text) => String::from_str(alloc, text),
+        None => unknown_hint(alloc, source, name),
+    }
+}
+
 /// Where the other item of a double stands.
 fn other_hint(
     alloc: Global,
@@ -119,7 +128,7 @@ fn hint_text(
         CheckCause::FieldTwice { earlier, .. } | CheckCause::NextTwice { earlier, .. } =>
             other_hint(alloc, text, lexemes, *earlier),
         CheckCause::UnknownTarget { .. } => unknown_hint(alloc, source, item_name(lexemes, cause)),
-        CheckCause::UnknownName { name, .. } => unknown_hint(alloc, source, name),
+        CheckCause::UnknownName { name, .. } => value_text(alloc, source, name),
         CheckCause::NeighbourOutside { .. } => String::from_str(
             alloc,
             "a node has many neighbours: say of which, as in (least n.NAME) or (total n.NAME)",

@@ -1,6 +1,8 @@
 //! Why a token cannot stand at its place.
 
+use crate::foreign::{pair_hint, value_hint, word_hint};
 use crate::found::{index_at, is_operator, is_sign, keyword, token, token_before, token_text};
+use crate::items::{declares, is_aggregate};
 use crate::near::nearest;
 use crate::told::{Part, Told};
 use rule_lang::{Expected, Keyword, Lexeme, Sign, Token, read_tokens};
@@ -30,42 +32,79 @@ fn expected_text(expected: Expected) -> &'static str {
     }
 }
 
+/// The aggregates.
+const AGGREGATES: [&str; 6] = ["total", "least", "most", "count", "any", "all"];
+
 /// The tokens at a place, before it and behind it.
 #[derive(Clone, Copy)]
 struct Around<'a> {
     before: Option<Token<'a>>,
     found: Option<Token<'a>>,
     behind: Option<Token<'a>>,
+    /// Whether a `field` item declares the name before the place.
+    follows_field: bool,
+    /// Whether a `field` item declares the name at the place.
+    finds_field: bool,
 }
 
-impl<'a> Around<'a> {
-    /// Whether this sign stands twice here.
-    fn doubles(&self, sign: Sign) -> bool {
-        is_sign(self.found, sign) && (is_sign(self.before, sign) || is_sign(self.behind, sign))
+/// Whether an expression stands before the place, which could go on or end there.
+fn follows_expression(expected: Expected) -> bool {
+    matches!(
+        expected,
+        Expected::Operator | Expected::Close | Expected::Then | Expected::Else | Expected::Semicolon
+    )
+}
+
+/// Whether an expression begins with the token.
+fn begins_expression(token: Token) -> bool {
+    match token {
+        Token::Near(_) | Token::Number(_) => true,
+        Token::Sign(sign) => sign == Sign::Open,
+        Token::Word(_) => {
+            is_aggregate(token)
+                || matches!(
+                    keyword(Some(token)),
+                    None | Some(
+                        Keyword::Id | Keyword::Degree | Keyword::Round | Keyword::Not | Keyword::If
+                    )
+                )
+        }
     }
 }
 
-/// What to do where signs of another language stand.
-fn foreign_hint(around: &Around) -> Option<&'static str> {
-    if around.doubles(Sign::Slash) {
-        return Some("a comment begins with `#` and goes on to the end of the line");
+/// What to do about a word of another language, between two parts or where an expression is wanted.
+fn foreign_word_hint(expected: Expected, around: &Around) -> Option<&'static str> {
+    let Some(Token::Word(word)) = around.found else {
+        return None;
+    };
+    let fits = match keyword(around.found) {
+        Some(_) => expected == Expected::Expression,
+        None => follows_expression(expected),
+    };
+    if fits { word_hint(word) } else { None }
+}
+
+/// What to do where signs or words of another language stand.
+fn foreign_hint(expected: Expected, around: &Around) -> Option<&'static str> {
+    let pair = pair_hint(around.found, around.behind).or(pair_hint(around.before, around.found));
+    if pair.is_some() {
+        return pair;
     }
-    if around.doubles(Sign::Ampersand) {
-        return Some(
-            "for two tests write (A min B), which is not 0 where both are not; (A & B) goes bit by bit",
-        );
+    if is_sign(around.found, Sign::Assign) && follows_expression(expected) {
+        return Some("`=` gives a field its value: to compare write (A == B)");
     }
-    if around.doubles(Sign::Bar) {
-        return Some(
-            "for two tests write (A max B), which is not 0 where one is not; (A | B) goes bit by bit",
-        );
-    }
-    None
+    foreign_word_hint(expected, around)
+}
+
+/// Whether the token stands behind the word of an aggregate, as in `least n.dist` and `least (n.dist + 1)`, or in other
+/// languages behind that of a function.
+fn is_called(token: Option<Token>) -> bool {
+    matches!(token, Some(Token::Near(_) | Token::Sign(Sign::Open)))
 }
 
 /// What to do where the end of an item is wanted.
 fn semicolon_hint(around: &Around) -> &'static str {
-    if is_operator(around.found) {
+    if is_operator(around.found) || is_called(around.found) {
         return BRACKETS;
     }
     "each item ends with `;`"
@@ -87,6 +126,14 @@ fn close_hint(around: &Around) -> &'static str {
     BRACKETS
 }
 
+/// What to do where `then` or `else` is wanted.
+fn choice_hint(around: &Around) -> &'static str {
+    if is_operator(around.found) {
+        return BRACKETS;
+    }
+    "a choice is written: if A then B else C"
+}
+
 /// What to do where a name is wanted.
 fn name_hint(around: &Around) -> &'static str {
     match keyword(around.found) {
@@ -100,12 +147,12 @@ fn number_hint(around: &Around) -> &'static str {
     if is_sign(around.found, Sign::Minus) {
         return NEGATIVE;
     }
-    match around.found {
-        Some(Token::Word("M")) =>
-            "M stands in the documents for the greatest number: write 4294967295",
-        _ =>
-            "a field opens with a number, 0 to 4294967295; what is computed stands in a `next` item",
+    if let Some(Token::Word(word)) = around.found {
+        if let Some(text) = value_hint(word) {
+            return text;
+        }
     }
+    "a field opens with a number, 0 to 4294967295; what is computed stands in a `next` item"
 }
 
 /// What to do where an expression is wanted.
@@ -116,9 +163,18 @@ fn expression_hint(around: &Around) -> &'static str {
     "an expression is a number, a name, `id`, `degree`, `round`, (A + B), not A, if A then B else C, or an aggregate such as least n.NAME"
 }
 
+/// What to do where a neighbour's word is none.
+fn near_hint(around: &Around) -> &'static str {
+    match around.found {
+        Some(Token::Near("degree")) =>
+            "a neighbour has its fields, n.id and n.weight: keep its degree in a field, as in: next deg = degree;",
+        _ => "a neighbour has its fields, n.id and n.weight",
+    }
+}
+
 /// What to do where something was expected.
 fn hint(expected: Expected, around: &Around) -> &'static str {
-    if let Some(text) = foreign_hint(around) {
+    if let Some(text) = foreign_hint(expected, around) {
         return text;
     }
     match expected {
@@ -129,33 +185,78 @@ fn hint(expected: Expected, around: &Around) -> &'static str {
         Expected::Semicolon => semicolon_hint(around),
         Expected::Operator => operator_hint(around),
         Expected::Close => close_hint(around),
-        Expected::Then | Expected::Else => "a choice is written: if A then B else C",
+        Expected::Then | Expected::Else => choice_hint(around),
         Expected::Expression => expression_hint(around),
         Expected::Shallower =>
             "expressions are 64 deep at most: compute a part in a field of its own, a round earlier",
-        Expected::NearForm => "a neighbour has its fields, n.id and n.weight",
+        Expected::NearForm => near_hint(around),
     }
 }
 
-/// What to do about a word with which no item begins: the nearest word with which one does.
+/// What to do about a word with which no item begins: the word that is wanted before it, or the nearest word with which
+/// an item begins.
 fn item_hint(alloc: Global, around: &Around) -> Result<Option<String>, AllocError> {
     let Some(Token::Word(word)) = around.found else {
         return Ok(None);
     };
+    if around.finds_field {
+        return Ok(Some(format!(in alloc; "a rule begins with `next`: next {word} = EXPRESSION;")?));
+    }
     match nearest(alloc, word, &["field", "next"])? {
         Some(near) => Ok(Some(format!(in alloc; "did you mean `{near}`?")?)),
         None => Ok(None),
     }
 }
 
+/// What to do about a word before a bracket or a neighbour's field that is no aggregate: the nearest one, or which there
+/// are.
+fn aggregate_hint(alloc: Global, word: &str) -> Result<String, AllocError> {
+    match nearest(alloc, word, &AGGREGATES)? {
+        Some(near) => format!(in alloc; "did you mean `{near}`?"),
+        None => String::from_str(
+            alloc,
+            "there are no functions, and the aggregates are `total`, `least`, `most`, `count`, `any` and `all`",
+        ),
+    }
+}
+
+/// What to do about a name before a part, where it seems to stand there as the word of an aggregate or a function.
+fn call_hint(alloc: Global, around: &Around) -> Result<Option<String>, AllocError> {
+    let (Some(Token::Word(word)), Some(found)) = (around.before, around.found) else {
+        return Ok(None);
+    };
+    let calls = is_called(around.found);
+    let is_strange = keyword(around.before).is_none() && !around.follows_field;
+    match word_hint(word).or(value_hint(word)) {
+        Some(text) if calls || is_strange && begins_expression(found) => Ok(Some(String::from_str(
+            alloc, text,
+        )?)),
+        None if calls && is_strange => Ok(Some(aggregate_hint(alloc, word)?)),
+        _ => Ok(None),
+    }
+}
+
+/// What to do about the names at a place.
+fn names_hint(
+    alloc: Global,
+    expected: Expected,
+    around: &Around,
+) -> Result<Option<String>, AllocError> {
+    if expected == Expected::Item {
+        return item_hint(alloc, around);
+    }
+    if follows_expression(expected) {
+        return call_hint(alloc, around);
+    }
+    Ok(None)
+}
+
 /// What to do, in a text of its own.
 fn hint_text(alloc: Global, expected: Expected, around: &Around) -> Result<String, AllocError> {
-    if expected == Expected::Item {
-        if let Some(text) = item_hint(alloc, around)? {
-            return Ok(text);
-        }
+    match names_hint(alloc, expected, around)? {
+        Some(text) => Ok(text),
+        None => String::from_str(alloc, hint(expected, around)),
     }
-    String::from_str(alloc, hint(expected, around))
 }
 
 /// What was found, as people read it.
@@ -176,13 +277,25 @@ fn what_text(alloc: Global, expected: Expected, around: &Around) -> Result<Strin
     format!(in alloc; "expected {wanted}, found {found}")
 }
 
+/// Whether the token is a name that a `field` item declares.
+fn is_field(lexemes: &[Lexeme], token: Option<Token>) -> bool {
+    match token {
+        Some(Token::Word(word)) => keyword(token).is_none() && declares(lexemes, word),
+        _ => false,
+    }
+}
+
 /// The tokens at the byte `at`.
 fn tokens_at<'a>(lexemes: &[Lexeme<'a>], at: u32) -> Around<'a> {
     let index = index_at(lexemes, at);
+    let before = token_before(lexemes, index);
+    let found = token(lexemes, index);
     Around {
-        before: token_before(lexemes, index),
-        found: token(lexemes, index),
+        before,
+        found,
         behind: token(lexemes, index.saturating_add(1)),
+        follows_field: is_field(lexemes, before),
+        finds_field: is_field(lexemes, found),
     }
 }
 

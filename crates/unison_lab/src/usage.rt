@@ -1,0 +1,9 @@
+//! What is told of wrong words.
+
+/// What stands before and behind the advice to pass a word such as `--x` behind `--`, where the text of wrong words has
+/// it: such a word is meant as an option, and no argument here is a text that begins so.
+pub(crate) fn around_advice(text: &str) -> Option<(&str, &str)> {
+    let (front, advised) = text.split_once("\n\n  tip: to pass '")?;
+    let (_, back) = advised.split_once("\n\n")?;
+    Some((front, back))
+}

@@ -1,0 +1,118 @@
+"""What the scripts share that build programs: the kit's own module, the repository's crates, the level of the processor, and the notes that
+stand beside built programs: of which sources they were built, by which kit and for which processor."""
+
+import hashlib
+import json
+import os
+import pathlib
+import subprocess
+import sys
+
+TOP = pathlib.Path(__file__).resolve().parent.parent
+PROGRAMS = ("unison_cli", "unison_lab")
+LEVELS = {  # what the levels name, in the words of /proc/cpuinfo
+    "x86-64-v3": {"avx", "avx2", "bmi1", "bmi2", "f16c", "fma", "abm", "movbe", "xsave"},
+}
+DEFAULT_LEVEL = "default"
+CHOICES = (DEFAULT_LEVEL, "x86-64-v2", *LEVELS)  # what UNISON_CPU may say
+
+
+def root_of_kit():
+    """The folder of the kit. Ends with a clear line where there is none."""
+    try:
+        page = subprocess.run(["rt", "doc"], capture_output=True, text=True, check=True).stdout.strip()
+    except (OSError, subprocess.CalledProcessError):
+        sys.exit("unison: there is no `rt` here, the command of Rattle's kit, by which programs are built: put it on the PATH")
+    return pathlib.Path(page).parent
+
+
+def version_of_kit():
+    return subprocess.run(["rt", "version"], capture_output=True, text=True, check=True).stdout.strip()
+
+
+def rtlib_of_kit():
+    """The kit's own module, by which `rt` finds crates and builds them."""
+    sys.dont_write_bytecode = True
+    sys.path.insert(0, str(root_of_kit() / "bin"))
+    import rtlib
+
+    return rtlib
+
+
+def crates(rtlib):
+    """The repository's crates by their names. The working folder is the repository's top from here on."""
+    os.chdir(TOP)
+    return {it.name: it for it in rtlib.crates_below(str(TOP))}
+
+
+def level():
+    """For which processor programs are built: what UNISON_CPU says, else the highest level that this one has, else the kit's default."""
+    if asked := os.environ.get("UNISON_CPU"):
+        if asked not in CHOICES:
+            sys.exit(f"unison: UNISON_CPU is {asked}, and it is one of {', '.join(CHOICES)}")
+        return asked
+    with open("/proc/cpuinfo") as lines:
+        flags = next((set(line.split()) for line in lines if line.startswith("flags")), set())
+    return next((name for name, needs in LEVELS.items() if needs <= flags), DEFAULT_LEVEL)
+
+
+def words_of_level(name):
+    """The words by which `rt run` and `rattle build` compile for a level."""
+    return [] if name == DEFAULT_LEVEL else ["--cpu", name]
+
+
+def note_of(program):
+    """Where the note on a built program stands."""
+    return program.with_name(program.name + ".note")
+
+
+def sum_of(program):
+    return hashlib.sha256(program.read_bytes()).hexdigest()
+
+
+def write_note(program, sources, cpu):
+    """Notes of which sources a program was built, by which kit and for which processor."""
+    note = {"sources": sources, "kit": version_of_kit(), "processor": cpu, "program": sum_of(program)}
+    note_of(program).write_text(json.dumps(note) + "\n")
+
+
+def read_note(program):
+    """The note on a program, or None where there is none that is this program's."""
+    try:
+        note = json.loads(note_of(program).read_text())
+    except (OSError, ValueError):
+        return None
+    return note if note.get("program") == sum_of(program) else None
+
+
+def sources_of(crate):
+    """The files of a crate, and of those that it stands on, of which a program is built."""
+    folders = [pathlib.Path(it.folder) / part for it in [crate, *crate.below()] for part in ("src", "specs")]
+    return sorted(file for folder in folders if folder.is_dir() for file in folder.rglob("*") if file.is_file())
+
+
+def sum_of_sources(crate):
+    """A sum of the names and texts of these files."""
+    said = hashlib.sha256()
+    for file in sources_of(crate):
+        said.update(repr((str(file.relative_to(TOP)), file.read_bytes())).encode())
+    return said.hexdigest()
+
+
+def is_newer(crate, program):
+    """Whether a source of a program is newer than it."""
+    made = program.stat().st_mtime
+    return any(file.stat().st_mtime > made for file in sources_of(crate))
+
+
+def is_fresh(crate, program):
+    """Whether a program is that of the sources at hand: none is newer, or its note has their sum. Such a program gets the time of now, so that
+    the next look is quick."""
+    if not program.is_file():
+        return False
+    newer = is_newer(crate, program)
+    note = read_note(program) if newer else None
+    fresh = note["sources"] == sum_of_sources(crate) if note else not newer
+    if fresh:
+        os.utime(program)
+    return fresh
