@@ -1,4 +1,4 @@
-//! Rows of jobs: what `serve` and the calls beside it answer, with values from outside the code.
+//! Rows of jobs that no command line shows: devices that fail in mid-text, and the line of a difference.
 #![tactic(auto)]
 
 #[cfg(test)]
