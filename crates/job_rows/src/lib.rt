@@ -1,12 +1,8 @@
-//! Rows of jobs that no command line shows: devices that fail in mid-text, and the line of a difference.
+//! The line of a difference, which no command line shows.
 #![tactic(auto)]
 
 #[cfg(test)]
-mod jobs;
-#[cfg(test)]
 mod memory;
-#[cfg(test)]
-mod replays;
 #[cfg(test)]
 mod runs;
 #[cfg(test)]
