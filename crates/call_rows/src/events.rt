@@ -1,7 +1,7 @@
 //! What happens to worlds, and what they answer.
 
+use fixtures::{first_stray, read, world_of, write};
 use phase_register::Phase;
-use row_worlds::{first_stray, read, world_of, write};
 use std::alloc::Global;
 use std::process::Abort;
 use std::test::Fail;

@@ -1,10 +1,9 @@
-//! Long walks of steps, results and turns: at each of many times, every node has the lockstep state of its moves.
+//! Long walks of turns and results: at each of many times, every node has the lockstep state of its moves.
 
+use fixtures::draws::below;
+use fixtures::{read, shared_plan};
 use lockstep::{Config, Plan, lockstep};
-use row_texts::draws::below;
-use row_texts::grown::put_link;
-use row_worlds::{read, shared_plan, write};
-use std::alloc::Global;
+use std::alloc::{AllocError, Global};
 use std::process::Abort;
 use std::sync::Arc;
 use std::test::Fail;
@@ -32,6 +31,11 @@ impl Draws {
             .wrapping_add(1_013_904_223);
         below(self.seed, limit)
     }
+}
+
+/// Adds a link to the list of links in the text of a network.
+fn put_link(alloc: Global, text: &mut String, u: u32, w: u32) -> Result<(), AllocError> {
+    text.push_str(format!(in alloc; "[{u}, {w}],")?.as_str())
 }
 
 /// The text of a ring of 30 nodes, with a chord at every third of them.
@@ -90,32 +94,6 @@ fn least_moves(world: &World) -> u32 {
         least = least.min(world.moves(node).unwrap_or(0));
     }
     least
-}
-
-#[test]
-fn walk_of_steps(rt: HostRuntime) -> Result<(), Fail> {
-    let alloc = rt.alloc();
-    let plan = shared_plan(alloc, MIX, ring_with_chords(alloc)?.as_str())?;
-    let rounds = rounds_of(alloc, &plan)?;
-    let mut world = World::new(alloc, Arc::try_clone(&plan)?, STOP)?;
-    let mut draws = Draws { seed: 1 };
-    for count in 0..20_000u32 {
-        let node = draws.below(31);
-        let slot = draws.below(5);
-        let step = if slot == 4 {
-            write(node)
-        } else {
-            read(node, slot)
-        };
-        let asked = world.ask(step);
-        assert_eq!(rt; world.step(step), asked, "step {count}");
-        if count % 100 == 0 {
-            assert_in_step(&rt, &world, &plan, &rounds);
-        }
-    }
-    assert_in_step(&rt, &world, &plan, &rounds);
-    assert!(rt; least_moves(&world) >= 20);
-    Ok(())
 }
 
 #[test]

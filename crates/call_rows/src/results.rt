@@ -1,8 +1,8 @@
 //! Results that are computed apart from a world.
 
 use crate::events::{Event, Scene, assert_events, assert_scenes, played};
-use row_texts::networks::{ALONE, PAIR};
-use row_texts::programs::{LEAST, SWAP};
+use fixtures::networks::{ALONE, PAIR};
+use fixtures::programs::{LEAST, SWAP};
 use std::alloc::Global;
 use std::process::Abort;
 use std::test::Fail;

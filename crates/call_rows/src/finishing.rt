@@ -1,11 +1,8 @@
-//! The configuration of a finished world, and why there is none.
+//! Why a world that is not finished, or is another plan's, has no configuration.
 
-use crate::events::assert_nodes;
-use lockstep::lockstep;
-use row_plans::plan_of;
-use row_texts::networks::{PAIR, PAIR_AT_TWO, UNSET_PAIR};
-use row_texts::programs::{LEAST, SWAP};
-use row_worlds::world_of;
+use fixtures::networks::{PAIR, PAIR_AT_TWO, UNSET_PAIR};
+use fixtures::programs::{LEAST, SWAP};
+use fixtures::{plan_of, world_of};
 use std::alloc::Global;
 use std::test::Fail;
 use unison_world::FinishFault;
@@ -69,22 +66,5 @@ fn finish_before_the_stop(rt: HostRuntime) -> Result<(), Fail> {
         let want = FinishFault::Unfinished { node, moves };
         assert_eq!(rt; fault, Some(want), "stop {stop}, turns {turns:?}");
     }
-    Ok(())
-}
-
-#[test]
-fn finish_at_the_stop(rt: HostRuntime) -> Result<(), Fail> {
-    let alloc = rt.alloc();
-    let mut world = world_of(alloc, SWAP, PAIR, 3)?;
-    for node in [0, 1, 1, 0, 0, 1] {
-        let _answer = world.turn(node);
-    }
-    assert_nodes(&rt, &world, &[(3, 7), (3, 5)]);
-    let plan = plan_of(alloc, SWAP, PAIR)?;
-    let config = world.finish(alloc, &plan, 3)?;
-    let round = lockstep(alloc, &plan, 3)?;
-    assert_eq!(rt; config.rounds(), 3);
-    assert_eq!(rt; config.fields(), 1);
-    assert_eq!(rt; config.states(), round.states());
     Ok(())
 }
