@@ -1,7 +1,7 @@
 """Texts by hand with their outcome, written without the readers: (words, text, outcome).
 
 An outcome is `NAMES: LINKS` or `#NODES: LINKS`, with `; dropped 1` and the like; or `KINDS LINES`, of which any may be told: `?WHAT` where docs/lab.md names no
-kind, 0 where no line is told; or `usage`."""
+kind, 0 where no line is told. Other texts, with the whole of what is told, and wrong words stand in cases/take_*.toml."""
 
 MERGE = "edges --merge-doubles "
 MATRIX, LARGE = "matrix-market", "0 1 4294967295"
@@ -30,18 +30,17 @@ EDGES = [
     ("edges", b"b a 4294967295", "b|a: " + LARGE),
     ("edges", b"".join(f"{name} x\n".encode() for name in KINDS.split("|")),
      KINDS.split("|")[0] + "|x|" + "|".join(KINDS.split("|")[1:]) + ": 0 1" + "".join(f", {at} 1" for at in range(2, 15))),
-    ("edges", b"", "?no-nodes 0"), ("edges", b"\n\n# a b\n", "?no-nodes 0"), ("edges --header", b"a b\n", "?no-nodes 0"),
+    ("edges", b"\n\n# a b\n", "?no-nodes 0"), ("edges --header", b"a b\n", "?no-nodes 0"),
     ("edges --header", b"# x\n\nfrom to \xff weight, and more\na b 2\n", "a|b: 0 1 2"),
     ("edges", b"from to weight\na b 2\n", "BadWeight 1"),
     ("edges", b"a b\nc\n", "OneWord 2"), ("edges", b"a b 1 2", "TooManyWords 1"), ("edges", b"a b\n\n\xc3 b\n", "NotUtf8 3"),
-    ("edges", b"a\0 b\n", "ControlCharacter 1"), ("edges", b"a b\x7f", "ControlCharacter 1"), ("edges", b"a\x0bb", "ControlCharacter 1"),
-    ("edges", b"a b -1\n", "Negative 1"), ("edges", b"a b 1.0\n", "Decimal 1"), ("edges", b"a b 1e3\n", "Decimal 1"),
-    ("edges", b"a b 4294967296\n", "WeightTooLarge 1"), ("edges", b"a b 1x", "BadWeight 1"), ("edges", b"a b +1", "BadWeight 1"),
+    ("edges", b"a b\x7f", "ControlCharacter 1"), ("edges", b"a\x0bb", "ControlCharacter 1"),
+    ("edges", b"a b 1.0\n", "Decimal 1"),
+    ("edges", b"a b 1x", "BadWeight 1"), ("edges", b"a b +1", "BadWeight 1"),
     ("edges", b"a b\nc c 2\n", "?loop 2"), ("edges --drop-loops", b"a b\nc c 2\n", "a|b|c: 0 1; dropped 1"),
     ("edges --drop-loops", b"a a", "a: ; dropped 1"), ("edges", b"a b\nc d\nb a 2\n", "?double 3"), ("edges", b"a b\nb a\nc c\nd", "OneWord 4"),
     (MERGE + "least", b"a b 5\nc d\nb a 2\na b 9", "a|b|c|d: 0 1 2, 2 3; merged 2"),
     (MERGE + "most", b"a b 5\nb a 2\na b 9", "a|b: 0 1 9; merged 2"), (MERGE + "first", b"b a 5\na b 2\na b 9", "b|a: 0 1 5; merged 2"),
-    ("edges --scale 10 --drop-loops --merge-doubles least", b"a b 1.26\nb a 0.5\na a\n", "a|b: 0 1 5; dropped 1; merged 1; rounded 1"),
     ("edges --scale 10", b"a b\nb c .05\nc d 0.049\nd e 2.\ne f 15e-1\nf a 1E2", "a|b|c|d|e|f: 0 1 10, 1 2, 2 3 0, 3 4 20, 4 5 15, 5 0 1000; rounded 2"),
     ("edges --scale 1", b"a b 4294967295.4", f"a|b: {LARGE}; rounded 1"), ("edges --scale 1", b"a b 4294967295.5", "WeightTooLarge 1"),
     ("edges --scale 2", b"a b 2147483648", "WeightTooLarge 1"), ("edges --scale 4294967295", b"a b", "a|b: " + LARGE),
@@ -55,25 +54,22 @@ EDGES = [
     ("edges --numbers", edges_of([1], 65_536), f"#65536: {path(65_536)}, 65535 0"), ("edges", edges_of([1], 65_537), "TooManyNodes 65536"),
     ("edges", b"".join(b"hub %d\n" % at for at in range(4096)), "hub|" + "|".join(map(str, range(4096))) + ": " + ", ".join(f"0 {at}" for at in range(1, 4097))),
     ("edges", b"".join(b"hub %d\n" % at for at in range(4097)), "?neighbours 0"), ("edges", edges_of([1, 2, 3, 4], 65_536) + b"0 9\n", "?links 0"),
-    ("edges --scale 0", b"a b", "usage"), ("edges --scale 4294967296", b"a b", "usage"), ("edges --scale 1.5", b"a b", "usage"),
-    ("edges --merge-doubles sum", b"a b", "usage"), ("edges --numbers --names n", b"0 1", "usage"), ("edges --undirected", b"a b", "usage"), ("lists", b"a b", "usage"),
 ]
 MATRICES = [
     (MATRIX, SYMMETRIC + b"% c\n\n3 3 2\n2 1 4\n3 2 1\n", "#3: 1 0 4, 2 1"), (MATRIX + " --undirected", GENERAL.upper() + b"2 2 1\r\n1 2", "#2: 0 1"),
     (MATRIX, SYMMETRIC.replace(b"\n", b"\r\n") + b"4 4 0", "#4: "), (MATRIX, GENERAL + b"2 2 1\n1 2", "Directed 1"),
     (MATRIX + " --scale 2 --drop-loops", SYMMETRIC + b"2 2 2\n1 1 .3\n2 1 1.3\n", "#2: 1 0 3; dropped 1; rounded 2"),
     (MATRIX, SYMMETRIC + b"2 2 1\n2 1 1.0", "Decimal 3"), (MATRIX, SYMMETRIC + b"2 2 1\n2 1 -1", "Negative 3"), (MATRIX, SYMMETRIC + b"2 2 1\n2 1 x", "BadWeight 3"),
-    (MATRIX, b"", "NoHeader 1"), (MATRIX, b"2 2 1\n1 2\n", "NoHeader 1"), (MATRIX, b"\n" + SYMMETRIC, "NoHeader 1"),
-    (MATRIX, SYMMETRIC.replace(b"coordinate", b"array"), "ArrayFormat 1"), (MATRIX, SYMMETRIC.replace(b"real", b"complex"), "UnknownField 1"),
-    (MATRIX, SYMMETRIC.replace(b"symm", b"skew-symm"), "UnknownSymmetry 1"), (MATRIX, SYMMETRIC + b"% 2 2 1\n", "NoSize 0|2|3"),
+    (MATRIX, b"2 2 1\n1 2\n", "NoHeader 1"),
+    (MATRIX, SYMMETRIC + b"% 2 2 1\n", "NoSize 0|2|3"),
     (MATRIX, SYMMETRIC + b"2 2\n", "BadSize 2"), (MATRIX, SYMMETRIC + b"2 2 -1\n", "BadSize 2"), (MATRIX, SYMMETRIC + b"2 2 %d" % 2**64, "BadSize|TooFewEntries 0|1|2"),
     (MATRIX, SYMMETRIC.replace(b" ", b",\t") + b"1 1 0", "#1: "), (MATRIX, SYMMETRIC + b"2 3 0\n", "NotSquare 2"),
-    (MATRIX, SYMMETRIC + b"0 0 0\n", "NoNodes 0|2"), (MATRIX, SYMMETRIC + b"65536 65536 1\n65536 1 1", "#65536: 65535 0"), (MATRIX, SYMMETRIC + b"65537 65537 0", "TooManyNodes 2"),
+    (MATRIX, SYMMETRIC + b"65536 65536 1\n65536 1 1", "#65536: 65535 0"), (MATRIX, SYMMETRIC + b"65537 65537 0", "TooManyNodes 2"),
     (MATRIX, SYMMETRIC + b"2 2 1\n0 1 1", "BadIndex 3"), (MATRIX, SYMMETRIC + b"2 2 1\n3 1 1", "BadIndex 3"), (MATRIX, SYMMETRIC + b"2 2 1\n2 1\n", "NoValue 3"),
     (MATRIX + " --undirected", GENERAL + b"2 2 1\n2 1 1\n", "ValueInPattern 3"), (MATRIX, SYMMETRIC + b"2 2 0\n\n2 1 1\n", "TooManyEntries 4"),
     (MATRIX, SYMMETRIC + b"2 2 2\n2 1 1\n", "TooFewEntries 0|2|3|4"), (MATRIX + " --undirected", GENERAL + b"2 2 2\n1 2\n2 1", "?double 4"),
     (MATRIX, SYMMETRIC + b"2 2 1\n2 2 1\n", "?loop 3"), (MATRIX, SYMMETRIC + b"2 2 1\n\xff", "BadIndex|NotUtf8|OneWord 3"), (MATRIX, SYMMETRIC + b"2 2 1\n2 1 1\0", "BadWeight|ControlCharacter 3"),
-    (MATRIX, SYMMETRIC + b"%" + b"x" * 10_000_000 + b"\n1 1 0", "#1: "), (MATRIX + " --header", SYMMETRIC + b"1 1 0", "usage"), (MATRIX + " --names n", SYMMETRIC + b"1 1 0", "usage"),
+    (MATRIX, SYMMETRIC + b"%" + b"x" * 10_000_000 + b"\n1 1 0", "#1: "),
 ]
 GRAPHS = [
     ("dot", b"graph { a; b -- c -- a [weight=2] d }", "a|b|c|d: 1 2 2, 2 0 2"), ("dot", b"STRICT Graph \"g\" {\r\n}\r\n", "?no-nodes 0"),
@@ -88,11 +84,10 @@ GRAPHS = [
     ("dot", b"graph{\na", "UnclosedGraph 1|2"), ("dot", b"graph{a--b[weight=x]}", "BadWeight 1"), ("dot", b"graph{a--b[weight=-2]}", "Negative 1"),
     ("dot", b"graph{a--b[weight=0.5]}", "Decimal 1"), ("dot", b"graph{\na--a}", "?loop 2"), ("dot", b"graph{a--b\nb--a}", "?double 2"),
     ("dot --drop-loops --merge-doubles most", b"graph{a--a--b--a[weight=7]b--a}", "a|b: 0 1 7; dropped 1; merged 2"),
-    ("dot", b"", "?syntax 0|1"), ("dot", b"graph{a--}", "?syntax 1"), ("dot", b"graph{}\n{}", "?syntax 2"), ("dot", b"graph{a\n--node}", "?syntax 2"), ("dot", b"graph{a\0}", "?syntax 1"),
+    ("dot", b"graph{a--}", "?syntax 1"), ("dot", b"graph{}\n{}", "?syntax 2"), ("dot", b"graph{a\n--node}", "?syntax 2"), ("dot", b"graph{a\0}", "?syntax 1"),
     ("dot", b"\xef\xbb\xbfgraph{}", "?syntax 1"), ("dot", b"graph{\xff}", "NotUtf8 1"), ("dot", b'graph{"a\nb"}', "ControlCharacter 1|2"), ("dot", b"graph{a;;}", "?syntax 1"), ("dot", b"graph{1a}", "BadNumeral 1"),
     ("dot", b'graph{\n""--""--""}', "BadName 2"), ("dot", b'graph{""\n"\n"}', "ControlCharacter 2|3"), ("dot", b"graph{a\n #\n}", "?syntax 2"), ("dot", b'graph{"a"+"b"}', "?syntax 1"), ("dot", b"graph{a\f}", "?syntax 1"), ("dot", b"graph{/*\xff*/a}", "a: "),
     ("dot", b"graph{a--b[weight=x weight=2]}", "BadWeight 1"), ("dot", b"graph{a--b\nb--a\nc--c}", "?loop 3"), ("dot", b"graph{a[l=<\xff>]}", "NotUtf8 1"), ("dot", b"graph{{a}[x=1]}", "?syntax 1"),
     ("dot", b"graph{a//" + b"x" * 10_000_000 + b"\n}", "a: "), ("dot", b"graph{" + b" -- ".join(b"%d" % at for at in range(65_537)) + b"}", "TooManyNodes 1"),
-    ("dot --numbers", b"graph{a}", "usage"), ("dot --header", b"graph{a}", "usage"),
 ]
 CASES = EDGES + MATRICES + GRAPHS

@@ -25,8 +25,6 @@ mod tell;
 mod usage;
 mod watch;
 mod why;
-#[cfg(test)]
-mod word_tests;
 
 use crate::ending::{Ending, refused};
 use crate::help::help_text;

@@ -49,7 +49,7 @@ fn usage_text(alloc: Global, words: &[String], text: String) -> Result<String, A
 }
 
 /// The request that the words make.
-pub(crate) fn request_of(alloc: Global, words: &[String]) -> Result<Request, Ending> {
+fn request_of(alloc: Global, words: &[String]) -> Result<Request, Ending> {
     let command = command_as(
         alloc,
         "unison why",
