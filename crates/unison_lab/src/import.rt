@@ -1,16 +1,16 @@
-//! `take FORMAT FILE`: a network from another format, and the names of its nodes.
+//! `import FORMAT FILE`: a network from another format, and the names of its nodes.
 
 use crate::ending::Ending;
 use crate::files::{Text, text_at};
 use crate::output::{write_file, write_out};
 use crate::refusals::refusal;
-use lab_words::{Format, Taking, taking_of};
+use lab_words::{Format, ImportRequest};
 use net_take::{TakeFault, Taken, take_dot, take_edges, take_matrix, take_numbers};
 use std::alloc::{AllocError, Global};
 use std::io;
 
 /// The network of a list of edges.
-fn take_lines(alloc: Global, text: &[u8], asked: &Taking) -> Result<Taken, TakeFault> {
+fn take_lines(alloc: Global, text: &[u8], asked: &ImportRequest) -> Result<Taken, TakeFault> {
     let reading = edge_text::Reading {
         header: asked.header,
         factor: asked.factor,
@@ -23,7 +23,7 @@ fn take_lines(alloc: Global, text: &[u8], asked: &Taking) -> Result<Taken, TakeF
 }
 
 /// The network of a text.
-fn take_text(alloc: Global, text: &[u8], asked: &Taking) -> Result<Taken, TakeFault> {
+fn take_text(alloc: Global, text: &[u8], asked: &ImportRequest) -> Result<Taken, TakeFault> {
     let factor = asked.factor;
     let undirected = asked.undirected;
     match asked.format {
@@ -40,7 +40,7 @@ fn take_text(alloc: Global, text: &[u8], asked: &Taking) -> Result<Taken, TakeFa
 }
 
 /// The network of a text, or what is told where it has none.
-fn taken_from(alloc: Global, text: &Text, asked: &Taking) -> Result<Taken, Ending> {
+fn taken_from(alloc: Global, text: &Text, asked: &ImportRequest) -> Result<Taken, Ending> {
     match take_text(alloc, text.bytes.as_slice(), asked) {
         Ok(taken) => Ok(taken),
         Err(fault) => Err(refusal(alloc, asked.format, text.name.as_str(), fault)?),
@@ -48,7 +48,7 @@ fn taken_from(alloc: Global, text: &Text, asked: &Taking) -> Result<Taken, Endin
 }
 
 /// Writes the names into their file, where there is one.
-fn keep_names(rt: &HostRuntime, asked: &Taking, taken: &Taken) -> Result<(), Ending> {
+fn keep_names(rt: &HostRuntime, asked: &ImportRequest, taken: &Taken) -> Result<(), Ending> {
     match &asked.names {
         Some(path) => write_file(rt, path.as_str(), taken.names.as_slice()),
         None => Ok(()),
@@ -88,8 +88,8 @@ fn tell_notes(rt: &HostRuntime, notes: &str) -> io::Result<()> {
 
 /// Prints the network of a text in another format, and writes the names of its nodes before. The status with which the
 /// program ends.
-pub(crate) fn take_network(rt: &HostRuntime, words: &[String]) -> Result<u8, Ending> {
-    let asked = taking_of(rt.alloc(), words)?;
+pub(crate) fn import_network(rt: &HostRuntime, words: &[String]) -> Result<u8, Ending> {
+    let asked = ImportRequest::parse(rt.alloc(), words)?;
     let text = text_at(rt, asked.path.as_str())?;
     let taken = taken_from(rt.alloc(), &text, &asked)?;
     let notes = notes_text(rt.alloc(), &taken)?;

@@ -1,16 +1,16 @@
-//! `open NETWORK --set FIELD=NODE:VALUE ..`: the network with other opening values.
+//! `init NETWORK --set FIELD=NODE:VALUE ..`: the network with other opening values.
 
 use crate::cells::put_cells;
 use crate::ending::Ending;
 use crate::files::{path_in, read_once, text_at};
 use crate::names::names_at;
 use crate::output::write_out;
-use lab_words::{LotWord, Openings, SetWord, openings_of};
+use lab_words::{InitRequest, LotWord, SetWord};
 use link_net::{MOST_NODES, Name, NetFault, NetFile, read_network};
 use net_open::{Chosen, DrawFault, OpenFault, Opening, drawn_nodes, opened_text};
 use node_names::NodeNames;
 use std::alloc::{AllocError, Global};
-use unison_words::number;
+use word_table::number;
 
 /// The ending where a word names no node of the network.
 fn no_node(alloc: Global, word: &SetWord, named: bool) -> Result<Ending, AllocError> {
@@ -105,7 +105,7 @@ fn put_drawn(
     openings: &mut Vec<Opening>,
     alloc: Global,
     nodes: u32,
-    asked: &Openings,
+    asked: &InitRequest,
 ) -> Result<(), Ending> {
     let mut seed = asked.seed as u64;
     for word in &asked.lots {
@@ -140,7 +140,7 @@ fn no_opening(alloc: Global, fault: OpenFault) -> Result<Ending, AllocError> {
 }
 
 /// The paths of the files that the words name.
-fn paths_of<'a>(alloc: Global, asked: &'a Openings) -> Result<Vec<&'a str>, AllocError> {
+fn paths_of<'a>(alloc: Global, asked: &'a InitRequest) -> Result<Vec<&'a str>, AllocError> {
     let mut paths = Vec::new(alloc);
     paths.push(asked.network.as_str())?;
     paths.push(path_in(&asked.names))?;
@@ -151,7 +151,7 @@ fn paths_of<'a>(alloc: Global, asked: &'a Openings) -> Result<Vec<&'a str>, Allo
 }
 
 /// The network file that the words ask for.
-fn text_for(rt: &HostRuntime, asked: &Openings) -> Result<Vec<u8>, Ending> {
+fn text_for(rt: &HostRuntime, asked: &InitRequest) -> Result<Vec<u8>, Ending> {
     read_once(rt.alloc(), paths_of(rt.alloc(), asked)?.as_slice())?;
     let file = file_at(rt, asked.network.as_str())?;
     let names = names_at(rt, &asked.names)?;
@@ -167,8 +167,8 @@ fn text_for(rt: &HostRuntime, asked: &Openings) -> Result<Vec<u8>, Ending> {
 }
 
 /// Prints the network with other opening values. The status with which the program ends.
-pub(crate) fn open_network(rt: &HostRuntime, words: &[String]) -> Result<u8, Ending> {
-    let asked = openings_of(rt.alloc(), words)?;
+pub(crate) fn init_network(rt: &HostRuntime, words: &[String]) -> Result<u8, Ending> {
+    let asked = InitRequest::parse(rt.alloc(), words)?;
     let text = text_for(rt, &asked)?;
     write_out(rt, &text)?;
     Ok(0)

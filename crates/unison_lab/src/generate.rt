@@ -1,8 +1,8 @@
-//! `make SHAPE NUMBERS..`: the network file of a shape, or of a lot.
+//! `generate SHAPE NUMBERS..`: the network file of a shape, or of a lot.
 
 use crate::ending::Ending;
 use crate::output::write_out;
-use lab_words::{Asked, Making, Weights, making_of};
+use lab_words::{GenerateRequest, Topology, Weights};
 use net_random::{Lot, LotFault, drawn, drawn_text};
 use net_shapes::{Shape, ShapeFault, links_of, made_text};
 use net_text::LinkList;
@@ -79,10 +79,10 @@ fn lot_links(alloc: Global, lot: &Lot, seed: u32) -> Result<LinkList, Ending> {
 }
 
 /// The links that are asked for, all with weight 1.
-fn links_for(alloc: Global, asked: &Asked) -> Result<LinkList, Ending> {
-    match &asked.making {
-        Making::Shape(shape) => shape_links(alloc, shape),
-        Making::Lot(lot) => lot_links(alloc, lot, asked.seed),
+fn links_for(alloc: Global, asked: &GenerateRequest) -> Result<LinkList, Ending> {
+    match &asked.topology {
+        Topology::Shape(shape) => shape_links(alloc, shape),
+        Topology::Lot(lot) => lot_links(alloc, lot, asked.seed),
     }
 }
 
@@ -119,19 +119,19 @@ fn lot_text(alloc: Global, lot: &Lot, seed: u32) -> Result<Vec<u8>, Ending> {
 
 /// The network file that the words ask for.
 fn text_for(alloc: Global, words: &[String]) -> Result<Vec<u8>, Ending> {
-    let asked = making_of(alloc, words)?;
+    let asked = GenerateRequest::parse(alloc, words)?;
     if let Some(weights) = &asked.weights {
         let links = links_for(alloc, &asked)?;
         return weighted(alloc, &links, weights, asked.seed);
     }
-    match &asked.making {
-        Making::Shape(shape) => shape_text(alloc, shape),
-        Making::Lot(lot) => lot_text(alloc, lot, asked.seed),
+    match &asked.topology {
+        Topology::Shape(shape) => shape_text(alloc, shape),
+        Topology::Lot(lot) => lot_text(alloc, lot, asked.seed),
     }
 }
 
 /// Prints the network file of a shape or a lot. The status with which the program ends.
-pub(crate) fn make_network(rt: &HostRuntime, words: &[String]) -> Result<u8, Ending> {
+pub(crate) fn generate_network(rt: &HostRuntime, words: &[String]) -> Result<u8, Ending> {
     let text = text_for(rt.alloc(), words)?;
     write_out(rt, &text)?;
     Ok(0)

@@ -1,10 +1,10 @@
-//! `tell PROGRAM NETWORK SCHEDULE --stop T`: what each step of a schedule does.
+//! `explain PROGRAM NETWORK SCHEDULE --stop T`: what each step of a schedule does.
 
 use crate::ending::Ending;
 use crate::files::{path_in, read_once, text_at};
 use crate::output::write_out;
 use crate::plan_texts::plan_at;
-use lab_words::{Telling, telling_of};
+use lab_words::ExplainRequest;
 use lockstep::Plan;
 use std::alloc::Global;
 use std::sync::Arc;
@@ -38,7 +38,7 @@ fn no_world(fault: OpenFault) -> Ending {
 }
 
 /// The steps, told.
-fn text_of(alloc: Global, plan: Plan, steps: &[Step], asked: &Telling) -> Result<Vec<u8>, Ending> {
+fn text_of(alloc: Global, plan: Plan, steps: &[Step], asked: &ExplainRequest) -> Result<Vec<u8>, Ending> {
     let plan = Arc::new(alloc, plan)?;
     match told(alloc, plan, asked.stop, steps, asked.counts) {
         Ok(text) => Ok(text),
@@ -53,7 +53,7 @@ pub(crate) fn steps_at(rt: &HostRuntime, path: &str) -> Result<Vec<Step>, Ending
 }
 
 /// Refuses standard input for more than one of the texts.
-fn check_paths(alloc: Global, asked: &Telling) -> Result<(), Ending> {
+fn check_paths(alloc: Global, asked: &ExplainRequest) -> Result<(), Ending> {
     let paths = [
         asked.plan.program.as_str(),
         asked.plan.network.as_str(),
@@ -64,7 +64,7 @@ fn check_paths(alloc: Global, asked: &Telling) -> Result<(), Ending> {
 }
 
 /// What is told of the schedule that is asked for.
-fn text_for(rt: &HostRuntime, asked: &Telling) -> Result<Vec<u8>, Ending> {
+fn text_for(rt: &HostRuntime, asked: &ExplainRequest) -> Result<Vec<u8>, Ending> {
     check_paths(rt.alloc(), asked)?;
     let plan = plan_at(rt, &asked.plan)?;
     let steps = steps_at(rt, asked.schedule.as_str())?;
@@ -72,8 +72,8 @@ fn text_for(rt: &HostRuntime, asked: &Telling) -> Result<Vec<u8>, Ending> {
 }
 
 /// Tells what each step of a schedule does. The status with which the program ends.
-pub(crate) fn tell_steps(rt: &HostRuntime, words: &[String]) -> Result<u8, Ending> {
-    let asked = telling_of(rt.alloc(), words)?;
+pub(crate) fn explain_schedule(rt: &HostRuntime, words: &[String]) -> Result<u8, Ending> {
+    let asked = ExplainRequest::parse(rt.alloc(), words)?;
     let text = text_for(rt, &asked)?;
     write_out(rt, &text)?;
     Ok(0)

@@ -1,4 +1,4 @@
-//! `steps MANNER PROGRAM NETWORK`: schedules, made in a manner or from lines for people.
+//! `schedule MANNER PROGRAM NETWORK`: schedules, made in a manner or from lines for people.
 
 use crate::ending::Ending;
 use crate::files::{Text, path_in, read_once, text_at};
@@ -6,7 +6,7 @@ use crate::labels::check_count;
 use crate::names::names_at;
 use crate::output::write_out;
 use crate::plan_texts::plan_at;
-use lab_words::{Listing, PlanPaths, StepsAsked, StepsManner, Writing, steps_of};
+use lab_words::{Listing, PlanPaths, ScheduleRequest, StepsManner, Writing};
 use link_net::{MOST_NODES, Network};
 use lockstep::Plan;
 use node_names::NodeNames;
@@ -16,7 +16,7 @@ use step_lists::{ListFault, Manner, listed, with_refused};
 use step_text::{StepTextFault, written};
 use unison_jobs::ServeFault;
 use unison_trace::{ReplayFault, write_schedule};
-use unison_words::number;
+use word_table::number;
 use unison_world::{OpenFault, Step};
 
 /// The names by which nodes are called, as many as the network has nodes.
@@ -228,13 +228,13 @@ fn check_paths(
 }
 
 /// The steps that are asked for.
-fn steps_for(rt: &HostRuntime, asked: &StepsAsked) -> Result<Vec<Step>, Ending> {
+fn steps_for(rt: &HostRuntime, asked: &ScheduleRequest) -> Result<Vec<Step>, Ending> {
     match asked {
-        StepsAsked::Listing(asked) => {
+        ScheduleRequest::Listing(asked) => {
             check_paths(rt.alloc(), &asked.plan, &asked.names, "")?;
             steps_in_manner(rt, asked)
         }
-        StepsAsked::Writing(asked) => {
+        ScheduleRequest::Writing(asked) => {
             check_paths(rt.alloc(), &asked.plan, &asked.names, asked.lines.as_str())?;
             steps_of_lines(rt, asked)
         }
@@ -242,8 +242,8 @@ fn steps_for(rt: &HostRuntime, asked: &StepsAsked) -> Result<Vec<Step>, Ending> 
 }
 
 /// Prints a schedule. The status with which the program ends.
-pub(crate) fn make_steps(rt: &HostRuntime, words: &[String]) -> Result<u8, Ending> {
-    let asked = steps_of(rt.alloc(), words)?;
+pub(crate) fn make_schedule(rt: &HostRuntime, words: &[String]) -> Result<u8, Ending> {
+    let asked = ScheduleRequest::parse(rt.alloc(), words)?;
     let steps = steps_for(rt, &asked)?;
     write_out(rt, &write_schedule(rt.alloc(), &steps)?)?;
     Ok(0)

@@ -1,9 +1,9 @@
-//! `show NETWORK`: what one wants to know of a network before a run.
+//! `info NETWORK`: what one wants to know of a network before a run.
 
 use crate::ending::Ending;
 use crate::files::text_at;
 use crate::output::write_out;
-use lab_words::shown_path;
+use lab_words::InfoRequest;
 use link_net::{NetFault, read_network};
 use net_show::{facts_of, facts_text};
 use std::alloc::Global;
@@ -21,9 +21,9 @@ fn lines_of(alloc: Global, bytes: &[u8]) -> Result<String, Ending> {
 }
 
 /// Prints what one wants to know of a network. The status with which the program ends.
-pub(crate) fn show_network(rt: &HostRuntime, words: &[String]) -> Result<u8, Ending> {
-    let path = shown_path(rt.alloc(), words)?;
-    let text = text_at(rt, path.as_str())?;
+pub(crate) fn show_info(rt: &HostRuntime, words: &[String]) -> Result<u8, Ending> {
+    let asked = InfoRequest::parse(rt.alloc(), words)?;
+    let text = text_at(rt, asked.network.as_str())?;
     let lines = lines_of(rt.alloc(), text.bytes.as_slice())?;
     write_out(rt, lines.as_bytes())?;
     Ok(0)

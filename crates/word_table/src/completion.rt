@@ -1,0 +1,167 @@
+//! A script by which Bash completes words: commands and their subcommands, options, choices, and else files.
+
+use crate::table::{Argument, Choice, Command, Group, Kind, Subcommand, Value};
+use std::alloc::AllocError;
+
+/// What stands before the words of each command.
+const HEAD: &str = r#"# Completes the words of unison in Bash: source <(unison completion bash)
+_unison() {
+  local at=1 current=${COMP_WORDS[COMP_CWORD]} previous=${COMP_WORDS[COMP_CWORD - 1]}
+  local command= form= words= options=
+  if [ "$COMP_CWORD" -gt 1 ] && [ "${COMP_WORDS[1]}" = why ]; then at=2; fi
+  if [ "$COMP_CWORD" -gt "$at" ]; then command=${COMP_WORDS[at]}; fi
+  if [ "$COMP_CWORD" -gt $((at + 1)) ]; then form=${COMP_WORDS[at + 1]}; fi
+  case $command:$form in
+"#;
+
+/// What stands behind them.
+const TAIL: &str = r#"  esac
+  case $current in
+  -*) COMPREPLY=($(compgen -W "$options --help" -- "$current")) ;;
+  *) COMPREPLY=($(compgen -W "$words" -- "$current")) ;;
+  esac
+}
+complete -o default -F _unison unison
+"#;
+
+/// Adds the names of a group's commands.
+fn put_group_names(out: &mut String, commands: &[Command]) -> Result<(), AllocError> {
+    for command in commands {
+        let name = command.name;
+        write!(out, " {name}")?;
+    }
+    Ok(())
+}
+
+/// Adds the names of commands of `clap`.
+fn put_parser_names(out: &mut String, parsers: &[clap::Command<'_>]) -> Result<(), AllocError> {
+    for parser in parsers {
+        let name = parser.get_name();
+        write!(out, " {name}")?;
+    }
+    Ok(())
+}
+
+/// Adds the head of the script and the names of all commands: those of `clap`, then those of the table.
+pub fn put_names(
+    out: &mut String,
+    parsers: &[clap::Command<'_>],
+    groups: &[Group],
+) -> Result<(), AllocError> {
+    write!(out, "{HEAD}  :) words=\"")?;
+    put_parser_names(out, parsers)?;
+    for group in groups {
+        put_group_names(out, group.commands)?;
+    }
+    write!(out, "\" ;;\n")
+}
+
+/// Adds the options of a command of `clap`.
+fn put_parser(out: &mut String, parser: &clap::Command<'_>) -> Result<(), AllocError> {
+    let name = parser.get_name();
+    write!(out, "  {name}:*) options=\"")?;
+    for argument in parser.get_arguments() {
+        if let Some(long) = argument.get_long() {
+            write!(out, " --{long}")?;
+        }
+    }
+    write!(out, "\" ;;\n")
+}
+
+/// Adds the options of commands of `clap`.
+pub fn put_parsers(out: &mut String, parsers: &[clap::Command<'_>]) -> Result<(), AllocError> {
+    for parser in parsers {
+        put_parser(out, parser)?;
+    }
+    Ok(())
+}
+
+/// Adds the pattern for a command, by its name and its aliases, and a form, `*` for any.
+fn put_pattern(out: &mut String, command: &Command, form: &str) -> Result<(), AllocError> {
+    let name = command.name;
+    write!(out, "  {name}:{form}")?;
+    for alias in command.aliases {
+        write!(out, " | {alias}:{form}")?;
+    }
+    write!(out, ")\n")
+}
+
+/// Adds the options among arguments.
+fn put_options(out: &mut String, arguments: &[Argument]) -> Result<(), AllocError> {
+    write!(out, "    options=\"")?;
+    for argument in arguments.iter().filter(|row| row.kind != Kind::Positional) {
+        let name = argument.name;
+        write!(out, " --{name}")?;
+    }
+    write!(out, "\"\n")
+}
+
+/// Adds the names of choices.
+fn put_choice_names(out: &mut String, choices: &[Choice]) -> Result<(), AllocError> {
+    for choice in choices {
+        let name = choice.name;
+        write!(out, " {name}")?;
+    }
+    write!(out, "\"\n")
+}
+
+/// Adds the choices of an argument, where it has some.
+fn put_choices(out: &mut String, argument: &Argument) -> Result<(), AllocError> {
+    let (name, Value::Choice(choices)) = (argument.name, argument.value) else {
+        return Ok(());
+    };
+    write!(out, "    [ \"$previous\" = --{name} ] && words=\"")?;
+    put_choice_names(out, choices)
+}
+
+/// Adds the options among arguments, and the choices that they have.
+fn put_arguments(out: &mut String, arguments: &[Argument]) -> Result<(), AllocError> {
+    put_options(out, arguments)?;
+    for argument in arguments {
+        put_choices(out, argument)?;
+    }
+    write!(out, "    ;;\n")
+}
+
+/// Adds what a command's subcommands take.
+fn put_subcommands(out: &mut String, command: &Command) -> Result<(), AllocError> {
+    for subcommand in command.subcommands {
+        put_pattern(out, command, subcommand.name)?;
+        put_arguments(out, subcommand.arguments)?;
+    }
+    Ok(())
+}
+
+/// Adds the names of subcommands.
+fn put_subcommand_names(out: &mut String, subcommands: &[Subcommand]) -> Result<(), AllocError> {
+    write!(out, "    words=\"")?;
+    for subcommand in subcommands {
+        let name = subcommand.name;
+        write!(out, " {name}")?;
+    }
+    write!(out, "\"\n")
+}
+
+/// Adds what a command takes.
+fn put_command(out: &mut String, command: &Command) -> Result<(), AllocError> {
+    put_subcommands(out, command)?;
+    put_pattern(out, command, "*")?;
+    put_subcommand_names(out, command.subcommands)?;
+    put_arguments(out, command.arguments)
+}
+
+/// Adds what the commands of a group take.
+fn put_group(out: &mut String, group: &Group) -> Result<(), AllocError> {
+    for command in group.commands {
+        put_command(out, command)?;
+    }
+    Ok(())
+}
+
+/// Adds what the commands of the table take, and the end of the script.
+pub fn put_groups(out: &mut String, groups: &[Group]) -> Result<(), AllocError> {
+    for group in groups {
+        put_group(out, group)?;
+    }
+    out.push_str(TAIL)
+}
