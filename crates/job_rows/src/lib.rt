@@ -1,12 +1,8 @@
-//! Rows of jobs: what `serve` and the calls beside it answer, with values from outside the code.
+//! The line of a difference, which no command line shows.
 #![tactic(auto)]
 
 #[cfg(test)]
-mod jobs;
-#[cfg(test)]
 mod memory;
-#[cfg(test)]
-mod replays;
 #[cfg(test)]
 mod runs;
 #[cfg(test)]

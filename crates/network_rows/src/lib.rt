@@ -1,9 +1,5 @@
-//! Worked rows of network files, with values from outside the code.
+//! Worked rows of networks that no command line shows, with values from outside the code.
 #![tactic(auto)]
 
-#[cfg(test)]
-mod fault_texts;
-#[cfg(test)]
-mod largest;
 #[cfg(test)]
 mod networks;

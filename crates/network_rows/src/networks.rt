@@ -1,76 +1,9 @@
-//! Network files: which are accepted, what they describe, and why the others are refused.
+//! Networks: their nodes, links and weights by the calls that other crates use.
 
-use link_net::{FieldSet, Name, NetFault, NetFile, Network, Pairs, read_network};
-use row_texts::networks::ALONE;
+use link_net::{NetFault, NetFile, Network, read_network};
 use std::alloc::Global;
 use std::process::Abort;
 use std::test::Fail;
-
-/// The fault of a text, or none where it is accepted.
-fn fault_of(alloc: Global, text: &[u8]) -> Option<NetFault> {
-    read_network(alloc, text).err()
-}
-
-/// Texts that are no network, and why.
-const REFUSED: [(&[u8], NetFault); 35] = [
-    (b"nodes =", NetFault::NotToml),
-    (b"\xffnodes = 2\nlinks = []", NetFault::NotToml),
-    (b"nodes = 2\nnodes = 2\nlinks = []", NetFault::NotToml),
-    (b"nodes = 2\nlinks = []\nedges = 1", NetFault::UnknownKey),
-    (b"edges = 1", NetFault::UnknownKey),
-    (b"", NetFault::BadShape),
-    (b"nodes = 2\nlinks = 1", NetFault::BadShape),
-    (b"nodes = 2\nlinks = [0]", NetFault::BadShape),
-    (b"nodes = 2\nlinks = []\n[set]\ns = 1", NetFault::BadShape),
-    (b"nodes = 2\nlinks = []\n[set]\ns = [0]", NetFault::BadShape),
-    (b"nodes = 2", NetFault::BadShape),
-    (b"links = []", NetFault::BadShape),
-    (b"nodes = 2.0\nlinks = []", NetFault::BadShape),
-    (b"nodes = 2\nlinks = [[0]]", NetFault::BadShape),
-    (b"nodes = 2\nlinks = [[0, 1, 1, 1]]", NetFault::BadShape),
-    (b"nodes = 2\nlinks = [[0, \"1\"]]", NetFault::BadShape),
-    (b"nodes = 2\nlinks = []\nphase = \"0\"", NetFault::BadShape),
-    (b"nodes = 2\nlinks = []\nset = 1", NetFault::BadShape),
-    (
-        b"nodes = 2\nlinks = []\n[set]\ns = [[0, 1, 1]]",
-        NetFault::BadShape,
-    ),
-    (
-        b"nodes = 2\nlinks = []\n[set]\ns = [[0]]",
-        NetFault::BadShape,
-    ),
-    (b"nodes = 0\nlinks = []", NetFault::NodeCount),
-    (b"nodes = -1\nlinks = []", NetFault::NodeCount),
-    (b"nodes = 65537\nlinks = []", NetFault::NodeCount),
-    (b"nodes = 0\nlinks = [[0, 1]]", NetFault::NodeCount),
-    (b"nodes = 3\nlinks = [[0, 3]]", NetFault::BadLink),
-    (b"nodes = 3\nlinks = [[-1, 0]]", NetFault::BadLink),
-    (b"nodes = 3\nlinks = [[2, 2], [0, 3]]", NetFault::BadLink),
-    (b"nodes = 3\nlinks = [[2, 2]]", NetFault::SelfLink),
-    (b"nodes = 3\nlinks = [[0, 1], [1, 0]]", NetFault::LinkTwice),
-    (
-        b"nodes = 3\nlinks = [[0, 1, 2], [0, 1, 3]]",
-        NetFault::LinkTwice,
-    ),
-    (b"nodes = 3\nlinks = []\nphase = 3", NetFault::BadPhase),
-    (b"nodes = 3\nlinks = []\nphase = -1", NetFault::BadPhase),
-    (b"nodes = 3\nlinks = [[0, 1, -1]]", NetFault::BadWeight),
-    (
-        b"nodes = 3\nlinks = [[0, 1, 4294967296]]",
-        NetFault::BadWeight,
-    ),
-    (
-        b"nodes = 3\nlinks = [[0, 1, -1]]\nphase = 3",
-        NetFault::BadPhase,
-    ),
-];
-
-#[test]
-fn refused_networks(rt: HostRuntime) {
-    for (text, fault) in &REFUSED {
-        assert_eq!(rt; fault_of(rt.alloc(), text), Some(*fault), "{text:?}");
-    }
-}
 
 /// The path of three nodes with weights, phase 2, and the sets of two fields.
 fn described(alloc: Global) -> Result<NetFile, NetFault> {
@@ -78,39 +11,6 @@ fn described(alloc: Global) -> Result<NetFile, NetFault> {
         alloc,
         b"nodes = 3\nlinks = [[2, 1, 4294967295], [0, 1, 0]]\nphase = 2\n[set]\ndist = [[2, 9], [0, -7]]\na = []\n",
     )
-}
-
-/// Asserts the numbers of nodes, of links and of lines of sets of a file, and its phase.
-fn assert_file(rt: &impl Abort, file: &NetFile, nodes: u32, links: u32, sets: usize, phase: u8) {
-    assert_eq!(rt; file.network().nodes(), nodes);
-    assert_eq!(rt; file.network().links(), links);
-    assert_eq!(rt; file.sets().len(), sets);
-    assert_eq!(rt; file.phase(), phase);
-}
-
-/// Asserts the name and the pairs of a line of sets.
-fn assert_set(rt: &impl Abort, set: &FieldSet, name: &str, pairs: &[(i64, i64)]) {
-    assert_eq!(rt; set.name.as_str(), name);
-    assert_eq!(rt; set.pairs.as_slice(), pairs);
-}
-
-#[test]
-fn what_a_file_describes(rt: HostRuntime) -> Result<(), Fail> {
-    let file = described(rt.alloc())?;
-    assert_file(&rt, &file, 3, 2, 2, 2);
-    let wanted: [(&str, &[(i64, i64)]); 2] = [("a", &[]), ("dist", &[(2, 9), (0, -7)])];
-    for (set, (name, pairs)) in file.sets().iter().zip(wanted) {
-        assert_set(&rt, set, name, pairs);
-    }
-    Ok(())
-}
-
-#[test]
-fn what_need_not_be_said(rt: HostRuntime) -> Result<(), Fail> {
-    let file = read_network(rt.alloc(), ALONE.as_bytes())?;
-    assert_file(&rt, &file, 1, 0, 0, 0);
-    assert_eq!(rt; file.network().degree(0), Some(0));
-    Ok(())
 }
 
 /// Nodes of the path, and their degrees.
@@ -216,15 +116,5 @@ fn network_out_of_its_file(rt: HostRuntime) -> Result<(), Fail> {
     let network = described(rt.alloc())?.into_network();
     assert_eq!(rt; network.nodes(), 3);
     assert_eq!(rt; network.slot_of(1, 2), Some(1));
-    Ok(())
-}
-
-#[test]
-fn names_and_pairs(rt: HostRuntime) -> Result<(), Fail> {
-    let alloc = rt.alloc();
-    let name = Name::new(String::from_str(alloc, "dist")?);
-    assert_eq!(rt; name.as_str(), "dist");
-    let pairs = Pairs::new([(0, -7), (9, 1)].to_vec(alloc)?);
-    assert_eq!(rt; pairs.as_slice(), [(0, -7), (9, 1)].as_slice());
     Ok(())
 }

@@ -1,10 +1,9 @@
-//! Lockstep rounds, and the configurations that they give.
+//! Configurations: what they say of themselves, and their first difference.
 
-use lockstep::{Config, Difference, Plan, RoundFault, lockstep};
+use lockstep::{Config, Difference, Plan, lockstep};
 use row_plans::{Refusal, config_after, difference, plan_of, report_of};
-use row_texts::grown::path;
 use row_texts::networks::PAIR;
-use row_texts::programs::{DISTANCE, SWAP, SWAP_AND_COUNT};
+use row_texts::programs::{SWAP, SWAP_AND_COUNT};
 use rule_check::State;
 use std::alloc::Global;
 use std::process::Abort;
@@ -15,23 +14,6 @@ fn state(first: u32, second: u32) -> State {
     State {
         words: [first, second, 0, 0, 0, 0, 0, 0],
     }
-}
-
-/// Asserts the distances on a path after ten rounds.
-pub(crate) fn assert_distances(rt: &impl Abort, config: &Config, nodes: u32) {
-    assert_eq!(rt; config.nodes(), nodes);
-    for node in 0..nodes {
-        let distance = if node <= 10 { node } else { 4_294_967_295 };
-        assert_eq!(rt; config.state(node), Some(state(distance, 0)), "node {node}");
-    }
-}
-
-#[test]
-fn long_path(rt: HostRuntime) -> Result<(), Fail> {
-    let network = path(rt.alloc(), 5_000)?;
-    let config = config_after(rt.alloc(), DISTANCE, network.as_str(), 10)?;
-    assert_distances(&rt, &config, 5_000);
-    Ok(())
 }
 
 /// Asserts what a configuration says of itself: its rounds, and the states of two nodes with two fields.
@@ -59,20 +41,6 @@ fn looks_at_a_configuration(rt: HostRuntime) -> Result<(), Fail> {
         &config,
         &[(0, Some(first)), (1, Some(second)), (2, None)],
     );
-    Ok(())
-}
-
-/// Asserts that there are not so many rounds.
-fn assert_too_many(rt: &impl Abort, alloc: Global, plan: &Plan, rounds: u32) {
-    let fault = lockstep(alloc, plan, rounds).err();
-    assert_eq!(rt; fault, Some(RoundFault::TooManyRounds), "{rounds}");
-}
-
-#[test]
-fn refused_rounds(rt: HostRuntime) -> Result<(), Fail> {
-    let plan = plan_of(rt.alloc(), SWAP_AND_COUNT, PAIR)?;
-    assert_too_many(&rt, rt.alloc(), &plan, 1_000_000_001);
-    assert_too_many(&rt, rt.alloc(), &plan, 4_294_967_295);
     Ok(())
 }
 

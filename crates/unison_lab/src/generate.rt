@@ -17,7 +17,7 @@ fn size_text(shape: &Shape) -> &'static str {
         Shape::Ring { .. } => "a ring has 3 to 65536 nodes",
         Shape::Bipartite { .. } => "each side has a node, and both together have 65536 at most",
         Shape::Tree { .. } => "a tree has 1 to 65536 nodes, and an arity of 1 or more",
-        Shape::Hypercube { .. } => "a hypercube has 0 to 16 digits",
+        Shape::Hypercube { .. } => "a hypercube has 0 to 15 digits",
         Shape::Grid { .. } => "a grid has a row and a column, and 65536 nodes at most",
         Shape::Torus { .. } => "a torus has 3 rows and 3 columns or more, and 65536 nodes at most",
     }

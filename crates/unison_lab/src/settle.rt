@@ -10,31 +10,21 @@ use crate::watch::no_rounds;
 use lab_words::SettleRequest;
 use lockstep::Plan;
 use round_settle::{SettleFault, Settling, settle};
-use round_watch::{Format, Show, Span, watched};
+use round_watch::{Format, Show, Span, WatchFault, watched};
 use std::alloc::{AllocError, Global};
 use std::thread::Threads;
 
 /// The ending where it is not told.
-fn not_told(alloc: Global, limit: u32, fault: SettleFault) -> Result<Ending, AllocError> {
-    let text = match fault {
-        SettleFault::ReadsRound => String::from_str(
+fn not_told(alloc: Global, fault: SettleFault) -> Result<Ending, AllocError> {
+    Ok(match fault {
+        SettleFault::ReadsRound => Ending::Refused(String::from_str(
             alloc,
             "program ReadsRound\nthe program reads `round`, so equal states need not be followed by equal ones, and no round tells that it settles; run it with lockstep or watch",
-        )?,
-        SettleFault::LimitBelowStart => {
-            format!(in alloc;
-                "run RoundsBelowStart\n--limit: the plan starts behind round {limit}"
-            )?
-        }
-        SettleFault::LimitTooLarge => {
-            String::from_str(
-                alloc,
-                "run TooManyRounds\n--limit: the greatest is 1000000000",
-            )?
-        }
-        SettleFault::Memory => return Ok(Ending::Memory),
-    };
-    Ok(Ending::Refused(text))
+        )?),
+        SettleFault::LimitBelowStart => no_rounds(WatchFault::RoundsBelowStart),
+        SettleFault::LimitTooLarge => no_rounds(WatchFault::TooManyRounds),
+        SettleFault::Memory => Ending::Memory,
+    })
 }
 
 /// What was found, as a line.
@@ -99,7 +89,7 @@ fn text_of(
 fn found_for(alloc: Global, plan: &Plan, limit: u32) -> Result<Settling, Ending> {
     match settle(alloc, plan, limit) {
         Ok(found) => Ok(found),
-        Err(fault) => Err(not_told(alloc, limit, fault)?),
+        Err(fault) => Err(not_told(alloc, fault)?),
     }
 }
 
