@@ -115,9 +115,9 @@ pub struct PlanPaths {
 impl PlanPaths {
     /// The paths that the words of a command with `PROGRAM`, `NETWORK` and `FROM` name.
     pub(crate) fn of(alloc: Global, words: &Words) -> Result<PlanPaths, AllocError> {
-        let program = words.path(alloc, &PROGRAM)?;
-        let network = words.path(alloc, &NETWORK)?;
-        let from = words.owned(alloc, &FROM)?;
+        let program = words.needed_text(alloc, &PROGRAM)?;
+        let network = words.needed_text(alloc, &NETWORK)?;
+        let from = words.text(alloc, &FROM)?;
         Ok(PlanPaths {
             program,
             network,
@@ -142,7 +142,8 @@ fn span_of(word: &str, every: u32) -> Option<Span> {
 /// The rounds that `--rounds` and `--every` name. `Usage` where that are none.
 pub(crate) fn span_in(alloc: Global, words: &Words) -> Result<Span, WordsFault> {
     let every = words.number_or(alloc, &EVERY, 1)?;
-    let found = words.text(&ROUNDS).unwrap_or("");
+    let found = words.needed_text(alloc, &ROUNDS)?;
+    let found = found.as_str();
     match span_of(found, every) {
         Some(span) => Ok(span),
         None => Err(WordsFault::told(format!(in alloc;
@@ -162,8 +163,8 @@ fn parts_of(alloc: Global, text: &str) -> Result<Vec<String>, AllocError> {
 
 /// The fields that `--only` names, where it is given.
 pub(crate) fn only_in(alloc: Global, words: &Words) -> Result<Option<Vec<String>>, AllocError> {
-    match words.text(&ONLY) {
-        Some(text) => Ok(Some(parts_of(alloc, text)?)),
+    match words.text(alloc, &ONLY)? {
+        Some(text) => Ok(Some(parts_of(alloc, text.as_str())?)),
         None => Ok(None),
     }
 }

@@ -52,9 +52,9 @@ impl CsvRequest {
     /// What the words ask for, the command's name first.
     pub fn parse(alloc: Global, line: &[String]) -> Result<CsvRequest, WordsFault> {
         let words = parse(alloc, &CSV, line)?;
-        let report = words.path(alloc, &REPORT)?;
-        let names = words.path(alloc, &NAMES)?;
-        let node_fields = words.all(alloc, &NODE_FIELD)?;
+        let report = words.needed_text(alloc, &REPORT)?;
+        let names = words.needed_text(alloc, &NAMES)?;
+        let node_fields = words.texts(alloc, &NODE_FIELD)?;
         Ok(CsvRequest {
             report,
             names,

@@ -1,8 +1,11 @@
 //! `image` and `dot`: rounds as pictures, and networks for Graphviz.
+ghost use Rattle.std.specs.Prelude.{◌≤◌, IfOk};
+ghost use Rattle.lockstep.specs.Configs.{most_rounds};
 
 use crate::arguments::{
     EVERY, FIELD, FROM, NAMES, NETWORK, PROGRAM, PlanPaths, ROUND, ROUNDS, WIDTH, span_in, wrong,
 };
+use link_net::MOST_NODES;
 use round_watch::Span;
 use std::alloc::Global;
 use word_table::{Argument, Command, Kind, OPTION, Words, WordsFault, parse};
@@ -82,11 +85,13 @@ fn check_frame(alloc: Global, span: &Span, grid: u32) -> Result<(), WordsFault> 
 }
 
 /// What plain words ask for.
-fn image_in(alloc: Global, words: &Words) -> Result<ImageRequest, WordsFault> {
+fn image_in(alloc: Global, words: &Words) -> Result<ImageRequest, WordsFault>
+    ensures within { IfOk result (λ r. r.grid ≤ MOST_NODES) }
+{
     let grid = words.number_or(alloc, &GRID, 0)?;
     let span = span_in(alloc, words)?;
     check_frame(alloc, &span, grid)?;
-    let field = words.owned(alloc, &FIELD)?;
+    let field = words.text(alloc, &FIELD)?;
     let plan = PlanPaths::of(alloc, words)?;
     Ok(ImageRequest {
         plan,
@@ -97,10 +102,12 @@ fn image_in(alloc: Global, words: &Words) -> Result<ImageRequest, WordsFault> {
 }
 
 /// What plain words ask for.
-fn dot_in(alloc: Global, words: &Words) -> Result<DotRequest, WordsFault> {
+fn dot_in(alloc: Global, words: &Words) -> Result<DotRequest, WordsFault>
+    ensures within { IfOk result (λ r. r.round ≤ most_rounds) }
+{
     let round = words.number_or(alloc, &DRAWN_ROUND, 0)?;
-    let field = words.owned(alloc, &FIELD)?;
-    let names = words.owned(alloc, &NAMES)?;
+    let field = words.text(alloc, &FIELD)?;
+    let names = words.text(alloc, &NAMES)?;
     let plan = PlanPaths::of(alloc, words)?;
     Ok(DotRequest {
         plan,
@@ -112,7 +119,9 @@ fn dot_in(alloc: Global, words: &Words) -> Result<DotRequest, WordsFault> {
 
 impl ImageRequest {
     /// What the words ask for, the command's name first.
-    pub fn parse(alloc: Global, line: &[String]) -> Result<ImageRequest, WordsFault> {
+    pub fn parse(alloc: Global, line: &[String]) -> Result<ImageRequest, WordsFault>
+        ensures within { IfOk result (λ r. r.grid ≤ MOST_NODES) }
+    {
         let words = parse(alloc, &IMAGE, line)?;
         image_in(alloc, &words)
     }
@@ -120,7 +129,9 @@ impl ImageRequest {
 
 impl DotRequest {
     /// What the words ask for, the command's name first.
-    pub fn parse(alloc: Global, line: &[String]) -> Result<DotRequest, WordsFault> {
+    pub fn parse(alloc: Global, line: &[String]) -> Result<DotRequest, WordsFault>
+        ensures within { IfOk result (λ r. r.round ≤ most_rounds) }
+    {
         let words = parse(alloc, &DOT, line)?;
         dot_in(alloc, &words)
     }

@@ -1,4 +1,6 @@
 //! `explain`: what each step of a schedule does.
+ghost use Rattle.std.specs.Prelude.{◌≤◌, IfOk};
+ghost use Rattle.lockstep.specs.Configs.{most_rounds};
 
 use crate::arguments::{FILE, FLAG, FROM, NETWORK, PROGRAM, PlanPaths, ROUND};
 use std::alloc::Global;
@@ -50,9 +52,11 @@ pub struct ExplainRequest {
 }
 
 /// What plain words ask for.
-fn request_in(alloc: Global, words: &Words) -> Result<ExplainRequest, WordsFault> {
+fn request_in(alloc: Global, words: &Words) -> Result<ExplainRequest, WordsFault>
+    ensures within { IfOk result (λ r. r.stop ≤ most_rounds) }
+{
     let stop = words.number_or(alloc, &STOP, 0)?;
-    let schedule = words.path(alloc, &SCHEDULE)?;
+    let schedule = words.needed_text(alloc, &SCHEDULE)?;
     let plan = PlanPaths::of(alloc, words)?;
     Ok(ExplainRequest {
         plan,
@@ -64,7 +68,9 @@ fn request_in(alloc: Global, words: &Words) -> Result<ExplainRequest, WordsFault
 
 impl ExplainRequest {
     /// What the words ask for, the command's name first.
-    pub fn parse(alloc: Global, line: &[String]) -> Result<ExplainRequest, WordsFault> {
+    pub fn parse(alloc: Global, line: &[String]) -> Result<ExplainRequest, WordsFault>
+        ensures within { IfOk result (λ r. r.stop ≤ most_rounds) }
+    {
         let words = parse(alloc, &EXPLAIN, line)?;
         request_in(alloc, &words)
     }

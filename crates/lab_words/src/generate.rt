@@ -1,4 +1,5 @@
 //! `generate`: a network of a shape, or by lot.
+ghost use Rattle.std.specs.Prelude.{◌≤◌, IfOk, IfSome};
 
 use crate::arguments::{FLAG, NUMBER};
 use net_random::Lot;
@@ -408,7 +409,9 @@ fn topology_in(alloc: Global, words: &Words) -> Result<Topology, WordsFault> {
 }
 
 /// The weights that a text names, where it names some.
-fn weights_of(text: &str) -> Option<Weights> {
+fn weights_of(text: &str) -> Option<Weights>
+    ensures ordered { IfSome result (λ w. w.low ≤ w.high) }
+{
     let (low, high) = text.split_once("..")?;
     let low = number(low, 0, 4_294_967_295)?;
     let high = number(high, low, 4_294_967_295)?;
@@ -416,10 +419,13 @@ fn weights_of(text: &str) -> Option<Weights> {
 }
 
 /// The weights that the words ask for, where they ask for some.
-fn weights_in(alloc: Global, words: &Words) -> Result<Option<Weights>, WordsFault> {
-    let Some(found) = words.text(&WEIGHTS) else {
+fn weights_in(alloc: Global, words: &Words) -> Result<Option<Weights>, WordsFault>
+    ensures ordered { IfOk result (λ o. IfSome o (λ w. w.low ≤ w.high)) }
+{
+    let Some(found) = words.text(alloc, &WEIGHTS)? else {
         return Ok(None);
     };
+    let found = found.as_str();
     match weights_of(found) {
         Some(weights) => Ok(Some(weights)),
         None => Err(WordsFault::told(format!(in alloc;
@@ -431,7 +437,9 @@ fn weights_in(alloc: Global, words: &Words) -> Result<Option<Weights>, WordsFaul
 impl GenerateRequest {
     /// What the words ask for, the command's name first. A number that is none, or above 4,294,967,295, is `Usage`; whether a
     /// network of that size is there, its making says.
-    pub fn parse(alloc: Global, line: &[String]) -> Result<GenerateRequest, WordsFault> {
+    pub fn parse(alloc: Global, line: &[String]) -> Result<GenerateRequest, WordsFault>
+        ensures ordered { IfOk result (λ r. IfSome r.weights (λ w. w.low ≤ w.high)) }
+    {
         let words = parse(alloc, &GENERATE, line)?;
         let topology = topology_in(alloc, &words)?;
         let weights = weights_in(alloc, &words)?;

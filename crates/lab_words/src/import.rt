@@ -1,4 +1,5 @@
 //! `import`: a network from another format.
+ghost use Rattle.std.specs.Prelude.{◌≤◌, IfOk, IfSome};
 
 use crate::arguments::{FILE, FILE_OPTION, FLAG, wrong};
 use link_merge::{Doubles, Kept, Loops, Mending};
@@ -161,9 +162,14 @@ pub struct ImportRequest {
 }
 
 /// The factor that the words name; it is 1 or more.
-fn factor_in(alloc: Global, words: &Words) -> Result<Option<u32>, WordsFault> {
+fn factor_in(alloc: Global, words: &Words) -> Result<Option<u32>, WordsFault>
+    ensures positive { IfOk result (λ o. IfSome o (λ factor. 1 ≤ factor)) }
+{
     let factor = words.number_or(alloc, &SCALE, 0)?;
-    Ok(Some(factor).filter(|factor| *factor > 0))
+    if factor == 0 {
+        return Ok(None);
+    }
+    Ok(Some(factor))
 }
 
 /// What becomes of edges between the same two nodes.
@@ -199,12 +205,14 @@ fn check_names(alloc: Global, words: &Words) -> Result<(), WordsFault> {
 }
 
 /// What plain words ask for.
-fn request_in(alloc: Global, words: &Words) -> Result<ImportRequest, WordsFault> {
+fn request_in(alloc: Global, words: &Words) -> Result<ImportRequest, WordsFault>
+    ensures positive { IfOk result (λ r. IfSome r.factor (λ factor. 1 ≤ factor)) }
+{
     check_names(alloc, words)?;
     let factor = factor_in(alloc, words)?;
     let mending = mending_in(alloc, words)?;
-    let names = words.owned(alloc, &NAMES)?;
-    let path = words.path(alloc, &TEXT)?;
+    let names = words.text(alloc, &NAMES)?;
+    let path = words.needed_text(alloc, &TEXT)?;
     Ok(ImportRequest {
         format: Format::named(words.subcommand()),
         path,
@@ -220,7 +228,9 @@ fn request_in(alloc: Global, words: &Words) -> Result<ImportRequest, WordsFault>
 impl ImportRequest {
     /// What the words ask for, the command's name first. Words that no format has, a factor that is no number from 1 to
     /// 4,294,967,295, and `--names` beside `--numbers` are `Usage`.
-    pub fn parse(alloc: Global, line: &[String]) -> Result<ImportRequest, WordsFault> {
+    pub fn parse(alloc: Global, line: &[String]) -> Result<ImportRequest, WordsFault>
+        ensures positive { IfOk result (λ r. IfSome r.factor (λ factor. 1 ≤ factor)) }
+    {
         let words = parse(alloc, &IMPORT, line)?;
         request_in(alloc, &words)
     }

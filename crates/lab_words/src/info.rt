@@ -26,7 +26,7 @@ impl InfoRequest {
     /// What the words ask for, the command's name first.
     pub fn parse(alloc: Global, line: &[String]) -> Result<InfoRequest, WordsFault> {
         let words = parse(alloc, &INFO, line)?;
-        let network = words.path(alloc, &NETWORK)?;
+        let network = words.needed_text(alloc, &NETWORK)?;
         Ok(InfoRequest { network })
     }
 }

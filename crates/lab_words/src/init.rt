@@ -1,4 +1,5 @@
 //! `init`: other opening values of a network.
+ghost use Rattle.std.specs.Prelude.{◌≤◌, IfOk, IfSome};
 
 use crate::arguments::{FILE_OPTION, NAMES, NETWORK, NUMBER, WIDTH};
 use link_net::MOST_NODES;
@@ -169,7 +170,7 @@ fn put_set(sets: &mut Vec<SetWord>, word: SetWord) -> Result<(), AllocError> {
 /// The words of `--set`, in their order.
 fn sets_in(alloc: Global, words: &Words) -> Result<Vec<SetWord>, WordsFault> {
     let mut sets = Vec::new(alloc);
-    for word in words.texts(&SET) {
+    for word in &words.texts(alloc, &SET)? {
         put_set(&mut sets, set_word(alloc, word.as_str())?)?;
     }
     Ok(sets)
@@ -207,7 +208,7 @@ fn put_lot(lots: &mut Vec<LotWord>, word: LotWord) -> Result<(), AllocError> {
 /// The words of `--set-random`, in their order.
 fn lots_in(alloc: Global, words: &Words) -> Result<Vec<LotWord>, WordsFault> {
     let mut lots = Vec::new(alloc);
-    for word in words.texts(&SET_RANDOM) {
+    for word in &words.texts(alloc, &SET_RANDOM)? {
         put_lot(&mut lots, lot_word(alloc, word.as_str())?)?;
     }
     Ok(lots)
@@ -248,14 +249,16 @@ fn put_cells(cells: &mut Vec<CellsWord>, word: CellsWord) -> Result<(), AllocErr
 /// The words of `--cells`, in their order.
 fn cells_in(alloc: Global, words: &Words) -> Result<Vec<CellsWord>, WordsFault> {
     let mut cells = Vec::new(alloc);
-    for word in words.texts(&CELLS) {
+    for word in &words.texts(alloc, &CELLS)? {
         put_cells(&mut cells, cells_word(alloc, word.as_str())?)?;
     }
     Ok(cells)
 }
 
 /// The phase that the words ask for, where they ask for one.
-fn phase_in(alloc: Global, words: &Words) -> Result<Option<u8>, WordsFault> {
+fn phase_in(alloc: Global, words: &Words) -> Result<Option<u8>, WordsFault>
+    ensures phase { IfOk result (λ o. IfSome o (λ phase. phase ≤ 2)) }
+{
     match words.choice(alloc, &PHASE)? {
         None => Ok(None),
         Some("0") => Ok(Some(0)),
@@ -265,15 +268,18 @@ fn phase_in(alloc: Global, words: &Words) -> Result<Option<u8>, WordsFault> {
 }
 
 /// What plain words ask for.
-fn request_in(alloc: Global, words: &Words) -> Result<InitRequest, WordsFault> {
+fn request_in(alloc: Global, words: &Words) -> Result<InitRequest, WordsFault>
+    ensures phase { IfOk result (λ r. IfSome r.phase (λ phase. phase ≤ 2)) }
+    ensures width { IfOk result (λ r. (1 ≤ r.width) × (r.width ≤ MOST_NODES)) }
+{
     let phase = phase_in(alloc, words)?;
     let seed = words.number_or(alloc, &SEED, 0)?;
     let width = words.number_or(alloc, &GRID_WIDTH, 1)?;
     let lots = lots_in(alloc, words)?;
     let cells = cells_in(alloc, words)?;
     let sets = sets_in(alloc, words)?;
-    let names = words.owned(alloc, &NAMES)?;
-    let network = words.path(alloc, &NETWORK)?;
+    let names = words.text(alloc, &NAMES)?;
+    let network = words.needed_text(alloc, &NETWORK)?;
     Ok(InitRequest {
         network,
         names,
@@ -288,7 +294,10 @@ fn request_in(alloc: Global, words: &Words) -> Result<InitRequest, WordsFault> {
 
 impl InitRequest {
     /// What the words ask for, the command's name first.
-    pub fn parse(alloc: Global, line: &[String]) -> Result<InitRequest, WordsFault> {
+    pub fn parse(alloc: Global, line: &[String]) -> Result<InitRequest, WordsFault>
+        ensures phase { IfOk result (λ r. IfSome r.phase (λ phase. phase ≤ 2)) }
+        ensures width { IfOk result (λ r. (1 ≤ r.width) × (r.width ≤ MOST_NODES)) }
+    {
         let words = parse(alloc, &INIT, line)?;
         request_in(alloc, &words)
     }

@@ -1,9 +1,12 @@
 //! `page`: an HTML page on which a run is stepped through.
+ghost use Rattle.std.specs.Prelude.{◌≤◌, IfOk};
+ghost use Rattle.lab_words.specs.Requests.{IsRunWithin};
 
 use crate::arguments::{
     EVERY, FILE_OPTION, FROM, NAMES, NETWORK, ONLY, PROGRAM, PlanPaths, ROUND, ROUNDS, WIDTH,
     only_in, span_in, wrong,
 };
+use link_net::MOST_NODES;
 use round_watch::Span;
 use std::alloc::Global;
 use word_table::{Argument, Command, Kind, OPTION, Words, WordsFault, parse};
@@ -96,7 +99,9 @@ pub struct PageRequest {
 }
 
 /// Rounds, of which words for steps are not given.
-fn rounds_in(alloc: Global, words: &Words) -> Result<PageRun, WordsFault> {
+fn rounds_in(alloc: Global, words: &Words) -> Result<PageRun, WordsFault>
+    ensures within { IfOk result IsRunWithin }
+{
     if words.has(&STOP) {
         return Err(wrong(
             alloc,
@@ -108,7 +113,9 @@ fn rounds_in(alloc: Global, words: &Words) -> Result<PageRun, WordsFault> {
 }
 
 /// Steps, with the round at which nodes stop.
-fn steps_in(alloc: Global, words: &Words) -> Result<PageRun, WordsFault> {
+fn steps_in(alloc: Global, words: &Words) -> Result<PageRun, WordsFault>
+    ensures within { IfOk result IsRunWithin }
+{
     if words.has(&EVERY) {
         return Err(wrong(alloc, "--every goes with --rounds"));
     }
@@ -119,12 +126,14 @@ fn steps_in(alloc: Global, words: &Words) -> Result<PageRun, WordsFault> {
         ));
     }
     let stop = words.number_or(alloc, &STOP, 0)?;
-    let schedule = words.path(alloc, &STEPS)?;
+    let schedule = words.needed_text(alloc, &STEPS)?;
     Ok(PageRun::Steps { schedule, stop })
 }
 
 /// The run that is shown.
-fn run_in(alloc: Global, words: &Words) -> Result<PageRun, WordsFault> {
+fn run_in(alloc: Global, words: &Words) -> Result<PageRun, WordsFault>
+    ensures within { IfOk result IsRunWithin }
+{
     match (words.has(&SHOWN_ROUNDS), words.has(&STEPS)) {
         (true, false) => rounds_in(alloc, words),
         (false, true) => steps_in(alloc, words),
@@ -136,16 +145,18 @@ fn run_in(alloc: Global, words: &Words) -> Result<PageRun, WordsFault> {
 }
 
 /// How the run is shown.
-fn view_in(alloc: Global, words: &Words) -> Result<PageView, WordsFault> {
+fn view_in(alloc: Global, words: &Words) -> Result<PageView, WordsFault>
+    ensures within { IfOk result (λ v. v.grid ≤ MOST_NODES) }
+{
     let grid = words.number_or(alloc, &GRID, 0)?;
     let only = only_in(alloc, words)?;
-    let names = words.owned(alloc, &NAMES)?;
+    let names = words.text(alloc, &NAMES)?;
     Ok(PageView { only, names, grid })
 }
 
 /// The path of the viewer, which has to be there.
 fn viewer_in(alloc: Global, words: &Words) -> Result<String, WordsFault> {
-    match words.owned(alloc, &VIEWER)? {
+    match words.text(alloc, &VIEWER)? {
         Some(path) => Ok(path),
         None => Err(wrong(
             alloc,
@@ -155,7 +166,10 @@ fn viewer_in(alloc: Global, words: &Words) -> Result<String, WordsFault> {
 }
 
 /// What plain words ask for.
-fn request_in(alloc: Global, words: &Words) -> Result<PageRequest, WordsFault> {
+fn request_in(alloc: Global, words: &Words) -> Result<PageRequest, WordsFault>
+    ensures run { IfOk result (λ r. IsRunWithin r.run) }
+    ensures grid { IfOk result (λ r. r.view.grid ≤ MOST_NODES) }
+{
     let run = run_in(alloc, words)?;
     let view = view_in(alloc, words)?;
     let viewer = viewer_in(alloc, words)?;
@@ -170,7 +184,10 @@ fn request_in(alloc: Global, words: &Words) -> Result<PageRequest, WordsFault> {
 
 impl PageRequest {
     /// What the words ask for, the command's name first.
-    pub fn parse(alloc: Global, line: &[String]) -> Result<PageRequest, WordsFault> {
+    pub fn parse(alloc: Global, line: &[String]) -> Result<PageRequest, WordsFault>
+        ensures run { IfOk result (λ r. IsRunWithin r.run) }
+        ensures grid { IfOk result (λ r. r.view.grid ≤ MOST_NODES) }
+    {
         let words = parse(alloc, &PAGE, line)?;
         request_in(alloc, &words)
     }

@@ -1,4 +1,6 @@
 //! `schedule`: single steps, made in a manner or from lines for people.
+ghost use Rattle.std.specs.Prelude.{◌≤◌, IfOk};
+ghost use Rattle.lab_words.specs.Requests.{AreWithin, IsScheduleWithin};
 
 use crate::arguments::{
     FILE, FROM, NAMES, NETWORK, NUMBER, PROGRAM, PlanPaths, ROUND,
@@ -180,7 +182,7 @@ fn manner_in(alloc: Global, words: &Words) -> Result<StepsManner, AllocError> {
         "slow-links" => return Ok(StepsManner::SlowLinks),
         _ => {}
     }
-    let node = words.path(alloc, &NODE)?;
+    let node = words.needed_text(alloc, &NODE)?;
     if words.subcommand() == "starve" {
         return Ok(StepsManner::Starve { node });
     }
@@ -188,7 +190,9 @@ fn manner_in(alloc: Global, words: &Words) -> Result<StepsManner, AllocError> {
 }
 
 /// Up to where steps go, and by what they are drawn.
-fn limits_in(alloc: Global, words: &Words) -> Result<Limits, WordsFault> {
+fn limits_in(alloc: Global, words: &Words) -> Result<Limits, WordsFault>
+    ensures within { IfOk result AreWithin }
+{
     let stop = words.number_or(alloc, &STOP, MOST_ROUNDS)?;
     let count = words.number_or(alloc, &COUNT, MOST_STEPS)?;
     let seed = words.number_or(alloc, &SEED, 0)?;
@@ -202,9 +206,11 @@ fn limits_in(alloc: Global, words: &Words) -> Result<Limits, WordsFault> {
 }
 
 /// The steps in a manner.
-fn listing_in(alloc: Global, words: &Words) -> Result<Listing, WordsFault> {
+fn listing_in(alloc: Global, words: &Words) -> Result<Listing, WordsFault>
+    ensures within { IfOk result (λ l. AreWithin l.limits) }
+{
     let limits = limits_in(alloc, words)?;
-    let names = words.owned(alloc, &NAMES)?;
+    let names = words.text(alloc, &NAMES)?;
     let manner = manner_in(alloc, words)?;
     let plan = PlanPaths::of(alloc, words)?;
     Ok(Listing {
@@ -217,14 +223,16 @@ fn listing_in(alloc: Global, words: &Words) -> Result<Listing, WordsFault> {
 
 /// The steps from lines.
 fn writing_in(alloc: Global, words: &Words) -> Result<Writing, AllocError> {
-    let lines = words.path(alloc, &LINES)?;
-    let names = words.owned(alloc, &NAMES)?;
+    let lines = words.needed_text(alloc, &LINES)?;
+    let names = words.text(alloc, &NAMES)?;
     let plan = PlanPaths::of(alloc, words)?;
     Ok(Writing { plan, lines, names })
 }
 
 /// What plain words ask for.
-fn request_in(alloc: Global, words: &Words) -> Result<ScheduleRequest, WordsFault> {
+fn request_in(alloc: Global, words: &Words) -> Result<ScheduleRequest, WordsFault>
+    ensures within { IfOk result IsScheduleWithin }
+{
     if words.subcommand() == "write" {
         let writing = writing_in(alloc, words)?;
         return Ok(ScheduleRequest::Writing(writing));
@@ -235,7 +243,9 @@ fn request_in(alloc: Global, words: &Words) -> Result<ScheduleRequest, WordsFaul
 
 impl ScheduleRequest {
     /// What the words ask for, the command's name first.
-    pub fn parse(alloc: Global, line: &[String]) -> Result<ScheduleRequest, WordsFault> {
+    pub fn parse(alloc: Global, line: &[String]) -> Result<ScheduleRequest, WordsFault>
+        ensures within { IfOk result IsScheduleWithin }
+    {
         let words = parse(alloc, &SCHEDULE, line)?;
         request_in(alloc, &words)
     }

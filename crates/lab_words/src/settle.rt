@@ -1,4 +1,6 @@
 //! `settle`: from which round on nothing changes, or all states come again.
+ghost use Rattle.std.specs.Prelude.{◌≤◌, IfOk};
+ghost use Rattle.lockstep.specs.Configs.{most_rounds};
 
 use crate::arguments::{FLAG, FROM, NETWORK, PROGRAM, PlanPaths, ROUND};
 use std::alloc::Global;
@@ -43,7 +45,9 @@ pub struct SettleRequest {
 }
 
 /// What plain words ask for.
-fn request_in(alloc: Global, words: &Words) -> Result<SettleRequest, WordsFault> {
+fn request_in(alloc: Global, words: &Words) -> Result<SettleRequest, WordsFault>
+    ensures within { IfOk result (λ r. r.limit ≤ most_rounds) }
+{
     let limit = words.number_or(alloc, &LIMIT, DEFAULT_LIMIT)?;
     let plan = PlanPaths::of(alloc, words)?;
     Ok(SettleRequest {
@@ -55,7 +59,9 @@ fn request_in(alloc: Global, words: &Words) -> Result<SettleRequest, WordsFault>
 
 impl SettleRequest {
     /// What the words ask for, the command's name first.
-    pub fn parse(alloc: Global, line: &[String]) -> Result<SettleRequest, WordsFault> {
+    pub fn parse(alloc: Global, line: &[String]) -> Result<SettleRequest, WordsFault>
+        ensures within { IfOk result (λ r. r.limit ≤ most_rounds) }
+    {
         let words = parse(alloc, &SETTLE, line)?;
         request_in(alloc, &words)
     }

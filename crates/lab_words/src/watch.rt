@@ -100,7 +100,7 @@ fn view_in(alloc: Global, words: &Words) -> Result<View, WordsFault> {
         ));
     }
     let only = only_in(alloc, words)?;
-    let names = words.owned(alloc, &NAMES)?;
+    let names = words.text(alloc, &NAMES)?;
     Ok(View {
         format,
         only,

@@ -24,11 +24,24 @@ const TAIL: &str = r#"  esac
 complete -o default -F _unison unison
 "#;
 
+/// Adds a word to those of a string, with a blank between two.
+fn put_word(out: &mut String, word: &str) -> Result<(), AllocError> {
+    if !out.as_str().ends_with('"') {
+        out.push_str(" ")?;
+    }
+    out.push_str(word)
+}
+
+/// Adds an option to those of a string, with a blank between two.
+fn put_option(out: &mut String, name: &str) -> Result<(), AllocError> {
+    put_word(out, "--")?;
+    out.push_str(name)
+}
+
 /// Adds the names of a group's commands.
 fn put_group_names(out: &mut String, commands: &[Command]) -> Result<(), AllocError> {
     for command in commands {
-        let name = command.name;
-        write!(out, " {name}")?;
+        put_word(out, command.name)?;
     }
     Ok(())
 }
@@ -36,8 +49,7 @@ fn put_group_names(out: &mut String, commands: &[Command]) -> Result<(), AllocEr
 /// Adds the names of commands of `clap`.
 fn put_parser_names(out: &mut String, parsers: &[clap::Command<'_>]) -> Result<(), AllocError> {
     for parser in parsers {
-        let name = parser.get_name();
-        write!(out, " {name}")?;
+        put_word(out, parser.get_name())?;
     }
     Ok(())
 }
@@ -62,7 +74,7 @@ fn put_parser(out: &mut String, parser: &clap::Command<'_>) -> Result<(), AllocE
     write!(out, "  {name}:*) options=\"")?;
     for argument in parser.get_arguments() {
         if let Some(long) = argument.get_long() {
-            write!(out, " --{long}")?;
+            put_option(out, long)?;
         }
     }
     write!(out, "\" ;;\n")
@@ -90,8 +102,7 @@ fn put_pattern(out: &mut String, command: &Command, form: &str) -> Result<(), Al
 fn put_options(out: &mut String, arguments: &[Argument]) -> Result<(), AllocError> {
     write!(out, "    options=\"")?;
     for argument in arguments.iter().filter(|row| row.kind != Kind::Positional) {
-        let name = argument.name;
-        write!(out, " --{name}")?;
+        put_option(out, argument.name)?;
     }
     write!(out, "\"\n")
 }
@@ -99,8 +110,7 @@ fn put_options(out: &mut String, arguments: &[Argument]) -> Result<(), AllocErro
 /// Adds the names of choices.
 fn put_choice_names(out: &mut String, choices: &[Choice]) -> Result<(), AllocError> {
     for choice in choices {
-        let name = choice.name;
-        write!(out, " {name}")?;
+        put_word(out, choice.name)?;
     }
     write!(out, "\"\n")
 }
@@ -136,8 +146,7 @@ fn put_subcommands(out: &mut String, command: &Command) -> Result<(), AllocError
 fn put_subcommand_names(out: &mut String, subcommands: &[Subcommand]) -> Result<(), AllocError> {
     write!(out, "    words=\"")?;
     for subcommand in subcommands {
-        let name = subcommand.name;
-        write!(out, " {name}")?;
+        put_word(out, subcommand.name)?;
     }
     write!(out, "\"\n")
 }

@@ -100,7 +100,7 @@ impl Words {
     }
 
     /// The values of an argument, in their order.
-    pub fn texts(&self, argument: &Argument) -> &[String] {
+    fn values(&self, argument: &Argument) -> &[String] {
         for given in &self.given {
             if given.name == argument.name {
                 return given.values.as_slice();
@@ -110,35 +110,35 @@ impl Words {
     }
 
     /// The first value of an argument.
-    pub fn text(&self, argument: &Argument) -> Option<&str> {
-        Some(self.texts(argument).first()?.as_str())
+    fn value(&self, argument: &Argument) -> Option<&str> {
+        Some(self.values(argument).first()?.as_str())
     }
 
     /// Whether an argument is given.
     pub fn has(&self, argument: &Argument) -> bool {
-        !self.texts(argument).is_empty()
+        !self.values(argument).is_empty()
     }
 
-    /// The first value of an argument, owned.
-    pub fn owned(&self, alloc: Global, argument: &Argument) -> Result<Option<String>, AllocError> {
-        match self.text(argument) {
+    /// The first value of an argument, and `None` where it is not given.
+    pub fn text(&self, alloc: Global, argument: &Argument) -> Result<Option<String>, AllocError> {
+        match self.value(argument) {
             Some(text) => Ok(Some(String::from_str(alloc, text)?)),
             None => Ok(None),
         }
     }
 
-    /// The value of an argument that has to be there, owned; empty where it is not given, as parsing refuses.
-    pub fn path(&self, alloc: Global, argument: &Argument) -> Result<String, AllocError> {
-        String::from_str(alloc, self.text(argument).unwrap_or(""))
+    /// The value of an argument that has to be there; empty where it is not, which parsing refuses.
+    pub fn needed_text(&self, alloc: Global, argument: &Argument) -> Result<String, AllocError> {
+        String::from_str(alloc, self.value(argument).unwrap_or(""))
     }
 
-    /// All values of an argument, owned, in their order.
-    pub fn all(&self, alloc: Global, argument: &Argument) -> Result<Vec<String>, AllocError> {
-        let mut all = Vec::new(alloc);
-        for text in self.texts(argument) {
-            all.push(String::from_str(alloc, text.as_str())?)?;
+    /// All values of an argument, in their order.
+    pub fn texts(&self, alloc: Global, argument: &Argument) -> Result<Vec<String>, AllocError> {
+        let mut texts = Vec::new(alloc);
+        for value in self.values(argument) {
+            texts.push(String::from_str(alloc, value.as_str())?)?;
         }
-        Ok(all)
+        Ok(texts)
     }
 
     /// The number that an argument has, which lies within the table's limits, and `other` where it is not given. A value that
@@ -151,7 +151,7 @@ impl Words {
     ) -> Result<u32, WordsFault>
         ensures within { IfOk result (IsAllowedOr argument.now.value other) }
     {
-        let (Value::Number { least, most }, Some(found)) = (argument.value, self.text(argument))
+        let (Value::Number { least, most }, Some(found)) = (argument.value, self.value(argument))
         else {
             return Ok(other);
         };
@@ -170,7 +170,7 @@ impl Words {
         alloc: Global,
         argument: &Argument,
     ) -> Result<Option<&'static str>, WordsFault> {
-        let (Value::Choice(choices), Some(found)) = (argument.value, self.text(argument)) else {
+        let (Value::Choice(choices), Some(found)) = (argument.value, self.value(argument)) else {
             return Ok(None);
         };
         match chosen(choices, found) {
