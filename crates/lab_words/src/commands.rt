@@ -1,20 +1,21 @@
 //! All commands of the program, in groups.
 
-use crate::csv::CSV;
-use crate::draw::{DOT, IMAGE};
-use crate::explain::EXPLAIN;
-use crate::generate::GENERATE;
-use crate::import::IMPORT;
-use crate::info::INFO;
-use crate::init::INIT;
-use crate::page::PAGE;
-use crate::schedule::SCHEDULE;
-use crate::settle::SETTLE;
-use crate::watch::WATCH;
-use word_table::{Command, Group, Subcommand};
+use crate::csv::csv;
+use crate::draw::{dot, image};
+use crate::explain::explain;
+use crate::generate::generate;
+use crate::import::import;
+use crate::info::info;
+use crate::init::init;
+use crate::page::page;
+use crate::schedule::schedule;
+use crate::settle::settle;
+use crate::watch::watch;
+use std::alloc::Global;
+use word_table::{Command, Subcommand, WordsFault, parse};
 
 /// `why`, the words of which are those of one of the five commands.
-const WHY: Command = Command {
+static WHY: Command = Command {
     name: "why",
     aliases: &[],
     called: "unison why",
@@ -25,7 +26,7 @@ const WHY: Command = Command {
 };
 
 /// `completion` and the shells that it knows.
-pub const COMPLETION: Command = Command {
+static COMPLETION: Command = Command {
     name: "completion",
     aliases: &[],
     called: "unison completion",
@@ -41,7 +42,7 @@ pub const COMPLETION: Command = Command {
 };
 
 /// `manual`.
-pub const MANUAL: Command = Command {
+static MANUAL: Command = Command {
     name: "manual",
     aliases: &[],
     called: "unison manual",
@@ -50,26 +51,6 @@ pub const MANUAL: Command = Command {
     arguments: &[],
     subcommands: &[],
 };
-
-/// The commands of this program, in groups.
-pub const GROUPS: [Group; 4] = [
-    Group {
-        title: "The way of a run",
-        commands: &[WATCH, SETTLE, SCHEDULE, EXPLAIN],
-    },
-    Group {
-        title: "Pictures",
-        commands: &[PAGE, IMAGE, DOT],
-    },
-    Group {
-        title: "Networks",
-        commands: &[GENERATE, IMPORT, INIT, INFO, CSV],
-    },
-    Group {
-        title: "For people at work",
-        commands: &[WHY, COMPLETION, MANUAL],
-    },
-];
 
 /// What a command does.
 #[derive(Clone, Copy, Debug, PartialEq, Eq)]
@@ -91,33 +72,92 @@ pub enum Task {
     Why,
 }
 
-/// Each command with what it does.
-const TASKS: [(Command, Task); 15] = [
-    (COMPLETION, Task::Completion),
-    (CSV, Task::Csv),
-    (DOT, Task::Dot),
-    (EXPLAIN, Task::Explain),
-    (GENERATE, Task::Generate),
-    (IMAGE, Task::Image),
-    (IMPORT, Task::Import),
-    (INFO, Task::Info),
-    (INIT, Task::Init),
-    (MANUAL, Task::Manual),
-    (PAGE, Task::Page),
-    (SCHEDULE, Task::Schedule),
-    (SETTLE, Task::Settle),
-    (WATCH, Task::Watch),
-    (WHY, Task::Why),
+/// Commands that belong together.
+#[derive(Clone, Copy, Debug)]
+pub struct Group {
+    pub title: &'static str,
+    pub tasks: &'static [Task],
+}
+
+/// The commands of this program, in groups.
+pub const GROUPS: [Group; 4] = [
+    Group {
+        title: "The way of a run",
+        tasks: &[Task::Watch, Task::Settle, Task::Schedule, Task::Explain],
+    },
+    Group {
+        title: "Pictures",
+        tasks: &[Task::Page, Task::Image, Task::Dot],
+    },
+    Group {
+        title: "Networks",
+        tasks: &[
+            Task::Generate,
+            Task::Import,
+            Task::Init,
+            Task::Info,
+            Task::Csv,
+        ],
+    },
+    Group {
+        title: "For people at work",
+        tasks: &[Task::Why, Task::Completion, Task::Manual],
+    },
 ];
 
-impl Task {
-    /// What the command does that has this name or alias, where one has.
-    pub fn named(word: &str) -> Option<Task> {
-        for (command, task) in &TASKS {
-            if command.is_called(word) {
+impl Group {
+    /// The command of this group that has this name or alias, where one has.
+    fn named(&self, word: &str) -> Option<Task> {
+        for task in self.tasks {
+            if task.command().is_called(word) {
                 return Some(*task);
             }
         }
         None
     }
+}
+
+impl Task {
+    /// The table of the command.
+    pub fn command(self) -> &'static Command {
+        match self {
+            Task::Completion => &COMPLETION,
+            Task::Csv => csv(),
+            Task::Dot => dot(),
+            Task::Explain => explain(),
+            Task::Generate => generate(),
+            Task::Image => image(),
+            Task::Import => import(),
+            Task::Info => info(),
+            Task::Init => init(),
+            Task::Manual => &MANUAL,
+            Task::Page => page(),
+            Task::Schedule => schedule(),
+            Task::Settle => settle(),
+            Task::Watch => watch(),
+            Task::Why => &WHY,
+        }
+    }
+
+    /// What the command does that has this name or alias, where one has.
+    pub fn named(word: &str) -> Option<Task> {
+        for group in &GROUPS {
+            if let Some(task) = group.named(word) {
+                return Some(task);
+            }
+        }
+        None
+    }
+}
+
+/// Reads the words of `completion`, which name a shell: `Usage` where they name none that it knows.
+pub fn check_completion(alloc: Global, line: &[String]) -> Result<(), WordsFault> {
+    let _words = parse(alloc, &COMPLETION, line)?;
+    Ok(())
+}
+
+/// Reads the words of `manual`, which takes none: `Usage` where there are some.
+pub fn check_manual(alloc: Global, line: &[String]) -> Result<(), WordsFault> {
+    let _words = parse(alloc, &MANUAL, line)?;
+    Ok(())
 }

@@ -27,7 +27,7 @@ const NODE_FIELD: Argument = Argument {
 };
 
 /// `csv` and what it takes.
-pub const CSV: Command = Command {
+static CSV: Command = Command {
     name: "csv",
     aliases: &["names"],
     called: "unison csv",
@@ -36,6 +36,11 @@ pub const CSV: Command = Command {
     arguments: &[REPORT, NAMES, NODE_FIELD],
     subcommands: &[],
 };
+
+/// The table of `csv`.
+pub(crate) fn csv() -> &'static Command {
+    &CSV
+}
 
 /// What `csv` is asked for.
 #[derive(Debug, Drop)]
@@ -51,7 +56,7 @@ pub struct CsvRequest {
 impl CsvRequest {
     /// What the words ask for, the command's name first.
     pub fn parse(alloc: Global, line: &[String]) -> Result<CsvRequest, WordsFault> {
-        let words = parse(alloc, &CSV, line)?;
+        let words = parse(alloc, csv(), line)?;
         let report = words.needed_text(alloc, &REPORT)?;
         let names = words.needed_text(alloc, &NAMES)?;
         let node_fields = words.texts(alloc, &NODE_FIELD)?;

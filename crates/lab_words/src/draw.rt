@@ -28,7 +28,7 @@ const DRAWN_ROUND: Argument = Argument {
 };
 
 /// `image` and what it takes.
-pub const IMAGE: Command = Command {
+static IMAGE: Command = Command {
     name: "image",
     aliases: &[],
     called: "unison image",
@@ -38,8 +38,13 @@ pub const IMAGE: Command = Command {
     subcommands: &[],
 };
 
+/// The table of `image`.
+pub(crate) fn image() -> &'static Command {
+    &IMAGE
+}
+
 /// `dot` and what it takes.
-pub const DOT: Command = Command {
+static DOT: Command = Command {
     name: "dot",
     aliases: &[],
     called: "unison dot",
@@ -48,6 +53,11 @@ pub const DOT: Command = Command {
     arguments: &[PROGRAM, NETWORK, DRAWN_ROUND, FIELD, NAMES, FROM],
     subcommands: &[],
 };
+
+/// The table of `dot`.
+pub(crate) fn dot() -> &'static Command {
+    &DOT
+}
 
 /// What `image` is asked for.
 #[derive(Debug, Drop)]
@@ -122,7 +132,7 @@ impl ImageRequest {
     pub fn parse(alloc: Global, line: &[String]) -> Result<ImageRequest, WordsFault>
         ensures within { IfOk result (λ r. r.grid ≤ MOST_NODES) }
     {
-        let words = parse(alloc, &IMAGE, line)?;
+        let words = parse(alloc, image(), line)?;
         image_in(alloc, &words)
     }
 }
@@ -132,7 +142,7 @@ impl DotRequest {
     pub fn parse(alloc: Global, line: &[String]) -> Result<DotRequest, WordsFault>
         ensures within { IfOk result (λ r. r.round ≤ most_rounds) }
     {
-        let words = parse(alloc, &DOT, line)?;
+        let words = parse(alloc, dot(), line)?;
         dot_in(alloc, &words)
     }
 }

@@ -29,7 +29,7 @@ const COUNTS: Argument = Argument {
 };
 
 /// `explain` and what it takes.
-pub const EXPLAIN: Command = Command {
+static EXPLAIN: Command = Command {
     name: "explain",
     aliases: &["tell"],
     called: "unison explain",
@@ -38,6 +38,11 @@ pub const EXPLAIN: Command = Command {
     arguments: &[PROGRAM, NETWORK, SCHEDULE, STOP, COUNTS, FROM],
     subcommands: &[],
 };
+
+/// The table of `explain`.
+pub(crate) fn explain() -> &'static Command {
+    &EXPLAIN
+}
 
 /// What `explain` is asked for.
 #[derive(Debug, Drop)]
@@ -71,7 +76,7 @@ impl ExplainRequest {
     pub fn parse(alloc: Global, line: &[String]) -> Result<ExplainRequest, WordsFault>
         ensures within { IfOk result (λ r. r.stop ≤ most_rounds) }
     {
-        let words = parse(alloc, &EXPLAIN, line)?;
+        let words = parse(alloc, explain(), line)?;
         request_in(alloc, &words)
     }
 }

@@ -266,7 +266,7 @@ const SHAPES: [Subcommand; 14] = [
 ];
 
 /// `generate` and what it takes.
-pub const GENERATE: Command = Command {
+static GENERATE: Command = Command {
     name: "generate",
     aliases: &["make"],
     called: "unison generate",
@@ -275,6 +275,11 @@ pub const GENERATE: Command = Command {
     arguments: &[],
     subcommands: &SHAPES,
 };
+
+/// The table of `generate`.
+pub(crate) fn generate() -> &'static Command {
+    &GENERATE
+}
 
 /// Of which network the file is.
 #[derive(Clone, Copy, Debug, PartialEq, Eq)]
@@ -434,20 +439,27 @@ fn weights_in(alloc: Global, words: &Words) -> Result<Option<Weights>, WordsFaul
     }
 }
 
+/// What plain words ask for.
+fn request_in(alloc: Global, words: &Words) -> Result<GenerateRequest, WordsFault>
+    ensures ordered { IfOk result (λ r. IfSome r.weights (λ w. w.low ≤ w.high)) }
+{
+    let topology = topology_in(alloc, words)?;
+    let weights = weights_in(alloc, words)?;
+    let seed = words.number_or(alloc, &SEED, 0)?;
+    Ok(GenerateRequest {
+        topology,
+        weights,
+        seed,
+    })
+}
+
 impl GenerateRequest {
     /// What the words ask for, the command's name first. A number that is none, or above 4,294,967,295, is `Usage`; whether a
     /// network of that size is there, its making says.
     pub fn parse(alloc: Global, line: &[String]) -> Result<GenerateRequest, WordsFault>
         ensures ordered { IfOk result (λ r. IfSome r.weights (λ w. w.low ≤ w.high)) }
     {
-        let words = parse(alloc, &GENERATE, line)?;
-        let topology = topology_in(alloc, &words)?;
-        let weights = weights_in(alloc, &words)?;
-        let seed = words.number_or(alloc, &SEED, 0)?;
-        Ok(GenerateRequest {
-            topology,
-            weights,
-            seed,
-        })
+        let words = parse(alloc, generate(), line)?;
+        request_in(alloc, &words)
     }
 }

@@ -4,9 +4,7 @@ ghost use Rattle.std.specs.Prelude.{◌≤◌, IfOk, IfSome};
 use crate::arguments::{FILE, FILE_OPTION, FLAG, wrong};
 use link_merge::{Doubles, Kept, Loops, Mending};
 use std::alloc::Global;
-use word_table::{
-    Argument, Choice, Command, OPTION, Subcommand, Value, Words, WordsFault, parse,
-};
+use word_table::{Argument, Choice, Command, OPTION, Subcommand, Value, Words, WordsFault, parse};
 
 const TEXT: Argument = Argument {
     name: "file",
@@ -99,7 +97,7 @@ const FORMATS: [Subcommand; 3] = [
 ];
 
 /// `import` and what it takes.
-pub const IMPORT: Command = Command {
+static IMPORT: Command = Command {
     name: "import",
     aliases: &["take"],
     called: "unison import",
@@ -108,6 +106,11 @@ pub const IMPORT: Command = Command {
     arguments: &[],
     subcommands: &FORMATS,
 };
+
+/// The table of `import`.
+pub(crate) fn import() -> &'static Command {
+    &IMPORT
+}
 
 /// The format of a text that is taken in.
 #[derive(Clone, Copy, Debug, PartialEq, Eq)]
@@ -231,7 +234,7 @@ impl ImportRequest {
     pub fn parse(alloc: Global, line: &[String]) -> Result<ImportRequest, WordsFault>
         ensures positive { IfOk result (λ r. IfSome r.factor (λ factor. 1 ≤ factor)) }
     {
-        let words = parse(alloc, &IMPORT, line)?;
+        let words = parse(alloc, import(), line)?;
         request_in(alloc, &words)
     }
 }

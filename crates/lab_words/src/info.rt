@@ -5,7 +5,7 @@ use std::alloc::Global;
 use word_table::{Command, WordsFault, parse};
 
 /// `info` and what it takes.
-pub const INFO: Command = Command {
+static INFO: Command = Command {
     name: "info",
     aliases: &["show"],
     called: "unison info",
@@ -14,6 +14,11 @@ pub const INFO: Command = Command {
     arguments: &[NETWORK],
     subcommands: &[],
 };
+
+/// The table of `info`.
+pub(crate) fn info() -> &'static Command {
+    &INFO
+}
 
 /// What `info` is asked for.
 #[derive(Debug, Drop)]
@@ -25,7 +30,7 @@ pub struct InfoRequest {
 impl InfoRequest {
     /// What the words ask for, the command's name first.
     pub fn parse(alloc: Global, line: &[String]) -> Result<InfoRequest, WordsFault> {
-        let words = parse(alloc, &INFO, line)?;
+        let words = parse(alloc, info(), line)?;
         let network = words.needed_text(alloc, &NETWORK)?;
         Ok(InfoRequest { network })
     }

@@ -78,7 +78,7 @@ const PHASE: Argument = Argument {
 };
 
 /// `init` and what it takes.
-pub const INIT: Command = Command {
+static INIT: Command = Command {
     name: "init",
     aliases: &["open"],
     called: "unison init",
@@ -89,6 +89,11 @@ pub const INIT: Command = Command {
     ],
     subcommands: &[],
 };
+
+/// The table of `init`.
+pub(crate) fn init() -> &'static Command {
+    &INIT
+}
 
 /// A word of `--set FIELD=NODE:VALUE`.
 #[derive(Debug, Drop)]
@@ -298,7 +303,7 @@ impl InitRequest {
         ensures phase { IfOk result (λ r. IfSome r.phase (λ phase. phase ≤ 2)) }
         ensures width { IfOk result (λ r. (1 ≤ r.width) × (r.width ≤ MOST_NODES)) }
     {
-        let words = parse(alloc, &INIT, line)?;
+        let words = parse(alloc, init(), line)?;
         request_in(alloc, &words)
     }
 }

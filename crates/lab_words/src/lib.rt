@@ -16,7 +16,7 @@ mod settle;
 mod watch;
 
 pub use arguments::PlanPaths;
-pub use commands::{COMPLETION, GROUPS, MANUAL, Task};
+pub use commands::{GROUPS, Group, Task, check_completion, check_manual};
 pub use csv::CsvRequest;
 pub use draw::{DotRequest, ImageRequest};
 pub use explain::ExplainRequest;

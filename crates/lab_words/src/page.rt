@@ -46,7 +46,7 @@ const VIEWER: Argument = Argument {
 };
 
 /// `page` and what it takes.
-pub const PAGE: Command = Command {
+static PAGE: Command = Command {
     name: "page",
     aliases: &[],
     called: "unison page",
@@ -67,6 +67,11 @@ pub const PAGE: Command = Command {
     ],
     subcommands: &[],
 };
+
+/// The table of `page`.
+pub(crate) fn page() -> &'static Command {
+    &PAGE
+}
 
 /// The run that a page shows.
 #[derive(Debug, Drop)]
@@ -188,7 +193,7 @@ impl PageRequest {
         ensures run { IfOk result (λ r. IsRunWithin r.run) }
         ensures grid { IfOk result (λ r. r.view.grid ≤ MOST_NODES) }
     {
-        let words = parse(alloc, &PAGE, line)?;
+        let words = parse(alloc, page(), line)?;
         request_in(alloc, &words)
     }
 }

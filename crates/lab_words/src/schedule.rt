@@ -2,15 +2,11 @@
 ghost use Rattle.std.specs.Prelude.{◌≤◌, IfOk};
 ghost use Rattle.lab_words.specs.Requests.{AreWithin, IsScheduleWithin};
 
-use crate::arguments::{
-    FILE, FROM, NAMES, NETWORK, NUMBER, PROGRAM, PlanPaths, ROUND,
-};
+use crate::arguments::{FILE, FROM, NAMES, NETWORK, NUMBER, PROGRAM, PlanPaths, ROUND};
 use lockstep::MOST_ROUNDS;
 use std::alloc::{AllocError, Global};
 use unison_trace::MOST_STEPS;
-use word_table::{
-    Argument, Command, Kind, OPTION, Subcommand, Value, Words, WordsFault, parse,
-};
+use word_table::{Argument, Command, Kind, OPTION, Subcommand, Value, Words, WordsFault, parse};
 
 const STOP: Argument = Argument {
     name: "stop",
@@ -109,7 +105,7 @@ const MANNERS: [Subcommand; 6] = [
 ];
 
 /// `schedule` and what it takes.
-pub const SCHEDULE: Command = Command {
+static SCHEDULE: Command = Command {
     name: "schedule",
     aliases: &["steps"],
     called: "unison schedule",
@@ -118,6 +114,11 @@ pub const SCHEDULE: Command = Command {
     arguments: &[],
     subcommands: &MANNERS,
 };
+
+/// The table of `schedule`.
+pub(crate) fn schedule() -> &'static Command {
+    &SCHEDULE
+}
 
 /// In which manner steps are made.
 #[derive(Debug, Drop)]
@@ -246,7 +247,7 @@ impl ScheduleRequest {
     pub fn parse(alloc: Global, line: &[String]) -> Result<ScheduleRequest, WordsFault>
         ensures within { IfOk result IsScheduleWithin }
     {
-        let words = parse(alloc, &SCHEDULE, line)?;
+        let words = parse(alloc, schedule(), line)?;
         request_in(alloc, &words)
     }
 }

@@ -24,7 +24,7 @@ const REPORT: Argument = Argument {
 };
 
 /// `settle` and what it takes.
-pub const SETTLE: Command = Command {
+static SETTLE: Command = Command {
     name: "settle",
     aliases: &[],
     called: "unison settle",
@@ -33,6 +33,11 @@ pub const SETTLE: Command = Command {
     arguments: &[PROGRAM, NETWORK, LIMIT, REPORT, FROM],
     subcommands: &[],
 };
+
+/// The table of `settle`.
+pub(crate) fn settle() -> &'static Command {
+    &SETTLE
+}
 
 /// What `settle` is asked for.
 #[derive(Debug, Drop)]
@@ -62,7 +67,7 @@ impl SettleRequest {
     pub fn parse(alloc: Global, line: &[String]) -> Result<SettleRequest, WordsFault>
         ensures within { IfOk result (λ r. r.limit ≤ most_rounds) }
     {
-        let words = parse(alloc, &SETTLE, line)?;
+        let words = parse(alloc, settle(), line)?;
         request_in(alloc, &words)
     }
 }

@@ -40,7 +40,7 @@ const TABLE_NAMES: Argument = Argument {
 };
 
 /// `watch` and what it takes.
-pub const WATCH: Command = Command {
+static WATCH: Command = Command {
     name: "watch",
     aliases: &[],
     called: "unison watch",
@@ -59,6 +59,11 @@ pub const WATCH: Command = Command {
     ],
     subcommands: &[],
 };
+
+/// The table of `watch`.
+pub(crate) fn watch() -> &'static Command {
+    &WATCH
+}
 
 /// How rounds are shown.
 #[derive(Debug, Drop)]
@@ -120,7 +125,7 @@ fn request_in(alloc: Global, words: &Words) -> Result<WatchRequest, WordsFault> 
 impl WatchRequest {
     /// What the words ask for, the command's name first.
     pub fn parse(alloc: Global, line: &[String]) -> Result<WatchRequest, WordsFault> {
-        let words = parse(alloc, &WATCH, line)?;
+        let words = parse(alloc, watch(), line)?;
         request_in(alloc, &words)
     }
 }

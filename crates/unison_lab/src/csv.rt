@@ -61,7 +61,7 @@ fn no_csv(
     Ok(Ending::Usage(text))
 }
 
-/// The CSV that is asked for.
+/// The CSV of a table with names.
 fn csv_of(
     alloc: Global,
     table: &Table<'_>,
@@ -74,14 +74,24 @@ fn csv_of(
     }
 }
 
+/// The CSV of a report.
+fn csv_for(rt: &HostRuntime, asked: &CsvRequest, report: &Text) -> Result<Vec<u8>, Ending> {
+    let table = table_of(rt.alloc(), report)?;
+    let names = names_in(rt.alloc(), &text_at(rt, asked.names.as_str())?)?;
+    csv_of(rt.alloc(), &table, &names, asked)
+}
+
+/// The CSV that is asked for.
+fn text_for(rt: &HostRuntime, asked: &CsvRequest) -> Result<Vec<u8>, Ending> {
+    read_once(rt.alloc(), &[asked.report.as_str(), asked.names.as_str()])?;
+    let report = text_at(rt, asked.report.as_str())?;
+    csv_for(rt, asked, &report)
+}
+
 /// Prints a report as CSV. The status with which the program ends.
 pub(crate) fn print_csv(rt: &HostRuntime, words: &[String]) -> Result<u8, Ending> {
     let asked = CsvRequest::parse(rt.alloc(), words)?;
-    read_once(rt.alloc(), &[asked.report.as_str(), asked.names.as_str()])?;
-    let report = text_at(rt, asked.report.as_str())?;
-    let table = table_of(rt.alloc(), &report)?;
-    let names = names_in(rt.alloc(), &text_at(rt, asked.names.as_str())?)?;
-    let text = csv_of(rt.alloc(), &table, &names, &asked)?;
+    let text = text_for(rt, &asked)?;
     write_out(rt, &text)?;
     Ok(0)
 }

@@ -38,7 +38,12 @@ fn no_world(fault: OpenFault) -> Ending {
 }
 
 /// The steps, told.
-fn text_of(alloc: Global, plan: Plan, steps: &[Step], asked: &ExplainRequest) -> Result<Vec<u8>, Ending> {
+fn text_of(
+    alloc: Global,
+    plan: Plan,
+    steps: &[Step],
+    asked: &ExplainRequest,
+) -> Result<Vec<u8>, Ending> {
     let plan = Arc::new(alloc, plan)?;
     match told(alloc, plan, asked.stop, steps, asked.counts) {
         Ok(text) => Ok(text),

@@ -2,10 +2,10 @@
 
 use crate::ending::Ending;
 use crate::output::write_out;
-use lab_words::{COMPLETION, GROUPS, MANUAL};
+use lab_words::{GROUPS, Group, check_completion, check_manual};
 use std::alloc::{AllocError, Global};
 use unison_words::command;
-use word_table::{Group, completion, manual, parse};
+use word_table::{completion, manual};
 
 /// What the program is.
 const ABOUT: &str = "Synchronous programs on networks whose nodes move at their own pace";
@@ -22,7 +22,8 @@ fn put_command(out: &mut String, name: &str, about: &str) -> Result<(), AllocErr
 fn put_group(out: &mut String, group: &Group) -> Result<(), AllocError> {
     let title = group.title;
     write!(out, "\n{title}:\n")?;
-    for command in group.commands {
+    for task in group.tasks {
+        let command = task.command();
         put_command(out, command.name, command.about)?;
     }
     Ok(())
@@ -50,37 +51,80 @@ pub(crate) fn help_text(alloc: Global) -> Result<String, AllocError> {
     Ok(out)
 }
 
+/// Adds the names of a group's commands to the script.
+fn put_names(out: &mut String, group: &Group) -> Result<(), AllocError> {
+    for task in group.tasks {
+        completion::put_word(out, task.command().name)?;
+    }
+    Ok(())
+}
+
+/// Adds the names of all groups' commands to the script.
+fn put_all_names(out: &mut String) -> Result<(), AllocError> {
+    for group in &GROUPS {
+        put_names(out, group)?;
+    }
+    completion::put_names_end(out)
+}
+
+/// Adds what a group's commands take to the script.
+fn put_words(out: &mut String, group: &Group) -> Result<(), AllocError> {
+    for task in group.tasks {
+        completion::put_command(out, task.command())?;
+    }
+    Ok(())
+}
+
+/// Adds what all groups' commands take to the script.
+fn put_all_words(out: &mut String) -> Result<(), AllocError> {
+    for group in &GROUPS {
+        put_words(out, group)?;
+    }
+    completion::put_tail(out)
+}
+
 /// The script by which Bash completes the words.
 fn completion_text(alloc: Global) -> Result<String, AllocError> {
     let five = command(alloc)?;
     let mut out = String::new(alloc);
-    completion::put_names(&mut out, five.get_subcommands(), &GROUPS)?;
+    completion::put_head(&mut out, five.get_subcommands())?;
+    put_all_names(&mut out)?;
     completion::put_parsers(&mut out, five.get_subcommands())?;
-    completion::put_groups(&mut out, &GROUPS)?;
+    put_all_words(&mut out)?;
     Ok(out)
 }
 
 /// Prints the script by which Bash completes the words. The status with which the program ends.
 pub(crate) fn print_completion(rt: &HostRuntime, words: &[String]) -> Result<u8, Ending> {
-    let _ = parse(rt.alloc(), &COMPLETION, words)?;
+    check_completion(rt.alloc(), words)?;
     let text = completion_text(rt.alloc())?;
     write_out(rt, text.as_bytes())?;
     Ok(0)
 }
 
+/// Adds a group's commands to the page of the manual.
+fn put_pages(out: &mut String, group: &Group) -> Result<(), AllocError> {
+    manual::put_title(out, group.title)?;
+    for task in group.tasks {
+        manual::put_command(out, task.command())?;
+    }
+    Ok(())
+}
+
 /// The page of the manual.
 fn manual_text(alloc: Global) -> Result<String, AllocError> {
-    let five = command(alloc)?;
     let mut out = String::new(alloc);
     manual::put_head(&mut out, ABOUT)?;
-    manual::put_parsers(&mut out, FIVE, five.get_subcommands())?;
-    manual::put_groups(&mut out, &GROUPS)?;
+    manual::put_parsers(&mut out, FIVE, command(alloc)?.get_subcommands())?;
+    for group in &GROUPS {
+        put_pages(&mut out, group)?;
+    }
     Ok(out)
 }
 
 /// Prints the page of the manual. The status with which the program ends.
 pub(crate) fn print_manual(rt: &HostRuntime, words: &[String]) -> Result<u8, Ending> {
-    let _ = parse(rt.alloc(), &MANUAL, words)?;
+    check_manual(rt.alloc(), words)?;
     let text = manual_text(rt.alloc())?;
     write_out(rt, text.as_bytes())?;
     Ok(0)

@@ -55,26 +55,40 @@ fn keep_names(rt: &HostRuntime, asked: &ImportRequest, taken: &Taken) -> Result<
     }
 }
 
-/// Adds what was done to so many edges or weights, behind what was done to others.
-fn put_count(out: &mut String, count: usize, before: &str, after: &str) -> Result<(), AllocError> {
+/// Adds what was done to so many edges or weights, behind what was done to others: `merged 2 edges into an earlier one`.
+fn put_note(
+    out: &mut String,
+    done: &str,
+    count: usize,
+    thing: &str,
+    after: &str,
+) -> Result<(), AllocError> {
     if count == 0 {
         return Ok(());
     }
     let comma = if out.is_empty() { "" } else { ", " };
     let plural = if count == 1 { "" } else { "s" };
-    write!(out, "{comma}{before}{plural}{after}")
+    write!(out, "{comma}{done} {count} {thing}{plural}{after}")
 }
 
 /// How many edges were dropped or merged, and how many weights rounded; nothing where none were.
 fn notes_text(alloc: Global, taken: &Taken) -> Result<String, AllocError> {
-    let (dropped, merged, rounded) = (taken.dropped, taken.merged, taken.rounded);
-    let drops = format!(in alloc; "dropped {dropped} edge")?;
-    let merges = format!(in alloc; "merged {merged} edge")?;
-    let rounds = format!(in alloc; "rounded {rounded} weight")?;
     let mut out = String::new(alloc);
-    put_count(&mut out, dropped, drops.as_str(), " of a node with itself")?;
-    put_count(&mut out, merged, merges.as_str(), " into an earlier one")?;
-    put_count(&mut out, rounded, rounds.as_str(), "")?;
+    put_note(
+        &mut out,
+        "dropped",
+        taken.dropped,
+        "edge",
+        " of a node with itself",
+    )?;
+    put_note(
+        &mut out,
+        "merged",
+        taken.merged,
+        "edge",
+        " into an earlier one",
+    )?;
+    put_note(&mut out, "rounded", taken.rounded, "weight", "")?;
     Ok(out)
 }
 
@@ -86,15 +100,26 @@ fn tell_notes(rt: &HostRuntime, notes: &str) -> io::Result<()> {
     Ok(())
 }
 
+/// The network of the text that is asked for.
+fn taken_for(rt: &HostRuntime, asked: &ImportRequest) -> Result<Taken, Ending> {
+    let text = text_at(rt, asked.path.as_str())?;
+    taken_from(rt.alloc(), &text, asked)
+}
+
+/// Writes the names of the nodes, prints the network, and tells what was done to make it.
+fn put_taken(rt: &HostRuntime, asked: &ImportRequest, taken: &Taken) -> Result<(), Ending> {
+    let notes = notes_text(rt.alloc(), taken)?;
+    keep_names(rt, asked, taken)?;
+    write_out(rt, taken.network.as_slice())?;
+    let _ = tell_notes(rt, notes.as_str());
+    Ok(())
+}
+
 /// Prints the network of a text in another format, and writes the names of its nodes before. The status with which the
 /// program ends.
 pub(crate) fn import_network(rt: &HostRuntime, words: &[String]) -> Result<u8, Ending> {
     let asked = ImportRequest::parse(rt.alloc(), words)?;
-    let text = text_at(rt, asked.path.as_str())?;
-    let taken = taken_from(rt.alloc(), &text, &asked)?;
-    let notes = notes_text(rt.alloc(), &taken)?;
-    keep_names(rt, &asked, &taken)?;
-    write_out(rt, taken.network.as_slice())?;
-    let _ = tell_notes(rt, notes.as_str());
+    let taken = taken_for(rt, &asked)?;
+    put_taken(rt, &asked, &taken)?;
     Ok(0)
 }

@@ -150,20 +150,35 @@ fn paths_of<'a>(alloc: Global, asked: &'a InitRequest) -> Result<Vec<&'a str>, A
     Ok(paths)
 }
 
+/// The openings that the words ask for of a network of so many nodes, in the order in which they count.
+fn openings_for(rt: &HostRuntime, asked: &InitRequest, nodes: u32) -> Result<Vec<Opening>, Ending> {
+    let names = names_at(rt, &asked.names)?;
+    let mut openings = Vec::new(rt.alloc());
+    put_drawn(&mut openings, rt.alloc(), nodes, asked)?;
+    put_cells(&mut openings, rt, nodes, asked)?;
+    put_set(&mut openings, rt.alloc(), &names, asked.sets.as_slice())?;
+    Ok(openings)
+}
+
+/// The network file with these openings.
+fn opened(
+    alloc: Global,
+    file: &NetFile,
+    openings: &[Opening],
+    phase: Option<u8>,
+) -> Result<Vec<u8>, Ending> {
+    match opened_text(alloc, file, openings, phase) {
+        Ok(text) => Ok(text),
+        Err(fault) => Err(no_opening(alloc, fault)?),
+    }
+}
+
 /// The network file that the words ask for.
 fn text_for(rt: &HostRuntime, asked: &InitRequest) -> Result<Vec<u8>, Ending> {
     read_once(rt.alloc(), paths_of(rt.alloc(), asked)?.as_slice())?;
     let file = file_at(rt, asked.network.as_str())?;
-    let names = names_at(rt, &asked.names)?;
-    let mut openings = Vec::new(rt.alloc());
-    let nodes = file.network().nodes();
-    put_drawn(&mut openings, rt.alloc(), nodes, asked)?;
-    put_cells(&mut openings, rt, nodes, asked)?;
-    put_set(&mut openings, rt.alloc(), &names, asked.sets.as_slice())?;
-    match opened_text(rt.alloc(), &file, openings.as_slice(), asked.phase) {
-        Ok(text) => Ok(text),
-        Err(fault) => Err(no_opening(rt.alloc(), fault)?),
-    }
+    let openings = openings_for(rt, asked, file.network().nodes())?;
+    opened(rt.alloc(), &file, openings.as_slice(), asked.phase)
 }
 
 /// Prints the network with other opening values. The status with which the program ends.

@@ -1,6 +1,7 @@
 //! `page PROGRAM NETWORK`: an HTML page on which a run is stepped through.
 
 use crate::ending::Ending;
+use crate::explain::steps_at;
 use crate::fields::shown_fields;
 use crate::files::{Text, path_in, read_once, text_at};
 use crate::labels::labels_of;
@@ -9,7 +10,6 @@ use crate::output::write_out;
 use crate::page_size::{check_size, steps_too_many};
 use crate::plan_texts::plan_at;
 use crate::progress::Telling;
-use crate::explain::steps_at;
 use crate::watch::no_rounds;
 use lab_words::{PageRequest, PageRun};
 use lockstep::Plan;

@@ -16,8 +16,8 @@ use step_lists::{ListFault, Manner, listed, with_refused};
 use step_text::{StepTextFault, written};
 use unison_jobs::ServeFault;
 use unison_trace::{ReplayFault, write_schedule};
-use word_table::number;
 use unison_world::{OpenFault, Step};
+use word_table::number;
 
 /// The names by which nodes are called, as many as the network has nodes.
 fn names_for(

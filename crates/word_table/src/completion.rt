@@ -1,6 +1,6 @@
 //! A script by which Bash completes words: commands and their subcommands, options, choices, and else files.
 
-use crate::table::{Argument, Choice, Command, Group, Kind, Subcommand, Value};
+use crate::table::{Argument, Choice, Command, Kind, Subcommand, Value};
 use std::alloc::AllocError;
 
 /// What stands before the words of each command.
@@ -25,7 +25,7 @@ complete -o default -F _unison unison
 "#;
 
 /// Adds a word to those of a string, with a blank between two.
-fn put_word(out: &mut String, word: &str) -> Result<(), AllocError> {
+pub fn put_word(out: &mut String, word: &str) -> Result<(), AllocError> {
     if !out.as_str().ends_with('"') {
         out.push_str(" ")?;
     }
@@ -38,14 +38,6 @@ fn put_option(out: &mut String, name: &str) -> Result<(), AllocError> {
     out.push_str(name)
 }
 
-/// Adds the names of a group's commands.
-fn put_group_names(out: &mut String, commands: &[Command]) -> Result<(), AllocError> {
-    for command in commands {
-        put_word(out, command.name)?;
-    }
-    Ok(())
-}
-
 /// Adds the names of commands of `clap`.
 fn put_parser_names(out: &mut String, parsers: &[clap::Command<'_>]) -> Result<(), AllocError> {
     for parser in parsers {
@@ -54,18 +46,15 @@ fn put_parser_names(out: &mut String, parsers: &[clap::Command<'_>]) -> Result<(
     Ok(())
 }
 
-/// Adds the head of the script and the names of all commands: those of `clap`, then those of the table.
-pub fn put_names(
-    out: &mut String,
-    parsers: &[clap::Command<'_>],
-    groups: &[Group],
-) -> Result<(), AllocError> {
+/// Adds the head of the script and the names of commands of `clap`, behind which other names may be added by `put_word`.
+pub fn put_head(out: &mut String, parsers: &[clap::Command<'_>]) -> Result<(), AllocError> {
     write!(out, "{HEAD}  :) words=\"")?;
-    put_parser_names(out, parsers)?;
-    for group in groups {
-        put_group_names(out, group.commands)?;
-    }
-    write!(out, "\" ;;\n")
+    put_parser_names(out, parsers)
+}
+
+/// Adds the end of the names.
+pub fn put_names_end(out: &mut String) -> Result<(), AllocError> {
+    out.push_str("\" ;;\n")
 }
 
 /// Adds the options of a command of `clap`.
@@ -152,25 +141,14 @@ fn put_subcommand_names(out: &mut String, subcommands: &[Subcommand]) -> Result<
 }
 
 /// Adds what a command takes.
-fn put_command(out: &mut String, command: &Command) -> Result<(), AllocError> {
+pub fn put_command(out: &mut String, command: &Command) -> Result<(), AllocError> {
     put_subcommands(out, command)?;
     put_pattern(out, command, "*")?;
     put_subcommand_names(out, command.subcommands)?;
     put_arguments(out, command.arguments)
 }
 
-/// Adds what the commands of a group take.
-fn put_group(out: &mut String, group: &Group) -> Result<(), AllocError> {
-    for command in group.commands {
-        put_command(out, command)?;
-    }
-    Ok(())
-}
-
-/// Adds what the commands of the table take, and the end of the script.
-pub fn put_groups(out: &mut String, groups: &[Group]) -> Result<(), AllocError> {
-    for group in groups {
-        put_group(out, group)?;
-    }
+/// Adds the end of the script.
+pub fn put_tail(out: &mut String) -> Result<(), AllocError> {
     out.push_str(TAIL)
 }

@@ -10,5 +10,5 @@ mod words;
 
 pub use fault::WordsFault;
 pub use parser::parse;
-pub use table::{Argument, Choice, Command, Group, Kind, OPTION, Subcommand, Value};
+pub use table::{Argument, Choice, Command, Kind, OPTION, Subcommand, Value};
 pub use words::{Words, number};

@@ -1,6 +1,6 @@
 //! A page of the manual, for `man`: each command with its arguments.
 
-use crate::table::{Argument, Command, Group, Kind, Subcommand};
+use crate::table::{Argument, Command, Kind, Subcommand};
 use std::alloc::AllocError;
 
 /// Adds a character so that `man` shows it as it is.
@@ -35,17 +35,12 @@ pub fn put_head(out: &mut String, about: &str) -> Result<(), AllocError> {
 }
 
 /// Adds the title of a group of commands.
-fn put_title(out: &mut String, title: &str) -> Result<(), AllocError> {
+pub fn put_title(out: &mut String, title: &str) -> Result<(), AllocError> {
     write!(out, ".SH {title}\n")
 }
 
 /// Adds the name of a command, with that of a subcommand where there is one, and the line about it.
-fn put_name(
-    out: &mut String,
-    name: &str,
-    subcommand: &str,
-    about: &str,
-) -> Result<(), AllocError> {
+fn put_name(out: &mut String, name: &str, subcommand: &str, about: &str) -> Result<(), AllocError> {
     out.push_str(".SS ")?;
     put_text(out, name)?;
     if !subcommand.is_empty() {
@@ -111,29 +106,12 @@ fn put_subcommand(out: &mut String, name: &str, row: &Subcommand) -> Result<(), 
 }
 
 /// Adds a command with its subcommands.
-fn put_command(out: &mut String, command: &Command) -> Result<(), AllocError> {
+pub fn put_command(out: &mut String, command: &Command) -> Result<(), AllocError> {
     put_name(out, command.name, "", command.about)?;
     put_arguments(out, command.arguments)?;
     put_notes(out, command.notes)?;
     for subcommand in command.subcommands {
         put_subcommand(out, command.name, subcommand)?;
-    }
-    Ok(())
-}
-
-/// Adds a group of commands.
-fn put_group(out: &mut String, group: &Group) -> Result<(), AllocError> {
-    put_title(out, group.title)?;
-    for command in group.commands {
-        put_command(out, command)?;
-    }
-    Ok(())
-}
-
-/// Adds groups of commands.
-pub fn put_groups(out: &mut String, groups: &[Group]) -> Result<(), AllocError> {
-    for group in groups {
-        put_group(out, group)?;
     }
     Ok(())
 }
@@ -151,12 +129,7 @@ fn put_arg(out: &mut String, argument: &clap::Arg<'_>) -> Result<(), AllocError>
 
 /// Adds a command of `clap`.
 fn put_parser(out: &mut String, parser: &clap::Command<'_>) -> Result<(), AllocError> {
-    put_name(
-        out,
-        parser.get_name(),
-        "",
-        parser.get_about().unwrap_or(""),
-    )?;
+    put_name(out, parser.get_name(), "", parser.get_about().unwrap_or(""))?;
     for argument in parser.get_arguments() {
         put_arg(out, argument)?;
     }

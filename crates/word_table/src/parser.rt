@@ -170,11 +170,7 @@ fn arguments_of(name: &str, rows: &[Subcommand]) -> &'static [Argument] {
 }
 
 /// What the matches give of a command.
-fn words_in(
-    alloc: Global,
-    row: &Command,
-    matches: &ArgMatches<'_>,
-) -> Result<Words, AllocError> {
+fn words_in(alloc: Global, row: &Command, matches: &ArgMatches<'_>) -> Result<Words, AllocError> {
     let (name, found, arguments) = match matches.subcommand() {
         Some((name, inner)) => (name, inner, arguments_of(name, row.subcommands)),
         None => ("", matches, row.arguments),

@@ -85,14 +85,7 @@ impl Command {
     }
 }
 
-/// Commands that belong together.
-#[derive(Clone, Copy, Debug)]
-pub struct Group {
-    pub title: &'static str,
-    pub commands: &'static [Command],
-}
-
-/// The text of any option that may be left out, for tables to change.
+/// What an option that may be left out is made from.
 pub const OPTION: Argument = Argument {
     name: "",
     aliases: &[],

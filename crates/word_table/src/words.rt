@@ -87,9 +87,8 @@ fn no_choice(
 
 /// The choice that a word names, by its name or an alias.
 fn chosen(choices: &'static [Choice], word: &str) -> Option<&'static str> {
-    let choice = choices
-        .iter()
-        .find(|choice| choice.name == word || choice.aliases.iter().any(|alias| *alias == word))?;
+    let choice = choices.iter().find(|choice| choice.name == word
+        || choice.aliases.iter().any(|alias| *alias == word))?;
     Some(choice.name)
 }
 
@@ -157,9 +156,7 @@ impl Words {
         };
         match number(found, least, most) {
             Some(number) => Ok(number),
-            None => Err(WordsFault::told(no_number(
-                alloc, argument, least, most, found,
-            ))),
+            None => Err(WordsFault::told(no_number(alloc, argument, least, most, found))),
         }
     }
 
@@ -175,9 +172,7 @@ impl Words {
         };
         match chosen(choices, found) {
             Some(name) => Ok(Some(name)),
-            None => Err(WordsFault::told(no_choice(
-                alloc, argument, choices, found,
-            ))),
+            None => Err(WordsFault::told(no_choice(alloc, argument, choices, found))),
         }
     }
 }
