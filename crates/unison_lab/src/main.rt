@@ -2,7 +2,7 @@
 #![tactic(auto)]
 
 mod cells;
-mod csv;
+mod csv_text;
 mod ending;
 mod explain;
 mod fields;
@@ -27,7 +27,7 @@ mod usage;
 mod watch;
 mod why;
 
-use crate::csv::print_csv;
+use crate::csv_text::print_csv;
 use crate::ending::{Ending, refused};
 use crate::explain::explain_schedule;
 use crate::generate::generate_network;
