@@ -16,7 +16,13 @@ use link_net::NetRows;
 use row_code::Block;
 
 /// Gathers the aggregates of a batch's nodes over all their neighbours.
-fn gather(network: &NetRows<'_>, batch: &Batch, block: &mut Block<'_>, round: u32, from: &[Vec<u32>])
+fn gather(
+    network: &NetRows<'_>,
+    batch: &Batch,
+    block: &mut Block<'_>,
+    round: u32,
+    from: &[Vec<u32>],
+)
     requires batch { IsBatch network.now batch.now }
     requires network { AreRows network.now }
     requires fields { length from.now ≡ length block.old.rules.fields }

@@ -16,8 +16,6 @@ mod replays;
 mod rounds;
 mod settling;
 mod spelling;
-#[cfg(test)]
-mod tests;
 mod words;
 
 use crate::reasons::write_reason;

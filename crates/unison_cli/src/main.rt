@@ -1,11 +1,6 @@
 //! Unison: synchronous programs on networks whose nodes move at their own pace.
 #![tactic(auto)]
 
-#[cfg(test)]
-mod memory_tests;
-#[cfg(test)]
-mod word_tests;
-
 use lockstep::Tally;
 use std::alloc::AllocError;
 use std::fs::File;

@@ -40,7 +40,7 @@ const COMPARISONS: &str = "comparisons are written `==`, `!=`, `<`, `<=`, `>` an
 type Known = (&'static str, &'static str);
 
 /// Words that stand between two parts or before one.
-const WORDS: [Known; 20] = [
+const WORDS: [Known; 22] = [
     ("and", BOTH),
     ("or", EITHER),
     (
@@ -64,11 +64,11 @@ const WORDS: [Known; 20] = [
     ("avg", MEAN),
     (
         "argmin",
-        "the neighbour's number, of values below 65536: (least ((n.NAME * 65536) + n.id) % 65536); see argmin in docs/cookbook.md",
+        "which neighbour has the least value, if values are below 65536: (least ((n.NAME * 65536) + n.id) % 65536); see argmin in docs/cookbook.md",
     ),
     (
         "argmax",
-        "the neighbour's number, of values below 65536: (most ((n.NAME * 65536) + n.id) % 65536); see argmin in docs/cookbook.md",
+        "which neighbour has the greatest value, if values are below 65536: (most ((n.NAME * 65536) + n.id) % 65536); see argmin in docs/cookbook.md",
     ),
     ("exists", "the word is `any`, as in: any n.NAME"),
     ("forall", "the word is `all`, as in: all n.NAME"),
@@ -76,6 +76,8 @@ const WORDS: [Known; 20] = [
         "weight",
         "the weight of the link to a neighbour is n.weight, in an aggregate, as in: total n.weight",
     ),
+    ("random", RANDOM),
+    ("rand", RANDOM),
 ];
 
 /// Words that stand for a value.

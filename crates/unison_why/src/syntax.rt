@@ -227,7 +227,7 @@ fn call_hint(alloc: Global, around: &Around) -> Result<Option<String>, AllocErro
     };
     let calls = is_called(around.found);
     let is_strange = keyword(around.before).is_none() && !around.follows_field;
-    match word_hint(word).or(value_hint(word)) {
+    match word_hint(word) {
         Some(text) if calls || is_strange && begins_expression(found) => Ok(Some(String::from_str(
             alloc, text,
         )?)),

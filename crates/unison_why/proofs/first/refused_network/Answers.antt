@@ -1,4 +1,3 @@
-use Rattle.std.proofs.Common.{◌≡◌}
 use Rattle.link_net.specs.Reading.{reading_of}
 use Rattle.unison_why.proofs.Causes.{refused_by}
 use Rattle.unison_why.proofs.first.refused_network.Goals as goal

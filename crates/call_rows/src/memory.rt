@@ -1,0 +1,189 @@
+//! Turns and steps of worlds, which ask for no memory, with each request for memory refused that comes before them.
+//!
+//! A test whose name has `memory_is_refused` is run by `.ci/refuse_memory` with its first, second, .. request refused,
+//! and by the gate with ample memory. It prints `answer` where it has the answer, which it has compared, and `memory`
+//! where a call answered want of memory. Anything else fails the test; so does `memory` where nothing was refused.
+
+use fixtures::networks::{PAIR, PAIR_AT_TWO};
+use fixtures::programs::SWAP;
+use fixtures::{NoProgram, NoWorld, Refusal, first_stray, read, shared_plan, write};
+use link_net::NetFault;
+use lockstep::{Config, Plan, PlanFault, RoundFault};
+use phase_register::Phase;
+use rule_check::CheckFault;
+use rule_lang::LangFault;
+use std::alloc::{AllocError, AllocFailed, Global};
+use std::process::Abort;
+use std::sync::Arc;
+use std::test::Fail;
+use unison_world::{Answer, FinishFault, OpenFault, Step, TurnAnswer, World};
+
+/// Why there is no answer: the fault of the first call that refused.
+#[derive(Clone, Copy, Debug, PartialEq, Eq)]
+enum Stopped {
+    World(NoWorld),
+    Finish(FinishFault),
+    Memory,
+}
+
+impl From<NoWorld> for Stopped {
+    fn from(refusal: NoWorld) -> Stopped {
+        Stopped::World(refusal)
+    }
+}
+
+impl From<OpenFault> for Stopped {
+    fn from(fault: OpenFault) -> Stopped {
+        Stopped::World(NoWorld::Open(fault))
+    }
+}
+
+impl From<FinishFault> for Stopped {
+    fn from(fault: FinishFault) -> Stopped {
+        Stopped::Finish(fault)
+    }
+}
+
+impl From<AllocError> for Stopped {
+    fn from(_error: AllocError) -> Stopped {
+        Stopped::Memory
+    }
+}
+
+impl<T: Drop> From<AllocFailed<T>> for Stopped {
+    fn from(_error: AllocFailed<T>) -> Stopped {
+        Stopped::Memory
+    }
+}
+
+/// Whether the call wanted memory.
+fn is_memory(stopped: Stopped) -> bool {
+    match stopped {
+        Stopped::World(NoWorld::Plan(refusal)) => is_memory_of_texts(refusal),
+        Stopped::World(NoWorld::Open(fault)) => fault == OpenFault::Memory,
+        Stopped::World(NoWorld::Memory) => true,
+        Stopped::Finish(fault) => fault == FinishFault::Memory,
+        Stopped::Memory => true,
+    }
+}
+
+/// Whether a call between the texts and a plan wanted memory.
+fn is_memory_of_texts(refusal: Refusal) -> bool {
+    match refusal {
+        Refusal::Program(NoProgram::Text(fault)) => fault == LangFault::Memory,
+        Refusal::Program(NoProgram::Check(fault)) => fault == CheckFault::Memory,
+        Refusal::Net(fault) => fault == NetFault::Memory,
+        Refusal::Opening(fault) => fault == PlanFault::Memory,
+        Refusal::Round(fault) => fault == RoundFault::Memory,
+        Refusal::Shape => false,
+        Refusal::Memory => true,
+    }
+}
+
+/// Prints what was found: the answer, which is compared, or want of memory. Any other fault fails the test.
+fn tell(rt: &impl Print, found: Result<(), Stopped>) -> Result<(), Fail> {
+    match found {
+        Ok(()) => println!(rt; "answer")?,
+        Err(stopped) if is_memory(stopped) => println!(rt; "memory")?,
+        Err(stopped) => return Err(Fail::new(format_args!("{stopped:?}"))),
+    }
+    Ok(())
+}
+
+/// Asserts where the nodes of a world stand.
+fn assert_nodes(rt: &impl Abort, world: &World, wanted: &[(u32, u32)]) {
+    assert_eq!(rt; first_stray(world, wanted), None, "{wanted:?}");
+}
+
+/// Asserts what a world answers to these steps, in their order.
+fn assert_steps(rt: &impl Abort, world: &mut World, steps: &[(Step, Answer)]) {
+    for (step, want) in steps {
+        assert_eq!(rt; world.ask(*step), *want, "asked {step:?}");
+        assert_eq!(rt; world.step(*step), *want, "{step:?}");
+    }
+}
+
+/// Asserts what a world answers to turns of these nodes, in their order.
+fn assert_turns(rt: &impl Abort, world: &mut World, turns: &[(u32, TurnAnswer)]) {
+    for (node, want) in turns {
+        assert_eq!(rt; world.turn(*node), *want, "turn of {node}");
+    }
+}
+
+/// A world of the program, and its plan.
+fn opened(alloc: Global, network: &str, stop: u32) -> Result<(World, Arc<Plan>), Stopped> {
+    let plan = shared_plan(alloc, SWAP, network)?;
+    let world = World::new(alloc, Arc::try_clone(&plan)?, stop)?;
+    Ok((world, plan))
+}
+
+/// Turns of both nodes to the stop.
+fn turns_to_the_stop(rt: &impl Abort, world: &mut World) {
+    let turns = [
+        (0, TurnAnswer::Moved),
+        (0, TurnAnswer::Behind),
+        (1, TurnAnswer::Moved),
+        (1, TurnAnswer::Moved),
+        (1, TurnAnswer::Behind),
+        (0, TurnAnswer::Moved),
+        (0, TurnAnswer::Moved),
+        (0, TurnAnswer::Stopped),
+        (2, TurnAnswer::NoNode),
+    ];
+    assert_turns(rt, world, &turns);
+    assert_nodes(rt, world, &[(3, 7), (2, 7)]);
+    assert_turns(rt, world, &[(1, TurnAnswer::Moved)]);
+}
+
+/// Asserts the configuration at the stop.
+fn assert_stop(rt: &impl Abort, config: &Config) {
+    assert_eq!(rt; config.rounds(), 3);
+    for (node, want) in &[(0, Some(7)), (1, Some(5)), (2, None)] {
+        let word = config.state(*node).map(|state| state.words[0]);
+        assert_eq!(rt; word, *want, "node {node}");
+    }
+}
+
+/// Turns to the stop, and the configuration there.
+fn turns_and_finish(rt: &impl Abort, alloc: Global) -> Result<(), Stopped> {
+    let (mut world, plan) = opened(alloc, PAIR, 3)?;
+    turns_to_the_stop(rt, &mut world);
+    let config = world.finish(alloc, &plan, 3)?;
+    assert_stop(rt, &config);
+    Ok(())
+}
+
+#[test]
+fn turns_where_memory_is_refused(rt: HostRuntime) -> Result<(), Fail> {
+    tell(&rt, turns_and_finish(&rt, rt.alloc()))
+}
+
+/// Three rounds of a world, which is open.
+fn three_rounds(rt: &impl Abort, world: &mut World) {
+    let steps = [
+        (read(0, 0), Answer::Taken),
+        (write(0), Answer::Moved),
+        (read(1, 0), Answer::Taken),
+        (write(1), Answer::Moved),
+    ];
+    for wanted in &[[(1, 7), (1, 5)], [(2, 5), (2, 7)], [(3, 7), (3, 5)]] {
+        assert_steps(rt, world, &steps);
+        assert_nodes(rt, world, wanted);
+    }
+    assert_eq!(rt; world.phase(0), Phase::from_number(2));
+    assert_eq!(rt; world.phase(1), Phase::from_number(2));
+}
+
+/// The steps of a world that is open ask for no memory. The line that is printed before them says so to
+/// `.ci/refuse_memory`, which then fails this test where any request comes after it.
+#[test]
+fn open_world_where_memory_is_refused(rt: HostRuntime) -> Result<(), Fail> {
+    match opened(rt.alloc(), PAIR_AT_TWO, 10) {
+        Ok((mut world, _plan)) => {
+            println!(rt; "no request from here on")?;
+            three_rounds(&rt, &mut world);
+            tell(&rt, Ok(()))
+        }
+        Err(stopped) => tell(&rt, Err(stopped)),
+    }
+}

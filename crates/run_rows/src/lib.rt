@@ -1,5 +1,0 @@
-//! Worked rows of runs by workers, with values from outside the code.
-#![tactic(auto)]
-
-#[cfg(test)]
-mod workers;

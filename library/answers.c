@@ -1,0 +1,191 @@
+/* What each call answers, what it writes and what it leaves alone: rows worked out by hand, on a path of three nodes. Prints a line for each
+ * row that is wrong, and `N passed, M failed` last. */
+
+#include "unison.h"
+#include <stdio.h>
+#include <string.h>
+
+#define FAR 4294967295u
+#define TEXT(text) (const uint8_t *)(text), strlen(text)
+
+/* The path 0 - 1 - 2, with node 0 as the source. */
+static const char path[] = "nodes = 3\nlinks = [[0, 1], [1, 2]]\n[set]\ndist = [[0, 0]]\n";
+/* Each node learns how many links away the nearest source is. */
+static const char distance[] = "field dist = 4294967295; next dist = (dist min least (n.dist + 1));";
+/* Each node goes from 0 to 1 and back. */
+static const char blink[] = "field s = 0; next s = (1 - s);";
+/* The states after round 5, from which rounds go on. */
+static const char five[] = "round 5\n0 dist=7\n1 dist=3\n2 dist=9\n";
+/* Node 1 reads both its neighbours, and moves. */
+static const char middle[] = "read 1 0\nread 1 1\nwrite 1\n";
+static const char loose[] = "nodes = 2\nlinks = [[0, 0]]\n";
+
+static int passed, failed;
+
+static void is(const char *what, int well) {
+    if (well) passed++;
+    else failed++, printf("library: %s: FAILED\n", what);
+}
+
+/* Whether words are the wanted ones. */
+static int are(const uint32_t *words, const uint32_t *wanted, size_t count) { return memcmp(words, wanted, 4 * count) == 0; }
+
+static void spelling(void) {
+    char text[80];
+    size_t len = 9;
+    memset(text, '.', 80);
+    is("check, a fault", unison_check(TEXT("field"), (uint8_t *)text, 80, &len) == 18 && len == 9);
+    is("check, too little room", unison_check(TEXT(distance), (uint8_t *)text, 12, &len) == 2 && len == 68);
+    is("check, too little room: nothing is written", strspn(text, ".") >= 80);
+    is("check", unison_check(TEXT(distance), (uint8_t *)text, 80, &len) == 0 && len == 68);
+    is("check, the text and what stands behind it",
+       memcmp(text, "field dist = 4294967295;\nnext dist = (dist min least (n.dist + 1));\n............", 80) == 0);
+}
+
+static void rounds(void) {
+    uint32_t words[4] = {9, 9, 9, 9}, nodes = 7, fields = 7, answer;
+    answer = unison_lockstep(TEXT(distance), TEXT(path), TEXT(""), 2, words, 2, &nodes, &fields);
+    is("lockstep, too little room", answer == 2 && nodes == 3 && fields == 1 && are(words, (uint32_t[]){9, 9, 9, 9}, 4));
+    answer = unison_lockstep(TEXT(distance), TEXT(path), TEXT(""), 2, words, 4, &nodes, &fields);
+    is("lockstep", answer == 0 && nodes == 3 && fields == 1 && are(words, (uint32_t[]){0, 1, 2, 9}, 4));
+}
+
+static void rounds_from_a_report(void) {
+    uint32_t words[3] = {9, 9, 9}, nodes = 7, fields = 7, answer;
+    answer = unison_lockstep(TEXT(distance), TEXT(path), TEXT(five), 6, words, 3, &nodes, &fields);
+    is("lockstep from a report", answer == 0 && nodes == 3 && fields == 1 && are(words, (uint32_t[]){4, 3, 4}, 3));
+    nodes = fields = 7;
+    answer = unison_lockstep(TEXT(distance), TEXT(path), TEXT(five), 4, words, 3, &nodes, &fields);
+    is("lockstep below the report", answer == 81 && nodes == 7 && fields == 7);
+}
+
+static void watched(void) {
+    const uint32_t ends[] = {0, 2}, twice[] = {2, 2}, whole[] = {0, FAR, FAR, 0, 1, 2, 9};
+    uint32_t words[7] = {9, 9, 9, 9, 9, 9, 9}, nodes = 7, fields = 7, answer;
+    answer = unison_watch(TEXT(distance), TEXT(path), TEXT(""), ends, 2, words, 5, &nodes, &fields);
+    is("watch, too little room", answer == 2 && nodes == 3 && fields == 1 && are(words, (uint32_t[]){9, 9, 9, 9, 9, 9, 9}, 7));
+    answer = unison_watch(TEXT(distance), TEXT(path), TEXT(""), ends, 2, words, 7, &nodes, &fields);
+    is("watch", answer == 0 && nodes == 3 && fields == 1 && are(words, whole, 7));
+    nodes = fields = 7;
+    answer = unison_watch(TEXT(distance), TEXT(path), TEXT(""), twice, 2, words, 7, &nodes, &fields);
+    is("watch, rounds that do not rise", answer == 4 && nodes == 7 && fields == 7);
+    answer = unison_watch(TEXT(distance), TEXT(path), TEXT(""), ends, 0, words, 7, &nodes, &fields);
+    is("watch, no rounds", answer == 0 && nodes == 3 && fields == 1 && are(words, whole, 7));
+}
+
+/* What becomes of a program's rounds is the wanted answer; the three numbers are 9 where they are not set. */
+static void settles(const char *what, const char *program, const char *network, uint32_t limit, const uint32_t wanted[4]) {
+    uint32_t told[4] = {0, 9, 9, 9};
+    told[0] = unison_settle(TEXT(program), TEXT(network), TEXT(""), limit, &told[1], &told[2], &told[3]);
+    is(what, are(told, wanted, 4));
+}
+
+static void settling(void) {
+    const char bare[] = "nodes = 3\nlinks = [[0, 1], [1, 2]]\n", clock[] = "field s = 0; next s = round;";
+    settles("settle", distance, path, 100, (uint32_t[]){0, 1, 2, 0});
+    settles("settle, states that come again", blink, bare, 100, (uint32_t[]){0, 2, 0, 2});
+    settles("settle, up to a limit", distance, path, 1, (uint32_t[]){0, 3, 1, 0});
+    settles("settle, a program that reads the round", clock, bare, 100, (uint32_t[]){128, 9, 9, 9});
+    settles("settle, a limit that is too large", blink, bare, 1000000001, (uint32_t[]){129, 9, 9, 9});
+}
+
+static void replayed(void) {
+    char report[64];
+    const uint32_t nines[] = {9, 9, 9, 9};
+    uint32_t counts[4] = {9, 9, 9, 9}, words[4] = {9, 9, 9, 9}, nodes = 7, fields = 7, answer;
+    size_t len = 7;
+    memset(report, '.', 64);
+    answer = unison_replay(TEXT(distance), TEXT(path), TEXT(""), TEXT(middle), 2, (uint8_t *)report, 64, &len, counts, 2, words, 4, &nodes, &fields);
+    is("replay, too little room", answer == 2 && len == 60 && nodes == 3 && fields == 1);
+    is("replay, too little room: nothing is written", strspn(report, ".") >= 64 && are(counts, nines, 4) && are(words, nines, 4));
+    answer = unison_replay(TEXT(distance), TEXT(path), TEXT(""), TEXT(middle), 2, (uint8_t *)report, 64, &len, counts, 4, words, 4, &nodes, &fields);
+    is("replay", answer == 0 && len == 60 && nodes == 3 && fields == 1);
+    is("replay, the report", memcmp(report, "0 moves 0 dist=0\n1 moves 1 dist=1\n2 moves 0 dist=4294967295\n....", 64) == 0);
+    is("replay, counts and words", are(counts, (uint32_t[]){0, 1, 0, 9}, 4) && are(words, (uint32_t[]){0, 1, FAR, 9}, 4));
+}
+
+static void told(void) {
+    const char program[] = "field dist = 4294967295;\nnext dist = (dist min least (n.dist + 1;\n";
+    const char whole[] = "program:2:40: program Syntax: expected `)`, found `;`\n  2 | next dist = (dist min least (n.dist + 1;\n"
+                         "    |                                        ^\n  an operator stands between two parts in brackets: (A + B)\n";
+    char text[210];
+    uint32_t fault = 9;
+    size_t len = 9, wanted = strlen(whole);
+    memset(text, '.', 210);
+    is("why, no such job", unison_why(4, TEXT(program), TEXT(path), TEXT(""), TEXT(""), 0, &fault, (uint8_t *)text, 210, &len) == 5 && fault == 9 && len == 9);
+    is("why, too little room", unison_why(1, TEXT(program), TEXT(path), TEXT(""), TEXT(""), 0, &fault, (uint8_t *)text, 9, &len) == 2 && fault == 9 && len == wanted);
+    is("why, too little room: nothing is written", strspn(text, ".") >= 210);
+    is("why", unison_why(1, TEXT(program), TEXT(path), TEXT(""), TEXT(""), 0, &fault, (uint8_t *)text, 210, &len) == 0 && fault == 18 && len == wanted);
+    is("why, the text and what stands behind it", memcmp(text, whole, wanted) == 0 && text[wanted] == '.');
+    memset(text, '.', 210);
+    is("why, nothing is wrong", unison_why(2, TEXT(distance), TEXT(path), TEXT(""), TEXT(""), 2, &fault, (uint8_t *)text, 20, &len) == 0 && fault == 0 && len == 17);
+    is("why, that nothing is wrong", memcmp(text, "nothing is wrong\n...", 20) == 0);
+}
+
+/* The first fault that is told of a job, with ample room. */
+static void first(const char *what, uint32_t job, const char *program, const char *network, const char *from, const char *schedule,
+                  uint32_t number, uint32_t wanted) {
+    uint8_t text[800];
+    uint32_t fault = 9;
+    size_t len = 9;
+    uint32_t answer = unison_why(job, TEXT(program), TEXT(network), TEXT(from), TEXT(schedule), number, &fault, text, 800, &len);
+    is(what, answer == 0 && fault == wanted);
+}
+
+static void told_faults(void) {
+    first("why, a program that breaks off", 2, "field", path, "", "", 2, 18);
+    first("why, a link of a node with itself", 2, distance, loose, "", "", 2, 53);
+    first("why, a field that the program does not have", 2, blink, path, "", "", 2, 64);
+    first("why, a round that is too large", 2, distance, path, "", "", 1000000001, 80);
+    first("why, a round below the report", 2, distance, path, five, "", 4, 81);
+    first("why, the round of the report", 2, distance, path, five, "", 5, 0);
+    first("why, a report that breaks off", 2, distance, path, "round 5\n", "", 9, 112);
+    first("why, a check reads the program alone", 1, distance, loose, "", "", 2, 0);
+    first("why, a step that is none", 3, distance, path, "", "raed 0 0\n", 2, 96);
+    first("why, a stop that is too large", 3, distance, path, "", "", 1000000001, 98);
+    first("why, a stop below the report", 3, distance, path, five, middle, 4, 99);
+    first("why, a stop above the report", 3, distance, path, five, middle, 6, 0);
+    first("why, rounds read no schedule", 2, distance, path, "", "raed 0 0\n", 2, 0);
+}
+
+/* The answer to a replay, with no room. */
+static void replay_is(const char *what, const char *from, const char *schedule, uint32_t stop, uint32_t wanted) {
+    uint8_t report;
+    uint32_t counts, words, nodes, fields;
+    size_t len;
+    is(what, unison_replay(TEXT(distance), TEXT(path), TEXT(from), TEXT(schedule), stop, &report, 0, &len, &counts, 0, &words, 0, &nodes, &fields) == wanted);
+}
+
+/* The answer to a round, with no room. */
+static void round_is(const char *what, const char *program, const char *network, uint32_t round, uint32_t wanted) {
+    uint32_t words, nodes, fields;
+    is(what, unison_lockstep(TEXT(program), TEXT(network), TEXT(""), round, &words, 0, &nodes, &fields) == wanted);
+}
+
+static void faults(void) {
+    replay_is("replay, no room", "", "", 2, 2);
+    replay_is("replay, a step that is none", "", "raed 0 0\n", 2, 96);
+    replay_is("replay, a stop that is too large", "", "", 1000000001, 98);
+    replay_is("replay, a stop below the report", five, "", 4, 99);
+    replay_is("replay, a report that breaks off", "round 5\n", "", 9, 112);
+    round_is("lockstep, a program that breaks off", "field", path, 2, 18);
+    round_is("lockstep, a rule for no field", "field s = 0; next t = s;", path, 2, 35);
+    round_is("lockstep, a network that breaks off", distance, "nodes = ", 2, 48);
+    round_is("lockstep, a link of a node with itself", distance, loose, 2, 53);
+    round_is("lockstep, a field that the program does not have", blink, path, 2, 64);
+    round_is("lockstep, a round that is too large", distance, path, 1000000001, 80);
+}
+
+int main(void) {
+    spelling();
+    rounds();
+    rounds_from_a_report();
+    watched();
+    settling();
+    replayed();
+    told();
+    told_faults();
+    faults();
+    printf("%d passed, %d failed\n", passed, failed);
+    return failed != 0;
+}
