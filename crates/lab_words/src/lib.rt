@@ -1,33 +1,30 @@
-//! The words of the commands for networks, of those that watch rounds and make and tell steps, and of those that draw.
+//! The words of the commands beside the five: a table of each, and what words ask for.
 #![tactic(auto)]
 
-mod dot;
-mod image;
-mod make;
-mod names;
-mod open;
+mod arguments;
+mod commands;
+mod csv;
+mod draw;
+mod explain;
+mod generate;
+mod import;
+mod info;
+mod init;
 mod page;
-mod parts;
-mod plan_paths;
+mod schedule;
 mod settle;
-mod show;
-mod steps;
-mod take;
-mod tell;
 mod watch;
-mod weights;
 
-pub use dot::{Drawing, dot_command, drawing_of};
-pub use image::{Picturing, image_command, picturing_of};
-pub use make::{Asked, Making, make_command, making_of};
-pub use names::{Naming, names_command, naming_of};
-pub use open::{CellsWord, LotWord, Openings, SetWord, open_command, openings_of};
-pub use page::{PageRun, PageView, Paging, page_command, paging_of};
-pub use plan_paths::PlanPaths;
-pub use settle::{Settlement, settle_command, settlement_of};
-pub use show::{show_command, shown_path};
-pub use steps::{Limits, Listing, StepsAsked, StepsManner, Writing, steps_command, steps_of};
-pub use take::{Format, Taking, take_command, taking_of};
-pub use tell::{Telling, tell_command, telling_of};
-pub use watch::{View, Watching, watch_command, watching_of};
-pub use weights::Weights;
+pub use arguments::PlanPaths;
+pub use commands::{GROUPS, Group, Task, check_completion, check_manual};
+pub use csv::CsvRequest;
+pub use draw::{DotRequest, ImageRequest};
+pub use explain::ExplainRequest;
+pub use generate::{GenerateRequest, Topology, Weights};
+pub use import::{Format, ImportRequest};
+pub use info::InfoRequest;
+pub use init::{CellsWord, InitRequest, LotWord, SetWord};
+pub use page::{PageRequest, PageRun, PageView};
+pub use schedule::{Limits, Listing, ScheduleRequest, StepsManner, Writing};
+pub use settle::SettleRequest;
+pub use watch::{View, WatchRequest};

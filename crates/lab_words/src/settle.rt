@@ -1,15 +1,47 @@
-//! The words of `settle`: a plan, and up to which round it is looked.
+//! `settle`: from which round on nothing changes, or all states come again.
+ghost use Rattle.std.specs.Prelude.{◌≤◌, IfOk};
+ghost use Rattle.lockstep.specs.Configs.{most_rounds};
 
-use crate::parts::{flag, option};
-use crate::plan_paths::{PlanPaths, number_or, paths_in, with_from, with_texts};
-use clap::{ArgMatches, Command};
-use lockstep::MOST_ROUNDS;
-use std::alloc::{AllocError, Global};
-use unison_words::{UsageFault, matches_of};
+use crate::arguments::{FLAG, FROM, NETWORK, PROGRAM, PlanPaths, ROUND};
+use std::alloc::Global;
+use word_table::{Argument, Command, OPTION, Words, WordsFault, parse};
+
+/// The limit where none is given.
+const DEFAULT_LIMIT: u32 = 1_000_000;
+
+const LIMIT: Argument = Argument {
+    name: "limit",
+    value: ROUND,
+    value_name: "T",
+    help: "Look at the rounds up to T: 0 to 1000000000, and 1000000 where it is left out; up to twice as many are computed",
+    ..OPTION
+};
+
+const REPORT: Argument = Argument {
+    name: "report",
+    help: "Print the report of round R, too",
+    ..FLAG
+};
+
+/// `settle` and what it takes.
+static SETTLE: Command = Command {
+    name: "settle",
+    aliases: &[],
+    called: "unison settle",
+    about: "Tell from which round on nothing changes, or all states come again",
+    notes: "Prints `settles R` where nothing changes after round R, the first such one; `repeats R P` where from round R on all states come again every P rounds, both the least; `open T` where neither is so up to round T.\nAn example: unison settle examples/distance.rules examples/path.toml --report\n",
+    arguments: &[PROGRAM, NETWORK, LIMIT, REPORT, FROM],
+    subcommands: &[],
+};
+
+/// The table of `settle`.
+pub(crate) fn settle() -> &'static Command {
+    &SETTLE
+}
 
 /// What `settle` is asked for.
 #[derive(Debug, Drop)]
-pub struct Settlement {
+pub struct SettleRequest {
     pub plan: PlanPaths,
     /// The round up to which it is looked, counted from round 0.
     pub limit: u32,
@@ -17,43 +49,25 @@ pub struct Settlement {
     pub report: bool,
 }
 
-/// The limit where none is given.
-const LIMIT: u32 = 1_000_000;
-
-/// What stands behind the help of `settle`.
-const EXAMPLE: &str =
-    "Prints `settles R` where nothing changes after round R, the first such one; `repeats R P` where from round R on all states come again every P rounds, both the least; `open T` where neither is so up to round T.\nAn example: unison settle examples/distance.rules examples/path.toml --report\n";
-
-/// `settle` with its options.
-pub fn settle_command<'a>(alloc: Global) -> Result<Command<'a>, AllocError> {
-    let command = Command::new(alloc, "settle")
-        .bin_name("unison settle")?
-        .about("Tell from which round on nothing changes, or all states come again")
-        .after_help(EXAMPLE);
-    let command = with_texts(alloc, command)?
-        .arg(option(
-            alloc,
-            "limit",
-            "T",
-            "Look at the rounds up to T: 0 to 1000000000, and 1000000 where it is left out; up to twice as many are computed",
-        ))?
-        .arg(flag(alloc, "report", "Print the report of round R, too"))?;
-    with_from(alloc, command)
-}
-
-/// What the options ask for.
-fn asked_in(alloc: Global, matches: &ArgMatches<'_>) -> Result<Settlement, UsageFault> {
-    let limit = number_or(alloc, matches, "limit", (0, MOST_ROUNDS), LIMIT)?;
-    let plan = paths_in(alloc, matches)?;
-    Ok(Settlement {
+/// What plain words ask for.
+fn request_in(alloc: Global, words: &Words) -> Result<SettleRequest, WordsFault>
+    ensures within { IfOk result (λ r. r.limit ≤ most_rounds) }
+{
+    let limit = words.number_or(alloc, &LIMIT, DEFAULT_LIMIT)?;
+    let plan = PlanPaths::of(alloc, words)?;
+    Ok(SettleRequest {
         plan,
         limit,
-        report: matches.get_flag("report"),
+        report: words.has(&REPORT),
     })
 }
 
-/// What the words ask for, the command's name first.
-pub fn settlement_of(alloc: Global, words: &[String]) -> Result<Settlement, UsageFault> {
-    let matches = matches_of(alloc, settle_command(alloc)?, words)?;
-    asked_in(alloc, &matches)
+impl SettleRequest {
+    /// What the words ask for, the command's name first.
+    pub fn parse(alloc: Global, line: &[String]) -> Result<SettleRequest, WordsFault>
+        ensures within { IfOk result (λ r. r.limit ≤ most_rounds) }
+    {
+        let words = parse(alloc, settle(), line)?;
+        request_in(alloc, &words)
+    }
 }

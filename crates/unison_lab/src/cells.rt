@@ -1,10 +1,10 @@
-//! `open .. --cells FIELD=FILE@X,Y --width W`: patterns of cells as opening values.
+//! `init .. --cells FIELD=FILE@X,Y --width W`: patterns of cells as opening values.
 
 use crate::ending::Ending;
 use crate::files::{Text, text_at};
-use crate::open::put_opening;
+use crate::init::put_opening;
 use cell_pattern::{Cell, Grid, PatternFault, PlaceFault, placed, read_pattern};
-use lab_words::{CellsWord, Openings};
+use lab_words::{CellsWord, InitRequest};
 use link_net::Name;
 use net_open::{Chosen, Opening};
 use std::alloc::{AllocError, Global};
@@ -102,7 +102,7 @@ pub(crate) fn put_cells(
     openings: &mut Vec<Opening>,
     rt: &HostRuntime,
     nodes: u32,
-    asked: &Openings,
+    asked: &InitRequest,
 ) -> Result<(), Ending> {
     let grid = grid_of(rt.alloc(), nodes, asked.width)?;
     for word in &asked.cells {

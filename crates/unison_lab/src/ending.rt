@@ -6,6 +6,7 @@ use std::io;
 use std::io::ErrorKind;
 use unison_jobs::ServeFault;
 use unison_words::UsageFault;
+use word_table::WordsFault;
 
 /// Why the program ends with a status other than that of a job, or after help.
 #[derive(Debug, Drop)]
@@ -59,6 +60,16 @@ impl From<UsageFault> for Ending {
             UsageFault::Help { text } => Ending::Help(text),
             UsageFault::Usage { text } => Ending::Usage(text),
             UsageFault::Memory => Ending::Memory,
+        }
+    }
+}
+
+impl From<WordsFault> for Ending {
+    fn from(fault: WordsFault) -> Ending {
+        match fault {
+            WordsFault::Help { text } => Ending::Help(text),
+            WordsFault::Usage { text } => Ending::Usage(text),
+            WordsFault::Memory => Ending::Memory,
         }
     }
 }

@@ -2,14 +2,18 @@
 #![tactic(auto)]
 
 mod cells;
+mod csv_text;
 mod ending;
+mod explain;
 mod fields;
 mod files;
+mod generate;
 mod help;
+mod import;
+mod info;
+mod init;
 mod labels;
-mod make;
 mod names;
-mod open;
 mod output;
 mod page;
 mod page_size;
@@ -17,30 +21,28 @@ mod picture;
 mod plan_texts;
 mod progress;
 mod refusals;
+mod schedule;
 mod settle;
-mod show;
-mod steps;
-mod take;
-mod tell;
 mod usage;
 mod watch;
 mod why;
 
+use crate::csv_text::print_csv;
 use crate::ending::{Ending, refused};
-use crate::help::help_text;
-use crate::make::make_network;
-use crate::names::name_report;
-use crate::open::open_network;
+use crate::explain::explain_schedule;
+use crate::generate::generate_network;
+use crate::help::{help_text, print_completion, print_manual};
+use crate::import::import_network;
+use crate::info::show_info;
+use crate::init::init_network;
 use crate::page::make_page;
 use crate::picture::{make_dot, make_image};
+use crate::schedule::make_schedule;
 use crate::settle::settle_rounds;
-use crate::show::show_network;
-use crate::steps::make_steps;
-use crate::take::take_network;
-use crate::tell::tell_steps;
 use crate::usage::around_advice;
 use crate::watch::watch_rounds;
 use crate::why::{print_fault, why_command};
+use lab_words::Task;
 use std::process::ExitCode;
 use std::thread::Threads;
 use std::{env, io};
@@ -65,29 +67,49 @@ fn no_command(rt: &HostRuntime, word: &str) -> Result<u8, Ending> {
     Err(Ending::Usage(text))
 }
 
+/// Does what a command does by these words, its own name first. The status with which the program ends.
+fn run_task(
+    rt: &HostRuntime,
+    threads: &(impl Threads + Sync),
+    task: Task,
+    words: &[String],
+) -> Result<u8, Ending> {
+    match task {
+        Task::Completion => print_completion(rt, words),
+        Task::Csv => print_csv(rt, words),
+        Task::Dot => make_dot(rt, threads, words),
+        Task::Explain => explain_schedule(rt, words),
+        Task::Generate => generate_network(rt, words),
+        Task::Image => make_image(rt, threads, words),
+        Task::Import => import_network(rt, words),
+        Task::Info => show_info(rt, words),
+        Task::Init => init_network(rt, words),
+        Task::Manual => print_manual(rt, words),
+        Task::Page => make_page(rt, threads, words),
+        Task::Schedule => make_schedule(rt, words),
+        Task::Settle => settle_rounds(rt, threads, words),
+        Task::Watch => watch_rounds(rt, threads, words),
+        Task::Why => why_command(rt, words),
+    }
+}
+
+/// The ending where no command of the table is named: the help, where that is asked for.
+fn no_task(rt: &HostRuntime, word: &str) -> Result<u8, Ending> {
+    match word {
+        "help" | "--help" | "-h" => Err(Ending::Help(help_text(rt.alloc())?)),
+        word => no_command(rt, word),
+    }
+}
+
 /// Does what the command line asks for. The status with which the program ends.
 fn run(rt: &HostRuntime, threads: &(impl Threads + Sync)) -> Result<u8, Ending> {
     let words = words_of(rt)?;
-    let command = match words.get(1) {
-        Some(word) => word.as_str(),
-        None => return Err(Ending::Usage(help_text(rt.alloc())?)),
+    let Some(command) = words.get(1) else {
+        return Err(Ending::Usage(help_text(rt.alloc())?));
     };
-    match command {
-        "dot" => make_dot(rt, threads, &words[1..]),
-        "image" => make_image(rt, threads, &words[1..]),
-        "make" => make_network(rt, &words[1..]),
-        "names" => name_report(rt, &words[1..]),
-        "open" => open_network(rt, &words[1..]),
-        "page" => make_page(rt, threads, &words[1..]),
-        "settle" => settle_rounds(rt, threads, &words[1..]),
-        "show" => show_network(rt, &words[1..]),
-        "steps" => make_steps(rt, &words[1..]),
-        "take" => take_network(rt, &words[1..]),
-        "tell" => tell_steps(rt, &words[1..]),
-        "watch" => watch_rounds(rt, threads, &words[1..]),
-        "why" => why_command(rt, &words[1..]),
-        "help" | "--help" | "-h" => Err(Ending::Help(help_text(rt.alloc())?)),
-        word => no_command(rt, word),
+    match Task::named(command.as_str()) {
+        Some(task) => run_task(rt, threads, task, &words[1..]),
+        None => no_task(rt, command.as_str()),
     }
 }
 

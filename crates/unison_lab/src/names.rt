@@ -1,16 +1,12 @@
-//! `names REPORT --names FILE`: a report as CSV, with names in place of numbers.
+//! Files of the names of nodes.
 
 use crate::ending::Ending;
-use crate::files::{Text, read_once, text_at, text_where};
-use crate::output::write_out;
-use lab_words::{Naming, naming_of};
+use crate::files::{Text, text_where};
 use node_names::{NamesFileFault, NodeNames, read_names};
-use report_csv::{CsvFault, names_csv};
-use report_table::{Table, TableFault, read_table};
-use std::alloc::{AllocError, Global};
+use std::alloc::Global;
 
 /// The names that a text has.
-fn names_in(alloc: Global, text: &Text) -> Result<NodeNames, Ending> {
+pub(crate) fn names_in(alloc: Global, text: &Text) -> Result<NodeNames, Ending> {
     match read_names(alloc, text.bytes.as_slice()) {
         Ok(names) => Ok(names),
         Err(NamesFileFault::Memory) => Err(Ending::Memory),
@@ -31,80 +27,4 @@ pub(crate) fn names_at(
         Some(text) => Ok(Some(names_in(rt.alloc(), &text)?)),
         None => Ok(None),
     }
-}
-
-/// The ending where a text is no report.
-fn no_table(alloc: Global, name: &str, fault: TableFault) -> Result<Ending, AllocError> {
-    let text = match fault {
-        TableFault::BadLine { line } => format!(in alloc;
-            "report BadLine {line}\n{name}:{line}: no line of a report stands here, as lockstep, run and replay print them"
-        )?,
-        TableFault::TooManyNodes { line } => format!(in alloc;
-            "report TooManyNodes {line}\n{name}:{line}: a report has at most 65536 nodes"
-        )?,
-        TableFault::Memory => return Ok(Ending::Memory),
-    };
-    Ok(Ending::Refused(text))
-}
-
-/// The table of a report's text.
-fn table_of<'a>(alloc: Global, text: &'a Text) -> Result<Table<'a>, Ending> {
-    match read_table(alloc, text.bytes.as_slice()) {
-        Ok(table) => Ok(table),
-        Err(fault) => Err(no_table(alloc, text.name.as_str(), fault)?),
-    }
-}
-
-/// The ending where a table is not printed with names.
-fn no_csv(
-    alloc: Global,
-    table: &Table<'_>,
-    asked: &Naming,
-    fault: CsvFault,
-) -> Result<Ending, AllocError> {
-    let text = match fault {
-        CsvFault::NameCount { names, nodes } => format!(in alloc;
-            "--names: the file has {names} names, and the report {nodes} nodes"
-        )?,
-        CsvFault::UnknownField { place } => {
-            let field = asked
-                .node_fields
-                .get(place)
-                .map_or("", |field| field.as_str());
-            format!(in alloc; "--node-field: the report has no field `{field}`")?
-        }
-        CsvFault::NoNode { node, field, value } => {
-            let field = table.fields().get(field).copied().unwrap_or("");
-            format!(in alloc;
-                "--node-field {field}: node {node} has the value {value}, which is no node's number, and not 4294967295 for none"
-            )?
-        }
-        CsvFault::Memory => return Ok(Ending::Memory),
-    };
-    Ok(Ending::Usage(text))
-}
-
-/// The CSV that is asked for.
-fn csv_of(
-    alloc: Global,
-    table: &Table<'_>,
-    names: &NodeNames,
-    asked: &Naming,
-) -> Result<Vec<u8>, Ending> {
-    match names_csv(alloc, table, names, asked.node_fields.as_slice()) {
-        Ok(text) => Ok(text),
-        Err(fault) => Err(no_csv(alloc, table, asked, fault)?),
-    }
-}
-
-/// Prints a report as CSV. The status with which the program ends.
-pub(crate) fn name_report(rt: &HostRuntime, words: &[String]) -> Result<u8, Ending> {
-    let asked = naming_of(rt.alloc(), words)?;
-    read_once(rt.alloc(), &[asked.report.as_str(), asked.names.as_str()])?;
-    let report = text_at(rt, asked.report.as_str())?;
-    let table = table_of(rt.alloc(), &report)?;
-    let names = names_in(rt.alloc(), &text_at(rt, asked.names.as_str())?)?;
-    let text = csv_of(rt.alloc(), &table, &names, &asked)?;
-    write_out(rt, &text)?;
-    Ok(0)
 }

@@ -1,6 +1,7 @@
 //! `page PROGRAM NETWORK`: an HTML page on which a run is stepped through.
 
 use crate::ending::Ending;
+use crate::explain::steps_at;
 use crate::fields::shown_fields;
 use crate::files::{Text, path_in, read_once, text_at};
 use crate::labels::labels_of;
@@ -9,9 +10,8 @@ use crate::output::write_out;
 use crate::page_size::{check_size, steps_too_many};
 use crate::plan_texts::plan_at;
 use crate::progress::Telling;
-use crate::tell::steps_at;
 use crate::watch::no_rounds;
-use lab_words::{PageRun, Paging, paging_of};
+use lab_words::{PageRequest, PageRun};
 use lockstep::Plan;
 use round_settle::{SettleFault, Settling, settle};
 use round_watch::{Format, Span, WatchFault};
@@ -124,7 +124,7 @@ fn data_of(
     rt: &HostRuntime,
     threads: &(impl Threads + Sync),
     plan: Plan,
-    asked: &Paging,
+    asked: &PageRequest,
 ) -> Result<Vec<u8>, Ending> {
     let fields = shown_fields(rt.alloc(), plan.program(), &asked.view.only)?;
     let labels = labels_for(rt, &plan, &asked.view.names)?;
@@ -166,7 +166,7 @@ fn schedule_path(run: &PageRun) -> &str {
 }
 
 /// Refuses standard input for more than one of the texts.
-fn check_paths(alloc: Global, asked: &Paging) -> Result<(), Ending> {
+fn check_paths(alloc: Global, asked: &PageRequest) -> Result<(), Ending> {
     let paths = [
         asked.plan.program.as_str(),
         asked.plan.network.as_str(),
@@ -182,7 +182,7 @@ fn check_paths(alloc: Global, asked: &Paging) -> Result<(), Ending> {
 fn text_for(
     rt: &HostRuntime,
     threads: &(impl Threads + Sync),
-    asked: &Paging,
+    asked: &PageRequest,
 ) -> Result<Vec<u8>, Ending> {
     check_paths(rt.alloc(), asked)?;
     let plan = plan_at(rt, &asked.plan)?;
@@ -197,7 +197,7 @@ pub(crate) fn make_page(
     threads: &(impl Threads + Sync),
     words: &[String],
 ) -> Result<u8, Ending> {
-    let asked = paging_of(rt.alloc(), words)?;
+    let asked = PageRequest::parse(rt.alloc(), words)?;
     let text = text_for(rt, threads, &asked)?;
     write_out(rt, &text)?;
     Ok(0)

@@ -9,7 +9,7 @@ use crate::output::write_out;
 use crate::plan_texts::plan_at;
 use crate::progress::Telling;
 use crate::watch::no_rounds;
-use lab_words::{Drawing, Picturing, drawing_of, picturing_of};
+use lab_words::{DotRequest, ImageRequest};
 use lockstep::Plan;
 use round_watch::{Format, WatchFault};
 use run_picture::{MOST_CELLS, PictureFault, grid_picture, network_dot, time_picture};
@@ -41,7 +41,7 @@ fn drawn(
     rt: &HostRuntime,
     threads: &(impl Threads + Sync),
     plan: &Plan,
-    asked: &Picturing,
+    asked: &ImageRequest,
     field: u32,
 ) -> Result<Vec<u8>, PictureFault> {
     if asked.grid > 0 {
@@ -57,7 +57,7 @@ fn picture_of(
     rt: &HostRuntime,
     threads: &(impl Threads + Sync),
     plan: &Plan,
-    asked: &Picturing,
+    asked: &ImageRequest,
 ) -> Result<Vec<u8>, Ending> {
     let field = coloured_field(rt.alloc(), plan.program(), &asked.field)?;
     match drawn(rt, threads, plan, asked, field) {
@@ -70,7 +70,7 @@ fn picture_of(
 fn picture_for(
     rt: &HostRuntime,
     threads: &(impl Threads + Sync),
-    asked: &Picturing,
+    asked: &ImageRequest,
 ) -> Result<Vec<u8>, Ending> {
     let paths = [
         asked.plan.program.as_str(),
@@ -88,14 +88,14 @@ pub(crate) fn make_image(
     threads: &(impl Threads + Sync),
     words: &[String],
 ) -> Result<u8, Ending> {
-    let asked = picturing_of(rt.alloc(), words)?;
+    let asked = ImageRequest::parse(rt.alloc(), words)?;
     let text = picture_for(rt, threads, &asked)?;
     write_out(rt, &text)?;
     Ok(0)
 }
 
 /// The names of the nodes that are asked for.
-fn labels_for(rt: &HostRuntime, plan: &Plan, asked: &Drawing) -> Result<Vec<String>, Ending> {
+fn labels_for(rt: &HostRuntime, plan: &Plan, asked: &DotRequest) -> Result<Vec<String>, Ending> {
     let names = names_at(rt, &asked.names)?;
     labels_of(rt.alloc(), Format::Report, &names, plan.network().nodes())
 }
@@ -105,7 +105,7 @@ fn network_of(
     rt: &HostRuntime,
     threads: &(impl Threads + Sync),
     plan: &Plan,
-    asked: &Drawing,
+    asked: &DotRequest,
 ) -> Result<Vec<u8>, Ending> {
     let field = coloured_field(rt.alloc(), plan.program(), &asked.field)?;
     let labels = labels_for(rt, plan, asked)?;
@@ -119,7 +119,7 @@ fn network_of(
 fn network_for(
     rt: &HostRuntime,
     threads: &(impl Threads + Sync),
-    asked: &Drawing,
+    asked: &DotRequest,
 ) -> Result<Vec<u8>, Ending> {
     let paths = [
         asked.plan.program.as_str(),
@@ -138,7 +138,7 @@ pub(crate) fn make_dot(
     threads: &(impl Threads + Sync),
     words: &[String],
 ) -> Result<u8, Ending> {
-    let asked = drawing_of(rt.alloc(), words)?;
+    let asked = DotRequest::parse(rt.alloc(), words)?;
     let text = network_for(rt, threads, &asked)?;
     write_out(rt, &text)?;
     Ok(0)

@@ -16,15 +16,6 @@ use weight_text::WeightFault;
 /// The line of a fault where it has one, the fault's name, and what is wrong and what to do.
 type Told = (Option<u64>, &'static str, &'static str);
 
-/// The name of a format in a refusal.
-fn format_name(format: Format) -> &'static str {
-    match format {
-        Format::Edges => "edges",
-        Format::MatrixMarket => "matrix-market",
-        Format::Dot => "dot",
-    }
-}
-
 /// What is wrong with a line that is no text of words.
 fn words_told(fault: WordsFault) -> (&'static str, &'static str) {
     match fault {
@@ -102,7 +93,7 @@ fn header_told(fault: MatrixLineFault) -> (&'static str, &'static str) {
         ),
         MatrixLineFault::Directed => (
             "Directed",
-            "the edges of a general matrix have a direction (--undirected leaves it aside, and --merge-doubles takes both directions as one)",
+            "the edges of a general matrix have a direction (--undirected leaves it aside, and --parallel takes both directions as one)",
         ),
         _ => (
             "NoHeader",
@@ -230,7 +221,7 @@ fn statements_told(fault: DotLineFault) -> (&'static str, &'static str) {
         ),
         DotLineFault::Directed => (
             "Directed",
-            "the edges of a digraph have a direction (--undirected leaves it aside, and --merge-doubles takes both directions as one)",
+            "the edges of a digraph have a direction (--undirected leaves it aside, and --parallel takes both directions as one)",
         ),
         DotLineFault::WrongEdge => (
             "WrongEdge",
@@ -322,7 +313,7 @@ fn settle_told(fault: SettleFault) -> Told {
         SettleFault::Double { line, .. } => (
             Some(line),
             "Double",
-            "an earlier edge joins these two nodes (--merge-doubles least, most or first keeps one)",
+            "an earlier edge joins these two nodes (--parallel min, max or first keeps one)",
         ),
         SettleFault::Net(fault) => net_told(fault),
         SettleFault::Memory => (None, "Memory", ""),
@@ -401,7 +392,7 @@ pub(crate) fn refusal(
     if kind == "Memory" {
         return Ok(Ending::Memory);
     }
-    let part = format_name(format);
+    let part = format.name();
     let detail = detail_of(alloc, fault)?;
     let detail = detail.as_str();
     let text = match line {

@@ -7,7 +7,7 @@ use crate::output::write_out;
 use crate::plan_texts::plan_at;
 use crate::progress::Silent;
 use crate::watch::no_rounds;
-use lab_words::{Settlement, settlement_of};
+use lab_words::SettleRequest;
 use lockstep::Plan;
 use round_settle::{SettleFault, Settling, settle};
 use round_watch::{Format, Show, Span, WatchFault, watched};
@@ -73,7 +73,7 @@ fn text_of(
     alloc: Global,
     threads: &(impl Threads + Sync),
     plan: &Plan,
-    asked: &Settlement,
+    asked: &SettleRequest,
     found: Settling,
 ) -> Result<Vec<u8>, Ending> {
     let mut out = String::new(alloc);
@@ -97,7 +97,7 @@ fn found_for(alloc: Global, plan: &Plan, limit: u32) -> Result<Settling, Ending>
 fn text_for(
     rt: &HostRuntime,
     threads: &(impl Threads + Sync),
-    asked: &Settlement,
+    asked: &SettleRequest,
 ) -> Result<Vec<u8>, Ending> {
     let paths = [
         asked.plan.program.as_str(),
@@ -116,7 +116,7 @@ pub(crate) fn settle_rounds(
     threads: &(impl Threads + Sync),
     words: &[String],
 ) -> Result<u8, Ending> {
-    let asked = settlement_of(rt.alloc(), words)?;
+    let asked = SettleRequest::parse(rt.alloc(), words)?;
     let text = text_for(rt, threads, &asked)?;
     write_out(rt, &text)?;
     Ok(0)

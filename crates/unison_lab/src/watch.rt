@@ -8,7 +8,7 @@ use crate::names::names_at;
 use crate::output::write_out;
 use crate::plan_texts::plan_at;
 use crate::progress::Telling;
-use lab_words::{View, Watching, watching_of};
+use lab_words::{View, WatchRequest};
 use lockstep::{Plan, RoundFault};
 use round_watch::{Format, Show, WatchFault, watched};
 use rule_check::Program;
@@ -55,7 +55,7 @@ fn shown_text(
     rt: &HostRuntime,
     threads: &(impl Threads + Sync),
     plan: &Plan,
-    asked: &Watching,
+    asked: &WatchRequest,
     fields: &[u32],
 ) -> Result<Vec<u8>, Ending> {
     let labels = labels_for(rt, plan, &asked.view)?;
@@ -77,7 +77,7 @@ fn text_of(
     rt: &HostRuntime,
     threads: &(impl Threads + Sync),
     plan: &Plan,
-    asked: &Watching,
+    asked: &WatchRequest,
 ) -> Result<Vec<u8>, Ending> {
     let fields = shown_fields(rt.alloc(), plan.program(), &asked.view.only)?;
     check_headings(rt.alloc(), plan.program(), asked.view.format, &fields)?;
@@ -85,7 +85,7 @@ fn text_of(
 }
 
 /// Refuses standard input for more than one of the texts.
-fn check_paths(alloc: Global, asked: &Watching) -> Result<(), Ending> {
+fn check_paths(alloc: Global, asked: &WatchRequest) -> Result<(), Ending> {
     let paths = [
         asked.plan.program.as_str(),
         asked.plan.network.as_str(),
@@ -99,7 +99,7 @@ fn check_paths(alloc: Global, asked: &Watching) -> Result<(), Ending> {
 fn text_for(
     rt: &HostRuntime,
     threads: &(impl Threads + Sync),
-    asked: &Watching,
+    asked: &WatchRequest,
 ) -> Result<Vec<u8>, Ending> {
     check_paths(rt.alloc(), asked)?;
     let plan = plan_at(rt, &asked.plan)?;
@@ -112,7 +112,7 @@ pub(crate) fn watch_rounds(
     threads: &(impl Threads + Sync),
     words: &[String],
 ) -> Result<u8, Ending> {
-    let asked = watching_of(rt.alloc(), words)?;
+    let asked = WatchRequest::parse(rt.alloc(), words)?;
     let text = text_for(rt, threads, &asked)?;
     write_out(rt, &text)?;
     Ok(0)

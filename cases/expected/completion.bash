@@ -1,0 +1,158 @@
+# Completes the words of unison in Bash: source <(unison completion bash)
+_unison() {
+  local at=1 current=${COMP_WORDS[COMP_CWORD]} previous=${COMP_WORDS[COMP_CWORD - 1]}
+  local command= form= words= options=
+  if [ "$COMP_CWORD" -gt 1 ] && [ "${COMP_WORDS[1]}" = why ]; then at=2; fi
+  if [ "$COMP_CWORD" -gt "$at" ]; then command=${COMP_WORDS[at]}; fi
+  if [ "$COMP_CWORD" -gt $((at + 1)) ]; then form=${COMP_WORDS[at + 1]}; fi
+  case $command:$form in
+  :) words="check lockstep run replay compare watch settle schedule explain page image dot generate import init info csv why completion manual" ;;
+  check:*) options="" ;;
+  lockstep:*) options="--rounds --from" ;;
+  run:*) options="--rounds --workers --trace --from" ;;
+  replay:*) options="--stop --from" ;;
+  compare:*) options="--rounds --workers --from" ;;
+  watch:*)
+    words=""
+    options="--rounds --every --format --only --changes --names --from"
+    [ "$previous" = --format ] && words="report csv json"
+    ;;
+  settle:*)
+    words=""
+    options="--limit --report --from"
+    ;;
+  schedule:sweeps | steps:sweeps)
+    options="--stop --count --seed --refused --from"
+    ;;
+  schedule:random | steps:random)
+    options="--stop --count --seed --refused --from"
+    ;;
+  schedule:slow-links | steps:slow-links)
+    options="--stop --count --seed --refused --from"
+    ;;
+  schedule:starve | steps:starve)
+    options="--names --stop --count --seed --refused --from"
+    ;;
+  schedule:ahead | steps:ahead)
+    options="--names --stop --count --seed --refused --from"
+    ;;
+  schedule:write | steps:write)
+    options="--names --from"
+    ;;
+  schedule:* | steps:*)
+    words="sweeps random slow-links starve ahead write"
+    options=""
+    ;;
+  explain:* | tell:*)
+    words=""
+    options="--stop --counts --from"
+    ;;
+  page:*)
+    words=""
+    options="--rounds --every --steps --stop --only --names --grid --from --viewer"
+    ;;
+  image:*)
+    words=""
+    options="--rounds --every --field --grid --from"
+    ;;
+  dot:*)
+    words=""
+    options="--rounds --field --names --from"
+    ;;
+  generate:path | make:path)
+    options="--weights --seed"
+    ;;
+  generate:ring | make:ring)
+    options="--weights --seed"
+    ;;
+  generate:star | make:star)
+    options="--weights --seed"
+    ;;
+  generate:complete | make:complete)
+    options="--weights --seed"
+    ;;
+  generate:bipartite | make:bipartite)
+    options="--weights --seed"
+    ;;
+  generate:tree | make:tree)
+    options="--arity --weights --seed"
+    ;;
+  generate:hypercube | make:hypercube)
+    options="--weights --seed"
+    ;;
+  generate:grid | make:grid)
+    options="--weights --seed"
+    ;;
+  generate:torus | make:torus)
+    options="--diagonals --weights --seed"
+    ;;
+  generate:random | make:random)
+    options="--links --seed --weights"
+    ;;
+  generate:random-tree | make:random-tree)
+    options="--seed --weights"
+    ;;
+  generate:preferential | make:preferential)
+    options="--links-each --seed --weights"
+    ;;
+  generate:regular | make:regular)
+    options="--degree --seed --weights"
+    ;;
+  generate:small-world | make:small-world)
+    options="--near --rewire --seed --weights"
+    ;;
+  generate:* | make:*)
+    words="path ring star complete bipartite tree hypercube grid torus random random-tree preferential regular small-world"
+    options=""
+    ;;
+  import:edges | take:edges)
+    options="--scale --drop-loops --parallel --names --header --numbers"
+    [ "$previous" = --parallel ] && words="min max first"
+    ;;
+  import:matrix-market | take:matrix-market)
+    options="--scale --drop-loops --parallel --undirected"
+    [ "$previous" = --parallel ] && words="min max first"
+    ;;
+  import:dot | take:dot)
+    options="--scale --drop-loops --parallel --names --undirected"
+    [ "$previous" = --parallel ] && words="min max first"
+    ;;
+  import:* | take:*)
+    words="edges matrix-market dot"
+    options=""
+    ;;
+  init:* | open:*)
+    words=""
+    options="--set --set-random --seed --cells --width --names --phase"
+    [ "$previous" = --phase ] && words="0 1 2"
+    ;;
+  info:* | show:*)
+    words=""
+    options=""
+    ;;
+  csv:* | names:*)
+    words=""
+    options="--names --node-field"
+    ;;
+  why:*)
+    words=""
+    options=""
+    ;;
+  completion:bash)
+    options=""
+    ;;
+  completion:*)
+    words="bash"
+    options=""
+    ;;
+  manual:*)
+    words=""
+    options=""
+    ;;
+  esac
+  case $current in
+  -*) COMPREPLY=($(compgen -W "$options --help" -- "$current")) ;;
+  *) COMPREPLY=($(compgen -W "$words" -- "$current")) ;;
+  esac
+}
+complete -o default -F _unison unison

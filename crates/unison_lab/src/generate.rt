@@ -1,0 +1,138 @@
+//! `generate SHAPE NUMBERS..`: the network file of a shape, or of a lot.
+
+use crate::ending::Ending;
+use crate::output::write_out;
+use lab_words::{GenerateRequest, Topology, Weights};
+use net_random::{Lot, LotFault, drawn, drawn_text};
+use net_shapes::{Shape, ShapeFault, links_of, made_text};
+use net_text::LinkList;
+use net_weights::{WeightFault, weighted_text};
+use std::alloc::{AllocError, Global};
+
+/// How many nodes a shape has.
+fn size_text(shape: &Shape) -> &'static str {
+    match shape {
+        Shape::Path { .. } | Shape::Star { .. } | Shape::Complete { .. } =>
+            "there are 1 to 65536 nodes",
+        Shape::Ring { .. } => "a ring has 3 to 65536 nodes",
+        Shape::Bipartite { .. } => "each side has a node, and both together have 65536 at most",
+        Shape::Tree { .. } => "a tree has 1 to 65536 nodes, and an arity of 1 or more",
+        Shape::Hypercube { .. } => "a hypercube has 0 to 15 digits",
+        Shape::Grid { .. } => "a grid has a row and a column, and 65536 nodes at most",
+        Shape::Torus { .. } => "a torus has 3 rows and 3 columns or more, and 65536 nodes at most",
+    }
+}
+
+/// The ending where a shape has no network.
+fn no_network(alloc: Global, shape: &Shape, fault: ShapeFault) -> Result<Ending, AllocError> {
+    let text = match fault {
+        ShapeFault::NodeCount => size_text(shape),
+        ShapeFault::TooManyLinks => "a network has 262144 links at most, and this shape has more",
+        ShapeFault::TooManyNeighbours =>
+            "a node has 4096 neighbours at most, and a node of this shape has more",
+        ShapeFault::Memory => return Ok(Ending::Memory),
+    };
+    Ok(Ending::Usage(String::from_str(alloc, text)?))
+}
+
+/// The ending where a lot has no network.
+fn no_lot(alloc: Global, fault: LotFault) -> Result<Ending, AllocError> {
+    let text = match fault {
+        LotFault::NodeCount => "there are 1 to 65536 nodes",
+        LotFault::TooManyLinks =>
+            "a network has 262144 links at most, and no more than there are pairs of nodes",
+        LotFault::TooManyNeighbours =>
+            "a node came out with more than 4096 neighbours: take another seed, or fewer links",
+        LotFault::OddEnds =>
+            "--degree: an odd number of nodes cannot have an odd number of neighbours each: take one node or neighbour more",
+        LotFault::Undrawn => "by this seed no such network came out: take another one",
+        LotFault::Memory => return Ok(Ending::Memory),
+    };
+    Ok(Ending::Usage(String::from_str(alloc, text)?))
+}
+
+/// The ending where links get no weights.
+fn no_weights(alloc: Global, fault: WeightFault) -> Result<Ending, AllocError> {
+    match fault {
+        WeightFault::NoWeight => Ok(Ending::Usage(String::from_str(
+            alloc,
+            "--weights: the first number is above the second one",
+        )?)),
+        WeightFault::Memory => Ok(Ending::Memory),
+    }
+}
+
+/// The links of a shape.
+fn shape_links(alloc: Global, shape: &Shape) -> Result<LinkList, Ending> {
+    match links_of(alloc, shape) {
+        Ok(links) => Ok(links),
+        Err(fault) => Err(no_network(alloc, shape, fault)?),
+    }
+}
+
+/// The links of a lot.
+fn lot_links(alloc: Global, lot: &Lot, seed: u32) -> Result<LinkList, Ending> {
+    match drawn(alloc, lot, seed as u64) {
+        Ok(links) => Ok(links),
+        Err(fault) => Err(no_lot(alloc, fault)?),
+    }
+}
+
+/// The links that are asked for, all with weight 1.
+fn links_for(alloc: Global, asked: &GenerateRequest) -> Result<LinkList, Ending> {
+    match &asked.topology {
+        Topology::Shape(shape) => shape_links(alloc, shape),
+        Topology::Lot(lot) => lot_links(alloc, lot, asked.seed),
+    }
+}
+
+/// The network file of the links with weights that are drawn apart from the links: the generator's seed is 2 to the power
+/// of 32 greater.
+fn weighted(
+    alloc: Global,
+    links: &LinkList,
+    weights: &Weights,
+    seed: u32,
+) -> Result<Vec<u8>, Ending> {
+    let apart = seed as u64 + 4_294_967_296;
+    match weighted_text(alloc, links, weights.low, weights.high, apart) {
+        Ok(text) => Ok(text),
+        Err(fault) => Err(no_weights(alloc, fault)?),
+    }
+}
+
+/// The network file of a shape, all of whose links have weight 1.
+fn shape_text(alloc: Global, shape: &Shape) -> Result<Vec<u8>, Ending> {
+    match made_text(alloc, shape) {
+        Ok(text) => Ok(text),
+        Err(fault) => Err(no_network(alloc, shape, fault)?),
+    }
+}
+
+/// The network file of a lot, all of whose links have weight 1.
+fn lot_text(alloc: Global, lot: &Lot, seed: u32) -> Result<Vec<u8>, Ending> {
+    match drawn_text(alloc, lot, seed as u64) {
+        Ok(text) => Ok(text),
+        Err(fault) => Err(no_lot(alloc, fault)?),
+    }
+}
+
+/// The network file that the words ask for.
+fn text_for(alloc: Global, words: &[String]) -> Result<Vec<u8>, Ending> {
+    let asked = GenerateRequest::parse(alloc, words)?;
+    if let Some(weights) = &asked.weights {
+        let links = links_for(alloc, &asked)?;
+        return weighted(alloc, &links, weights, asked.seed);
+    }
+    match &asked.topology {
+        Topology::Shape(shape) => shape_text(alloc, shape),
+        Topology::Lot(lot) => lot_text(alloc, lot, asked.seed),
+    }
+}
+
+/// Prints the network file of a shape or a lot. The status with which the program ends.
+pub(crate) fn generate_network(rt: &HostRuntime, words: &[String]) -> Result<u8, Ending> {
+    let text = text_for(rt.alloc(), words)?;
+    write_out(rt, &text)?;
+    Ok(0)
+}

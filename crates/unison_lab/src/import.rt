@@ -1,0 +1,125 @@
+//! `import FORMAT FILE`: a network from another format, and the names of its nodes.
+
+use crate::ending::Ending;
+use crate::files::{Text, text_at};
+use crate::output::{write_file, write_out};
+use crate::refusals::refusal;
+use lab_words::{Format, ImportRequest};
+use net_take::{TakeFault, Taken, take_dot, take_edges, take_matrix, take_numbers};
+use std::alloc::{AllocError, Global};
+use std::io;
+
+/// The network of a list of edges.
+fn take_lines(alloc: Global, text: &[u8], asked: &ImportRequest) -> Result<Taken, TakeFault> {
+    let reading = edge_text::Reading {
+        header: asked.header,
+        factor: asked.factor,
+    };
+    if asked.numbers {
+        take_numbers(alloc, text, &reading, asked.mending)
+    } else {
+        take_edges(alloc, text, &reading, asked.mending)
+    }
+}
+
+/// The network of a text.
+fn take_text(alloc: Global, text: &[u8], asked: &ImportRequest) -> Result<Taken, TakeFault> {
+    let factor = asked.factor;
+    let undirected = asked.undirected;
+    match asked.format {
+        Format::Edges => take_lines(alloc, text, asked),
+        Format::MatrixMarket => {
+            let reading = matrix_text::Reading { factor, undirected };
+            take_matrix(alloc, text, &reading, asked.mending)
+        }
+        Format::Dot => {
+            let reading = dot_text::Reading { factor, undirected };
+            take_dot(alloc, text, &reading, asked.mending)
+        }
+    }
+}
+
+/// The network of a text, or what is told where it has none.
+fn taken_from(alloc: Global, text: &Text, asked: &ImportRequest) -> Result<Taken, Ending> {
+    match take_text(alloc, text.bytes.as_slice(), asked) {
+        Ok(taken) => Ok(taken),
+        Err(fault) => Err(refusal(alloc, asked.format, text.name.as_str(), fault)?),
+    }
+}
+
+/// Writes the names into their file, where there is one.
+fn keep_names(rt: &HostRuntime, asked: &ImportRequest, taken: &Taken) -> Result<(), Ending> {
+    match &asked.names {
+        Some(path) => write_file(rt, path.as_str(), taken.names.as_slice()),
+        None => Ok(()),
+    }
+}
+
+/// Adds what was done to so many edges or weights, behind what was done to others: `merged 2 edges into an earlier one`.
+fn put_note(
+    out: &mut String,
+    done: &str,
+    count: usize,
+    thing: &str,
+    after: &str,
+) -> Result<(), AllocError> {
+    if count == 0 {
+        return Ok(());
+    }
+    let comma = if out.is_empty() { "" } else { ", " };
+    let plural = if count == 1 { "" } else { "s" };
+    write!(out, "{comma}{done} {count} {thing}{plural}{after}")
+}
+
+/// How many edges were dropped or merged, and how many weights rounded; nothing where none were.
+fn notes_text(alloc: Global, taken: &Taken) -> Result<String, AllocError> {
+    let mut out = String::new(alloc);
+    put_note(
+        &mut out,
+        "dropped",
+        taken.dropped,
+        "edge",
+        " of a node with itself",
+    )?;
+    put_note(
+        &mut out,
+        "merged",
+        taken.merged,
+        "edge",
+        " into an earlier one",
+    )?;
+    put_note(&mut out, "rounded", taken.rounded, "weight", "")?;
+    Ok(out)
+}
+
+/// Tells on standard error what was dropped, merged or rounded.
+fn tell_notes(rt: &HostRuntime, notes: &str) -> io::Result<()> {
+    if !notes.is_empty() {
+        eprintln!(rt; "{notes}")?;
+    }
+    Ok(())
+}
+
+/// The network of the text that is asked for.
+fn taken_for(rt: &HostRuntime, asked: &ImportRequest) -> Result<Taken, Ending> {
+    let text = text_at(rt, asked.path.as_str())?;
+    taken_from(rt.alloc(), &text, asked)
+}
+
+/// Writes the names of the nodes, prints the network, and tells what was done to make it.
+fn put_taken(rt: &HostRuntime, asked: &ImportRequest, taken: &Taken) -> Result<(), Ending> {
+    let notes = notes_text(rt.alloc(), taken)?;
+    keep_names(rt, asked, taken)?;
+    write_out(rt, taken.network.as_slice())?;
+    let _ = tell_notes(rt, notes.as_str());
+    Ok(())
+}
+
+/// Prints the network of a text in another format, and writes the names of its nodes before. The status with which the
+/// program ends.
+pub(crate) fn import_network(rt: &HostRuntime, words: &[String]) -> Result<u8, Ending> {
+    let asked = ImportRequest::parse(rt.alloc(), words)?;
+    let taken = taken_for(rt, &asked)?;
+    put_taken(rt, &asked, &taken)?;
+    Ok(0)
+}
