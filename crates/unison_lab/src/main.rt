@@ -113,18 +113,19 @@ fn run(rt: &HostRuntime, threads: &(impl Threads + Sync)) -> Result<u8, Ending> 
     }
 }
 
-/// What tells more of a fault of this part.
-fn hint(part: &str) -> &'static str {
+/// What tells more of a fault of this part, where something does.
+fn hint(part: &str) -> Option<&'static str> {
     match part {
-        "schedule" => {
-            "unison why tells where and what to do: unison why replay PROGRAM NETWORK SCHEDULE --stop 0"
-        }
-        "run" | "replay" => {
-            "rounds and stops lie between the plan's start, which is 0 or the round of the report that --from names, and 1000000000"
-        }
-        _ => {
-            "unison why tells where and what to do: unison why lockstep PROGRAM NETWORK --rounds 0, with --from REPORT where there is one"
-        }
+        "memory" | "device" => None,
+        "schedule" => Some(
+            "unison why tells where and what to do: unison why replay PROGRAM NETWORK SCHEDULE --stop 0",
+        ),
+        "run" | "replay" => Some(
+            "rounds and stops lie between the plan's start, which is 0 or the round of the report that --from names, and 1000000000",
+        ),
+        _ => Some(
+            "unison why tells where and what to do: unison why lockstep PROGRAM NETWORK --rounds 0, with --from REPORT where there is one",
+        ),
     }
 }
 
@@ -132,8 +133,10 @@ fn hint(part: &str) -> &'static str {
 fn print_served(rt: &HostRuntime, fault: &ServeFault) -> io::Result<()> {
     print_fault(rt, fault)?;
     let (part, _) = fault.part_and_name();
-    let hint = hint(part);
-    eprintln!(rt; "{hint}")
+    match hint(part) {
+        Some(text) => eprintln!(rt; "{text}"),
+        None => Ok(()),
+    }
 }
 
 /// Prints the line of wrong words, and what is told of them.
