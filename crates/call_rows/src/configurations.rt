@@ -1,8 +1,8 @@
 //! Configurations: looks at one, one of given states, and the first difference of two.
 
-use fixtures::networks::PAIR;
-use fixtures::programs::{SWAP, SWAP_AND_COUNT};
-use fixtures::{Refusal, config_after, difference, plan_of, report_of};
+use call_fixtures::networks::PAIR;
+use call_fixtures::programs::{SWAP, SWAP_AND_COUNT};
+use call_fixtures::{Refusal, config_after, difference, plan_of, report_of};
 use lockstep::{Config, Difference, Plan, lockstep};
 use rule_check::State;
 use std::alloc::Global;

@@ -1,6 +1,6 @@
 //! Counted readers and writers, over devices that take or give few bytes, or fail.
 
-use fixtures::devices::{Source, writer};
+use call_fixtures::devices::{Source, writer};
 use lockstep::{DeviceFault, Tally, write_text};
 use std::io::{ErrorKind, Write};
 use std::process::Abort;

@@ -1,7 +1,8 @@
 //! The line of a difference, which no comparison of the programs comes to.
 
-use fixtures::networks::PAIR;
-use fixtures::programs::SWAP;
+use app_jobs::{ServeFault, difference_line};
+use call_fixtures::networks::PAIR;
+use call_fixtures::programs::SWAP;
 use link_net::read_network;
 use lockstep::{Difference, Plan};
 use rule_check::check;
@@ -9,7 +10,6 @@ use rule_lang::read_program;
 use std::alloc::Global;
 use std::process::Abort;
 use std::test::Fail;
-use unison_jobs::{ServeFault, difference_line};
 
 /// The plan of the texts of a program and a network.
 fn plan_of(alloc: Global, program: &str, network: &str) -> Result<Plan, ServeFault> {

@@ -1,8 +1,8 @@
 //! Why a world that is not finished, or is another plan's, has no configuration.
 
-use fixtures::networks::{PAIR, PAIR_AT_TWO, UNSET_PAIR};
-use fixtures::programs::{LEAST, SWAP};
-use fixtures::{plan_of, world_of};
+use call_fixtures::networks::{PAIR, PAIR_AT_TWO, UNSET_PAIR};
+use call_fixtures::programs::{LEAST, SWAP};
+use call_fixtures::{plan_of, world_of};
 use std::alloc::Global;
 use std::test::Fail;
 use unison_world::FinishFault;

@@ -4,9 +4,9 @@
 //! and by the gate with ample memory. It prints `answer` where it has the answer, which it has compared, and `memory`
 //! where a call answered want of memory. Anything else fails the test; so does `memory` where nothing was refused.
 
-use fixtures::networks::{PAIR, PAIR_AT_TWO};
-use fixtures::programs::SWAP;
-use fixtures::{NoProgram, NoWorld, Refusal, first_stray, read, shared_plan, write};
+use call_fixtures::networks::{PAIR, PAIR_AT_TWO};
+use call_fixtures::programs::SWAP;
+use call_fixtures::{NoProgram, NoWorld, Refusal, first_stray, read, shared_plan, write};
 use link_net::NetFault;
 use lockstep::{Config, Plan, PlanFault, RoundFault};
 use phase_register::Phase;

@@ -1,8 +1,8 @@
 //! Plans: whether two are the same, and a configuration of another plan.
 
-use fixtures::networks::{ALONE, PATH};
-use fixtures::programs::{DISTANCE, ROUNDS, SWAP};
-use fixtures::{Refusal, config_after, plan_of};
+use call_fixtures::networks::{ALONE, PATH};
+use call_fixtures::programs::{DISTANCE, ROUNDS, SWAP};
+use call_fixtures::{Refusal, config_after, plan_of};
 use lockstep::{Plan, ResumeFault};
 use std::alloc::Global;
 use std::process::Abort;

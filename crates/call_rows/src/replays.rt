@@ -1,9 +1,9 @@
 //! Replays whose reader fails.
 
-use fixtures::devices::{Narrow, Source, writer};
-use fixtures::networks::PAIR;
-use fixtures::plan_of;
-use fixtures::programs::SWAP;
+use call_fixtures::devices::{Narrow, Source, writer};
+use call_fixtures::networks::PAIR;
+use call_fixtures::plan_of;
+use call_fixtures::programs::SWAP;
 use lockstep::{Plan, Tally};
 use std::alloc::Global;
 use std::io::ErrorKind;

@@ -1,7 +1,7 @@
 //! Long walks of turns and results: at each of many times, every node has the lockstep state of its moves.
 
-use fixtures::draws::below;
-use fixtures::{read, shared_plan};
+use call_fixtures::draws::below;
+use call_fixtures::{read, shared_plan};
 use lockstep::{Config, Plan, lockstep};
 use std::alloc::{AllocError, Global};
 use std::process::Abort;

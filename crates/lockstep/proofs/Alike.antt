@@ -2,12 +2,12 @@
 use Rattle.std.proofs.Common.{◌≡◌, ℕ, ◌<◌, length, sym, ◌∙◌, refl, arith, zero-add}
 use Rattle.std.proofs.lemmas.List.{ext_get_or}
 use Rattle.std.proofs.lemmas.List.FromFn.{get_or-map-range_with_len, length-map-range_with_len}
-use Rattle.block_rounds.specs.Walks.{Walked, state_by}
-use Rattle.lockstep.specs.Configs.{blank}
-use Rattle.lockstep.specs.Lockstep.{lockstep, lockstep_states}
-use Rattle.lockstep.specs.Plans.{PlanView}
+use Rattle.rounds_blocks.specs.Walks.{Walked, state_by}
+use Rattle.rounds_plan.specs.Configs.{blank}
+use Rattle.rounds_plan.specs.Lockstep.{lockstep, lockstep_states}
+use Rattle.rounds_plan.specs.Plans.{PlanView}
 use Rattle.lockstep.specs.Walking.{AreAlike, HasRound}
-use Rattle.lockstep.proofs.Nears.{states_at}
+use Rattle.rounds_plan.proofs.Nears.{states_at}
 
 -- they are alike where each node's are
 pub alike_of : (p : PlanView) (s t : ℕ) → ((u : ℕ) → u < length p.network → lockstep p s u ≡ lockstep p t u) → AreAlike p s t

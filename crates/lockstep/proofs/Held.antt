@@ -5,13 +5,13 @@ use Rattle.std.proofs.lemmas.List.FromFn.{get_or-map-range_with_len, length-map-
 use Rattle.rule_check.specs.declared.state.State.{State}
 use Rattle.rule_check.specs.Value.{Rules}
 use Rattle.link_net.specs.Neighbours.{Neighbours, IsNetwork, numbers_below}
-use Rattle.block_rounds.specs.Rounds.{round_from}
-use Rattle.block_rounds.specs.Walks.{Walked, state_by}
-use Rattle.lockstep.specs.Configs.{Configuration, blank}
-use Rattle.lockstep.specs.Lockstep.{state_in, lockstep, lockstep_states, lockstep_config, lockstep-start, lockstep-more}
-use Rattle.lockstep.specs.Plans.{PlanView, IsPlan}
+use Rattle.rounds_plan.specs.Rounds.{round_from}
+use Rattle.rounds_blocks.specs.Walks.{Walked, state_by}
+use Rattle.rounds_plan.specs.Configs.{Configuration, blank}
+use Rattle.rounds_plan.specs.Lockstep.{state_in, lockstep, lockstep_states, lockstep_config, lockstep-start, lockstep-more}
+use Rattle.rounds_plan.specs.Plans.{PlanView, IsPlan}
 use Rattle.lockstep.specs.Walking.{HasRound}
-use Rattle.lockstep.proofs.Nears.{round_agrees}
+use Rattle.rounds_plan.proofs.Nears.{round_agrees}
 
 abbrev config_by : ℕ → ℕ → List State → Configuration
 config_by fields rounds states = record { rounds = rounds; fields = fields; states = states }

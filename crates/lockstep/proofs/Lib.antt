@@ -1,26 +1,4 @@
-pub mod Writes
-pub mod Marks
-pub mod Values
-pub mod Replaced
-pub mod Openings
-pub mod Faultless
-pub mod Texts
-pub mod Nears
-pub mod Resumed
 pub mod Held
 pub mod Stays
 pub mod Alike
-pub mod Digits
-pub mod Fronts
-pub mod Once
-pub mod Names
-pub mod ReadNode
-pub mod ReadFields
-pub mod NodeLines
-pub mod ReportOnce
-pub mod Lines
-pub mod FieldNames
-pub mod ReportLines
-pub mod BadLines
-pub mod Refusals
-pub mod Entries
+mod RoundAnswers

@@ -5,15 +5,15 @@ use Rattle.std.proofs.lemmas.List.FromFn.{get_or-map-range_with_len, length-map-
 use Rattle.rule_check.specs.Rounds.{reads_round}
 use Rattle.rule_check.proofs.AnyRound.{next_state-any_round}
 use Rattle.link_net.specs.Neighbours.{IsNetwork}
-use Rattle.block_rounds.specs.Rounds.{nears_in}
-use Rattle.block_rounds.specs.Walks.{Walked, state_by}
-use Rattle.block_rounds.proofs.Resting.{rests}
-use Rattle.lockstep.specs.Configs.{blank}
-use Rattle.lockstep.specs.Lockstep.{lockstep, lockstep_states, lockstep-more}
-use Rattle.lockstep.specs.Plans.{PlanView}
+use Rattle.rounds_plan.specs.Rounds.{nears_in}
+use Rattle.rounds_blocks.specs.Walks.{Walked, state_by}
+use Rattle.rounds_blocks.proofs.Resting.{rests}
+use Rattle.rounds_plan.specs.Configs.{blank}
+use Rattle.rounds_plan.specs.Lockstep.{lockstep, lockstep_states, lockstep-more}
+use Rattle.rounds_plan.specs.Plans.{PlanView}
 use Rattle.lockstep.specs.Stays.{StaysAsItIs, RestsWhereNothingMoved}
 use Rattle.lockstep.specs.Walking.{HasRound}
-use Rattle.lockstep.proofs.Nears.{round_agrees, states_at}
+use Rattle.rounds_plan.proofs.Nears.{round_agrees, states_at}
 
 module _ (p : PlanView) (t : ℕ) (network : IsNetwork p.network) (unread : reads_round p.program ≡ false) (late : p.start ≤ t) (still : (u : ℕ) → u < length p.network → lockstep p (t + 1) u ≡ lockstep p t u) where
   so_many_on : (k u : ℕ) → u < length p.network → lockstep p (t + k) u ≡ lockstep p t u

@@ -1,17 +1,2 @@
-pub mod Device
-pub mod Configs
-pub mod Compare
-pub mod Report
-pub mod Plans
-pub mod Lockstep
-pub mod Resume
-pub mod Answer
-pub mod Opening
 pub mod Walking
 pub mod Stays
-pub mod Lines
-pub mod Digits
-pub mod Front
-pub mod ReadReport
-pub mod NodeLines
-pub mod PlanCauses

@@ -2,8 +2,8 @@
 use Rattle.std.specs.Prelude.{ℕ, ◌≡◌, ◌<◌, ◌≤◌, ◌+◌, false, length}
 use Rattle.rule_check.specs.Rounds.{reads_round}
 use Rattle.link_net.specs.Neighbours.{IsNetwork, degree, neighbour}
-use Rattle.lockstep.specs.Lockstep.{lockstep, lockstep_states}
-use Rattle.lockstep.specs.Plans.{PlanView}
+use Rattle.rounds_plan.specs.Lockstep.{lockstep, lockstep_states}
+use Rattle.rounds_plan.specs.Plans.{PlanView}
 
 -- Where the program does not read the number of the round, and the states after round t + 1 are those after round t, they are those after every later round.
 abbrev pub StaysAsItIs : Type 0

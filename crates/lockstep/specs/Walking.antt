@@ -2,9 +2,9 @@
 use Rattle.std.specs.Prelude.{ℕ, ◌≡◌, ◌<◌, ◌≤◌, length}
 use Rattle.rule_check.specs.Value.{Rules}
 use Rattle.link_net.specs.Neighbours.{Neighbours}
-use Rattle.block_rounds.specs.Walks.{Walked, state_by}
-use Rattle.lockstep.specs.Plans.{PlanView, IsPlan}
-use Rattle.lockstep.specs.Lockstep.{lockstep, lockstep_states}
+use Rattle.rounds_blocks.specs.Walks.{Walked, state_by}
+use Rattle.rounds_plan.specs.Plans.{PlanView, IsPlan}
+use Rattle.rounds_plan.specs.Lockstep.{lockstep, lockstep_states}
 
 -- the states of all nodes of the plan after round t
 pub record HasRound (p : PlanView) (t : ℕ) (walk : Walked) : Type 0 where

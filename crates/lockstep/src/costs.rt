@@ -1,8 +1,8 @@
 //! What rounds cost.
 
-use crate::plan::Plan;
-use block_rounds::Costs;
 use link_net::Network;
+use rounds_blocks::Costs;
+use rounds_plan::Plan;
 use rule_check::{Gatherer, Program, Rule};
 
 /// The least work of a round, in instructions, that threads have to save, if the round is shared. To share a round of

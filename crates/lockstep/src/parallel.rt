@@ -1,14 +1,12 @@
 //! Lockstep rounds in threads.
 ghost use Rattle.std.specs.Prelude.{◌≡◌, IfErr, Err};
-ghost use Rattle.lockstep.specs.Answer.{IsAnswer};
-ghost use Rattle.lockstep.specs.Lockstep.{rounds_of};
+ghost use Rattle.rounds_plan.specs.Answer.{IsAnswer};
+ghost use Rattle.rounds_plan.specs.Lockstep.{rounds_of};
 
-use crate::config::Config;
 use crate::costs::is_worth_sharing;
-use crate::fault::RoundFault;
-use crate::plan::Plan;
 use crate::round_walk::Course;
 use crate::rounds::{check_round, lockstep};
+use rounds_plan::{Config, Plan, RoundFault};
 use std::alloc::Global;
 use std::thread::Threads;
 

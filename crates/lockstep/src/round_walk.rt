@@ -1,18 +1,17 @@
 //! Walks over the rounds of a plan.
 ghost use Rattle.std.specs.Prelude.{◌≡◌, ◌↔◌, ◌<◌, ◌≤◌, ◌+◌, ◌^◌, IsTrue, IfOk, true, false};
 ghost use Rattle.rule_check.specs.Rounds.{reads_round};
-ghost use Rattle.lockstep.specs.Configs.{most_rounds};
-ghost use Rattle.lockstep.specs.Lockstep.{lockstep_config};
-ghost use Rattle.lockstep.specs.Plans.{IsPlan};
+ghost use Rattle.rounds_plan.specs.Configs.{most_rounds};
+ghost use Rattle.rounds_plan.specs.Lockstep.{lockstep_config};
+ghost use Rattle.rounds_plan.specs.Plans.{IsPlan};
 ghost use Rattle.lockstep.specs.Walking.{AreAlike};
 
-use crate::config::Config;
 use crate::costs::{MOST_ENDS, costs_of, is_worth_sharing, most_ends_to_share};
-use crate::plan::Plan;
 use crate::steps::{InThreads, InTurn, walk_to};
-use block_rounds::{Layout, Walk};
 use rayon::current_num_threads;
-use row_code::RowCode;
+use rounds_blocks::{Layout, Walk};
+use rounds_code::RowCode;
+use rounds_plan::{Config, Plan};
 use std::alloc::{AllocError, Global};
 use std::marker::Model;
 use std::thread::Threads;
@@ -29,7 +28,7 @@ pub struct Course<'a> {
 impl<'a> Model for Course<'a> {
     ghost use Rattle.std.specs.Coded.{codes};
     ghost use Rattle.rule_lang.specs.TreeCode.{coded_tree};
-    ghost use Rattle.lockstep.specs.Plans.{PlanView};
+    ghost use Rattle.rounds_plan.specs.Plans.{PlanView};
     ghost use Rattle.lockstep.specs.Walking.{IsCourse};
 
     ghost Value = { PlanView };

@@ -1,18 +1,12 @@
 //! Lockstep rounds.
 ghost use Rattle.std.specs.Prelude.{◌≡◌, ◌≤◌, IfOk, IfErr, MatchResult, Err};
-ghost use Rattle.lockstep.specs.Answer.{IsAnswer};
-ghost use Rattle.lockstep.specs.Configs.{most_rounds};
-ghost use Rattle.lockstep.specs.Lockstep.{rounds_of, lockstep_config};
+ghost use Rattle.rounds_plan.specs.Answer.{IsAnswer};
+ghost use Rattle.rounds_plan.specs.Configs.{most_rounds};
+ghost use Rattle.rounds_plan.specs.Lockstep.{rounds_of, lockstep_config};
 
-use crate::config::Config;
-use crate::fault::RoundFault;
-use crate::plan::Plan;
 use crate::round_walk::Course;
+use rounds_plan::{Config, MOST_ROUNDS, Plan, RoundFault};
 use std::alloc::{AllocError, Global};
-
-/// The greatest round that a plan starts from, that is computed and that a report has: 1,000,000,000, counted from
-/// round 0.
-pub const MOST_ROUNDS: u32 = 1_000_000_000;
 
 /// Why there is no such round of the plan, if there is none.
 pub(crate) fn check_round(plan: &Plan, rounds: u32) -> Result<(), RoundFault>

@@ -2,12 +2,12 @@
 ghost use Rattle.std.specs.Prelude.{◌≡◌, ◌<◌, ◌≤◌, ℕ, false, length};
 ghost use denote.Param.Send.{IsSync};
 ghost use Rattle.rule_check.specs.Rounds.{reads_round};
-ghost use Rattle.block_rounds.specs.Rounds.{round_from};
-ghost use Rattle.block_rounds.specs.Walks.{state_by};
+ghost use Rattle.rounds_plan.specs.Rounds.{round_from};
+ghost use Rattle.rounds_blocks.specs.Walks.{state_by};
 ghost use Rattle.lockstep.specs.Walking.{HasRound};
 
-use crate::plan::Plan;
-use block_rounds::Walk;
+use rounds_blocks::Walk;
+use rounds_plan::Plan;
 use std::thread::Threads;
 
 /// A way to move the states of all nodes one round on.

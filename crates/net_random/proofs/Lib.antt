@@ -5,3 +5,4 @@ mod Walks
 mod Growing
 mod Choices
 mod TrialLinks
+mod SameEnds

@@ -3,3 +3,4 @@ pub mod Lots
 pub mod Sizes
 pub mod Pairs
 pub mod Growth
+pub mod Weights

@@ -1,4 +1,4 @@
-//! Networks that are drawn by lot. The same seed gives the same network on every machine.
+//! Random networks, and random weights of links. The same seed gives the same network on every machine.
 #![tactic(auto)]
 
 mod changed;
@@ -14,8 +14,14 @@ mod sizes;
 mod text;
 mod trial_check;
 mod trials;
+mod weight_draw;
+mod weight_fault;
+mod weight_file;
 
 pub use draw::drawn;
 pub use fault::LotFault;
 pub use lot::Lot;
 pub use text::drawn_text;
+pub use weight_draw::weighted;
+pub use weight_fault::WeightFault;
+pub use weight_file::weighted_text;

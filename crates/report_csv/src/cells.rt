@@ -6,7 +6,7 @@ ghost use Rattle.csv.specs.Records.{fields_of, partial_of};
 ghost use Rattle.report_csv.specs.Csv.{no_node, cell_of};
 
 use csv::ByteRecord;
-use node_names::NodeNames;
+use net_names::NodeNames;
 use std::alloc::{AllocError, Global};
 
 /// The value that says that there is no node.

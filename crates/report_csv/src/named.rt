@@ -7,7 +7,7 @@ ghost use Rattle.report_csv.specs.Csv.{IsCellFault};
 use crate::CsvFault;
 use crate::cells::{put_node, put_number};
 use csv::{ByteRecord, Writer};
-use node_names::NodeNames;
+use net_names::NodeNames;
 use report_table::{Row, Table};
 use std::alloc::{AllocError, Global};
 

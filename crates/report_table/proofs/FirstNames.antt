@@ -10,11 +10,11 @@ use Rattle.rule_lang.specs.Keywords.{keyword_of}
 use Rattle.rule_lang.specs.Tokens.{IsWord, IsSpan, is_word_byte}
 use Rattle.rule_lang.proofs.Bytes.{span_same, letter_in_word}
 use Rattle.rule_lang.proofs.Words.{name_of_none, none_of_name}
-use Rattle.lockstep.specs.Front.{IsFront, Ends}
-use Rattle.lockstep.specs.Report.{field_text, fields_text}
-use Rattle.lockstep.proofs.Digits.{number_once}
-use Rattle.lockstep.proofs.Once.{ends_fields}
-use Rattle.lockstep.proofs.ReportOnce.{all_behind}
+use Rattle.report_text.specs.Front.{IsFront, Ends}
+use Rattle.report_text.specs.Report.{field_text, fields_text}
+use Rattle.report_text.proofs.Digits.{number_once}
+use Rattle.report_text.proofs.Once.{ends_fields}
+use Rattle.report_text.proofs.ReportOnce.{all_behind}
 use Rattle.report_table.specs.declared.row.Row.{Row}
 use Rattle.report_table.specs.Tables.{AreFields, IsRow, row_text, row_line}
 use Rattle.report_table.proofs.RowLines.{ending, ends_ending, row_ends, row_moved}

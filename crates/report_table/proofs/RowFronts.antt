@@ -4,10 +4,10 @@ use Rattle.std.specs.Fmt.{decimal}
 use Rattle.std.specs.Option.{option_map}
 use Rattle.std.proofs.lemmas.List.{append_cancel_left}
 use Rattle.rule_check.specs.declared.state.State.{State}
-use Rattle.lockstep.specs.Front.{IsFront, Ends, Anything}
-use Rattle.lockstep.specs.Report.{fields_text}
-use Rattle.lockstep.specs.ReadReport.{IsStateOf}
-use Rattle.lockstep.proofs.Digits.{number_once}
+use Rattle.report_text.specs.Front.{IsFront, Ends, Anything}
+use Rattle.report_text.specs.Report.{fields_text}
+use Rattle.report_text.specs.ReadReport.{IsStateOf}
+use Rattle.report_text.proofs.Digits.{number_once}
 use Rattle.report_table.specs.declared.row.Row.{Row}
 use Rattle.report_table.specs.Tables.{row_text, row_line, FitMoves, IsRow}
 use Rattle.report_table.proofs.RowLines.{ending, ends_ending, row_plain, row_moved, row_ends}

@@ -3,13 +3,13 @@ use Rattle.std.proofs.Common.{◌≡◌, ◌≢◌, ℕ, suc, ◌+◌, ◌<◌, 
 use Rattle.std.specs.Fmt.{decimal}
 use Rattle.std.proofs.lemmas.List.{append-nil, append_cancel_left}
 use Rattle.rule_check.specs.declared.state.State.{State}
-use Rattle.lockstep.specs.Front.{Ends}
-use Rattle.lockstep.specs.Configs.{blank}
-use Rattle.lockstep.specs.Report.{fields_text}
-use Rattle.lockstep.specs.ReadReport.{IsStateOf}
-use Rattle.lockstep.proofs.Digits.{number_once}
-use Rattle.lockstep.proofs.Once.{ends_fields, fields_once}
-use Rattle.lockstep.proofs.ReportOnce.{all_behind}
+use Rattle.report_text.specs.Front.{Ends}
+use Rattle.rounds_plan.specs.Configs.{blank}
+use Rattle.report_text.specs.Report.{fields_text}
+use Rattle.report_text.specs.ReadReport.{IsStateOf}
+use Rattle.report_text.proofs.Digits.{number_once}
+use Rattle.report_text.proofs.Once.{ends_fields, fields_once}
+use Rattle.report_text.proofs.ReportOnce.{all_behind}
 use Rattle.report_table.specs.declared.row.Row.{Row}
 use Rattle.report_table.specs.Tables.{moves_text, row_text, row_line, row_lines, FitMoves, IsRow}
 

@@ -5,10 +5,10 @@ use Rattle.std.proofs.lemmas.Bool.Decides.{Decides-eqb}
 use Rattle.std.proofs.lemmas.Fmt.{decimal_digit}
 use Rattle.std.proofs.lemmas.List.{append-nil}
 use Rattle.link_net.specs.Limits.{most_nodes}
-use Rattle.lockstep.specs.Front.{IsFront, Anything}
-use Rattle.lockstep.specs.Report.{round_line}
-use Rattle.lockstep.proofs.Once.{round_once}
-use Rattle.lockstep.proofs.ReportOnce.{all_behind}
+use Rattle.report_text.specs.Front.{IsFront, Anything}
+use Rattle.report_text.specs.Report.{round_line}
+use Rattle.report_text.proofs.Once.{round_once}
+use Rattle.report_text.proofs.ReportOnce.{all_behind}
 use Rattle.report_table.specs.declared.row.Row.{Row}
 use Rattle.report_table.specs.declared.fault.TableFault.{TableFault}
 use Rattle.report_table.specs.declared.fault.TableFault.TheVariants.{BadLine, TooManyNodes, Memory}

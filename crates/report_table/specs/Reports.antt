@@ -1,7 +1,7 @@
 -- What reports are, as tables.
 use Rattle.std.specs.Prelude.{◌≡◌, ℕ, List, map, Some, None}
-use Rattle.lockstep.specs.Configs.{Configuration}
-use Rattle.lockstep.specs.Report.{report_text}
+use Rattle.rounds_plan.specs.Configs.{Configuration}
+use Rattle.report_text.specs.Report.{report_text}
 use Rattle.report_table.specs.declared.row.Row.{Row}
 use Rattle.report_table.specs.Tables.{TableView, table_text}
 

@@ -3,8 +3,8 @@ use Rattle.std.specs.Prelude.{◌≡◌, ◌≤◌, ◌<◌, ◌^◌, ℕ, ◌+�
 use Rattle.std.specs.Fmt.{decimal}
 use Rattle.rule_check.specs.declared.state.State.{State}
 use Rattle.rule_check.specs.WellFormed.{IsFieldName}
-use Rattle.lockstep.specs.Report.{fields_text, round_line}
-use Rattle.lockstep.specs.ReadReport.{IsStateOf}
+use Rattle.report_text.specs.Report.{fields_text, round_line}
+use Rattle.report_text.specs.ReadReport.{IsStateOf}
 use Rattle.link_net.specs.Limits.{most_nodes}
 use Rattle.report_table.specs.declared.row.Row.{Row}
 

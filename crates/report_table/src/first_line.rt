@@ -4,13 +4,13 @@ ghost use Rattle.std.specs.List.{prefix_len, AllByRecursion};
 ghost use Rattle.std.specs.Option.{option_map};
 ghost use Rattle.rule_check.specs.WellFormed.{IsFieldName};
 ghost use Rattle.rule_lang.specs.Tokens.{IsSpan, is_word_byte};
-ghost use Rattle.lockstep.specs.Front.{IsFront, Ends, Anything};
-ghost use Rattle.lockstep.specs.Report.{field_text, fields_text};
-ghost use Rattle.lockstep.specs.ReadReport.{IsStateOf};
+ghost use Rattle.report_text.specs.Front.{IsFront, Ends, Anything};
+ghost use Rattle.report_text.specs.Report.{field_text, fields_text};
+ghost use Rattle.report_text.specs.ReadReport.{IsStateOf};
 ghost use Rattle.report_table.specs.declared.row.Row.{Row};
 ghost use Rattle.report_table.specs.Tables.{IsRow, AreFields, row_text, row_line};
 
-use lockstep::{behind, read_number};
+use report_text::{behind, read_number};
 use rule_lang::reserved_word;
 use std::alloc::{AllocError, Global};
 use std::str;

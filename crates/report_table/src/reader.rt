@@ -2,8 +2,8 @@
 ghost use Rattle.std.specs.Prelude.{◌≡◌, ◌≤◌, ◌<◌, ◌++◌, ◌^◌, ℕ, List, All, Bool, length, map, IfOk, IfErr, Some, None};
 ghost use Rattle.std.specs.Option.{option_map};
 ghost use Rattle.link_net.specs.Limits.{most_nodes};
-ghost use Rattle.lockstep.specs.Front.{IsFront, Anything};
-ghost use Rattle.lockstep.specs.Report.{round_line};
+ghost use Rattle.report_text.specs.Front.{IsFront, Anything};
+ghost use Rattle.report_text.specs.Report.{round_line};
 ghost use Rattle.report_table.specs.declared.fault.TableFault.TheVariants.{Memory};
 ghost use Rattle.report_table.specs.Tables.{TableView, IsTable, IsRow, HasTable, row_lines, is_counted};
 ghost use Rattle.report_table.specs.Refusals.{IsStopped, AreRefused, IsRefused, round_lines};
@@ -14,7 +14,7 @@ use crate::row::Row;
 use crate::row_reader::read_row;
 use crate::table::Table;
 use link_net::MOST_NODES;
-use lockstep::{behind, read_number};
+use report_text::{behind, read_number};
 use std::alloc::Global;
 
 /// The round that the line of the round gives, and what stands behind the line.

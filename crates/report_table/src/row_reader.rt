@@ -1,13 +1,13 @@
 //! Rows that are read where the names of the fields are known.
 ghost use Rattle.std.specs.Prelude.{◌≡◌, ◌≤◌, ◌<◌, ◌++◌, ◌∷◌, ◌^◌, ℕ, List, [], length, map, slice_index_or, true};
 ghost use Rattle.std.specs.Option.{option_map};
-ghost use Rattle.lockstep.specs.Front.{IsFront, Ends, Anything};
-ghost use Rattle.lockstep.specs.Report.{field_text, fields_text};
-ghost use Rattle.lockstep.specs.ReadReport.{IsStateOf};
+ghost use Rattle.report_text.specs.Front.{IsFront, Ends, Anything};
+ghost use Rattle.report_text.specs.Report.{field_text, fields_text};
+ghost use Rattle.report_text.specs.ReadReport.{IsStateOf};
 ghost use Rattle.report_table.specs.Tables.{IsRow, row_text, row_line};
 
 use crate::row::Row;
-use lockstep::{behind, read_number};
+use report_text::{behind, read_number};
 use rule_check::State;
 
 /// The value of the field of this name, and what stands behind it.

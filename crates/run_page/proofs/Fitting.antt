@@ -3,11 +3,11 @@ use Rattle.std.proofs.Common.{◌≡◌, ◌<◌, ◌≤◌, ℕ, Bool, true, fa
 use Rattle.std.proofs.lemmas.Grind.{common_steps}
 use Rattle.std.specs.Option.{option_map, option_or}
 use Rattle.std.specs.Prelude.{Option, Some, None}
-use Rattle.lockstep.specs.Configs.{most_rounds}
-use Rattle.lockstep.specs.Plans.{PlanView}
-use Rattle.round_watch.specs.Spans.{SpanView, count_of}
-use Rattle.round_watch.specs.Watching.{missing_of}
-use Rattle.round_watch.proofs.Missing.{none_missing}
+use Rattle.rounds_plan.specs.Configs.{most_rounds}
+use Rattle.rounds_plan.specs.Plans.{PlanView}
+use Rattle.run_watch.specs.Spans.{SpanView, count_of}
+use Rattle.run_watch.specs.Watching.{missing_of}
+use Rattle.run_watch.proofs.Missing.{none_missing}
 use Rattle.run_page.specs.declared.fault.PageFault.{PageFault}
 use Rattle.run_page.specs.declared.fault.PageFault.TheVariants.{TooManyRounds, RoundsBelowStart, StopTooLarge, StopBelowStart, NoField}
 use Rattle.run_page.specs.declared.look.Look.{Look}

@@ -3,10 +3,10 @@ use Rattle.std.proofs.Common.{◌≡◌, ◌≤◌, ◌+◌, ◌∷◌, ◌++◌
 use Rattle.std.specs.List.{AllByRecursion, filter, flat_map}
 use Rattle.std.specs.Prelude.{Option, Some, None}
 use Rattle.link_net.specs.Neighbours.{Neighbours, numbers_below, row}
-use Rattle.lockstep.specs.Plans.{PlanView}
-use Rattle.round_settle.specs.declared.settling.Settling.{Settling}
-use Rattle.round_settle.specs.declared.settling.Settling.TheVariants.{Settles, Repeats, Open}
-use Rattle.round_watch.specs.Spans.{SpanView, rounds_in}
+use Rattle.rounds_plan.specs.Plans.{PlanView}
+use Rattle.run_settle.specs.declared.settling.Settling.{Settling}
+use Rattle.run_settle.specs.declared.settling.Settling.TheVariants.{Settles, Repeats, Open}
+use Rattle.run_watch.specs.Spans.{SpanView, rounds_in}
 use Rattle.serde_json.specs.Data.{Data, Members, no_members, member, depth, items_depth, members_depth}
 use Rattle.serde_json.specs.Read.{max_depth}
 use Rattle.serde_json.specs.View.{items_of}

@@ -1,8 +1,8 @@
 -- The data of steps that were made on a world.
 use Rattle.std.proofs.Common.{◌≡◌, ◌∙◌, ℕ, List, ap, map, max}
 use Rattle.std.specs.List.{fold}
-use Rattle.lockstep.specs.Plans.{PlanView}
-use Rattle.round_watch.specs.Spans.{SpanView, rounds_in}
+use Rattle.rounds_plan.specs.Plans.{PlanView}
+use Rattle.run_watch.specs.Spans.{SpanView, rounds_in}
 use Rattle.serde_json.specs.Data.{Data}
 use Rattle.unison_world.specs.declared.step.Step.{Step}
 use Rattle.unison_world.specs.Counting.{Counts, answers, at_start, run}

@@ -5,11 +5,11 @@ use Rattle.std.specs.Option.{unwrap_or}
 use Rattle.rule_check.specs.declared.state.State.{State}
 use Rattle.rule_check.specs.Value.{names_of}
 use Rattle.link_net.specs.Neighbours.{Neighbours, numbers_below, row}
-use Rattle.lockstep.specs.Lockstep.{lockstep_states}
-use Rattle.lockstep.specs.Plans.{PlanView}
-use Rattle.round_settle.specs.declared.settling.Settling.{Settling}
-use Rattle.round_settle.specs.declared.settling.Settling.TheVariants.{Settles, Repeats, Open}
-use Rattle.round_watch.specs.Spans.{SpanView, rounds_in}
+use Rattle.rounds_plan.specs.Lockstep.{lockstep_states}
+use Rattle.rounds_plan.specs.Plans.{PlanView}
+use Rattle.run_settle.specs.declared.settling.Settling.{Settling}
+use Rattle.run_settle.specs.declared.settling.Settling.TheVariants.{Settles, Repeats, Open}
+use Rattle.run_watch.specs.Spans.{SpanView, rounds_in}
 use Rattle.serde_json.specs.Data.{Data, unsigned, number, string, array, object, Members, no_members, member}
 use Rattle.serde_json.specs.View.{items_of}
 use Rattle.unison_trace.specs.Histories.{run_of, answers_of}

@@ -1,10 +1,10 @@
 -- Why there is no data of a run.
 use Rattle.std.specs.Prelude.{◌≡◌, ℕ, ◌+◌, ◌*◌, max, List, length, nat_lt, Option, Some, None, if◌then◌else◌}
 use Rattle.std.specs.Option.{option_map, option_or}
-use Rattle.lockstep.specs.Configs.{most_rounds}
-use Rattle.lockstep.specs.Plans.{PlanView}
-use Rattle.round_watch.specs.Spans.{SpanView, count_of}
-use Rattle.round_watch.specs.Watching.{missing_of}
+use Rattle.rounds_plan.specs.Configs.{most_rounds}
+use Rattle.rounds_plan.specs.Plans.{PlanView}
+use Rattle.run_watch.specs.Spans.{SpanView, count_of}
+use Rattle.run_watch.specs.Watching.{missing_of}
 use Rattle.unison_world.specs.declared.fault.OpenFault.{OpenFault}
 use Rattle.unison_world.specs.declared.fault.OpenFault.TheVariants as opening
 use Rattle.unison_world.specs.declared.step.Step.{Step}

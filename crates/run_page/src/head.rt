@@ -8,7 +8,7 @@ ghost use Rattle.run_page.specs.Pages.{headed, texts};
 use crate::links::links;
 use crate::look::Look;
 use crate::parts::bytes;
-use lockstep::Plan;
+use rounds_plan::Plan;
 use rule_check::Program;
 use serde_json::{Map, Value, put};
 use std::alloc::{AllocError, Global};

@@ -1,11 +1,11 @@
 //! What refuses a look at a run.
 ghost use Rattle.std.specs.Prelude.{◌≡◌, ◌^◌, ◌-◌, ◌+◌, ◌<◌, min};
-ghost use Rattle.round_watch.specs.Watching.{missing_of};
+ghost use Rattle.run_watch.specs.Watching.{missing_of};
 ghost use Rattle.run_page.specs.Refusals.{field_refusal, values_in, values_refusal};
 
 use crate::fault::PageFault;
 use crate::look::{Look, MOST_VALUES};
-use lockstep::Plan;
+use rounds_plan::Plan;
 
 /// The first of the places that is none of so many fields.
 fn missing_of(count: u32, places: &[u32]) -> Option<u32>

@@ -4,7 +4,7 @@ ghost use Rattle.serde_json.specs.Data.{string};
 ghost use Rattle.serde_json.specs.View.{view};
 ghost use Rattle.run_page.specs.Pages.{listed, settling_data, whole};
 
-use round_settle::Settling;
+use run_settle::Settling;
 use serde_json::Value;
 use std::alloc::{AllocError, Global};
 

@@ -1,13 +1,14 @@
 //! The states of rounds, as JSON.
 ghost use Rattle.std.specs.Prelude.{◌≡◌, ◌≤◌, ◌∷◌, ◌++◌, [], IfOk, OnOk, map};
-ghost use Rattle.lockstep.specs.Configs.{most_rounds};
-ghost use Rattle.round_watch.specs.Spans.{rounds_in};
+ghost use Rattle.rounds_plan.specs.Configs.{most_rounds};
+ghost use Rattle.run_watch.specs.Spans.{rounds_in};
 ghost use Rattle.serde_json.specs.View.{view};
 ghost use Rattle.run_page.specs.Pages.{numbers, states_of, values_at};
 
 use crate::parts::shown_array;
-use lockstep::{Course, Plan, RoundWalk};
-use round_watch::{Progress, Span};
+use lockstep::{Course, RoundWalk};
+use rounds_plan::Plan;
+use run_watch::{Progress, Span};
 use serde_json::Value;
 use std::alloc::{AllocError, Global};
 use std::thread::Threads;

@@ -1,8 +1,8 @@
 //! Pages of steps.
 ghost use Rattle.std.specs.Prelude.{◌≡◌, ◌≢◌, ◌≤◌, ◌<◌, ℕ, List, All, IfOk, IfErr, None, OnOk, Some, fold, length, map, max};
 ghost use Rattle.std.specs.Arc.{arc_value};
-ghost use Rattle.lockstep.specs.Configs.{most_rounds};
-ghost use Rattle.round_watch.specs.Spans.{rounds_in};
+ghost use Rattle.rounds_plan.specs.Configs.{most_rounds};
+ghost use Rattle.run_watch.specs.Spans.{rounds_in};
 ghost use Rattle.serde_json.specs.Read.{read};
 ghost use Rattle.serde_json.specs.View.{view};
 ghost use Rattle.serde_json.specs.Written.{compact_text};
@@ -18,8 +18,8 @@ use crate::parts::numbers;
 use crate::refusals::{field_refusal, values_refusal};
 use crate::states::{round_numbers, states};
 use crate::text::text_of;
-use lockstep::{MOST_ROUNDS, Plan};
-use round_watch::{Progress, Span};
+use rounds_plan::{MOST_ROUNDS, Plan};
+use run_watch::{Progress, Span};
 use serde_json::{Value, put};
 use std::alloc::{AllocError, Global};
 use std::sync::Arc;

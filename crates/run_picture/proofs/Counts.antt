@@ -7,9 +7,9 @@ use Rattle.std.proofs.lemmas.List.FromFn.{length-map-range_with_len}
 use Rattle.std.specs.List.{flat_map, range_with_len}
 use Rattle.std.specs.Option.{option_or}
 use Rattle.std.specs.Prelude.{Option, Some, None}
-use Rattle.lockstep.specs.Lockstep.{lockstep, lockstep_states}
-use Rattle.lockstep.specs.Plans.{PlanView}
-use Rattle.round_watch.specs.Spans.{SpanView, count_of, round_at, rounds_in}
+use Rattle.rounds_plan.specs.Lockstep.{lockstep, lockstep_states}
+use Rattle.rounds_plan.specs.Plans.{PlanView}
+use Rattle.run_watch.specs.Spans.{SpanView, count_of, round_at, rounds_in}
 use Rattle.run_picture.specs.declared.fault.PictureFault.{PictureFault}
 use Rattle.run_picture.specs.declared.fault.PictureFault.TheVariants.{TooManyCells}
 use Rattle.run_picture.specs.Frames.{most_cells, refusal_of, time_refusal, values_after, values_in}

@@ -5,7 +5,7 @@ use Rattle.std.specs.Fmt.{decimal}
 use Rattle.std.specs.List.{flat_map}
 use Rattle.std.specs.Str.{chars}
 use Rattle.link_net.specs.Neighbours.{Neighbours, degree, neighbour, numbers_below, weight}
-use Rattle.lockstep.specs.Plans.{PlanView}
+use Rattle.rounds_plan.specs.Plans.{PlanView}
 use Rattle.run_picture.specs.Frames.{values_after}
 use Rattle.run_picture.specs.Shades.{KeyView, class_of, colour_of, ink_of, key_of}
 use Rattle.run_picture.specs.Sheets.{value_text}

@@ -2,10 +2,10 @@
 use Rattle.std.specs.Prelude.{ℕ, ◌*◌, ◌==◌, List, if◌then◌else◌, length, map, nat_lt, slice_index, Option, Some, None}
 use Rattle.std.specs.List.{flat_map}
 use Rattle.std.specs.Option.{option_or}
-use Rattle.lockstep.specs.Configs.{most_rounds}
-use Rattle.lockstep.specs.Lockstep.{lockstep_states}
-use Rattle.lockstep.specs.Plans.{PlanView}
-use Rattle.round_watch.specs.Spans.{SpanView, count_of, rounds_in}
+use Rattle.rounds_plan.specs.Configs.{most_rounds}
+use Rattle.rounds_plan.specs.Lockstep.{lockstep_states}
+use Rattle.rounds_plan.specs.Plans.{PlanView}
+use Rattle.run_watch.specs.Spans.{SpanView, count_of, rounds_in}
 use Rattle.run_picture.specs.declared.fault.PictureFault.{PictureFault}
 use Rattle.run_picture.specs.declared.fault.PictureFault.TheVariants.{TooManyRounds, RoundsBelowStart, NoField, NoWidth, TooManyCells}
 

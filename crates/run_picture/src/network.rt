@@ -10,7 +10,7 @@ use crate::key::key_of;
 use crate::links::put_network;
 use crate::values::{refusal, values_after};
 use link_net::Network;
-use lockstep::Plan;
+use rounds_plan::Plan;
 use std::alloc::{AllocError, Global};
 use std::thread::Threads;
 

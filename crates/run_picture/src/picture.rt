@@ -7,8 +7,8 @@ ghost use Rattle.run_picture.specs.Sheets.{picture_text};
 use crate::fault::PictureFault;
 use crate::sheet::picture_of;
 use crate::values::{refusal, values_after, values_in};
-use lockstep::Plan;
-use round_watch::{Progress, Span};
+use rounds_plan::Plan;
+use run_watch::{Progress, Span};
 use std::alloc::{AllocError, Global};
 use std::thread::Threads;
 

@@ -1,13 +1,14 @@
 //! The values of a field, round by round.
 ghost use Rattle.std.specs.Prelude.{◌≡◌, ◌≤◌, ◌<◌, ◌++◌, ◌*◌, None, IfOk, OnOk, length, map, slice_index};
-ghost use Rattle.lockstep.specs.Configs.{most_rounds};
-ghost use Rattle.round_watch.specs.Spans.{count_of};
+ghost use Rattle.rounds_plan.specs.Configs.{most_rounds};
+ghost use Rattle.run_watch.specs.Spans.{count_of};
 ghost use Rattle.run_picture.specs.Frames.{refusal_of, values_after, values_in};
 
 use crate::fault::PictureFault;
-use lockstep::{Course, MOST_ROUNDS, Plan, RoundWalk};
-use round_watch::{Progress, Span};
+use lockstep::{Course, RoundWalk};
+use rounds_plan::{MOST_ROUNDS, Plan};
 use rule_check::State;
+use run_watch::{Progress, Span};
 use std::alloc::{AllocError, Global};
 use std::thread::Threads;
 

@@ -1,8 +1,8 @@
 -- The number of what is found is that of a first fault.
 use Rattle.std.proofs.Common.{◌≡◌, ◌≢◌, List, ℕ, Option, Some, None, IfSome, IsNone, true, refl}
-use Rattle.unison_jobs.specs.declared.job.Job.{Job}
-use Rattle.unison_jobs.specs.declared.fault.ServeFault.{ServeFault}
-use Rattle.unison_why.specs.FirstFault.{IsFirstFault, is_shown}
+use Rattle.app_jobs.specs.declared.job.Job.{Job}
+use Rattle.app_jobs.specs.declared.fault.ServeFault.{ServeFault}
+use Rattle.app_why.specs.FirstFault.{IsFirstFault, is_shown}
 use Rattle.unison_c.specs.Jobs.{IsFirstNumber, ending_of}
 use Rattle.unison_c.specs.Numbers.{number_of}
 

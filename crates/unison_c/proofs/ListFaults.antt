@@ -1,9 +1,9 @@
 -- Which faults a list of rounds has.
 use Rattle.std.proofs.Common.{◌≡◌, ℕ, ◌+◌, Bool, true, false, List, [], ◌∷◌, Option, Some, None, nat_lt, if◌then◌else◌, subst}
 use Rattle.std.specs.Option.{option_or}
-use Rattle.lockstep.specs.declared.fault.RoundFault.TheVariants.{TooManyRounds, RoundsBelowStart}
-use Rattle.lockstep.specs.Configs.{most_rounds}
-use Rattle.lockstep.specs.Plans.{PlanView}
+use Rattle.rounds_plan.specs.declared.fault.RoundFault.TheVariants.{TooManyRounds, RoundsBelowStart}
+use Rattle.rounds_plan.specs.Configs.{most_rounds}
+use Rattle.rounds_plan.specs.Plans.{PlanView}
 use Rattle.unison_c.specs.declared.fault.Fault.{Fault}
 use Rattle.unison_c.specs.declared.fault.Fault.TheVariants.{Texts, Round, Replay, Settle, NotRising, NoJob, Room, Memory}
 use Rattle.unison_c.specs.Refusals.{AreNoRounds}

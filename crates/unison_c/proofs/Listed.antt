@@ -6,11 +6,11 @@ use Rattle.std.proofs.Math.Seq.{drop-cons}
 use Rattle.std.proofs.lemmas.Bool.{ltb-false}
 use Rattle.std.proofs.lemmas.List.{length-append}
 use Rattle.std.proofs.lemmas.List.FromFn.{length-map-range_with_len}
-use Rattle.lockstep.specs.declared.fault.RoundFault.{RoundFault}
-use Rattle.lockstep.specs.declared.fault.RoundFault.TheVariants.{TooManyRounds, RoundsBelowStart}
-use Rattle.lockstep.specs.Configs.{Configuration, most_rounds}
-use Rattle.lockstep.specs.Lockstep.{lockstep, lockstep_config, lockstep_states}
-use Rattle.lockstep.specs.Plans.{PlanView}
+use Rattle.rounds_plan.specs.declared.fault.RoundFault.{RoundFault}
+use Rattle.rounds_plan.specs.declared.fault.RoundFault.TheVariants.{TooManyRounds, RoundsBelowStart}
+use Rattle.rounds_plan.specs.Configs.{Configuration, most_rounds}
+use Rattle.rounds_plan.specs.Lockstep.{lockstep, lockstep_config, lockstep_states}
+use Rattle.rounds_plan.specs.Plans.{PlanView}
 use Rattle.unison_c.specs.declared.fault.Fault.{Fault}
 use Rattle.unison_c.specs.declared.fault.Fault.TheVariants.{NotRising, Round}
 use Rattle.unison_c.specs.Refusals.{word_count}

@@ -1,8 +1,8 @@
 -- What a plan is refused for, its texts are.
 use Rattle.std.proofs.Common.{ℕ, List}
-use Rattle.lockstep.specs.Plans.{PlanView}
-use Rattle.unison_jobs.specs.Served.{HasResumed}
-use Rattle.unison_jobs.specs.declared.fault.ServeFault.{ServeFault}
+use Rattle.rounds_plan.specs.Plans.{PlanView}
+use Rattle.app_jobs.specs.Served.{HasResumed}
+use Rattle.app_jobs.specs.declared.fault.ServeFault.{ServeFault}
 use Rattle.unison_c.specs.declared.fault.Fault.{Fault}
 use Rattle.unison_c.specs.declared.fault.Fault.TheVariants.{Texts, Round, Replay, Settle, NotRising, NoJob, Room, Memory}
 use Rattle.unison_c.specs.Answers.{report_in}

@@ -1,13 +1,13 @@
 -- The first fault of a job depends on no text that it does not read.
 use Rattle.std.proofs.Common.{List, ℕ, Option}
-use Rattle.lockstep.specs.Plans.{PlanView}
+use Rattle.rounds_plan.specs.Plans.{PlanView}
 use Rattle.unison_trace.specs.declared.fault.ReplayFault.{ReplayFault}
-use Rattle.unison_jobs.specs.declared.job.Job.{Job}
-use Rattle.unison_jobs.specs.declared.job.Job.TheVariants.{Check, Lockstep, Run, Replay, Compare}
-use Rattle.unison_jobs.specs.declared.fault.ServeFault.{ServeFault}
-use Rattle.unison_jobs.specs.declared.fault.ServeFault.TheVariants as serve
-use Rattle.unison_jobs.specs.Served.{IsUnscheduled}
-use Rattle.unison_why.specs.FirstFault.{IsFirstFault, IsPlanFault}
+use Rattle.app_jobs.specs.declared.job.Job.{Job}
+use Rattle.app_jobs.specs.declared.job.Job.TheVariants.{Check, Lockstep, Run, Replay, Compare}
+use Rattle.app_jobs.specs.declared.fault.ServeFault.{ServeFault}
+use Rattle.app_jobs.specs.declared.fault.ServeFault.TheVariants as serve
+use Rattle.app_jobs.specs.Served.{IsUnscheduled}
+use Rattle.app_why.specs.FirstFault.{IsFirstFault, IsPlanFault}
 
 -- only a replay has a fault of replays
 no_replay : (job : Job) (p : PlanView) (schedule : List ℕ) (g : ReplayFault) → IsUnscheduled job → IsPlanFault job p schedule (serve.Replay g) → ⊥

@@ -2,19 +2,19 @@
 use Rattle.std.specs.Prelude.{ℕ, ◌≡◌, ◌≤◌, List, [], ◌∷◌, length, Option, Some, None, Ok}
 use Rattle.rule_lang.specs.Tree.{ItemTree}
 use Rattle.rule_lang.specs.Canonical.{program_text}
-use Rattle.lockstep.specs.Configs.{Configuration}
-use Rattle.lockstep.specs.Lockstep.{rounds_of}
-use Rattle.lockstep.specs.Plans.{PlanView}
-use Rattle.round_settle.specs.declared.settling.Settling.{Settling}
-use Rattle.round_settle.specs.declared.settling.Settling.TheVariants.{Settles, Repeats, Open}
-use Rattle.round_settle.specs.Outcomes.{IsSettling}
+use Rattle.rounds_plan.specs.Configs.{Configuration}
+use Rattle.rounds_plan.specs.Lockstep.{rounds_of}
+use Rattle.rounds_plan.specs.Plans.{PlanView}
+use Rattle.run_settle.specs.declared.settling.Settling.{Settling}
+use Rattle.run_settle.specs.declared.settling.Settling.TheVariants.{Settles, Repeats, Open}
+use Rattle.run_settle.specs.Outcomes.{IsSettling}
 use Rattle.unison_world.specs.declared.step.Step.{Step}
 use Rattle.unison_world.specs.Opening.{opening_of}
 use Rattle.unison_world.specs.View.{opened}
 use Rattle.unison_trace.specs.Histories.{most_steps, run_of}
 use Rattle.unison_trace.specs.Replays.{replay_text}
 use Rattle.unison_trace.specs.Schedules.{HasSteps}
-use Rattle.unison_jobs.specs.Served.{HasResumed, IsAccepted}
+use Rattle.app_jobs.specs.Served.{HasResumed, IsAccepted}
 use Rattle.unison_c.specs.Words.{counts_in, list_fault, with_front, words_after, words_at, words_of}
 
 -- the text of a report to go on from; an empty one is none

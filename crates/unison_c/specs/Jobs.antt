@@ -1,11 +1,11 @@
 -- Which job `unison_why` looks at, and the number that it tells: that of the first fault with which the job would end. Texts that a job
 -- does not read play no part in `IsFirstFault` and `IsUnrefused`: a check reads the program alone, rounds all but the schedule.
 use Rattle.std.specs.Prelude.{ℕ, ◌≡◌, List, Option, true}
-use Rattle.unison_jobs.specs.declared.job.Job.{Job}
-use Rattle.unison_jobs.specs.declared.job.Job.TheVariants.{Check, Lockstep, Replay}
-use Rattle.unison_jobs.specs.declared.fault.ServeFault.{ServeFault}
-use Rattle.unison_jobs.specs.declared.fault.ServeFault.TheVariants as serve
-use Rattle.unison_why.specs.FirstFault.{IsFirstFault, is_shown}
+use Rattle.app_jobs.specs.declared.job.Job.{Job}
+use Rattle.app_jobs.specs.declared.job.Job.TheVariants.{Check, Lockstep, Replay}
+use Rattle.app_jobs.specs.declared.fault.ServeFault.{ServeFault}
+use Rattle.app_jobs.specs.declared.fault.ServeFault.TheVariants as serve
+use Rattle.app_why.specs.FirstFault.{IsFirstFault, is_shown}
 use Rattle.unison_c.specs.declared.fault.Fault.{Fault}
 use Rattle.unison_c.specs.declared.fault.Fault.TheVariants as fault
 use Rattle.unison_c.specs.Numbers.{number_of}

@@ -7,22 +7,22 @@ use Rattle.rule_check.specs.declared.fault.CheckFault.{CheckFault}
 use Rattle.rule_check.specs.declared.fault.CheckFault.TheVariants as check
 use Rattle.link_net.specs.declared.fault.NetFault.{NetFault}
 use Rattle.link_net.specs.declared.fault.NetFault.TheVariants as net
-use Rattle.lockstep.specs.declared.fault.PlanFault.{PlanFault}
-use Rattle.lockstep.specs.declared.fault.PlanFault.TheVariants as plan
-use Rattle.lockstep.specs.declared.fault.ReportFault.{ReportFault}
-use Rattle.lockstep.specs.declared.fault.ReportFault.TheVariants as report
-use Rattle.lockstep.specs.declared.fault.RoundFault.{RoundFault}
-use Rattle.lockstep.specs.declared.fault.RoundFault.TheVariants as round
-use Rattle.round_settle.specs.declared.fault.SettleFault.{SettleFault}
-use Rattle.round_settle.specs.declared.fault.SettleFault.TheVariants as settle
+use Rattle.rounds_plan.specs.declared.fault.PlanFault.{PlanFault}
+use Rattle.rounds_plan.specs.declared.fault.PlanFault.TheVariants as plan
+use Rattle.report_text.specs.declared.fault.ReportFault.{ReportFault}
+use Rattle.report_text.specs.declared.fault.ReportFault.TheVariants as report
+use Rattle.rounds_plan.specs.declared.fault.RoundFault.{RoundFault}
+use Rattle.rounds_plan.specs.declared.fault.RoundFault.TheVariants as round
+use Rattle.run_settle.specs.declared.fault.SettleFault.{SettleFault}
+use Rattle.run_settle.specs.declared.fault.SettleFault.TheVariants as settle
 use Rattle.unison_world.specs.declared.fault.OpenFault.{OpenFault}
 use Rattle.unison_world.specs.declared.fault.OpenFault.TheVariants as opening
 use Rattle.unison_trace.specs.declared.fault.ScheduleFault.{ScheduleFault}
 use Rattle.unison_trace.specs.declared.fault.ScheduleFault.TheVariants as schedule
 use Rattle.unison_trace.specs.declared.fault.ReplayFault.{ReplayFault}
 use Rattle.unison_trace.specs.declared.fault.ReplayFault.TheVariants as replay
-use Rattle.unison_jobs.specs.declared.fault.ServeFault.{ServeFault}
-use Rattle.unison_jobs.specs.declared.fault.ServeFault.TheVariants as serve
+use Rattle.app_jobs.specs.declared.fault.ServeFault.{ServeFault}
+use Rattle.app_jobs.specs.declared.fault.ServeFault.TheVariants as serve
 use Rattle.unison_c.specs.declared.fault.Fault.{Fault}
 use Rattle.unison_c.specs.declared.fault.Fault.TheVariants as fault
 

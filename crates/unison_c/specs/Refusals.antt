@@ -2,13 +2,13 @@
 use Rattle.std.specs.Prelude.{ℕ, ◌≡◌, ◌≢◌, ◌*◌, ◌<◌, ◌⊎◌, Bool, true, false, ◌||◌, ◌==◌, List, length, None, Some, Ok, Err}
 use Rattle.rule_lang.specs.Tree.{ItemTree}
 use Rattle.rule_lang.specs.Canonical.{program_text}
-use Rattle.lockstep.specs.declared.fault.RoundFault.TheVariants as round
-use Rattle.lockstep.specs.Configs.{Configuration}
-use Rattle.lockstep.specs.Lockstep.{rounds_of}
-use Rattle.lockstep.specs.Plans.{PlanView}
-use Rattle.round_settle.specs.Outcomes.{IsFaultOf}
+use Rattle.rounds_plan.specs.declared.fault.RoundFault.TheVariants as round
+use Rattle.rounds_plan.specs.Configs.{Configuration}
+use Rattle.rounds_plan.specs.Lockstep.{rounds_of}
+use Rattle.rounds_plan.specs.Plans.{PlanView}
+use Rattle.run_settle.specs.Outcomes.{IsFaultOf}
 use Rattle.unison_trace.specs.ReplayFaults.{IsRefusedText}
-use Rattle.unison_jobs.specs.Served.{HasResumed, IsAccepted, RefusesProgram, RefusesTexts}
+use Rattle.app_jobs.specs.Served.{HasResumed, IsAccepted, RefusesProgram, RefusesTexts}
 use Rattle.unison_c.specs.declared.fault.Fault.{Fault}
 use Rattle.unison_c.specs.declared.fault.Fault.TheVariants.{Texts, Round, Replay, Settle, NotRising, NoJob, Room, Memory}
 use Rattle.unison_c.specs.Answers.{HasShape, Replayed, TellsReplay, report_in}

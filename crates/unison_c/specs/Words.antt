@@ -4,10 +4,10 @@ use Rattle.std.specs.List.{flat_map}
 use Rattle.std.specs.Option.{option_or}
 use Rattle.rule_check.specs.declared.state.State.{State}
 use Rattle.link_net.specs.Neighbours.{numbers_below}
-use Rattle.lockstep.specs.declared.fault.RoundFault.TheVariants.{TooManyRounds, RoundsBelowStart}
-use Rattle.lockstep.specs.Configs.{Configuration, most_rounds}
-use Rattle.lockstep.specs.Lockstep.{lockstep, lockstep_config}
-use Rattle.lockstep.specs.Plans.{PlanView}
+use Rattle.rounds_plan.specs.declared.fault.RoundFault.TheVariants.{TooManyRounds, RoundsBelowStart}
+use Rattle.rounds_plan.specs.Configs.{Configuration, most_rounds}
+use Rattle.rounds_plan.specs.Lockstep.{lockstep, lockstep_config}
+use Rattle.rounds_plan.specs.Plans.{PlanView}
 use Rattle.unison_world.specs.Counting.{Counts, moves_of}
 use Rattle.unison_c.specs.declared.fault.Fault.{Fault}
 use Rattle.unison_c.specs.declared.fault.Fault.TheVariants.{NotRising, Round}

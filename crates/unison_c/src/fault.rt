@@ -4,13 +4,14 @@ ghost use Rattle.unison_c.specs.declared.fault.Fault.TheVariants.{Texts, Round, 
 ghost use Rattle.unison_c.specs.Jobs.{ending_of};
 ghost use Rattle.unison_c.specs.Numbers.{check_number, lang_number, net_number, number_of, opening_number, plan_number, replay_number, report_number, round_number, schedule_number, settle_number, texts_number};
 
+use app_jobs::ServeFault;
 use link_net::NetFault;
-use lockstep::{PlanFault, ReportFault, RoundFault};
-use round_settle::SettleFault;
+use report_text::ReportFault;
+use rounds_plan::{PlanFault, RoundFault};
 use rule_check::CheckFault;
 use rule_lang::LangFault;
+use run_settle::SettleFault;
 use std::alloc::{AllocError, AllocFailed};
-use unison_jobs::ServeFault;
 use unison_trace::{ReplayFault, ScheduleFault};
 use unison_world::OpenFault;
 

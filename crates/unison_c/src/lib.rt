@@ -3,7 +3,7 @@
 #![tactic(auto)]
 
 ghost use Rattle.std.specs.Prelude.{◌≡◌, ◌≢◌, ◌≤◌, length, true};
-ghost use Rattle.unison_why.specs.FirstFault.{IsUnrefused};
+ghost use Rattle.app_why.specs.FirstFault.{IsUnrefused};
 ghost use Rattle.unison_c.specs.Answers.{HasPlanWith, HasReplay, HasRoundWords, HasSettling, HaveRoundWords, IsSpelled, IsText, report_in, told_by};
 ghost use Rattle.unison_c.specs.Jobs.{HasJobWith, IsFirstNumber};
 ghost use Rattle.unison_c.specs.Numbers.{IsNumberOf};

@@ -1,12 +1,12 @@
 //! The plan of a call's texts, and its shape.
 ghost use Rattle.std.specs.Prelude.{◌≡◌, ◌≤◌, IfOk, IfErr};
-ghost use Rattle.unison_jobs.specs.Served.{HasResumed, RefusesTexts, given};
+ghost use Rattle.app_jobs.specs.Served.{HasResumed, RefusesTexts, given};
 ghost use Rattle.unison_c.specs.Answers.{HasShape, report_in};
 ghost use Rattle.unison_c.specs.Refusals.{word_count};
 
-use lockstep::Plan;
+use app_jobs::{ServeFault, plan_from};
+use rounds_plan::Plan;
 use std::alloc::Global;
-use unison_jobs::{ServeFault, plan_from};
 
 /// The text of a report to go on from; an empty one is none.
 pub(crate) fn report_in(from: &[u8]) -> Option<&[u8]>

@@ -1,8 +1,8 @@
 //! Why a job is not done: the number of its first fault, and what is told of it for people.
 ghost use Rattle.std.specs.Prelude.{◌≡◌, ◌≢◌, ◌≤◌, true, false, length, IfErr, IfOk, OnErr, OnOk, MatchOption, option_map};
-ghost use Rattle.unison_jobs.specs.declared.fault.ServeFault.{ServeFault};
-ghost use Rattle.unison_why.specs.FirstFault.{IsFirstFault, IsUnrefused};
-ghost use Rattle.unison_why.specs.Given.{network_of, report_of, schedule_of};
+ghost use Rattle.app_jobs.specs.declared.fault.ServeFault.{ServeFault};
+ghost use Rattle.app_why.specs.FirstFault.{IsFirstFault, IsUnrefused};
+ghost use Rattle.app_why.specs.Given.{network_of, report_of, schedule_of};
 ghost use Rattle.unison_c.specs.Answers.{IsText, report_in};
 ghost use Rattle.unison_c.specs.Jobs.{HasJobWith, IsFirstNumber, IsJob};
 ghost use Rattle.unison_c.specs.Refusals.{IsUnknownJob, IsUntold, is_job};
@@ -10,9 +10,9 @@ ghost use Rattle.unison_c.specs.Refusals.{IsUnknownJob, IsUntold, is_job};
 use crate::fault::{Fault, ending_number};
 use crate::plans::report_in;
 use crate::spelling::put_text;
+use app_jobs::Job;
+use app_why::{Named, Texts, why};
 use std::alloc::{AllocError, Global};
-use unison_jobs::Job;
-use unison_why::{Named, Texts, why};
 
 /// What is told of a job.
 #[derive(Drop)]

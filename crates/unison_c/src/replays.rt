@@ -13,7 +13,7 @@ ghost use Rattle.unison_c.specs.Words.{counts_in, shown_words, words_after};
 use crate::fault::Fault;
 use crate::plans::{plan_of, put_shape};
 use crate::words::{add_words, put_bytes, put_words};
-use lockstep::Plan;
+use rounds_plan::Plan;
 use std::alloc::{AllocError, Global};
 use std::sync::Arc;
 use unison_trace::{ReplayFault, read_schedule, replay_report};

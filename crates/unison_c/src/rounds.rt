@@ -1,7 +1,7 @@
 //! The words after one round, or after each of a list of rounds.
 ghost use Rattle.std.specs.Prelude.{◌≡◌, ◌≢◌, ◌*◌, ◌+◌, ◌≤◌, ◌++◌, length, IfOk, IfErr, OnErr, OnOk, MatchResult};
-ghost use Rattle.lockstep.specs.Configs.{most_rounds};
-ghost use Rattle.lockstep.specs.Lockstep.{lockstep_config, rounds_of};
+ghost use Rattle.rounds_plan.specs.Configs.{most_rounds};
+ghost use Rattle.rounds_plan.specs.Lockstep.{lockstep_config, rounds_of};
 ghost use Rattle.unison_c.specs.declared.fault.Fault.TheVariants as fault;
 ghost use Rattle.unison_c.specs.Answers.{HasPlanWith, HasRoundWords, HaveRoundWords};
 ghost use Rattle.unison_c.specs.Refusals.{AreNoRounds, IsNoRound, IsRefusedPlan, word_count};
@@ -10,7 +10,8 @@ ghost use Rattle.unison_c.specs.Words.{entry_fault, list_fault, words_at, words_
 use crate::fault::Fault;
 use crate::plans::{plan_of, put_shape, word_count};
 use crate::words::{add_config, put_words};
-use lockstep::{Course, MOST_ROUNDS, Plan, RoundFault, RoundWalk, lockstep};
+use lockstep::{Course, RoundWalk, lockstep};
+use rounds_plan::{MOST_ROUNDS, Plan, RoundFault};
 use std::alloc::{AllocError, Global};
 
 /// Why the plan does not have a round, if it does not.

@@ -5,7 +5,7 @@ ghost use Rattle.unison_c.specs.Refusals.{IsNoSettling, IsRefusedPlan};
 
 use crate::fault::Fault;
 use crate::plans::plan_of;
-use round_settle::{Settling, settle};
+use run_settle::{Settling, settle};
 use std::alloc::Global;
 
 /// What becomes of the rounds of the plan of the texts up to a limit.

@@ -5,14 +5,14 @@ ghost use Rattle.rule_lang.specs.Tree.{ItemTree};
 ghost use Rattle.unison_c.specs.Answers.{IsSpelled};
 ghost use Rattle.unison_c.specs.Refusals.{IsUnspelled};
 ghost use Rattle.unison_c.specs.Words.{with_front};
-ghost use Rattle.unison_jobs.specs.Served.{IsAccepted, RefusesProgram};
+ghost use Rattle.app_jobs.specs.Served.{IsAccepted, RefusesProgram};
 
 use crate::fault::Fault;
 use crate::words::put_bytes;
+use app_jobs::ServeFault;
 use rule_check::check;
 use rule_lang::{read_program, write_program};
 use std::alloc::Global;
-use unison_jobs::ServeFault;
 
 /// The canonical spelling of a program.
 fn canonical(alloc: Global, program: &[u8]) -> Result<Vec<u8>, ServeFault>

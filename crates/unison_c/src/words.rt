@@ -2,7 +2,7 @@
 ghost use Rattle.std.specs.Prelude.{◌≡◌, ◌≤◌, ◌*◌, ◌++◌, length, take, IfOk, OnOk};
 ghost use Rattle.unison_c.specs.Words.{with_front, words_of};
 
-use lockstep::Config;
+use rounds_plan::Config;
 use rule_check::State;
 use std::alloc::AllocError;
 

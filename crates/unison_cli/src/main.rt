@@ -1,7 +1,10 @@
 //! Unison: synchronous programs on networks whose nodes move at their own pace.
 #![tactic(auto)]
 
-use lockstep::Tally;
+pub use app_jobs::{Job, ServeFault, Served, serve};
+use app_words::job_of;
+pub use app_words::{Request, UsageFault};
+use report_text::Tally;
 use std::alloc::AllocError;
 use std::fs::File;
 use std::io::{BufWriter, ErrorKind, Read, Write};
@@ -9,9 +12,6 @@ use std::process::ExitCode;
 use std::sync::Wait;
 use std::thread::Threads;
 use std::{env, fs, io};
-pub use unison_jobs::{Job, ServeFault, Served, serve};
-use unison_words::job_of;
-pub use unison_words::{Request, UsageFault};
 
 /// Why the program ends with a status other than 0, or after help.
 #[derive(Debug, Drop)]

@@ -3,10 +3,10 @@
 use crate::ending::Ending;
 use crate::files::{Text, text_at};
 use crate::init::put_opening;
-use cell_pattern::{Cell, Grid, PatternFault, PlaceFault, placed, read_pattern};
-use lab_words::{CellsWord, InitRequest};
+use app_requests::{CellsWord, InitRequest};
 use link_net::Name;
-use net_open::{Chosen, Opening};
+use net_initial::{Chosen, Opening};
+use net_patterns::{Cell, Grid, PatternFault, PlaceFault, placed, read_pattern};
 use std::alloc::{AllocError, Global};
 
 /// Where a text is no pattern, and why.

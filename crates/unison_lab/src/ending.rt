@@ -1,12 +1,12 @@
 //! How the program ends where it does not do what it was asked for.
 
+use app_jobs::ServeFault;
+use app_table::WordsFault;
+use app_words::UsageFault;
 use link_net::NetFault;
 use std::alloc::{AllocError, AllocFailed};
 use std::io;
 use std::io::ErrorKind;
-use unison_jobs::ServeFault;
-use unison_words::UsageFault;
-use word_table::WordsFault;
 
 /// Why the program ends with a status other than that of a job, or after help.
 #[derive(Debug, Drop)]

@@ -4,12 +4,12 @@ use crate::ending::Ending;
 use crate::files::{path_in, read_once, text_at};
 use crate::output::write_out;
 use crate::plan_texts::plan_at;
-use lab_words::ExplainRequest;
-use lockstep::Plan;
+use app_jobs::ServeFault;
+use app_requests::ExplainRequest;
+use rounds_plan::Plan;
+use run_explain::told;
 use std::alloc::Global;
 use std::sync::Arc;
-use step_tell::told;
-use unison_jobs::ServeFault;
 use unison_trace::{ReplayFault, ScheduleFault, read_schedule};
 use unison_world::{OpenFault, Step};
 

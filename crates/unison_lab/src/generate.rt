@@ -2,11 +2,10 @@
 
 use crate::ending::Ending;
 use crate::output::write_out;
-use lab_words::{GenerateRequest, Topology, Weights};
-use net_random::{Lot, LotFault, drawn, drawn_text};
+use app_requests::{GenerateRequest, Topology, Weights};
+use net_random::{Lot, LotFault, WeightFault, drawn, drawn_text, weighted_text};
 use net_shapes::{Shape, ShapeFault, links_of, made_text};
 use net_text::LinkList;
-use net_weights::{WeightFault, weighted_text};
 use std::alloc::{AllocError, Global};
 
 /// How many nodes a shape has.

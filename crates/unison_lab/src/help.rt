@@ -2,10 +2,10 @@
 
 use crate::ending::Ending;
 use crate::output::write_out;
-use lab_words::{GROUPS, Group, check_completion, check_manual};
+use app_requests::{GROUPS, Group, check_completion, check_manual};
+use app_table::{completion, manual};
+use app_words::command;
 use std::alloc::{AllocError, Global};
-use unison_words::command;
-use word_table::{completion, manual};
 
 /// What the program is.
 const ABOUT: &str = "Synchronous programs on networks whose nodes move at their own pace";

@@ -4,14 +4,14 @@ use crate::ending::Ending;
 use crate::files::{Text, text_at};
 use crate::output::{write_file, write_out};
 use crate::refusals::refusal;
-use lab_words::{Format, ImportRequest};
-use net_take::{TakeFault, Taken, take_dot, take_edges, take_matrix, take_numbers};
+use app_requests::{Format, ImportRequest};
+use import_network::{TakeFault, Taken, take_dot, take_edges, take_matrix, take_numbers};
 use std::alloc::{AllocError, Global};
 use std::io;
 
 /// The network of a list of edges.
 fn take_lines(alloc: Global, text: &[u8], asked: &ImportRequest) -> Result<Taken, TakeFault> {
-    let reading = edge_text::Reading {
+    let reading = import_edges::Reading {
         header: asked.header,
         factor: asked.factor,
     };
@@ -29,11 +29,11 @@ fn take_text(alloc: Global, text: &[u8], asked: &ImportRequest) -> Result<Taken,
     match asked.format {
         Format::Edges => take_lines(alloc, text, asked),
         Format::MatrixMarket => {
-            let reading = matrix_text::Reading { factor, undirected };
+            let reading = import_matrix::Reading { factor, undirected };
             take_matrix(alloc, text, &reading, asked.mending)
         }
         Format::Dot => {
-            let reading = dot_text::Reading { factor, undirected };
+            let reading = import_dot::Reading { factor, undirected };
             take_dot(alloc, text, &reading, asked.mending)
         }
     }

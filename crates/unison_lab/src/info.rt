@@ -3,9 +3,9 @@
 use crate::ending::Ending;
 use crate::files::text_at;
 use crate::output::write_out;
-use lab_words::InfoRequest;
+use app_requests::InfoRequest;
 use link_net::{NetFault, read_network};
-use net_show::{facts_of, facts_text};
+use net_facts::{facts_of, facts_text};
 use std::alloc::Global;
 
 /// The lines about the network of these bytes.

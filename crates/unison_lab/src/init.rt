@@ -5,12 +5,12 @@ use crate::ending::Ending;
 use crate::files::{path_in, read_once, text_at};
 use crate::names::names_at;
 use crate::output::write_out;
-use lab_words::{InitRequest, LotWord, SetWord};
+use app_requests::{InitRequest, LotWord, SetWord};
+use app_table::number;
 use link_net::{MOST_NODES, Name, NetFault, NetFile, read_network};
-use net_open::{Chosen, DrawFault, OpenFault, Opening, drawn_nodes, opened_text};
-use node_names::NodeNames;
+use net_initial::{Chosen, DrawFault, OpenFault, Opening, drawn_nodes, opened_text};
+use net_names::NodeNames;
 use std::alloc::{AllocError, Global};
-use word_table::number;
 
 /// The ending where a word names no node of the network.
 fn no_node(alloc: Global, word: &SetWord, named: bool) -> Result<Ending, AllocError> {

@@ -2,8 +2,8 @@
 
 use crate::ending::Ending;
 use csv::{ByteRecord, Writer};
-use node_names::NodeNames;
-use round_watch::Format;
+use net_names::NodeNames;
+use run_watch::Format;
 use serde_json::Value;
 use std::alloc::{AllocError, Global};
 

@@ -42,11 +42,11 @@ use crate::settle::settle_rounds;
 use crate::usage::around_advice;
 use crate::watch::watch_rounds;
 use crate::why::{print_fault, why_command};
-use lab_words::Task;
+use app_jobs::ServeFault;
+use app_requests::Task;
 use std::process::ExitCode;
 use std::thread::Threads;
 use std::{env, io};
-use unison_jobs::ServeFault;
 
 /// The words of the command line. One that is no UTF-8 is a wrong word.
 fn words_of(rt: &HostRuntime) -> Result<Vec<String>, Ending> {

@@ -2,7 +2,7 @@
 
 use crate::ending::Ending;
 use crate::files::{Text, text_where};
-use node_names::{NamesFileFault, NodeNames, read_names};
+use net_names::{NamesFileFault, NodeNames, read_names};
 use std::alloc::Global;
 
 /// The names that a text has.

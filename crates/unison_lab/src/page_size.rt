@@ -1,8 +1,8 @@
 //! How much of a run a page can hold.
 
 use crate::ending::Ending;
-use round_watch::Span;
 use run_page::MOST_VALUES;
+use run_watch::Span;
 use std::alloc::{AllocError, Global};
 
 /// What is told of rounds with too many values.

@@ -9,10 +9,10 @@ use crate::output::write_out;
 use crate::plan_texts::plan_at;
 use crate::progress::Telling;
 use crate::watch::no_rounds;
-use lab_words::{DotRequest, ImageRequest};
-use lockstep::Plan;
-use round_watch::{Format, WatchFault};
+use app_requests::{DotRequest, ImageRequest};
+use rounds_plan::Plan;
 use run_picture::{MOST_CELLS, PictureFault, grid_picture, network_dot, time_picture};
+use run_watch::{Format, WatchFault};
 use std::alloc::{AllocError, Global};
 use std::thread::Threads;
 

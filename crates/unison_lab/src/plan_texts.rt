@@ -2,9 +2,9 @@
 
 use crate::ending::Ending;
 use crate::files::{text_at, text_where};
-use lab_words::PlanPaths;
-use lockstep::Plan;
-use unison_jobs::plan_from;
+use app_jobs::plan_from;
+use app_requests::PlanPaths;
+use rounds_plan::Plan;
 
 /// The plan of the texts at these paths.
 pub(crate) fn plan_at(rt: &HostRuntime, paths: &PlanPaths) -> Result<Plan, Ending> {

@@ -1,6 +1,6 @@
 //! How far long work is.
 
-use round_watch::{Progress, Span};
+use run_watch::{Progress, Span};
 use std::io::IsTerminal;
 
 /// How many lines of nodes are long work, so that rounds are told on a terminal while they are made.

@@ -1,17 +1,15 @@
 //! What is told of a text of another format that has no network.
 
 use crate::ending::Ending;
-use dot_text::{DotFault, DotLineFault, TokenKind};
-use edge_join::{JoinFault, NumberFault};
-use edge_text::{EdgeFault, LineFault};
-use lab_words::Format;
-use line_words::WordsFault;
-use link_merge::SettleFault;
+use app_requests::Format;
+use import_dot::{DotFault, DotLineFault, TokenKind};
+use import_edges::{EdgeFault, LineFault};
+use import_lines::{WeightFault, WordsFault};
+use import_links::{JoinFault, NumberFault, SettleFault};
+use import_matrix::{MatrixFault, MatrixLineFault};
+use import_network::TakeFault;
 use link_net::NetFault;
-use matrix_text::{MatrixFault, MatrixLineFault};
-use net_take::TakeFault;
 use std::alloc::{AllocError, Global};
-use weight_text::WeightFault;
 
 /// The line of a fault where it has one, the fault's name, and what is wrong and what to do.
 type Told = (Option<u64>, &'static str, &'static str);

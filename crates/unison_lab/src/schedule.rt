@@ -6,18 +6,18 @@ use crate::labels::check_count;
 use crate::names::names_at;
 use crate::output::write_out;
 use crate::plan_texts::plan_at;
-use lab_words::{Listing, PlanPaths, ScheduleRequest, StepsManner, Writing};
+use app_jobs::ServeFault;
+use app_requests::{Listing, PlanPaths, ScheduleRequest, StepsManner, Writing};
+use app_table::number;
 use link_net::{MOST_NODES, Network};
-use lockstep::Plan;
-use node_names::NodeNames;
+use net_names::NodeNames;
+use rounds_plan::Plan;
+use run_schedule::{ListFault, Manner, listed, with_refused};
+use run_script::{StepTextFault, written};
 use std::alloc::{AllocError, Global};
 use std::sync::Arc;
-use step_lists::{ListFault, Manner, listed, with_refused};
-use step_text::{StepTextFault, written};
-use unison_jobs::ServeFault;
 use unison_trace::{ReplayFault, write_schedule};
 use unison_world::{OpenFault, Step};
-use word_table::number;
 
 /// The names by which nodes are called, as many as the network has nodes.
 fn names_for(

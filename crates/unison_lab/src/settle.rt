@@ -7,10 +7,10 @@ use crate::output::write_out;
 use crate::plan_texts::plan_at;
 use crate::progress::Silent;
 use crate::watch::no_rounds;
-use lab_words::SettleRequest;
-use lockstep::Plan;
-use round_settle::{SettleFault, Settling, settle};
-use round_watch::{Format, Show, Span, WatchFault, watched};
+use app_requests::SettleRequest;
+use rounds_plan::Plan;
+use run_settle::{SettleFault, Settling, settle};
+use run_watch::{Format, Show, Span, WatchFault, watched};
 use std::alloc::{AllocError, Global};
 use std::thread::Threads;
 

@@ -8,13 +8,13 @@ use crate::names::names_at;
 use crate::output::write_out;
 use crate::plan_texts::plan_at;
 use crate::progress::Telling;
-use lab_words::{View, WatchRequest};
-use lockstep::{Plan, RoundFault};
-use round_watch::{Format, Show, WatchFault, watched};
+use app_jobs::ServeFault;
+use app_requests::{View, WatchRequest};
+use rounds_plan::{Plan, RoundFault};
 use rule_check::Program;
+use run_watch::{Format, Show, WatchFault, watched};
 use std::alloc::Global;
 use std::thread::Threads;
-use unison_jobs::ServeFault;
 
 /// Refuses CSV and JSON in which a field is called as what stands before the fields.
 fn check_headings(

@@ -3,11 +3,11 @@
 use crate::ending::Ending;
 use crate::files::{Text, path_in, read_once, text_at, text_where};
 use crate::output::write_out;
+use app_jobs::ServeFault;
+use app_why::{Finding, Named, Texts, why};
+use app_words::{Request, UsageFault, command_as, job_by};
 use std::alloc::{AllocError, Global};
 use std::io;
-use unison_jobs::ServeFault;
-use unison_why::{Finding, Named, Texts, why};
-use unison_words::{Request, UsageFault, command_as, job_by};
 
 /// What stands behind the help of `why`.
 const EXAMPLE: &str =

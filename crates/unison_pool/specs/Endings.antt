@@ -1,6 +1,6 @@
 -- What a run answers once its workers have ended.
 use Rattle.std.specs.Prelude.{◌≡◌, ℕ, Option, Err, is_some, ⊤}
-use Rattle.lockstep.specs.Plans.{PlanView}
+use Rattle.rounds_plan.specs.Plans.{PlanView}
 use Rattle.unison_world.specs.declared.fault.FinishFault.TheVariants as finish
 use Rattle.unison_world.specs.Finishing.{IsFinish, IsOf}
 use Rattle.unison_trace.specs.declared.fault.LogFault.TheVariants as log

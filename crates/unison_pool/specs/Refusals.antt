@@ -1,7 +1,7 @@
 -- Why a run is refused.
 use Rattle.std.specs.Prelude.{◌≡◌, ℕ, ◌<◌, ◌==◌, ◌||◌, nat_lt, min, if◌then◌else◌, length, Option, Some, None, MatchOption, ⊤}
-use Rattle.lockstep.specs.Configs.{most_rounds}
-use Rattle.lockstep.specs.Plans.{PlanView}
+use Rattle.rounds_plan.specs.Configs.{most_rounds}
+use Rattle.rounds_plan.specs.Plans.{PlanView}
 use Rattle.unison_trace.specs.Histories.{most_steps}
 use Rattle.unison_trace.specs.Traces.{needed}
 use Rattle.unison_pool.specs.declared.fault.RunFault.{RunFault}

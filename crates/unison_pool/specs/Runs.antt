@@ -1,6 +1,6 @@
 -- What a run answers.
 use Rattle.std.specs.Prelude.{ℕ, List, Option, Some, None, ⊤}
-use Rattle.lockstep.specs.Plans.{PlanView}
+use Rattle.rounds_plan.specs.Plans.{PlanView}
 use Rattle.unison_world.specs.declared.step.Step.{Step}
 use Rattle.unison_trace.specs.Traces.{IsWholeTrace}
 

@@ -1,7 +1,7 @@
 //! Runs.
 ghost use Rattle.std.specs.Prelude.{◌≡◌, ◌≤◌, ◌<◌, ◌↔◌, IfOk, IfErr, OnOk, IfSome, IsTrue, None, option_map};
 ghost use Rattle.std.specs.Arc.{arc_value};
-ghost use Rattle.lockstep.specs.Lockstep.{lockstep_config};
+ghost use Rattle.rounds_plan.specs.Lockstep.{lockstep_config};
 ghost use Rattle.unison_world.specs.Opening.{opening_of};
 ghost use Rattle.unison_trace.specs.Histories.{with_log};
 ghost use Rattle.unison_trace.specs.Traces.{steps_in};
@@ -13,7 +13,7 @@ use crate::fault::RunFault;
 use crate::gate::Gate;
 use crate::shared::Shared;
 use crate::team::{Halted, Team};
-use lockstep::{MOST_ROUNDS, Plan};
+use rounds_plan::{MOST_ROUNDS, Plan};
 use std::alloc::Global;
 use std::sync::{Arc, Wait};
 use std::thread::Threads;

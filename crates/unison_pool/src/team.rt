@@ -6,7 +6,7 @@ ghost use Rattle.unison_pool.specs.declared.team.Halted.TheVariants.{Fault};
 use crate::gate::Gate;
 use crate::shared::Shared;
 use crate::worker::Part;
-use lockstep::Plan;
+use rounds_plan::Plan;
 use std::alloc::{AllocError, AllocFailed, Global};
 use std::sync::Wait;
 use std::thread;

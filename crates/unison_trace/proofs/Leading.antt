@@ -4,7 +4,7 @@ use Rattle.std.specs.List.{All, sum_by}
 use Rattle.std.proofs.lemmas.List.Elements.{All-push, All-head, All-tail}
 use Rattle.std.proofs.lemmas.List.Sums.{sum_by-cons}
 use Rattle.link_net.specs.Neighbours.{Neighbours}
-use Rattle.lockstep.specs.Plans.{PlanView, IsPlan}
+use Rattle.rounds_plan.specs.Plans.{PlanView, IsPlan}
 use Rattle.unison_world.specs.declared.step.Step.{Step}
 use Rattle.unison_world.specs.declared.step.Step.TheVariants.{Read, Write}
 use Rattle.unison_world.specs.declared.step.Answer.{Answer}

@@ -2,8 +2,8 @@
 use Rattle.std.proofs.Common.{◌≡◌, ◌≢◌, ℕ, ◌<◌, ◌^◌, List, ◌++◌, codes, get_or, refl, sym, ap, ◌∙◌, arith, append_assoc, Some, None}
 use Rattle.std.specs.Fmt.{decimal}
 use Rattle.std.proofs.lemmas.List.{append_cancel_left}
-use Rattle.lockstep.specs.Front.{IsFront, Ends, Anything}
-use Rattle.lockstep.proofs.Digits.{number_once}
+use Rattle.report_text.specs.Front.{IsFront, Ends, Anything}
+use Rattle.report_text.proofs.Digits.{number_once}
 use Rattle.unison_world.specs.declared.step.Step.{Step}
 use Rattle.unison_world.specs.declared.step.Step.TheVariants.{Read, Write}
 use Rattle.unison_trace.specs.Schedules.{line_of, IsStep}

@@ -6,11 +6,11 @@ use Rattle.std.proofs.lemmas.List.{append_cancel_left, append-nil, length-take, 
 use Rattle.std.proofs.lemmas.List.Elements.{All-nil, All-push, All-head, All-tail}
 use Rattle.std.proofs.lemmas.Bool.Decides.{Decides-eqb}
 use Rattle.rule_lang.proofs.Bytes.{digit_bounds}
-use Rattle.lockstep.specs.Digits.{IsDigits}
-use Rattle.lockstep.specs.Front.{IsFront, Anything}
-use Rattle.lockstep.specs.Lines.{lines_of}
-use Rattle.lockstep.proofs.Digits.{decimal_digits, number_once}
-use Rattle.lockstep.proofs.Lines.{IsInLine, line_split, inline_append, first_line, no_line}
+use Rattle.report_text.specs.Digits.{IsDigits}
+use Rattle.report_text.specs.Front.{IsFront, Anything}
+use Rattle.report_text.specs.Lines.{lines_of}
+use Rattle.report_text.proofs.Digits.{decimal_digits, number_once}
+use Rattle.report_text.proofs.Lines.{IsInLine, line_split, inline_append, first_line, no_line}
 use Rattle.unison_world.specs.declared.step.Step.{Step}
 use Rattle.unison_world.specs.declared.step.Step.TheVariants.{Read, Write}
 use Rattle.unison_trace.specs.Histories.{most_steps}

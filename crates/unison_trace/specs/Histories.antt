@@ -1,6 +1,6 @@
 -- A world beside the steps that changed it.
 use Rattle.std.specs.Prelude.{◌≡◌, ℕ, ◌≤◌, ◌-◌, ◌<◌, ◌++◌, ◌∷◌, [], min, take, Bool, true, false, IsTrue, if◌then◌else◌, List, length, All, Option, Some, None, Result, Ok, Err}
-use Rattle.lockstep.specs.Plans.{PlanView}
+use Rattle.rounds_plan.specs.Plans.{PlanView}
 use Rattle.unison_world.specs.declared.step.Step.{Step}
 use Rattle.unison_world.specs.declared.step.Step.TheVariants.{Write}
 use Rattle.unison_world.specs.declared.step.Answer.{Answer}

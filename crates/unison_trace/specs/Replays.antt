@@ -4,9 +4,9 @@ use Rattle.std.specs.Fmt.{decimal}
 use Rattle.std.specs.List.{flat_map}
 use Rattle.rule_check.specs.Value.{names_of}
 use Rattle.link_net.specs.Neighbours.{numbers_below}
-use Rattle.lockstep.specs.Lockstep.{lockstep}
-use Rattle.lockstep.specs.Plans.{PlanView}
-use Rattle.lockstep.specs.Report.{fields_text}
+use Rattle.rounds_plan.specs.Lockstep.{lockstep}
+use Rattle.rounds_plan.specs.Plans.{PlanView}
+use Rattle.report_text.specs.Report.{fields_text}
 use Rattle.unison_world.specs.declared.step.Step.{Step}
 use Rattle.unison_world.specs.Counting.{Counts, moves_of}
 use Rattle.unison_world.specs.Opening.{opening_of}

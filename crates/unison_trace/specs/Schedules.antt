@@ -1,7 +1,7 @@
 -- The text of a schedule: a line for each step.
 use Rattle.std.specs.Prelude.{◌≡◌, ◌≢◌, ℕ, ◌+◌, ◌^◌, ◌<◌, codes, List, [], ◌∷◌, ◌++◌, length, map, All}
 use Rattle.std.specs.Fmt.{decimal}
-use Rattle.lockstep.specs.Lines.{lines_of}
+use Rattle.report_text.specs.Lines.{lines_of}
 use Rattle.unison_world.specs.declared.step.Step.{Step}
 use Rattle.unison_world.specs.declared.step.Step.TheVariants.{Read, Write}
 use Rattle.unison_trace.specs.declared.fault.ScheduleFault.{ScheduleFault}

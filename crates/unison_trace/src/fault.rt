@@ -5,7 +5,7 @@ ghost use Rattle.unison_trace.specs.declared.fault.ScheduleFault.TheVariants.{Me
 ghost use Rattle.unison_trace.specs.declared.fault.ReplayFault.TheVariants.{Read, Write, Memory as ReplayMemory};
 ghost use Rattle.unison_trace.specs.ReplayFaults.{from_opening, from_schedule};
 
-use lockstep::{Cut, DeviceFault};
+use report_text::{Cut, DeviceFault};
 use std::alloc::{AllocError, AllocFailed};
 use thiserror::Error;
 use unison_world::OpenFault;

@@ -1,7 +1,7 @@
 //! A world beside the steps that changed it.
 ghost use Rattle.std.specs.Prelude.{◌≡◌, Ok, IsTrue, IfOk, IfErr, OnOk, OnErr, IfSome, length, option_map};
 ghost use Rattle.std.specs.Arc.{arc_value};
-ghost use Rattle.lockstep.specs.Answer.{IsAnswer};
+ghost use Rattle.rounds_plan.specs.Answer.{IsAnswer};
 ghost use Rattle.unison_world.specs.Finishing.{AtStopBelow, IsFinish, IsOf};
 ghost use Rattle.unison_world.specs.Opening.{opening_of};
 ghost use Rattle.unison_world.specs.View.{answer_in, opened};
@@ -12,7 +12,7 @@ ghost use Rattle.unison_trace.specs.Traces.{IsNoLonger, IsWholeTrace, needed, st
 
 use crate::fault::LogFault;
 use crate::stored::{Stored, new_log, store, take_back};
-use lockstep::{Config, Plan};
+use rounds_plan::{Config, Plan};
 use std::alloc::{AllocError, Global};
 use std::marker::Model;
 use std::sync::Arc;

@@ -9,7 +9,8 @@ ghost use Rattle.unison_trace.specs.ReplayFaults.{too_many_reads, IsInput, IsInp
 use crate::fault::ReplayFault;
 use crate::report_writer::replay_report;
 use crate::schedule_reader::read_schedule;
-use lockstep::{Plan, Tally, write_text};
+use report_text::{Tally, write_text};
+use rounds_plan::Plan;
 use std::alloc::{AllocError, Global};
 use std::io::{Read, Write};
 use std::sync::Arc;

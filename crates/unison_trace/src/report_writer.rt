@@ -2,7 +2,8 @@
 ghost use Rattle.std.specs.Prelude.{◌≡◌, ◌++◌, ◌<◌, OnOk, IfOk, string_bytes, length};
 ghost use Rattle.unison_trace.specs.Replays.{replay_line, replay_text};
 
-use lockstep::{Plan, put_fields};
+use report_text::put_fields;
+use rounds_plan::Plan;
 use rule_check::Program;
 use std::alloc::{AllocError, Global};
 use unison_world::World;

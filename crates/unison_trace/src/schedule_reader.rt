@@ -1,7 +1,7 @@
 //! Schedules that are read.
 ghost use Rattle.std.specs.Prelude.{◌≡◌, ◌≤◌, ◌<◌, ◌^◌, ◌++◌, ◌∷◌, [], List, length, min, take, IfOk, IfErr, OnOk};
 ghost use Rattle.std.specs.Option.{option_map};
-ghost use Rattle.lockstep.specs.Front.{IsFront, Anything};
+ghost use Rattle.report_text.specs.Front.{IsFront, Anything};
 ghost use Rattle.unison_world.specs.declared.step.Step.{Step};
 ghost use Rattle.unison_trace.specs.Histories.{most_steps};
 ghost use Rattle.unison_trace.specs.Schedules.{HasSteps, IsRefusedSchedule, IsStep, line_of};
@@ -9,7 +9,7 @@ ghost use Rattle.unison_trace.specs.ReadLines.{AreSmall, number_line, pair_line}
 
 use crate::fault::ScheduleFault;
 use crate::stored;
-use lockstep::{behind, read_number};
+use report_text::{behind, read_number};
 use std::alloc::{AllocError, Global};
 use unison_world::Step;
 

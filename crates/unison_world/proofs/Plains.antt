@@ -5,9 +5,9 @@ use Rattle.std.proofs.lemmas.List.FromFn.{get_or-map-range_with_len, length-map-
 use Rattle.std.proofs.lemmas.Bool.{cases_lt}
 use Rattle.rule_check.specs.declared.state.State.{State}
 use Rattle.rule_check.specs.Value.{Rules, Here, here_at, updated, cleared, next_at, next_word, names_of}
-use Rattle.lockstep.specs.Configs.{blank, IsPlain}
-use Rattle.lockstep.specs.Plans.{PlanView, IsPlan}
-use Rattle.lockstep.specs.Lockstep.{after, lockstep, lockstep_states, nears_in}
+use Rattle.rounds_plan.specs.Configs.{blank, IsPlain}
+use Rattle.rounds_plan.specs.Plans.{PlanView, IsPlan}
+use Rattle.rounds_plan.specs.Lockstep.{after, lockstep, lockstep_states, nears_in}
 use Rattle.unison_world.specs.declared.node.Node.{Node}
 use Rattle.unison_world.specs.Counting.{moves_of}
 use Rattle.unison_world.specs.Pictures.{counts_of, IsDrawn}

@@ -8,8 +8,8 @@ use Rattle.rule_check.specs.declared.state.Near.{Near}
 use Rattle.rule_check.specs.Value.{Rules, here_at}
 use Rattle.rule_check.specs.Gathering.{sums_at}
 use Rattle.link_net.specs.Neighbours.{Neighbours, row, degree, neighbour, weight}
-use Rattle.lockstep.specs.Plans.{PlanView}
-use Rattle.lockstep.specs.Lockstep.{lockstep}
+use Rattle.rounds_plan.specs.Plans.{PlanView}
+use Rattle.rounds_plan.specs.Lockstep.{lockstep}
 use Rattle.phase_register.specs.declared.register.Look.{Look}
 use Rattle.phase_register.specs.declared.register.Look.TheVariants.{Behind, Level, Ahead}
 use Rattle.phase_register.specs.Looks.{RegisterView, look_by_phases, look_by_counts}

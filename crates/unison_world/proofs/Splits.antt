@@ -3,7 +3,7 @@ use Rattle.std.proofs.Common.{◌≡◌, ℕ, zero, suc, ◌<◌, ◌≤◌, Boo
 use Rattle.std.proofs.lemmas.Bool.{false≢true}
 use Rattle.rule_check.specs.declared.state.State.{State}
 use Rattle.rule_check.specs.declared.state.Near.{Near}
-use Rattle.lockstep.specs.Lockstep.{near_at}
+use Rattle.rounds_plan.specs.Lockstep.{near_at}
 use Rattle.unison_world.specs.Gathered.{marked_nears}
 
 -- the neighbours before and behind the one at the slot j, which joins them

@@ -9,8 +9,8 @@ use Rattle.rule_check.specs.Gathering.{sums_at, finished}
 use Rattle.rule_check.proofs.Programs.{finished_all}
 use Rattle.unison_node.specs.Desks.{IsReady}
 use Rattle.link_net.specs.Neighbours.{degree}
-use Rattle.lockstep.specs.Plans.{PlanView}
-use Rattle.lockstep.specs.Lockstep.{lockstep}
+use Rattle.rounds_plan.specs.Plans.{PlanView}
+use Rattle.rounds_plan.specs.Lockstep.{lockstep}
 use Rattle.unison_world.specs.declared.node.Node.{Node}
 use Rattle.unison_world.specs.declared.step.Step.TheVariants.{Write}
 use Rattle.unison_world.specs.declared.step.Answer.TheVariants.{Moved}

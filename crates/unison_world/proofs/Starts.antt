@@ -4,8 +4,8 @@ use Rattle.std.proofs.lemmas.List.{map_push, take_more, length-replicate}
 use Rattle.std.proofs.lemmas.Option.{same_Some}
 use Rattle.rule_check.specs.declared.state.State.{State}
 use Rattle.link_net.specs.Neighbours.{Neighbours, row, degree}
-use Rattle.lockstep.specs.Plans.{PlanView}
-use Rattle.lockstep.specs.Lockstep.{after, lockstep}
+use Rattle.rounds_plan.specs.Plans.{PlanView}
+use Rattle.rounds_plan.specs.Lockstep.{after, lockstep}
 use Rattle.unison_world.specs.declared.node.Node.{Node}
 use Rattle.unison_world.specs.Counting.{Counts, at_start}
 use Rattle.std.specs.Option.{option_map}

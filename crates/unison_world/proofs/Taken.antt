@@ -6,8 +6,8 @@ use Rattle.std.specs.Option.{option_map}
 use Rattle.std.proofs.lemmas.Bool.Decides.{nat_tests}
 use Rattle.rule_check.specs.declared.state.State.{State}
 use Rattle.link_net.specs.Neighbours.{Neighbours, row, degree, neighbour, weight}
-use Rattle.lockstep.specs.Plans.{PlanView}
-use Rattle.lockstep.specs.Lockstep.{lockstep}
+use Rattle.rounds_plan.specs.Plans.{PlanView}
+use Rattle.rounds_plan.specs.Lockstep.{lockstep}
 use Rattle.phase_register.specs.declared.register.Look.{Look}
 use Rattle.phase_register.specs.declared.register.Look.TheVariants.{Behind}
 use Rattle.unison_node.specs.declared.desk.Offer.{Offer}

@@ -2,7 +2,7 @@
 use Rattle.std.proofs.Common.{◌≡◌, ℕ, zero, suc, ◌∷◌, ◌<◌, ◌≤◌, List, [], Some, slice_get, length, sym, refl, ap, ◌∙◌, ⊎_elim, arith}
 use Rattle.std.proofs.lemmas.List.{length-map, get_or_past}
 use Rattle.std.proofs.lemmas.Bool.{cases_lt}
-use Rattle.lockstep.specs.Plans.{PlanView}
+use Rattle.rounds_plan.specs.Plans.{PlanView}
 use Rattle.unison_world.specs.declared.node.Node.{Node}
 use Rattle.unison_world.specs.declared.step.Step.{Step}
 use Rattle.unison_world.specs.Counting.{moves_of, after, HasShape, InStep}

@@ -9,8 +9,8 @@ use Rattle.rule_check.specs.declared.state.Near.{Near}
 use Rattle.rule_check.specs.Value.{Rules, here_at, next_state}
 use Rattle.rule_check.specs.Gathering.{sums_at}
 use Rattle.link_net.specs.Neighbours.{Neighbours, row, degree}
-use Rattle.lockstep.specs.Plans.{PlanView}
-use Rattle.lockstep.specs.Lockstep.{lockstep, lockstep-more, near_at, nears_in}
+use Rattle.rounds_plan.specs.Plans.{PlanView}
+use Rattle.rounds_plan.specs.Lockstep.{lockstep, lockstep-more, near_at, nears_in}
 use Rattle.unison_node.specs.Desks.{IsReady, sums_over_none}
 use Rattle.unison_world.specs.declared.node.Node.{Node}
 use Rattle.unison_world.specs.declared.step.Step.TheVariants.{Write}

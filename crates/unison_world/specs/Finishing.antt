@@ -1,8 +1,8 @@
 -- Finishing a world.
 use Rattle.std.specs.Prelude.{◌≡◌, ℕ, ◌<◌, Result, Ok, Err, length, ⊤}
-use Rattle.lockstep.specs.Configs.{Configuration}
-use Rattle.lockstep.specs.Plans.{PlanView}
-use Rattle.lockstep.specs.Lockstep.{lockstep_config}
+use Rattle.rounds_plan.specs.Configs.{Configuration}
+use Rattle.rounds_plan.specs.Plans.{PlanView}
+use Rattle.rounds_plan.specs.Lockstep.{lockstep_config}
 use Rattle.unison_world.specs.declared.fault.FinishFault.{FinishFault}
 use Rattle.unison_world.specs.declared.fault.FinishFault.TheVariants.{Foreign, Unfinished, Memory}
 use Rattle.unison_world.specs.Counting.{moves_of}

@@ -6,8 +6,8 @@ use Rattle.rule_check.specs.declared.state.Sums.{Sums}
 use Rattle.rule_check.specs.Value.{here_at}
 use Rattle.rule_check.specs.Gathering.{sums_at}
 use Rattle.link_net.specs.Neighbours.{row, degree}
-use Rattle.lockstep.specs.Plans.{PlanView}
-use Rattle.lockstep.specs.Lockstep.{near_at, lockstep}
+use Rattle.rounds_plan.specs.Plans.{PlanView}
+use Rattle.rounds_plan.specs.Lockstep.{near_at, lockstep}
 
 -- the neighbours at the marked slots by rising slot, as a rule sees them with the states that `at` gives
 abbrev pub marked_nears : (ℕ → State) → List (ℕ × ℕ) → List Bool → List Near

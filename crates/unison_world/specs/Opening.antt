@@ -1,7 +1,7 @@
 -- Opening a world.
 use Rattle.std.specs.Prelude.{ℕ, nat_lt, if◌then◌else◌, Result, Ok, Err}
-use Rattle.lockstep.specs.Configs.{most_rounds}
-use Rattle.lockstep.specs.Plans.{PlanView}
+use Rattle.rounds_plan.specs.Configs.{most_rounds}
+use Rattle.rounds_plan.specs.Plans.{PlanView}
 use Rattle.unison_world.specs.declared.fault.OpenFault.{OpenFault}
 use Rattle.unison_world.specs.declared.fault.OpenFault.TheVariants.{StopTooLarge, StopBelowStart}
 use Rattle.unison_world.specs.View.{WorldView, opened}

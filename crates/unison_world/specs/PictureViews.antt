@@ -1,6 +1,6 @@
 -- The world that nodes show, of a plan and a stop.
 use Rattle.std.specs.Prelude.{ℕ, List}
-use Rattle.lockstep.specs.Plans.{PlanView}
+use Rattle.rounds_plan.specs.Plans.{PlanView}
 use Rattle.unison_world.specs.declared.node.Node.{Node}
 use Rattle.unison_world.specs.Pictures.{counts_of}
 use Rattle.unison_world.specs.View.{WorldView}

@@ -3,9 +3,9 @@ use Rattle.std.specs.Prelude.{◌≡◌, ℕ, ◌+◌, ◌-◌, ◌%◌, ◌≤�
 use Rattle.rule_check.specs.declared.state.State.{State}
 use Rattle.rule_check.specs.Value.{Rules}
 use Rattle.link_net.specs.Neighbours.{degree}
-use Rattle.lockstep.specs.Configs.{most_rounds}
-use Rattle.lockstep.specs.Plans.{PlanView, IsPlan}
-use Rattle.lockstep.specs.Lockstep.{lockstep}
+use Rattle.rounds_plan.specs.Configs.{most_rounds}
+use Rattle.rounds_plan.specs.Plans.{PlanView, IsPlan}
+use Rattle.rounds_plan.specs.Lockstep.{lockstep}
 use Rattle.unison_node.specs.declared.desk.Seat.{Seat}
 use Rattle.unison_node.specs.Desks.{cleared}
 use Rattle.phase_register.specs.Looks.{published}

@@ -1,7 +1,7 @@
 -- Work that a world gives out, and what it answers to a result.
 use Rattle.std.specs.Prelude.{◌≡◌, ℕ, ◌+◌, Option, Some, None}
 use Rattle.link_net.specs.Neighbours.{degree}
-use Rattle.lockstep.specs.Lockstep.{lockstep}
+use Rattle.rounds_plan.specs.Lockstep.{lockstep}
 use Rattle.unison_world.specs.declared.step.Step.TheVariants.{Write}
 use Rattle.unison_world.specs.declared.step.Answer.{Answer}
 use Rattle.unison_world.specs.declared.step.Answer.TheVariants as answer

@@ -5,7 +5,7 @@ use Rattle.rule_check.specs.declared.state.Near.{Near}
 use Rattle.rule_check.specs.declared.state.Sums.{Sums}
 use Rattle.rule_check.specs.Value.{here_at, next_state}
 use Rattle.rule_check.specs.Gathering.{sums_at, finished}
-use Rattle.lockstep.specs.Plans.{PlanView}
+use Rattle.rounds_plan.specs.Plans.{PlanView}
 
 -- the plan, the node, its degree, its own state, its round and its desk's sums
 pub record WorkView : Type 0 where

@@ -1,7 +1,7 @@
 //! Single reads and writes.
 ghost use Rattle.std.specs.Prelude.{◌≡◌, ℕ, ◌≤◌, slice_get};
 ghost use Rattle.link_net.specs.Neighbours.{row};
-ghost use Rattle.lockstep.specs.Configs.{most_rounds};
+ghost use Rattle.rounds_plan.specs.Configs.{most_rounds};
 ghost use Rattle.unison_world.specs.Answers.{answer_from};
 ghost use Rattle.unison_world.specs.Counting.{answer_of, after, InStep};
 ghost use Rattle.unison_world.specs.Pictures.{IsDrawn, counts_of};
@@ -10,8 +10,8 @@ ghost use Rattle.unison_world.specs.declared.step.Step.TheVariants.{Read, Write}
 use crate::node::Node;
 use crate::step::Answer;
 use link_net::Network;
-use lockstep::Plan;
 use phase_register::Look;
+use rounds_plan::Plan;
 use unison_node::Offer;
 
 /// The answer of a world, by that of a desk.

@@ -1,13 +1,13 @@
 //! The nodes of a plan before any step.
 ghost use Rattle.std.specs.Prelude.{◌≡◌, ℕ, ◌<◌, ◌+◌, ◌%◌, IfOk, length, replicate, false};
-ghost use Rattle.lockstep.specs.Plans.{IsPlan};
+ghost use Rattle.rounds_plan.specs.Plans.{IsPlan};
 ghost use Rattle.link_net.specs.Neighbours.{degree};
 ghost use Rattle.unison_world.specs.Counting.{at_start};
 ghost use Rattle.unison_world.specs.Pictures.{IsDrawn, IsNodePicture, counts_of};
 
 use crate::node::Node;
-use lockstep::Plan;
 use phase_register::{Phase, Register};
+use rounds_plan::Plan;
 use std::alloc::{AllocError, Global};
 use unison_node::Desk;
 

@@ -1,6 +1,6 @@
 //! Results that are put into a world.
 ghost use Rattle.std.specs.Prelude.{◌≡◌, ℕ, ◌≤◌, ◌<◌, ◌↔◌, IsTrue, true, length, ◌&&◌};
-ghost use Rattle.lockstep.specs.Configs.{most_rounds};
+ghost use Rattle.rounds_plan.specs.Configs.{most_rounds};
 ghost use Rattle.unison_world.specs.Counting.{InStep};
 ghost use Rattle.unison_world.specs.Pictures.{IsDrawn, counts_of};
 ghost use Rattle.unison_world.specs.PictureViews.{view_of};
@@ -10,7 +10,7 @@ use crate::events::ask_write;
 use crate::node::Node;
 use crate::step::{Answer, WriteAnswer};
 use crate::work::{Done, Work};
-use lockstep::Plan;
+use rounds_plan::Plan;
 use rule_check::{State, Sums};
 
 /// Whether two states are equal.

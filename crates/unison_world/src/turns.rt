@@ -1,7 +1,7 @@
 //! Whole turns and sweeps.
 ghost use Rattle.std.specs.Prelude.{◌≡◌, ℕ, ◌+◌, ◌<◌, ◌≤◌, length, map, min};
 ghost use Rattle.link_net.specs.Neighbours.{degree, numbers_below};
-ghost use Rattle.lockstep.specs.Configs.{most_rounds};
+ghost use Rattle.rounds_plan.specs.Configs.{most_rounds};
 ghost use Rattle.unison_world.specs.Counting.{moves_of, run, InStep};
 ghost use Rattle.unison_world.specs.Pictures.{IsDrawn, counts_of};
 ghost use Rattle.unison_world.specs.Progress.{steps_done, one_if_changed};
@@ -12,8 +12,8 @@ use crate::events::{read, write};
 use crate::node::Node;
 use crate::step::{Answer, TurnAnswer};
 use link_net::Network;
-use lockstep::Plan;
 use phase_register::Look;
+use rounds_plan::Plan;
 
 /// The neighbours of a node by rising number.
 fn neighbours_of(network: &Network, node: u32) -> &[u32]

@@ -2,7 +2,7 @@
 ghost use Rattle.std.specs.Prelude.{◌≡◌};
 ghost use Rattle.unison_world.specs.WorkViews.{done_from, next_of, IsDone};
 
-use lockstep::Plan;
+use rounds_plan::Plan;
 use rule_check::{State, Sums};
 use std::marker::Model;
 use std::sync::Arc;

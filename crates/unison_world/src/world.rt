@@ -1,9 +1,9 @@
 //! Worlds.
 ghost use Rattle.std.specs.Prelude.{◌≡◌, ℕ, ◌<◌, ◌%◌, ◌+◌, ◌≤◌, min, length, Some, None, if◌then◌else◌, IfOk, IfErr, IfSome, OnErr};
 ghost use Rattle.std.specs.Arc.{arc_value};
-ghost use Rattle.lockstep.specs.Answer.{IsAnswer};
-ghost use Rattle.lockstep.specs.Configs.{most_rounds};
-ghost use Rattle.lockstep.specs.Plans.{IsPlan};
+ghost use Rattle.rounds_plan.specs.Answer.{IsAnswer};
+ghost use Rattle.rounds_plan.specs.Configs.{most_rounds};
+ghost use Rattle.rounds_plan.specs.Plans.{IsPlan};
 ghost use Rattle.unison_world.specs.Counting.{at_start, moves_of, HasShape, InStep};
 ghost use Rattle.unison_world.specs.Finishing.{IsOf, AtStopBelow, IsFinish};
 ghost use Rattle.unison_world.specs.Opening.{opening_of};
@@ -21,8 +21,8 @@ use crate::results::{ask_put, put};
 use crate::step::{Answer, Step, TurnAnswer, WriteAnswer};
 use crate::turns::{run_sweeps, sweep, turn};
 use crate::work::{Done, Work};
-use lockstep::{Config, MOST_ROUNDS, Plan};
 use phase_register::Phase;
+use rounds_plan::{Config, MOST_ROUNDS, Plan};
 use rule_check::State;
 use std::alloc::{AllocError, Global};
 use std::marker::Model;

@@ -3,7 +3,9 @@
 #![tactic(auto)]
 
 use link_net::{NetFile, read_network};
-use lockstep::{Config, Plan, lockstep, lockstep_par, report};
+use lockstep::{lockstep, lockstep_par};
+use report_text::report;
+use rounds_plan::{Config, Plan};
 use rule_check::{State, check};
 use rule_lang::read_program;
 use std::alloc::{AllocError, AllocFailed, Global};

@@ -1,5 +1,5 @@
-use Rattle.lockstep.specs.Lockstep.{rounds_of}
-use Rattle.lockstep.proofs.Refusals.{memory_answer}
+use Rattle.rounds_plan.specs.Lockstep.{rounds_of}
+use Rattle.lockstep.proofs.RoundAnswers.{memory_answer}
 use Rattle.lockstep.proofs.parallel.lockstep_par.Goals as goal
 
 pub returns-in_err-config-clause-exact : goal.returns-in_err-config-clause-exact

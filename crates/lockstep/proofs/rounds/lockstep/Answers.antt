@@ -1,9 +1,9 @@
 use Rattle.std.proofs.Common.{◌≡◌, ap, sym, ◌∙◌}
 use Rattle.std.specs.Prelude.{Ok}
-use Rattle.lockstep.specs.Lockstep.{lockstep_config}
-use Rattle.lockstep.specs.Plans.{PlanView}
+use Rattle.rounds_plan.specs.Lockstep.{lockstep_config}
+use Rattle.rounds_plan.specs.Plans.{PlanView}
 use Rattle.lockstep.specs.Walking.{RoundView}
-use Rattle.lockstep.proofs.Refusals.{round_there}
+use Rattle.lockstep.proofs.RoundAnswers.{round_there}
 use Rattle.lockstep.proofs.rounds.lockstep.Goals as goal
 
 pub returns-clause-exact : goal.returns-clause-exact

@@ -1,6 +1,6 @@
 use Rattle.std.proofs.Common.{◌∙◌, length}
 use Rattle.lockstep.proofs.Held.{config_is}
-use Rattle.lockstep.proofs.Nears.{states_start}
+use Rattle.rounds_plan.proofs.Nears.{states_start}
 use Rattle.lockstep.proofs.rounds.opening_config.Goals as goal
 
 pub returns : goal.returns

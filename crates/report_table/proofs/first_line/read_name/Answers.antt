@@ -1,7 +1,7 @@
 use Rattle.std.proofs.Common.{◌≡◌, ◌∙◌, ◌++◌, ◌∷◌, ◌<◌, ◌^◌, ap, sym, subst, codes}
 use Rattle.std.specs.Fmt.{decimal}
 use Rattle.rule_check.specs.WellFormed.{IsFieldName}
-use Rattle.lockstep.proofs.Digits.{number_once}
+use Rattle.report_text.proofs.Digits.{number_once}
 use Rattle.report_table.proofs.FirstNames.{span_is, value_is, field_whole}
 use Rattle.report_table.proofs.first_line.read_name.Goals as goal
 

@@ -1,6 +1,6 @@
 use Rattle.std.proofs.Common.{◌≡◌, ◌≤◌, ◌<◌, ◌^◌, ◌++◌, ◌∷◌, All, ℕ, List, length, map}
 use Rattle.rule_check.specs.WellFormed.{IsFieldName}
-use Rattle.lockstep.specs.Report.{fields_text}
+use Rattle.report_text.specs.Report.{fields_text}
 use Rattle.report_table.specs.Tables.{AreFields}
 use Rattle.report_table.proofs.FirstNames.{Left}
 use Rattle.report_table.proofs.first_line.read_names.Given as goal

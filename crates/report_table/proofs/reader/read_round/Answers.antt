@@ -1,8 +1,8 @@
 use Rattle.std.proofs.Common.{◌++◌, ◌∷◌, [], ◌<◌, ◌^◌, ℕ, List, codes, Some, None}
 use Rattle.std.specs.Fmt.{decimal}
-use Rattle.lockstep.specs.Front.{Anything}
-use Rattle.lockstep.proofs.Digits.{numbers_once}
-use Rattle.lockstep.proofs.Fronts.{lead, lead_none, line_none, line_open, line_whole}
+use Rattle.report_text.specs.Front.{Anything}
+use Rattle.report_text.proofs.Digits.{numbers_once}
+use Rattle.report_text.proofs.Fronts.{lead, lead_none, line_none, line_open, line_whole}
 use Rattle.report_table.proofs.reader.read_round.Goals as goal
 
 abbrev Small : ℕ → Type 0

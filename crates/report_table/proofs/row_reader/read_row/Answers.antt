@@ -1,7 +1,7 @@
 use Rattle.std.proofs.Common.{◌≡◌, ◌∙◌, ◌++◌, ap, length, map, None, Some}
 use Rattle.std.specs.Fmt.{decimal}
-use Rattle.lockstep.specs.Front.{Anything}
-use Rattle.lockstep.proofs.Fronts.{lead}
+use Rattle.report_text.specs.Front.{Anything}
+use Rattle.report_text.proofs.Fronts.{lead}
 use Rattle.report_table.specs.Tables.{IsRow, row_text}
 use Rattle.report_table.proofs.RowFronts.{no_number_no_row, other_row}
 use Rattle.report_table.proofs.row_reader.read_row.Goals as goal

@@ -1,9 +1,9 @@
 use Rattle.std.proofs.Common.{◌≡◌, length, map, None, Some}
 use Rattle.std.proofs.lemmas.List.{length-map}
-use Rattle.lockstep.specs.ReadReport.{IsStateOf}
-use Rattle.lockstep.specs.Report.{fields_text}
-use Rattle.lockstep.proofs.Fronts.{line_open}
-use Rattle.lockstep.proofs.ReadNode.{states_once}
+use Rattle.report_text.specs.ReadReport.{IsStateOf}
+use Rattle.report_text.specs.Report.{fields_text}
+use Rattle.report_text.proofs.Fronts.{line_open}
+use Rattle.report_text.proofs.ReadNode.{states_once}
 use Rattle.report_table.proofs.row_reader.read_state.Goals as goal
 
 pub returns-in_err-more : goal.returns-in_err-more

@@ -1,7 +1,7 @@
 use Rattle.std.proofs.Common.{◌≡◌, ◌∙◌, ◌++◌, ◌<◌, ◌^◌, ℕ, ap, codes, None}
 use Rattle.std.specs.Fmt.{decimal}
-use Rattle.lockstep.specs.Front.{Ends}
-use Rattle.lockstep.proofs.Fronts.{lead, lead_none}
+use Rattle.report_text.specs.Front.{Ends}
+use Rattle.report_text.proofs.Fronts.{lead, lead_none}
 use Rattle.report_table.proofs.RowFronts.{Small}
 use Rattle.report_table.proofs.row_reader.read_value.Goals as goal
 

@@ -1,10 +1,10 @@
 use Rattle.std.proofs.Common.{◌≡◌, ◌≢◌, ◌∙◌, ◌<◌, ◌≤◌, ◌^◌, ◌+◌, ◌++◌, get_or-set_other, length, get_or, take, drop, map, ap, sym, subst, arith, None, Some}
 use Rattle.std.proofs.lemmas.List.{take_all, length-set, length-map}
 use Rattle.std.proofs.lemmas.List.Elements.{All-set}
-use Rattle.lockstep.specs.Front.{IsFront, Ends}
-use Rattle.lockstep.specs.Report.{field_text, fields_text}
-use Rattle.lockstep.proofs.Once.{ends_fields}
-use Rattle.lockstep.proofs.ReadFields.{done_more, left_apart, left_more}
+use Rattle.report_text.specs.Front.{IsFront, Ends}
+use Rattle.report_text.specs.Report.{field_text, fields_text}
+use Rattle.report_text.proofs.Once.{ends_fields}
+use Rattle.report_text.proofs.ReadFields.{done_more, left_apart, left_more}
 use Rattle.report_table.proofs.RowFronts.{Small, at_place}
 use Rattle.report_table.proofs.row_reader.read_values.Goals as goal
 

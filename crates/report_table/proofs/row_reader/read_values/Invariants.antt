@@ -1,8 +1,8 @@
 use Rattle.std.proofs.Common.{◌≡◌, ◌≤◌, ◌<◌, ◌^◌, ◌++◌, All, ℕ, List, length, take, drop, map, slice_index}
 use Rattle.rule_check.specs.declared.state.State.{State}
-use Rattle.lockstep.specs.Front.{Ends}
-use Rattle.lockstep.specs.Report.{fields_text}
-use Rattle.lockstep.specs.ReadReport.{IsStateOf}
+use Rattle.report_text.specs.Front.{Ends}
+use Rattle.report_text.specs.Report.{fields_text}
+use Rattle.report_text.specs.ReadReport.{IsStateOf}
 use Rattle.report_table.proofs.row_reader.read_values.Given as goal
 
 abbrev pub invariant-loop-place : goal.invariant-loop-place

@@ -1,5 +1,5 @@
 use Rattle.std.proofs.Common.{◌≡◌, drop}
-use Rattle.round_watch.specs.Watching.{missing_of}
+use Rattle.run_watch.specs.Watching.{missing_of}
 use Rattle.run_page.proofs.refusals.missing_of.Given as goal
 
 abbrev pub invariant-loop-place : goal.invariant-loop-place

@@ -1,9 +1,9 @@
 use Rattle.std.proofs.Common.{◌≡◌, ◌∙◌, ◌<◌, ◌+◌, ◌-◌, ◌∷◌, ◌++◌, ℕ, List, [], ap, append_assoc, arith, map, sym}
 use Rattle.std.specs.List.{range_with_len}
-use Rattle.lockstep.specs.Plans.{PlanView}
+use Rattle.rounds_plan.specs.Plans.{PlanView}
 use Rattle.lockstep.specs.Walking.{RoundView}
-use Rattle.round_watch.specs.Spans.{count_of, round_at}
-use Rattle.round_watch.proofs.Ranges.{map_left, round_rises}
+use Rattle.run_watch.specs.Spans.{count_of, round_at}
+use Rattle.run_watch.proofs.Ranges.{map_left, round_rises}
 use Rattle.serde_json.specs.Data.{Data}
 use Rattle.serde_json.specs.View.{view}
 use Rattle.run_page.specs.Pages.{numbers, values_at}

@@ -1,6 +1,6 @@
 use Rattle.std.proofs.Common.{◌≡◌, ◌≤◌, ◌<◌, ◌-◌, ◌++◌, ℕ, map}
 use Rattle.std.specs.List.{range_with_len}
-use Rattle.round_watch.specs.Spans.{count_of, round_at, rounds_in}
+use Rattle.run_watch.specs.Spans.{count_of, round_at, rounds_in}
 use Rattle.serde_json.specs.View.{view}
 use Rattle.run_page.specs.Pages.{numbers, values_at}
 use Rattle.run_page.proofs.states.put_rounds.Given as goal

@@ -1,7 +1,7 @@
 use Rattle.std.proofs.Common.{◌<◌, append_assoc, arith}
 use Rattle.std.proofs.lemmas.Grind.{common_steps}
-use Rattle.round_watch.specs.Spans.{count_of, round_at}
-use Rattle.round_watch.proofs.Ranges.{map_left}
+use Rattle.run_watch.specs.Spans.{count_of, round_at}
+use Rattle.run_watch.proofs.Ranges.{map_left}
 use Rattle.run_page.proofs.states.round_numbers.Goals as goal
 
 pub loop-place-preserved : goal.loop-place-preserved

@@ -1,6 +1,6 @@
 use Rattle.std.proofs.Common.{◌≡◌, ◌-◌, ◌++◌, map}
 use Rattle.std.specs.List.{range_with_len}
-use Rattle.round_watch.specs.Spans.{count_of, round_at, rounds_in}
+use Rattle.run_watch.specs.Spans.{count_of, round_at, rounds_in}
 use Rattle.serde_json.specs.View.{view}
 use Rattle.run_page.specs.Pages.{whole}
 use Rattle.run_page.proofs.states.round_numbers.Given as goal

@@ -1,6 +1,6 @@
 use Rattle.std.proofs.Common.{◌≡◌, ◌≤◌, max, drop}
 use Rattle.std.specs.List.{fold}
-use Rattle.lockstep.specs.Configs.{most_rounds}
+use Rattle.rounds_plan.specs.Configs.{most_rounds}
 use Rattle.run_page.proofs.steps.greatest_count.Given as goal
 
 abbrev pub invariant-loop-node : goal.invariant-loop-node

@@ -1,12 +1,12 @@
 use Rattle.std.proofs.Common.{◌∙◌, ◌≤◌, ◌<◌, All, Some, ap, length, map, subst, sym}
-use Rattle.lockstep.specs.Plans.{PlanView}
+use Rattle.rounds_plan.specs.Plans.{PlanView}
 use Rattle.serde_json.specs.Data.{Data, depth}
 use Rattle.serde_json.specs.Read.{max_depth}
 use Rattle.serde_json.specs.View.{view}
 use Rattle.serde_json.specs.Written.{compact_text}
 use Rattle.unison_trace.specs.Histories.{answers_of}
 use Rattle.unison_world.specs.Counting.{answers}
-use Rattle.round_watch.specs.Spans.{rounds_in}
+use Rattle.run_watch.specs.Spans.{rounds_in}
 use Rattle.run_page.specs.Closed.{IsClosed}
 use Rattle.run_page.specs.Pages.{code_of, reached}
 use Rattle.run_page.proofs.Fitting.{steps_fit}

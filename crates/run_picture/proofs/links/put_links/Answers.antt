@@ -2,7 +2,7 @@ use Rattle.std.proofs.Common.{◌≡◌, ◌<◌, arith, append_assoc}
 use Rattle.std.proofs.lemmas.Grind.{common_steps}
 use Rattle.link_net.specs.Neighbours.{degree}
 use Rattle.run_picture.specs.Drawn.{slot_line}
-use Rattle.round_watch.proofs.Ranges.{flat_left}
+use Rattle.run_watch.proofs.Ranges.{flat_left}
 use Rattle.run_picture.proofs.links.put_links.Goals as goal
 
 pub loop-slot-preserved : goal.loop-slot-preserved

@@ -1,7 +1,7 @@
 use Rattle.std.proofs.Common.{◌≡◌, ◌<◌, arith, append_assoc, length}
 use Rattle.std.proofs.lemmas.Grind.{common_steps}
 use Rattle.run_picture.specs.Drawn.{links_at}
-use Rattle.round_watch.proofs.Ranges.{flat_left}
+use Rattle.run_watch.proofs.Ranges.{flat_left}
 use Rattle.run_picture.proofs.links.put_network.Goals as goal
 
 pub loop-node-preserved : goal.loop-node-preserved

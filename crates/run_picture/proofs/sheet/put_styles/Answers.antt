@@ -1,7 +1,7 @@
 use Rattle.std.proofs.Common.{◌≡◌, ◌<◌, arith, append_assoc}
 use Rattle.std.proofs.lemmas.Grind.{common_steps}
 use Rattle.run_picture.specs.Sheets.{class_style}
-use Rattle.round_watch.proofs.Ranges.{flat_left}
+use Rattle.run_watch.proofs.Ranges.{flat_left}
 use Rattle.run_picture.proofs.sheet.put_styles.Goals as goal
 
 pub loop-class-preserved : goal.loop-class-preserved

@@ -1,9 +1,9 @@
 use Rattle.std.proofs.Common.{◌≡◌, ◌∙◌, ◌<◌, ◌≤◌, ◌+◌, ◌-◌, ◌++◌, ℕ, List, ap, append_assoc, arith, map, sym}
 use Rattle.std.specs.List.{flat_map, range_with_len}
-use Rattle.lockstep.specs.Plans.{PlanView}
+use Rattle.rounds_plan.specs.Plans.{PlanView}
 use Rattle.lockstep.specs.Walking.{RoundView}
-use Rattle.round_watch.specs.Spans.{count_of, round_at}
-use Rattle.round_watch.proofs.Ranges.{map_left, round_rises}
+use Rattle.run_watch.specs.Spans.{count_of, round_at}
+use Rattle.run_watch.proofs.Ranges.{map_left, round_rises}
 use Rattle.run_picture.specs.Frames.{values_after}
 use Rattle.run_picture.proofs.values.put_rounds.Goals as goal
 

@@ -1,6 +1,6 @@
 use Rattle.std.proofs.Common.{◌≡◌, ◌≤◌, ◌++◌, ◌-◌, ◌<◌, map}
 use Rattle.std.specs.List.{flat_map, range_with_len}
-use Rattle.round_watch.specs.Spans.{count_of, round_at}
+use Rattle.run_watch.specs.Spans.{count_of, round_at}
 use Rattle.run_picture.specs.Frames.{values_after, values_in}
 use Rattle.run_picture.proofs.values.put_rounds.Given as goal
 

@@ -1,6 +1,6 @@
 use Rattle.std.proofs.Common.{List, [], ℕ, Option, rules, subst}
-use Rattle.unison_jobs.specs.Served.{IsUnscheduled}
-use Rattle.unison_why.specs.FirstFault.{IsFirstFault}
+use Rattle.app_jobs.specs.Served.{IsUnscheduled}
+use Rattle.app_why.specs.FirstFault.{IsFirstFault}
 use Rattle.unison_c.proofs.Unread.{unscheduled_first}
 use Rattle.unison_c.proofs.reasons.texts_of.Goals as goal
 

@@ -1,5 +1,5 @@
 use Rattle.std.proofs.Common.{◌∙◌, ap}
-use Rattle.lockstep.specs.Lockstep.{lockstep_config}
+use Rattle.rounds_plan.specs.Lockstep.{lockstep_config}
 use Rattle.lockstep.specs.Walking.{RoundView}
 use Rattle.unison_c.proofs.Listed.{lockstep_count}
 use Rattle.unison_c.proofs.rounds.add_round.Goals as goal

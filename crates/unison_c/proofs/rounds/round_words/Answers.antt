@@ -1,6 +1,6 @@
 use Rattle.std.proofs.Common.{◌≡◌, ◌∙◌, ◌++◌, List, ℕ, ap, length}
-use Rattle.lockstep.specs.Configs.{Configuration}
-use Rattle.lockstep.specs.Lockstep.{lockstep_config, rounds_of}
+use Rattle.rounds_plan.specs.Configs.{Configuration}
+use Rattle.rounds_plan.specs.Lockstep.{lockstep_config, rounds_of}
 use Rattle.unison_c.specs.Words.{words_of}
 use Rattle.unison_c.proofs.Listed.{lockstep_count, same_answer}
 use Rattle.unison_c.proofs.rounds.round_words.Goals as goal

@@ -1,6 +1,6 @@
 use Rattle.std.proofs.Common.{◌≡◌, ◌∙◌, ◌+◌, ◌<◌, ◌++◌, ap, arith, length, slice_index, sym}
-use Rattle.lockstep.specs.Lockstep.{lockstep_config}
-use Rattle.lockstep.specs.Plans.{PlanView}
+use Rattle.rounds_plan.specs.Lockstep.{lockstep_config}
+use Rattle.rounds_plan.specs.Plans.{PlanView}
 use Rattle.lockstep.specs.Walking.{RoundView}
 use Rattle.unison_c.specs.Refusals.{word_count}
 use Rattle.unison_c.specs.Words.{words_of}

@@ -1,7 +1,7 @@
 use Rattle.std.proofs.Common.{ℕ, ◌<◌, ◌^◌}
 use Rattle.std.specs.Fmt.{decimal}
-use Rattle.lockstep.proofs.Digits.{numbers_once}
-use Rattle.lockstep.proofs.Fronts.{line_open}
+use Rattle.report_text.proofs.Digits.{numbers_once}
+use Rattle.report_text.proofs.Fronts.{line_open}
 use Rattle.unison_trace.proofs.schedule_reader.read_last.Goals as goal
 
 pub returns-in_err-more : goal.returns-in_err-more

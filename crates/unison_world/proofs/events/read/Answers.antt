@@ -1,7 +1,7 @@
 use Rattle.std.proofs.Common.{arith, ◌≡◌, ◌∙◌, ap, length, slice_get, Some, refl}
 use Rattle.std.proofs.lemmas.Option.{slice_get_read}
 use Rattle.link_net.specs.Neighbours.{neighbour, weight}
-use Rattle.lockstep.specs.Lockstep.{lockstep}
+use Rattle.rounds_plan.specs.Lockstep.{lockstep}
 use Rattle.phase_register.specs.Looks.{look_by_phases}
 use Rattle.unison_node.specs.declared.desk.Seat.{Seat}
 use Rattle.unison_world.specs.Pictures.{counts_of, seat_of}

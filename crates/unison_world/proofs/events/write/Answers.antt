@@ -10,7 +10,7 @@ use Rattle.unison_world.proofs.Taken.{drawn-set}
 use Rattle.unison_world.proofs.Writes.{Unstopped, unstopped_here, ready_marked, unready_marked, answer-ready, answer-unready, counts-moved, picture-moved, Completes, next-is}
 use Rattle.std.proofs.Common.{ℕ, List, set}
 use Rattle.rule_check.specs.declared.state.State.{State}
-use Rattle.lockstep.specs.Plans.{PlanView}
+use Rattle.rounds_plan.specs.Plans.{PlanView}
 use Rattle.unison_node.specs.Desks.{IsReady}
 use Rattle.unison_world.specs.declared.step.Answer.TheVariants as answer
 use Rattle.unison_world.specs.Counting.{answer_of, after}

@@ -1,8 +1,8 @@
 use Rattle.std.proofs.Common.{◌≡◌, ◌∙◌, sym, ap, replicate, false}
 use Rattle.std.proofs.lemmas.Option.{get_or_from_slice_get}
 use Rattle.link_net.specs.Neighbours.{degree}
-use Rattle.lockstep.specs.Configs.{blank}
-use Rattle.lockstep.specs.Lockstep.{lockstep, lockstep-start}
+use Rattle.rounds_plan.specs.Configs.{blank}
+use Rattle.rounds_plan.specs.Lockstep.{lockstep, lockstep-start}
 use Rattle.unison_node.specs.Desks.{DeskView, empty}
 use Rattle.unison_world.proofs.Starts.{degree_known, opened_picture}
 use Rattle.unison_world.proofs.opening.opening_node.Goals as goal

@@ -1,5 +1,5 @@
 use Rattle.std.proofs.Common.{◌≡◌, ◌∙◌, ◌+◌, ap}
-use Rattle.lockstep.specs.Lockstep.{lockstep}
+use Rattle.rounds_plan.specs.Lockstep.{lockstep}
 use Rattle.unison_world.specs.Counting.{Counts}
 use Rattle.unison_world.specs.View.{WorldView}
 use Rattle.unison_world.proofs.Taken.{drawn-set}

@@ -3,7 +3,7 @@ use Rattle.std.specs.List.{list_any}
 use Rattle.std.proofs.lemmas.Bool.{cases_lt}
 use Rattle.std.proofs.lemmas.Option.{slice_get_read}
 use Rattle.link_net.specs.Neighbours.{degree, neighbour}
-use Rattle.lockstep.specs.Plans.{PlanView}
+use Rattle.rounds_plan.specs.Plans.{PlanView}
 use Rattle.phase_register.specs.declared.register.Look.TheVariants.{Behind}
 use Rattle.phase_register.specs.Looks.{look_by_phases}
 use Rattle.unison_world.specs.declared.node.Node.{Node}

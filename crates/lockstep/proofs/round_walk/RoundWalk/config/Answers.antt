@@ -1,8 +1,8 @@
 use Rattle.std.proofs.Common.{◌≡◌, ◌∙◌, ap, length, map, refl, subst}
 use Rattle.std.proofs.lemmas.List.FromFn.{length-map-range_with_len}
 use Rattle.link_net.specs.Neighbours.{Neighbours, numbers_below}
-use Rattle.block_rounds.specs.Walks.{state_by}
-use Rattle.lockstep.specs.Lockstep.{lockstep_config}
+use Rattle.rounds_blocks.specs.Walks.{state_by}
+use Rattle.rounds_plan.specs.Lockstep.{lockstep_config}
 use Rattle.lockstep.specs.Walking.{RoundView}
 use Rattle.lockstep.proofs.Held.{held_states, config_is}
 use Rattle.lockstep.proofs.round_walk.RoundWalk.config.Goals as goal

@@ -1,5 +1,5 @@
 use Rattle.std.proofs.Common.{◌≡◌, ◌∙◌, ap, arith, length, subst, sym}
-use Rattle.lockstep.specs.Plans.{PlanView}
+use Rattle.rounds_plan.specs.Plans.{PlanView}
 use Rattle.lockstep.specs.Walking.{AreAlike, HasRound, RoundView}
 use Rattle.lockstep.proofs.Alike.{alike_held, held_alike}
 use Rattle.lockstep.proofs.round_walk.RoundWalk.is_like.Goals as goal

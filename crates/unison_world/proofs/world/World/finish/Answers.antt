@@ -1,7 +1,7 @@
 use Rattle.std.proofs.Common.{arith, ◌≡◌, ◌∙◌, sym, ap, ℕ, ◌<◌, length, refl, List}
 use Rattle.std.specs.Arc.{arc_value}
 use Rattle.rule_check.specs.declared.state.State.{State}
-use Rattle.lockstep.specs.Configs.{Configuration}
+use Rattle.rounds_plan.specs.Configs.{Configuration}
 use Rattle.unison_world.specs.Counting.{moves_of}
 use Rattle.unison_world.specs.Pictures.{counts_of}
 use Rattle.unison_world.proofs.Plains.{finished_states}

@@ -2,8 +2,8 @@ use Rattle.std.proofs.Common.{◌∙◌, sym, ap, ◌≡◌, ◌+◌, ℕ, lengt
 use Rattle.std.specs.Arc.{arc_value}
 use Rattle.rule_check.specs.declared.state.State.{State}
 use Rattle.rule_check.specs.declared.state.Sums.{Sums}
-use Rattle.lockstep.specs.Lockstep.{lockstep}
-use Rattle.lockstep.specs.Plans.{PlanView}
+use Rattle.rounds_plan.specs.Lockstep.{lockstep}
+use Rattle.rounds_plan.specs.Plans.{PlanView}
 use Rattle.unison_world.specs.WorkViews.{WorkView, next_of}
 use Rattle.unison_world.proofs.Sights.{moves_at}
 use Rattle.unison_world.proofs.Standing.{had, node_moved, next-had}

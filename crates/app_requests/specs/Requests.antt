@@ -1,0 +1,23 @@
+-- Which numbers requests may have.
+use Rattle.std.specs.Prelude.{◌≤◌}
+use Rattle.rounds_plan.specs.Configs.{most_rounds}
+use Rattle.unison_trace.specs.Histories.{most_steps}
+use Rattle.app_requests.specs.declared.page.PageRun.{PageRun}
+use Rattle.app_requests.specs.declared.page.PageRun.TheVariants.{Rounds, Steps}
+use Rattle.app_requests.specs.declared.schedule.Limits.{Limits}
+use Rattle.app_requests.specs.declared.schedule.ScheduleRequest.{ScheduleRequest}
+use Rattle.app_requests.specs.declared.schedule.ScheduleRequest.TheVariants as request
+
+-- the run of a page stops at a round
+abbrev pub IsRunWithin : PageRun → Type 0
+IsRunWithin (Rounds span) = Unit {0}
+IsRunWithin (Steps schedule stop) = stop ≤ most_rounds
+
+-- steps stop at a round, there are 1000000 at most, and not all of them are refused ones
+abbrev pub AreWithin : Limits → Type 0
+AreWithin limits = (limits.stop ≤ most_rounds) × (limits.count ≤ most_steps) × (limits.refused ≤ 99)
+
+-- the limits of steps in a manner are within those of all steps
+abbrev pub IsScheduleWithin : ScheduleRequest → Type 0
+IsScheduleWithin (request.Listing listing) = AreWithin listing.limits
+IsScheduleWithin (request.Writing writing) = Unit {0}

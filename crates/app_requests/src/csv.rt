@@ -1,0 +1,69 @@
+//! `csv`: a report as CSV.
+
+use crate::arguments::{FILE, FILE_OPTION};
+use app_table::{Argument, Command, Kind, OPTION, WordsFault, parse};
+use std::alloc::Global;
+
+const REPORT: Argument = Argument {
+    name: "report",
+    value_name: "REPORT",
+    help: "A report, or a replay report, or - for standard input",
+    ..FILE
+};
+
+const NAMES: Argument = Argument {
+    name: "names",
+    kind: Kind::Required,
+    help: "The names of the nodes, a line each, node 0 first, as import writes them",
+    ..FILE_OPTION
+};
+
+const NODE_FIELD: Argument = Argument {
+    name: "node-field",
+    kind: Kind::Repeated,
+    value_name: "FIELD",
+    help: "Print names for this field's values too, which are numbers of nodes, or 4294967295 for none; as often as wanted",
+    ..OPTION
+};
+
+/// `csv` and what it takes.
+static CSV: Command = Command {
+    name: "csv",
+    aliases: &["names"],
+    called: "unison csv",
+    about: "Print a report as CSV, with names in place of numbers",
+    notes: "Prints CSV: a line of headings, then a line for each node.\nAn example: unison csv report.txt --names friends.names --node-field parent > report.csv\n",
+    arguments: &[REPORT, NAMES, NODE_FIELD],
+    subcommands: &[],
+};
+
+/// The table of `csv`.
+pub(crate) fn csv() -> &'static Command {
+    &CSV
+}
+
+/// What `csv` is asked for.
+#[derive(Debug, Drop)]
+pub struct CsvRequest {
+    /// The path of the report.
+    pub report: String,
+    /// The path of the names of the nodes.
+    pub names: String,
+    /// The fields whose values are numbers of nodes.
+    pub node_fields: Vec<String>,
+}
+
+impl CsvRequest {
+    /// What the words ask for, the command's name first.
+    pub fn parse(alloc: Global, line: &[String]) -> Result<CsvRequest, WordsFault> {
+        let words = parse(alloc, csv(), line)?;
+        let report = words.needed_text(alloc, &REPORT)?;
+        let names = words.needed_text(alloc, &NAMES)?;
+        let node_fields = words.texts(alloc, &NODE_FIELD)?;
+        Ok(CsvRequest {
+            report,
+            names,
+            node_fields,
+        })
+    }
+}

@@ -1,0 +1,148 @@
+//! `image` and `dot`: rounds as pictures, and networks for Graphviz.
+ghost use Rattle.std.specs.Prelude.{◌≤◌, IfOk};
+ghost use Rattle.rounds_plan.specs.Configs.{most_rounds};
+
+use crate::arguments::{
+    EVERY, FIELD, FROM, NAMES, NETWORK, PROGRAM, PlanPaths, ROUND, ROUNDS, WIDTH, span_in, wrong,
+};
+use app_table::{Argument, Command, Kind, OPTION, Words, WordsFault, parse};
+use link_net::MOST_NODES;
+use run_watch::Span;
+use std::alloc::Global;
+
+const GRID: Argument = Argument {
+    name: "grid",
+    value: WIDTH,
+    value_name: "WIDTH",
+    help: "Show one round as cells, so many across, node 0 first: 1 to 65536",
+    ..OPTION
+};
+
+const DRAWN_ROUND: Argument = Argument {
+    name: "rounds",
+    kind: Kind::Required,
+    value: ROUND,
+    value_name: "T",
+    help: "The round that is drawn, counted from round 0: 0 to 1000000000",
+    ..OPTION
+};
+
+/// `image` and what it takes.
+static IMAGE: Command = Command {
+    name: "image",
+    aliases: &[],
+    called: "unison image",
+    about: "Make a picture of rounds, nodes across and rounds down, or of one round as a grid",
+    notes: "Prints an SVG picture: nodes across and rounds down, or with --grid the nodes of one round as cells.\nAn example: unison image examples/rule_110.rules examples/row.toml --rounds 0..30 > run.svg\nAnother one: unison image examples/life.rules examples/glider.toml --rounds 8..8 --grid 8 > frame.svg\n",
+    arguments: &[PROGRAM, NETWORK, ROUNDS, EVERY, FIELD, GRID, FROM],
+    subcommands: &[],
+};
+
+/// The table of `image`.
+pub(crate) fn image() -> &'static Command {
+    &IMAGE
+}
+
+/// `dot` and what it takes.
+static DOT: Command = Command {
+    name: "dot",
+    aliases: &[],
+    called: "unison dot",
+    about: "Print a network in a round for Graphviz, coloured and labelled",
+    notes: "Prints the network for Graphviz, each node with its name or number, its value, and the colour of the value.\nAn example: unison dot examples/distance.rules examples/path.toml --rounds 2 | dot -Tsvg > network.svg\n",
+    arguments: &[PROGRAM, NETWORK, DRAWN_ROUND, FIELD, NAMES, FROM],
+    subcommands: &[],
+};
+
+/// The table of `dot`.
+pub(crate) fn dot() -> &'static Command {
+    &DOT
+}
+
+/// What `image` is asked for.
+#[derive(Debug, Drop)]
+pub struct ImageRequest {
+    pub plan: PlanPaths,
+    /// The rounds of which the picture is made: one alone where there is a grid.
+    pub span: Span,
+    /// The field that gives the colours, where it is named.
+    pub field: Option<String>,
+    /// How many cells a line of the grid has; 0 for none.
+    pub grid: u32,
+}
+
+/// What `dot` is asked for.
+#[derive(Debug, Drop)]
+pub struct DotRequest {
+    pub plan: PlanPaths,
+    /// The round that is drawn, counted from round 0.
+    pub round: u32,
+    /// The field that gives the colours, where it is named.
+    pub field: Option<String>,
+    /// The path of the names of the nodes, where they are shown.
+    pub names: Option<String>,
+}
+
+/// Refuses a grid of more than one round.
+fn check_frame(alloc: Global, span: &Span, grid: u32) -> Result<(), WordsFault> {
+    if grid > 0 && span.first() != span.last() {
+        return Err(wrong(
+            alloc,
+            "--grid: the frame of one round is shown, so the first and the last round are the same, as in --rounds 8..8",
+        ));
+    }
+    Ok(())
+}
+
+/// What plain words ask for.
+fn image_in(alloc: Global, words: &Words) -> Result<ImageRequest, WordsFault>
+    ensures within { IfOk result (λ r. r.grid ≤ MOST_NODES) }
+{
+    let grid = words.number_or(alloc, &GRID, 0)?;
+    let span = span_in(alloc, words)?;
+    check_frame(alloc, &span, grid)?;
+    let field = words.text(alloc, &FIELD)?;
+    let plan = PlanPaths::of(alloc, words)?;
+    Ok(ImageRequest {
+        plan,
+        span,
+        field,
+        grid,
+    })
+}
+
+/// What plain words ask for.
+fn dot_in(alloc: Global, words: &Words) -> Result<DotRequest, WordsFault>
+    ensures within { IfOk result (λ r. r.round ≤ most_rounds) }
+{
+    let round = words.number_or(alloc, &DRAWN_ROUND, 0)?;
+    let field = words.text(alloc, &FIELD)?;
+    let names = words.text(alloc, &NAMES)?;
+    let plan = PlanPaths::of(alloc, words)?;
+    Ok(DotRequest {
+        plan,
+        round,
+        field,
+        names,
+    })
+}
+
+impl ImageRequest {
+    /// What the words ask for, the command's name first.
+    pub fn parse(alloc: Global, line: &[String]) -> Result<ImageRequest, WordsFault>
+        ensures within { IfOk result (λ r. r.grid ≤ MOST_NODES) }
+    {
+        let words = parse(alloc, image(), line)?;
+        image_in(alloc, &words)
+    }
+}
+
+impl DotRequest {
+    /// What the words ask for, the command's name first.
+    pub fn parse(alloc: Global, line: &[String]) -> Result<DotRequest, WordsFault>
+        ensures within { IfOk result (λ r. r.round ≤ most_rounds) }
+    {
+        let words = parse(alloc, dot(), line)?;
+        dot_in(alloc, &words)
+    }
+}

@@ -1,0 +1,37 @@
+//! `info`: what one wants to know of a network.
+
+use crate::arguments::NETWORK;
+use app_table::{Command, WordsFault, parse};
+use std::alloc::Global;
+
+/// `info` and what it takes.
+static INFO: Command = Command {
+    name: "info",
+    aliases: &["show"],
+    called: "unison info",
+    about: "Show what one wants to know of a network before a run",
+    notes: "An example: unison info examples/ring.toml; - is standard input, as in: unison generate torus 8 8 | unison info -\n",
+    arguments: &[NETWORK],
+    subcommands: &[],
+};
+
+/// The table of `info`.
+pub(crate) fn info() -> &'static Command {
+    &INFO
+}
+
+/// What `info` is asked for.
+#[derive(Debug, Drop)]
+pub struct InfoRequest {
+    /// The path of the network.
+    pub network: String,
+}
+
+impl InfoRequest {
+    /// What the words ask for, the command's name first.
+    pub fn parse(alloc: Global, line: &[String]) -> Result<InfoRequest, WordsFault> {
+        let words = parse(alloc, info(), line)?;
+        let network = words.needed_text(alloc, &NETWORK)?;
+        Ok(InfoRequest { network })
+    }
+}

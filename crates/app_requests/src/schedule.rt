@@ -1,0 +1,253 @@
+//! `schedule`: single steps, made in a manner or from lines for people.
+ghost use Rattle.std.specs.Prelude.{◌≤◌, IfOk};
+ghost use Rattle.app_requests.specs.Requests.{AreWithin, IsScheduleWithin};
+
+use crate::arguments::{FILE, FROM, NAMES, NETWORK, NUMBER, PROGRAM, PlanPaths, ROUND};
+use app_table::{Argument, Command, Kind, OPTION, Subcommand, Value, Words, WordsFault, parse};
+use rounds_plan::MOST_ROUNDS;
+use std::alloc::{AllocError, Global};
+use unison_trace::MOST_STEPS;
+
+const STOP: Argument = Argument {
+    name: "stop",
+    value: ROUND,
+    value_name: "T",
+    help: "The round at which a node stops, counted from round 0: 0 to 1000000000, which stands where it is left out",
+    ..OPTION
+};
+
+const COUNT: Argument = Argument {
+    name: "count",
+    value: Value::Number {
+        least: 0,
+        most: MOST_STEPS,
+    },
+    value_name: "K",
+    help: "So many steps at most: 0 to 1000000, which stands where it is left out",
+    ..OPTION
+};
+
+const SEED: Argument = Argument {
+    name: "seed",
+    value: NUMBER,
+    value_name: "S",
+    help: "The same seed draws the same steps on every machine: 0 to 4294967295, and 0 where it is left out",
+    ..OPTION
+};
+
+const REFUSED: Argument = Argument {
+    name: "refused",
+    value: Value::Number { least: 0, most: 99 },
+    value_name: "PERCENT",
+    help: "Mix in steps that change nothing: so many of a hundred, 0 to 99",
+    ..OPTION
+};
+
+const NODE: Argument = Argument {
+    name: "node",
+    kind: Kind::Positional,
+    value_name: "NODE",
+    help: "The node, by its number, or by its name where --names is given",
+    ..OPTION
+};
+
+const LINES: Argument = Argument {
+    name: "lines",
+    help: "The file of the lines, or - for standard input",
+    ..FILE
+};
+
+/// What a manner that names no node takes.
+const OF_ALL: [Argument; 7] = [PROGRAM, NETWORK, STOP, COUNT, SEED, REFUSED, FROM];
+
+/// What a manner that names a node takes.
+const OF_A_NODE: [Argument; 9] = [
+    NODE, PROGRAM, NETWORK, NAMES, STOP, COUNT, SEED, REFUSED, FROM,
+];
+
+const MANNERS: [Subcommand; 6] = [
+    Subcommand {
+        name: "sweeps",
+        about: "Each node by rising number reads all its neighbours and moves, until all stand at the stop",
+        notes: "",
+        arguments: &OF_ALL,
+    },
+    Subcommand {
+        name: "random",
+        about: "Any step that changes something, drawn by lot, until all stand at the stop",
+        notes: "",
+        arguments: &OF_ALL,
+    },
+    Subcommand {
+        name: "slow-links",
+        about: "As random, but some links are read only where nothing else is left to do",
+        notes: "",
+        arguments: &OF_ALL,
+    },
+    Subcommand {
+        name: "starve",
+        about: "The node makes no step, and the others go on as long as they can",
+        notes: "",
+        arguments: &OF_A_NODE,
+    },
+    Subcommand {
+        name: "ahead",
+        about: "The node gets as far ahead as it can, until it stands at the stop",
+        notes: "",
+        arguments: &OF_A_NODE,
+    },
+    Subcommand {
+        name: "write",
+        about: "A schedule from lines for people",
+        notes: "The lines: `4 reads 7`, `4 reads all`, `4 moves`, `4 turn` (reads all and moves), `sweep` (a turn of each node), and `repeat 3 {` and `}` around others; what stands behind # is a comment.\nAn example: printf 'sweep\\n0 turn\\n' | unison schedule write - examples/distance.rules examples/path.toml\n",
+        arguments: &[LINES, PROGRAM, NETWORK, NAMES, FROM],
+    },
+];
+
+/// `schedule` and what it takes.
+static SCHEDULE: Command = Command {
+    name: "schedule",
+    aliases: &["steps"],
+    called: "unison schedule",
+    about: "Make a schedule: sweeps, by lot, one node starved or ahead, or from lines for people",
+    notes: "Prints a schedule, as replay, run and explain read it.\nAn example: unison schedule sweeps examples/distance.rules examples/path.toml --stop 2 > steps.txt\nThe words of one: unison schedule write --help\n",
+    arguments: &[],
+    subcommands: &MANNERS,
+};
+
+/// The table of `schedule`.
+pub(crate) fn schedule() -> &'static Command {
+    &SCHEDULE
+}
+
+/// In which manner steps are made.
+#[derive(Debug, Drop)]
+pub enum StepsManner {
+    /// Each node by rising number reads all its slots and moves, again and again.
+    Sweeps,
+    /// Any step that changes something.
+    Random,
+    /// This node, by its number or name, makes no step.
+    Starve { node: String },
+    /// This node, by its number or name, gets as far ahead as it can.
+    Ahead { node: String },
+    /// Some links are read only where nothing else is left to do.
+    SlowLinks,
+}
+
+/// Up to where steps go, and by what they are drawn.
+#[derive(Clone, Copy, Debug, PartialEq, Eq)]
+pub struct Limits {
+    /// The round at which nodes stop, counted from round 0.
+    pub stop: u32,
+    /// By what is drawn.
+    pub seed: u32,
+    /// How many steps there are at most.
+    pub count: u32,
+    /// How many of a hundred steps are refused ones, where some are mixed in.
+    pub refused: u32,
+}
+
+/// Steps in a manner.
+#[derive(Debug, Drop)]
+pub struct Listing {
+    pub plan: PlanPaths,
+    pub manner: StepsManner,
+    pub limits: Limits,
+    /// The path of the names by which nodes are called, where they are.
+    pub names: Option<String>,
+}
+
+/// Steps from lines for people.
+#[derive(Debug, Drop)]
+pub struct Writing {
+    pub plan: PlanPaths,
+    /// The path of the lines.
+    pub lines: String,
+    /// The path of the names by which nodes are called, where they are.
+    pub names: Option<String>,
+}
+
+/// What `schedule` is asked for.
+#[derive(Debug, Drop)]
+pub enum ScheduleRequest {
+    Listing(Listing),
+    Writing(Writing),
+}
+
+/// The manner of the subcommand that is named.
+fn manner_in(alloc: Global, words: &Words) -> Result<StepsManner, AllocError> {
+    match words.subcommand() {
+        "sweeps" => return Ok(StepsManner::Sweeps),
+        "random" => return Ok(StepsManner::Random),
+        "slow-links" => return Ok(StepsManner::SlowLinks),
+        _ => {}
+    }
+    let node = words.needed_text(alloc, &NODE)?;
+    if words.subcommand() == "starve" {
+        return Ok(StepsManner::Starve { node });
+    }
+    Ok(StepsManner::Ahead { node })
+}
+
+/// Up to where steps go, and by what they are drawn.
+fn limits_in(alloc: Global, words: &Words) -> Result<Limits, WordsFault>
+    ensures within { IfOk result AreWithin }
+{
+    let stop = words.number_or(alloc, &STOP, MOST_ROUNDS)?;
+    let count = words.number_or(alloc, &COUNT, MOST_STEPS)?;
+    let seed = words.number_or(alloc, &SEED, 0)?;
+    let refused = words.number_or(alloc, &REFUSED, 0)?;
+    Ok(Limits {
+        stop,
+        seed,
+        count,
+        refused,
+    })
+}
+
+/// The steps in a manner.
+fn listing_in(alloc: Global, words: &Words) -> Result<Listing, WordsFault>
+    ensures within { IfOk result (λ l. AreWithin l.limits) }
+{
+    let limits = limits_in(alloc, words)?;
+    let names = words.text(alloc, &NAMES)?;
+    let manner = manner_in(alloc, words)?;
+    let plan = PlanPaths::of(alloc, words)?;
+    Ok(Listing {
+        plan,
+        manner,
+        limits,
+        names,
+    })
+}
+
+/// The steps from lines.
+fn writing_in(alloc: Global, words: &Words) -> Result<Writing, AllocError> {
+    let lines = words.needed_text(alloc, &LINES)?;
+    let names = words.text(alloc, &NAMES)?;
+    let plan = PlanPaths::of(alloc, words)?;
+    Ok(Writing { plan, lines, names })
+}
+
+/// What plain words ask for.
+fn request_in(alloc: Global, words: &Words) -> Result<ScheduleRequest, WordsFault>
+    ensures within { IfOk result IsScheduleWithin }
+{
+    if words.subcommand() == "write" {
+        let writing = writing_in(alloc, words)?;
+        return Ok(ScheduleRequest::Writing(writing));
+    }
+    let listing = listing_in(alloc, words)?;
+    Ok(ScheduleRequest::Listing(listing))
+}
+
+impl ScheduleRequest {
+    /// What the words ask for, the command's name first.
+    pub fn parse(alloc: Global, line: &[String]) -> Result<ScheduleRequest, WordsFault>
+        ensures within { IfOk result IsScheduleWithin }
+    {
+        let words = parse(alloc, schedule(), line)?;
+        request_in(alloc, &words)
+    }
+}

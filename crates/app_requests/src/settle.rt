@@ -1,0 +1,73 @@
+//! `settle`: from which round on nothing changes, or all states come again.
+ghost use Rattle.std.specs.Prelude.{◌≤◌, IfOk};
+ghost use Rattle.rounds_plan.specs.Configs.{most_rounds};
+
+use crate::arguments::{FLAG, FROM, NETWORK, PROGRAM, PlanPaths, ROUND};
+use app_table::{Argument, Command, OPTION, Words, WordsFault, parse};
+use std::alloc::Global;
+
+/// The limit where none is given.
+const DEFAULT_LIMIT: u32 = 1_000_000;
+
+const LIMIT: Argument = Argument {
+    name: "limit",
+    value: ROUND,
+    value_name: "T",
+    help: "Look at the rounds up to T: 0 to 1000000000, and 1000000 where it is left out; up to twice as many are computed",
+    ..OPTION
+};
+
+const REPORT: Argument = Argument {
+    name: "report",
+    help: "Print the report of round R, too",
+    ..FLAG
+};
+
+/// `settle` and what it takes.
+static SETTLE: Command = Command {
+    name: "settle",
+    aliases: &[],
+    called: "unison settle",
+    about: "Tell from which round on nothing changes, or all states come again",
+    notes: "Prints `settles R` where nothing changes after round R, the first such one; `repeats R P` where from round R on all states come again every P rounds, both the least; `open T` where neither is so up to round T.\nAn example: unison settle examples/distance.rules examples/path.toml --report\n",
+    arguments: &[PROGRAM, NETWORK, LIMIT, REPORT, FROM],
+    subcommands: &[],
+};
+
+/// The table of `settle`.
+pub(crate) fn settle() -> &'static Command {
+    &SETTLE
+}
+
+/// What `settle` is asked for.
+#[derive(Debug, Drop)]
+pub struct SettleRequest {
+    pub plan: PlanPaths,
+    /// The round up to which it is looked, counted from round 0.
+    pub limit: u32,
+    /// Whether the report of the round that is found is printed too.
+    pub report: bool,
+}
+
+/// What plain words ask for.
+fn request_in(alloc: Global, words: &Words) -> Result<SettleRequest, WordsFault>
+    ensures within { IfOk result (λ r. r.limit ≤ most_rounds) }
+{
+    let limit = words.number_or(alloc, &LIMIT, DEFAULT_LIMIT)?;
+    let plan = PlanPaths::of(alloc, words)?;
+    Ok(SettleRequest {
+        plan,
+        limit,
+        report: words.has(&REPORT),
+    })
+}
+
+impl SettleRequest {
+    /// What the words ask for, the command's name first.
+    pub fn parse(alloc: Global, line: &[String]) -> Result<SettleRequest, WordsFault>
+        ensures within { IfOk result (λ r. r.limit ≤ most_rounds) }
+    {
+        let words = parse(alloc, settle(), line)?;
+        request_in(alloc, &words)
+    }
+}

@@ -1,0 +1,3 @@
+pub mod FirstFault
+pub mod Given
+pub mod Places

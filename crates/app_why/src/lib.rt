@@ -1,0 +1,27 @@
+//! Why a job is not done: the first fault of its texts, its place, and what to do, told for people.
+#![tactic(auto)]
+
+mod entries;
+mod finding;
+mod first;
+mod foreign;
+mod found;
+mod items;
+mod kinds;
+mod lexical;
+mod lines;
+mod near;
+mod network;
+mod notes;
+mod place;
+mod plans;
+mod refused;
+mod runs;
+mod shown;
+mod syntax;
+mod told;
+
+pub use finding::{Finding, why};
+pub use first::first_fault;
+pub use place::{Place, line_from, place_at};
+pub use told::{Named, Texts};

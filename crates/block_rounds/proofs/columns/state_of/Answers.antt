@@ -1,7 +1,0 @@
-use Rattle.block_rounds.proofs.States.{state_read}
-use Rattle.block_rounds.proofs.columns.state_of.Goals as goal
-
-pub returns : goal.returns
-returns c =
-    let l = c.loop-k in
-    record { exact = state_read l.words c.args.columns.now l.k c.args.node l.invariant.long l.invariant.read l.invariant.rest c.loop-k-test.false }

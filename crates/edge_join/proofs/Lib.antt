@@ -1,5 +1,0 @@
-mod NameFaults
-mod NumberSteps
-mod Refused
-mod Stable
-mod Steps

@@ -1,7 +1,0 @@
-use Rattle.std.proofs.Common.{◌≡◌, drop}
-use Rattle.std.specs.Result.{result_err}
-use Rattle.edge_join.specs.Numbering.{links_in}
-use Rattle.edge_join.proofs.numbers.first_fault.Given as goal
-
-abbrev pub invariant-loop-edge : goal.invariant-loop-edge
-invariant-loop-edge l = result_err (links_in (drop l.edge-index l.edges)) ≡ result_err (links_in l.edges)

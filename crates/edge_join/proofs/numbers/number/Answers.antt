@@ -1,9 +1,0 @@
-use Rattle.std.proofs.Common.{◌∙◌, sym, ap, Err}
-use Rattle.edge_join.proofs.NumberSteps.{is_fault}
-use Rattle.edge_join.proofs.numbers.number.Goals as goal
-
-pub returns-in-Err : goal.returns-in-Err
-returns-in-Err c = record {
-  number = ap Err c.at_line.ensures ∙ is_fault c.args.line c.args.name.now c.in-Err.fault (sym c.in-Err.ensures.weight);
-  few = tt;
-}

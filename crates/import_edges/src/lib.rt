@@ -1,0 +1,10 @@
+//! Edges that stand in a text, a line for each.
+#![tactic(auto)]
+
+mod fault;
+mod line_edge;
+mod reader;
+
+pub use fault::{EdgeFault, LineFault};
+pub use import_lines::Edge;
+pub use reader::{Reading, read_edges};

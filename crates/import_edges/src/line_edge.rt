@@ -1,0 +1,47 @@
+//! The edge that a line says.
+ghost use Rattle.std.specs.Prelude.{◌≡◌};
+ghost use Rattle.std.specs.Option.{option_copied};
+ghost use Rattle.import_edges.specs.Edges.{weight_in, edge_in, edge_of};
+
+use crate::fault::{EdgeFault, LineFault};
+use import_lines::{Edge, Weight, WeightFault, line_parts, line_text, read_weight};
+
+/// The weight of an edge, 1 times the factor where no word says it.
+fn part_weight(word: Option<&str>, factor: Option<u32>) -> Result<Weight, WeightFault>
+    ensures { result ≡ weight_in factor (option_copied word.entry) }
+{
+    match word {
+        Some(word) => read_weight(word, factor),
+        None => Ok(Weight {
+            value: factor.unwrap_or(1),
+            exact: true,
+        }),
+    }
+}
+
+/// The edge that a line says.
+fn line_edge(number: u64, line: &[u8], factor: Option<u32>) -> Result<Edge<'_>, LineFault>
+    ensures { result ≡ edge_in factor number line.now }
+{
+    let text = line_text(line).map_err(LineFault::Words)?;
+    let parts = line_parts(text).map_err(LineFault::Words)?;
+    let weight = part_weight(parts.third, factor).map_err(LineFault::Weight)?;
+    Ok(Edge::new(parts.first, parts.second, weight, number))
+}
+
+/// The edge that a line says, or its fault with its number.
+pub(crate) fn read_line(
+    number: u64,
+    line: &[u8],
+    factor: Option<u32>,
+) -> Result<Edge<'_>, EdgeFault>
+    ensures { result ≡ edge_of factor (number, line.now) }
+{
+    match line_edge(number, line, factor) {
+        Ok(edge) => Ok(edge),
+        Err(fault) => Err(EdgeFault::BadLine {
+            line: number,
+            fault,
+        }),
+    }
+}

@@ -1,0 +1,6 @@
+mod LineFaults
+pub mod LinesCut
+mod Digits
+mod Numerals
+mod Quotients
+mod Scaling

@@ -1,0 +1,9 @@
+mod NameFaults
+mod NumberSteps
+mod Refused
+mod Stable
+mod JoinSteps
+mod Fewer
+mod Firsts
+mod MergeSteps
+mod Twins

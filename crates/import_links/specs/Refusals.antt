@@ -1,0 +1,57 @@
+-- Why named nodes and edges have no numbers.
+use Rattle.std.specs.Prelude.{◌≡◌, ◌⊎◌, ◌<◌, ℕ, false, List, [], ◌∷◌, ◌++◌, length}
+use Rattle.link_net.specs.Limits.{most_nodes}
+use Rattle.net_names.specs.declared.fault.NamesFault.{NamesFault}
+use Rattle.net_names.specs.declared.fault.NamesFault.TheVariants as name
+use Rattle.net_names.specs.Naming.{AreNames, is_name, with_name}
+use Rattle.import_lines.specs.Named.{NamedEdge}
+use Rattle.import_lines.specs.declared.mention.Mention.{Mention}
+use Rattle.import_links.specs.declared.join_fault.JoinFault.{JoinFault}
+use Rattle.import_links.specs.declared.join_fault.JoinFault.TheVariants.{BadName, TooManyNodes, Memory}
+use Rattle.import_links.specs.Joining.{names_of, names_in, with_ends, names_with}
+
+-- the fault of a name that stands in a line
+abbrev pub at_line : ℕ → NamesFault → JoinFault
+at_line line name.BadName = BadName line
+at_line line name.TooManyNames = TooManyNodes line
+at_line line name.Memory = Memory
+
+-- what the fault says is so of a name that stands in a line, behind these names
+abbrev pub IsNameFault : List (List ℕ) → List ℕ → ℕ → JoinFault → Type 0
+IsNameFault names name n (BadName line) = (line ≡ n) × (is_name name ≡ false)
+IsNameFault names name n (TooManyNodes line) = (line ≡ n) × (most_nodes < length (with_name names name))
+IsNameFault names name n Memory = Unit {0}
+
+-- what the fault says is so of an edge, behind these names: an end is no name, or with its ends there are too many names
+abbrev pub IsEdgeFault : List (List ℕ) → NamedEdge → JoinFault → Type 0
+IsEdgeFault names here (BadName line) = (line ≡ here.line) × ((is_name here.first ≡ false) ⊎ (is_name here.second ≡ false))
+IsEdgeFault names here (TooManyNodes line) = (line ≡ here.line) × (most_nodes < length (with_ends names here))
+IsEdgeFault names here Memory = Unit {0}
+
+-- what the fault says is so of an edge, and the ends of earlier ones are names, and not too many
+pub record IsFirstBadEdge (names : List (List ℕ)) (edges : List NamedEdge) (fault : JoinFault) : Type 0 where
+  pub earlier : List NamedEdge
+  pub here : NamedEdge
+  pub later : List NamedEdge
+  pub all : edges ≡ earlier ++ here ∷ later
+  pub are_names : AreNames (names_with names earlier)
+  pub why : IsEdgeFault (names_with names earlier) here fault
+
+-- why edges have no numbers behind these names: the first that has none, or want of memory
+abbrev pub IsRefusal : List (List ℕ) → List NamedEdge → JoinFault → Type 0
+IsRefusal names edges Memory = Unit {0}
+IsRefusal names edges fault = IsFirstBadEdge names edges fault
+
+-- what the fault says is so of a name that a text names, and the earlier ones are names, and not too many
+pub record IsFirstBadMention (mentions : List Mention) (fault : JoinFault) : Type 0 where
+  pub earlier : List Mention
+  pub here : Mention
+  pub later : List Mention
+  pub all : mentions ≡ earlier ++ here ∷ later
+  pub are_names : AreNames (names_in [] (names_of earlier))
+  pub why : IsNameFault (names_in [] (names_of earlier)) here.name.now here.line fault
+
+-- why names that a text names have no numbers: the first that has none, or want of memory
+abbrev pub IsMentionRefusal : List Mention → JoinFault → Type 0
+IsMentionRefusal mentions Memory = Unit {0}
+IsMentionRefusal mentions fault = IsFirstBadMention mentions fault

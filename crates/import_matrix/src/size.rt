@@ -1,0 +1,69 @@
+//! The line that says how many nodes and entries there are.
+ghost use Rattle.std.specs.Prelude.{◌≡◌};
+ghost use Rattle.import_lines.specs.Texts.{words_of};
+ghost use Rattle.import_matrix.specs.Sizes.{number_in, sized, size_of, size_in};
+
+use crate::fault::MatrixLineFault;
+use crate::number::read_number;
+use import_lines::{line_parts, line_text};
+use link_net::MOST_NODES;
+
+/// How many nodes and entries a text says that it has.
+#[derive(Clone, Copy, Debug)]
+pub(crate) struct Size {
+    pub(crate) nodes: u32,
+    pub(crate) entries: u64,
+}
+
+/// The number that a word of a size line says.
+fn size_number(word: &str) -> Result<u64, MatrixLineFault>
+    ensures { result ≡ number_in word.now }
+{
+    match read_number(word) {
+        Some(number) => Ok(number),
+        None => Err(MatrixLineFault::BadSize),
+    }
+}
+
+/// The size of so many rows, columns and entries.
+fn checked_size(rows: u64, columns: u64, entries: u64) -> Result<Size, MatrixLineFault>
+    ensures { result ≡ sized rows columns entries }
+{
+    if rows != columns {
+        return Err(MatrixLineFault::NotSquare);
+    }
+    if rows == 0 {
+        return Err(MatrixLineFault::NoNodes);
+    }
+    if rows > MOST_NODES as u64 {
+        return Err(MatrixLineFault::TooManyNodes);
+    }
+    Ok(Size {
+        nodes: rows as u32,
+        entries,
+    })
+}
+
+/// The size that a text of a line says.
+fn text_size(text: &str) -> Result<Size, MatrixLineFault>
+    ensures { result ≡ size_of (words_of text.now) }
+{
+    let Ok(parts) = line_parts(text) else {
+        return Err(MatrixLineFault::BadSize);
+    };
+    let Some(third) = parts.third else {
+        return Err(MatrixLineFault::BadSize);
+    };
+    let rows = size_number(parts.first)?;
+    let columns = size_number(parts.second)?;
+    let entries = size_number(third)?;
+    checked_size(rows, columns, entries)
+}
+
+/// The size that a line says.
+pub(crate) fn read_size(line: &[u8]) -> Result<Size, MatrixLineFault>
+    ensures { result ≡ size_in line.now }
+{
+    let text = line_text(line)?;
+    text_size(text)
+}

@@ -1,0 +1,57 @@
+-- Network files of graphs.
+use Rattle.std.proofs.Common.{◌≡◌, inl, inr, ℕ, List, [], ◌∷◌, map, refl, ap, ◌∙◌, Result, Ok, Err, IfOk, IfErr}
+use Rattle.import_lines.specs.declared.mention.Mention.{Mention}
+use Rattle.import_dot.specs.declared.fault.DotFault.{DotFault}
+use Rattle.import_dot.specs.Graphs.{DotGraph, names}
+use Rattle.import_dot.specs.View.{mention_of}
+use Rattle.import_lines.specs.Named.{NamedEdge}
+use Rattle.import_matrix.specs.Steps.{and_then, told_as}
+use Rattle.import_links.specs.declared.join_fault.JoinFault.{JoinFault}
+use Rattle.import_links.specs.declared.join_fault.JoinFault.TheVariants.{BadName, TooManyNodes, Memory as NoMemory}
+use Rattle.import_links.specs.Refusals.{IsMentionRefusal}
+use Rattle.import_links.specs.Joining.{names_of, names_in, names_with}
+use Rattle.import_links.specs.declared.mending.Mending.{Mending}
+use Rattle.import_network.specs.declared.fault.TakeFault.{TakeFault}
+use Rattle.import_network.specs.declared.fault.TakeFault.TheVariants.{Edges, Matrix, Dot, Join, Numbers, Settle, Memory}
+use Rattle.import_network.specs.declared.taken.Taken.{Taken}
+use Rattle.import_network.specs.Faults.{dot_fault, join_fault}
+use Rattle.import_network.specs.Taking.{IsMadeOf, IsTaken, graph_names, graph_draft, named_draft}
+use Rattle.import_network.specs.Naming.{IsNameFile, IsNamesOfGraph, IsJoinFault, IsGraphFault, IsDotFault}
+
+-- the names of mentions are those of the nodes that they are
+pub names_same : (mentions : List Mention) → names_of mentions ≡ names (map mention_of mentions)
+names_same [] = refl
+names_same (m ∷ ms) = ap (λ ns. m.name.now ∷ ns) (names_same ms)
+
+-- the fault of a graph's edges is one of the graph
+pub edges_refused : (mending : Mending) (g : DotGraph) (fault : TakeFault) → IsJoinFault mending (graph_names g) g.edges fault → IsGraphFault mending g fault
+edges_refused mending g (Edges why) bad = bad
+edges_refused mending g (Matrix why) bad = bad
+edges_refused mending g (Dot why) bad = bad
+edges_refused mending g (Join why) bad = inr bad
+edges_refused mending g (Numbers why) bad = bad
+edges_refused mending g (Settle why) bad = bad
+edges_refused mending g Memory bad = bad
+
+-- a node that has no number is one of the graph
+pub nodes_refused : (mending : Mending) (g : DotGraph) (mentions : List Mention) (fault : JoinFault) (told : TakeFault) → map mention_of mentions ≡ g.nodes → IsMentionRefusal mentions fault → told ≡ join_fault fault → IsGraphFault mending g told
+nodes_refused mending g mentions (BadName line) told same why is = rw is (inl (record { mentions = mentions; are_these = same; some = λ e. cc; why = why }))
+nodes_refused mending g mentions (TooManyNodes line) told same why is = rw is (inl (record { mentions = mentions; are_these = same; some = λ e. cc; why = why }))
+nodes_refused mending g mentions NoMemory told same why is = rw is tt
+
+module _ (mending : Mending) (g : DotGraph) (read : Result DotGraph DotFault) (given : List (List ℕ)) (edges : List NamedEdge) (is_read : read ≡ Ok g) (named : given ≡ graph_names g) (these : edges ≡ g.edges) where
+  pub dot_network : (r : Result Taken TakeFault) → IfOk r (IsMadeOf mending (named_draft given edges)) → IfOk r (IsTaken mending (and_then (told_as dot_fault read) (λ g. Ok (graph_draft g))))
+  dot_network (Ok taken) made = record { draft = graph_draft g; is_said = rw is_read refl; made_of = rw (named, these) at made }
+  dot_network (Err fault) made = tt
+
+  pub dot_names : (r : Result Taken TakeFault) → IfOk r (λ taken. IsNameFile (names_with given edges) taken.names.items) → IfOk r (λ taken. IsNamesOfGraph read taken.names.items)
+  dot_names (Ok taken) are = record { graph = g; is_read = is_read; names = rw (named, these) at are }
+  dot_names (Err fault) are = tt
+
+  pub dot_refused : (r : Result Taken TakeFault) → IfErr r (IsJoinFault mending given edges) → IfErr r (IsDotFault mending read)
+  dot_refused (Ok taken) why = tt
+  dot_refused (Err fault) why = rw is_read (edges_refused mending g fault (rw (named, these) at why))
+
+-- the names that the mentions of a graph gave
+pub given_names : (g : DotGraph) (mentions items : List Mention) (given : List (List ℕ)) → given ≡ names_in [] (names_of mentions) → mentions ≡ items → map mention_of items ≡ g.nodes → given ≡ graph_names g
+given_names g mentions items given named same nodes = named ∙ ap (λ ms. names_in [] (names_of ms)) same ∙ ap (names_in []) (names_same items) ∙ ap (λ ns. names_in [] (names ns)) nodes

@@ -1,0 +1,39 @@
+-- The faults of the steps as those of taking. Want of memory is told in one form, whichever step it comes in.
+use Rattle.import_edges.specs.declared.fault.EdgeFault.{EdgeFault}
+use Rattle.import_edges.specs.declared.fault.EdgeFault.TheVariants as edges
+use Rattle.import_matrix.specs.declared.fault.MatrixFault.{MatrixFault}
+use Rattle.import_matrix.specs.declared.fault.MatrixFault.TheVariants as matrix
+use Rattle.import_dot.specs.declared.fault.DotFault.{DotFault}
+use Rattle.import_dot.specs.declared.fault.DotFault.TheVariants as dot
+use Rattle.import_links.specs.declared.join_fault.JoinFault.{JoinFault}
+use Rattle.import_links.specs.declared.join_fault.JoinFault.TheVariants as join
+use Rattle.import_links.specs.declared.numbers.NumberFault.{NumberFault}
+use Rattle.import_links.specs.declared.numbers.NumberFault.TheVariants as numbers
+use Rattle.import_links.specs.declared.settle_fault.SettleFault.{SettleFault}
+use Rattle.import_links.specs.declared.settle_fault.SettleFault.TheVariants as settle
+use Rattle.import_network.specs.declared.fault.TakeFault.{TakeFault}
+use Rattle.import_network.specs.declared.fault.TakeFault.TheVariants.{Edges, Matrix, Dot, Join, Numbers, Settle, Memory}
+
+abbrev pub edge_fault : EdgeFault → TakeFault
+edge_fault edges.Memory = Memory
+edge_fault fault = Edges fault
+
+abbrev pub matrix_fault : MatrixFault → TakeFault
+matrix_fault matrix.Memory = Memory
+matrix_fault fault = Matrix fault
+
+abbrev pub dot_fault : DotFault → TakeFault
+dot_fault dot.Memory = Memory
+dot_fault fault = Dot fault
+
+abbrev pub join_fault : JoinFault → TakeFault
+join_fault join.Memory = Memory
+join_fault fault = Join fault
+
+abbrev pub number_fault : NumberFault → TakeFault
+number_fault numbers.Memory = Memory
+number_fault fault = Numbers fault
+
+abbrev pub settle_fault : SettleFault → TakeFault
+settle_fault settle.Memory = Memory
+settle_fault fault = Settle fault

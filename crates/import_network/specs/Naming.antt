@@ -1,0 +1,64 @@
+-- Network files of edges whose ends are names: the file of these names, and why there is none.
+use Rattle.std.specs.Prelude.{◌≡◌, ◌≢◌, ◌⊎◌, ℕ, List, [], map, Result, Ok, Err}
+use Rattle.net_names.specs.Naming.{AreNames}
+use Rattle.net_names.specs.NamesFiles.{text_of, HasNames}
+use Rattle.import_lines.specs.declared.mention.Mention.{Mention}
+use Rattle.import_lines.specs.Named.{NamedEdge}
+use Rattle.import_edges.specs.declared.fault.EdgeFault.{EdgeFault}
+use Rattle.import_dot.specs.declared.fault.DotFault.{DotFault}
+use Rattle.import_dot.specs.Graphs.{DotMention, DotGraph}
+use Rattle.import_dot.specs.View.{mention_of}
+use Rattle.import_links.specs.declared.join_fault.JoinFault.{JoinFault}
+use Rattle.import_links.specs.declared.join_fault.JoinFault.TheVariants as join
+use Rattle.import_links.specs.Joining.{names_with}
+use Rattle.import_links.specs.Refusals.{IsRefusal, IsMentionRefusal}
+use Rattle.import_links.specs.declared.mending.Mending.{Mending}
+use Rattle.import_network.specs.declared.fault.TakeFault.{TakeFault}
+use Rattle.import_network.specs.declared.fault.TakeFault.TheVariants.{Join, Memory}
+use Rattle.import_network.specs.Faults.{edge_fault, dot_fault}
+use Rattle.import_network.specs.Taking.{graph_names, named_draft, made}
+
+-- the bytes are a line for each name, and a reader of files of names reads these names
+pub record IsNameFile (names : List (List ℕ)) (bytes : List ℕ) : Type 0 where
+  pub text : bytes ≡ text_of names
+  pub reads_back : HasNames bytes names
+
+-- edges were read, and the bytes are a file of their names, in the order of their first appearance
+pub record IsNamesOf (read : Result (List NamedEdge) EdgeFault) (bytes : List ℕ) : Type 0 where
+  pub edges : List NamedEdge
+  pub is_read : read ≡ Ok edges
+  pub names : IsNameFile (names_with [] edges) bytes
+
+-- a graph was read, and the bytes are a file of the names of its nodes, in the order of their first appearance
+pub record IsNamesOfGraph (read : Result DotGraph DotFault) (bytes : List ℕ) : Type 0 where
+  pub graph : DotGraph
+  pub is_read : read ≡ Ok graph
+  pub names : IsNameFile (names_with (graph_names graph) graph.edges) bytes
+
+-- why edges make no network where nodes have these names: an end that has no number; where each has one, the fault of their links; or want of memory
+abbrev pub IsJoinFault : Mending → List (List ℕ) → List NamedEdge → TakeFault → Type 0
+IsJoinFault mending names edges Memory = Unit {0}
+IsJoinFault mending names edges (Join fault) = (fault ≢ join.Memory) × IsRefusal names edges fault
+IsJoinFault mending names edges fault = AreNames (names_with names edges) × (made mending (named_draft names edges) ≡ Err fault)
+
+-- why a list of edges makes no network: a bad line; where none is bad, the fault of its edges
+abbrev pub IsEdgesFault : Mending → Result (List NamedEdge) EdgeFault → TakeFault → Type 0
+IsEdgesFault mending (Err bad) fault = fault ≡ edge_fault bad
+IsEdgesFault mending (Ok edges) fault = IsJoinFault mending [] edges fault
+
+-- nodes that a text names have no numbers: the first that has none
+pub record IsUnnumbered (nodes : List DotMention) (fault : JoinFault) : Type 0 where
+  pub mentions : List Mention
+  pub are_these : map mention_of mentions ≡ nodes
+  pub some : fault ≢ join.Memory
+  pub why : IsMentionRefusal mentions fault
+
+-- why a graph makes no network: a node that has no number; where each has one, the fault of its edges
+abbrev pub IsGraphFault : Mending → DotGraph → TakeFault → Type 0
+IsGraphFault mending g (Join fault) = IsUnnumbered g.nodes fault ⊎ IsJoinFault mending (graph_names g) g.edges (Join fault)
+IsGraphFault mending g fault = IsJoinFault mending (graph_names g) g.edges fault
+
+-- why a text in Graphviz's language makes no network: its first fault; where it has none, the fault of its graph
+abbrev pub IsDotFault : Mending → Result DotGraph DotFault → TakeFault → Type 0
+IsDotFault mending (Err bad) fault = fault ≡ dot_fault bad
+IsDotFault mending (Ok g) fault = IsGraphFault mending g fault

@@ -1,0 +1,81 @@
+-- What texts in other formats say, and the network files that are made of it.
+use Rattle.std.specs.Prelude.{◌≡◌, ◌+◌, ℕ, Bool, not, List, [], length, count_by, Option, Result, Ok}
+use Rattle.link_net.specs.Reading.{reading_of}
+use Rattle.net_text.specs.Listing.{Listing, described}
+use Rattle.import_lines.specs.Named.{NamedEdge}
+use Rattle.import_edges.specs.Edges.{edges_of}
+use Rattle.import_links.specs.Joining.{names_in, names_with, links_of}
+use Rattle.import_links.specs.Numbering.{links_in, nodes_of}
+use Rattle.import_links.specs.declared.placed.PlacedLink.{PlacedLink}
+use Rattle.import_links.specs.declared.mending.Mending.{Mending}
+use Rattle.import_links.specs.Settling.{left_by, settled}
+use Rattle.import_matrix.specs.Matrices.{matrix_of}
+use Rattle.import_dot.specs.Graphs.{DotGraph, names, graph_of}
+use Rattle.import_matrix.specs.Steps.{and_then, told_as}
+use Rattle.import_network.specs.declared.fault.TakeFault.{TakeFault}
+use Rattle.import_network.specs.declared.taken.Taken.{Taken}
+use Rattle.import_network.specs.Faults.{edge_fault, matrix_fault, dot_fault, number_fault, settle_fault}
+
+-- what a text says: how many nodes there are, and the links in its order
+pub record Draft : Type 0 where
+  pub nodes : ℕ
+  pub links : List PlacedLink
+
+-- what a matrix says
+abbrev pub matrix_draft : Bool → Option ℕ → List ℕ → Result Draft TakeFault
+matrix_draft undirected factor text = and_then (told_as matrix_fault (matrix_of undirected factor text)) (λ m. Ok (record { nodes = m.0; links = m.1 }))
+
+-- what edges say whose ends are numbers of nodes
+abbrev pub numbered_draft : List NamedEdge → Result Draft TakeFault
+numbered_draft edges = and_then (told_as number_fault (links_in edges)) (λ links. Ok (record { nodes = nodes_of links; links = links }))
+
+-- what a text says, a list of edges whose ends are numbers of nodes
+abbrev pub numbers_draft : Bool → Option ℕ → List ℕ → Result Draft TakeFault
+numbers_draft header factor text = and_then (told_as edge_fault (edges_of header factor text)) numbered_draft
+
+-- what edges say whose ends are names: nodes have the names that are given, and others are numbered behind them, in the order of their first appearance
+abbrev pub named_draft : List (List ℕ) → List NamedEdge → Draft
+named_draft names edges = record { nodes = length (names_with names edges); links = links_of names edges }
+
+-- what a text says, a list of edges whose ends are names
+abbrev pub edges_draft : Bool → Option ℕ → List ℕ → Result Draft TakeFault
+edges_draft header factor text = and_then (told_as edge_fault (edges_of header factor text)) (λ edges. Ok (named_draft [] edges))
+
+-- the names of a graph's nodes, each once, in the order of their first appearance
+abbrev pub graph_names : DotGraph → List (List ℕ)
+graph_names g = names_in [] (names g.nodes)
+
+-- what a graph says
+abbrev pub graph_draft : DotGraph → Draft
+graph_draft g = named_draft (graph_names g) g.edges
+
+-- what a text says, a graph in Graphviz's language
+abbrev pub dot_draft : Bool → Option ℕ → List ℕ → Result Draft TakeFault
+dot_draft undirected factor text = and_then (told_as dot_fault (graph_of undirected factor text)) (λ g. Ok (graph_draft g))
+
+-- the network's links, loops and doubles mended, or why there are none
+abbrev pub made : Mending → Draft → Result Listing TakeFault
+made mending draft = told_as settle_fault (settled draft.nodes mending draft.links)
+
+-- the network's links where a text says something, or why there are none
+abbrev pub listing_in : Mending → Result Draft TakeFault → Result Listing TakeFault
+listing_in mending said = and_then said (made mending)
+
+-- the weight is not the one that stands in the text
+abbrev pub is_rounded : PlacedLink → Bool
+is_rounded p = not p.exact
+
+-- a reader of network files reads exactly the draft's network, of phase 0 and without opening values; and the three numbers are how many links were dropped, merged and rounded
+pub record IsMadeOf (mending : Mending) (draft : Draft) (taken : Taken) : Type 0 where
+  pub listing : Listing
+  pub is_settled : settled draft.nodes mending draft.links ≡ Ok listing
+  pub network : reading_of taken.network.items ≡ Ok (described listing 0 [])
+  pub dropped : taken.dropped + length (left_by mending.loops draft.links) ≡ length draft.links
+  pub merged : taken.merged + length listing.links ≡ length (left_by mending.loops draft.links)
+  pub rounded : taken.rounded ≡ count_by is_rounded draft.links
+
+-- a text says something, and this was made of it
+pub record IsTaken (mending : Mending) (said : Result Draft TakeFault) (taken : Taken) : Type 0 where
+  pub draft : Draft
+  pub is_said : said ≡ Ok draft
+  pub made_of : IsMadeOf mending draft taken

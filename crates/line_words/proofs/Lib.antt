@@ -1,2 +1,0 @@
-mod LineFaults
-pub mod LinesCut

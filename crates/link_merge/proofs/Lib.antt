@@ -1,4 +1,0 @@
-mod Fewer
-mod Firsts
-mod Steps
-mod Twins

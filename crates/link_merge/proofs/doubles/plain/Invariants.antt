@@ -1,6 +1,0 @@
-use Rattle.std.proofs.Common.{◌≡◌, ◌++◌, drop}
-use Rattle.link_merge.specs.Settling.{links_of}
-use Rattle.link_merge.proofs.doubles.plain.Given as goal
-
-abbrev pub invariant-loop-placed : goal.invariant-loop-placed
-invariant-loop-placed l = l.plain.items ++ links_of (drop l.placed-index l.links) ≡ links_of l.links

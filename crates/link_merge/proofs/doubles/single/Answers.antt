@@ -1,7 +1,0 @@
-use Rattle.std.proofs.Common.{◌∙◌}
-use Rattle.link_merge.proofs.Fewer.{fewer_merged}
-use Rattle.link_merge.proofs.doubles.single.Goals as goal
-
-pub returns-in_ok-merged-in-Merged-clause-few : goal.returns-in_ok-merged-in-Merged-clause-few
-returns-in_ok-merged-in-Merged-clause-few c =
-    fewer_merged c.in-Merged.kept c.args.links.now c.as_slice.result.now c.in_ok-merged-in-Merged.field-0.items (c.as_slice.ensures.value ∙ c.in_ok-plain.ensures) c.in_ok-merged-in-Merged.ensures.merged

@@ -1,5 +1,0 @@
-use Rattle.link_merge.proofs.Fewer.{fewer_straight}
-use Rattle.link_merge.proofs.straight.unlooped.Goals as goal
-
-pub returns-in_ok-straight-in-Dropped-clause-few : goal.returns-in_ok-straight-in-Dropped-clause-few
-returns-in_ok-straight-in-Dropped-clause-few c = fewer_straight c.args.links.now c.in_ok-straight-in-Dropped.field-0.items c.in_ok-straight-in-Dropped.ensures

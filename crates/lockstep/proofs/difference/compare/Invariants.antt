@@ -1,5 +1,0 @@
-use Rattle.lockstep.specs.Compare.{AgreeBelow}
-use Rattle.lockstep.proofs.difference.compare.Given as goal
-
-abbrev pub invariant-loop-node : goal.invariant-loop-node
-invariant-loop-node l = AgreeBelow l.node l.left.fields l.left.states l.right.states

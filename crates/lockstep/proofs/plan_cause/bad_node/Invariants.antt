@@ -1,8 +1,0 @@
-use Rattle.std.proofs.Common.{◌≡◌, drop}
-use Rattle.std.specs.List.{position_from}
-use Rattle.lockstep.specs.Plans.{has_bad_node}
-use Rattle.lockstep.specs.PlanCauses.{first_place}
-use Rattle.lockstep.proofs.plan_cause.bad_node.Given as goal
-
-abbrev pub invariant-loop-key : goal.invariant-loop-key
-invariant-loop-key l = position_from (has_bad_node l.nodes) l.key (drop l.key l.sets) ≡ first_place (has_bad_node l.nodes) l.sets

@@ -1,0 +1,53 @@
+-- The network file that openings make of another, and why there is none.
+use Rattle.std.specs.Prelude.{◌≡◌, ℕ, not, ◌&&◌, Bool, false, List, [], ◌∷◌, length, nat_lt, nat_le, is_none, Option, Some, None, Ok, if◌then◌else◌}
+use Rattle.std.specs.List.{list_any, list_all}
+use Rattle.std.specs.Char.{is_ascii_alphabetic}
+use Rattle.std.specs.Option.{option_or, unwrap_or}
+use Rattle.rule_lang.specs.Tokens.{is_word_byte}
+use Rattle.rule_lang.specs.Keywords.{keyword_of}
+use Rattle.link_net.specs.declared.field_set.FieldSet.{FieldSet}
+use Rattle.link_net.specs.Reading.{Description, reading_of}
+use Rattle.net_initial.specs.declared.fault.OpenFault.{OpenFault}
+use Rattle.net_initial.specs.declared.fault.OpenFault.TheVariants.{BadPhase, BadName, NoNode, BadSet}
+use Rattle.net_initial.specs.declared.opening.Chosen.{Chosen}
+use Rattle.net_initial.specs.declared.opening.Opening.{Opening}
+use Rattle.net_initial.specs.Opened.{AreOpened, has_undefined}
+
+-- a letter, then letters, digits and `_`
+abbrev pub is_word : List ℕ → Bool
+is_word [] = false
+is_word (b ∷ bytes) = is_ascii_alphabetic b && list_all is_word_byte bytes
+
+-- a program can declare a field of this name: a word that is not reserved
+abbrev pub is_field_name : List ℕ → Bool
+is_field_name name = is_word name && is_none (keyword_of name)
+
+-- the choice names a node that n nodes do not have
+abbrev pub misses_node : ℕ → Chosen → Bool
+misses_node n Chosen.Every = false
+misses_node n (Chosen.One w) = nat_le n w
+misses_node n (Chosen.These ws) = list_any (λ w. nat_le n w) ws.items
+
+-- the phase that is asked for is none
+abbrev pub is_bad_phase : Option ℕ → Bool
+is_bad_phase None = false
+is_bad_phase (Some p) = nat_lt 2 p
+
+-- the first fault of what is asked for, on n nodes
+abbrev pub asking_fault : ℕ → List Opening → Option ℕ → Option OpenFault
+asking_fault n openings phase =
+    if is_bad_phase phase then Some BadPhase
+    else if list_any (λ o. not (is_field_name o.field)) openings then Some BadName
+    else if list_any (λ o. misses_node n o.nodes) openings then Some NoNode
+    else None
+
+-- the first fault of what is asked for of a file
+abbrev pub fault_of : Description → List Opening → Option ℕ → Option OpenFault
+fault_of d openings phase =
+    option_or (asking_fault (length d.network) openings phase) (if has_undefined (length d.network) d.sets openings then Some BadSet else None)
+
+-- the text is a network file: it reads to the same network, the phase that is asked for or else the file's, and the file's sets, opened
+pub record IsOpened (d : Description) (openings : List Opening) (phase : Option ℕ) (text : List ℕ) : Type 0 where
+  pub sets : List FieldSet
+  pub opened : AreOpened (length d.network) d.sets openings sets
+  pub reads : reading_of text ≡ Ok (record { network = d.network; phase = unwrap_or phase d.phase; sets = sets })

@@ -1,0 +1,63 @@
+//! Why a name has no number, and why bytes are no file of names.
+ghost use Rattle.std.specs.Prelude.{◌≡◌};
+ghost use Rattle.net_names.specs.declared.fault.NamesFault.TheVariants.{Memory as NamesMemory};
+ghost use Rattle.net_names.specs.declared.fault.NamesFileFault.TheVariants.{Memory as FileMemory};
+
+use std::alloc::{AllocError, AllocFailed};
+use thiserror::Error;
+
+/// Why a name has no number. Where several hold, the first in this order.
+#[derive(Clone, Copy, Debug, PartialEq, Eq, Error)]
+pub enum NamesFault {
+    /// It is empty, has more than 65,536 bytes, or has a control character (a byte below 32, or 127).
+    #[error("not a name")]
+    BadName,
+    /// It is new, and there are 65,536 names.
+    #[error("there are 65536 names, and no more may be")]
+    TooManyNames,
+    /// Memory ran out.
+    #[error("not enough memory")]
+    Memory,
+}
+
+impl From<AllocError> for NamesFault {
+    ghost from_gives = { λ _ e. e ≡ NamesMemory };
+
+    fn from(_error: AllocError) -> NamesFault {
+        NamesFault::Memory
+    }
+}
+
+impl<T: Drop> From<AllocFailed<T>> for NamesFault {
+    ghost from_gives = { λ _ e. e ≡ NamesMemory };
+
+    fn from(_error: AllocFailed<T>) -> NamesFault {
+        NamesFault::Memory
+    }
+}
+
+/// Why bytes are no file of names: the fault of the first line that is no new name. Lines are counted from 1. Where
+/// several hold of that line, the first in this order.
+#[derive(Clone, Copy, Debug, PartialEq, Eq, Error)]
+pub enum NamesFileFault {
+    /// The line is no name: it is empty, has more than 65,536 bytes, has a control character, or is not UTF-8.
+    #[error("line {line}: not a name")]
+    BadName { line: u32 },
+    /// The line is the name of an earlier line.
+    #[error("line {line}: the name stands on line {first} already")]
+    NameTwice { line: u32, first: u32 },
+    /// 65,536 names stand on the lines before it.
+    #[error("line {line}: there are 65536 names, and no more may be")]
+    TooManyNames { line: u32 },
+    /// Memory ran out.
+    #[error("not enough memory")]
+    Memory,
+}
+
+impl From<AllocError> for NamesFileFault {
+    ghost from_gives = { λ _ e. e ≡ FileMemory };
+
+    fn from(_error: AllocError) -> NamesFileFault {
+        NamesFileFault::Memory
+    }
+}

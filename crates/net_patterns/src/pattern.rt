@@ -1,0 +1,41 @@
+//! Patterns that are read.
+ghost use Rattle.std.specs.Prelude.{◌≡◌};
+ghost use Rattle.net_patterns.specs.Cells.{IsAnswer};
+ghost use Rattle.net_patterns.specs.Texts.{pattern_in};
+
+use crate::board::Cell;
+use crate::fault::PatternFault;
+use crate::lines::first_told;
+use crate::plain::read_plain;
+use crate::runs::read_runs;
+use std::alloc::Global;
+
+/// The live cells of a pattern, row by row from the top, and in each row from the left.
+///
+/// The first line that says something, that is, that has other characters than blanks, TAB and CR and does not begin
+/// with `#`, says of which kind the text is. Where it begins with `x` it is the header of runs (RLE); the runs stand
+/// behind it, and what it says is not looked at. Else the whole text is plain.
+///
+/// Runs: a count and a tag, or a tag alone for one. `b` and `.` are dead cells, `o` and `A` live ones, `$` ends rows,
+/// and `!` ends the pattern, whatever stands behind it. A count is from 1 to 999,999,999. Blanks, TAB, CR and LF may
+/// stand anywhere but between a count and its tag.
+///
+/// Plain text: each line is a row of `.` for dead cells and `O` or `*` for live ones, an empty line an empty row; a
+/// line that begins with `!` is a comment. A CR at a line's end is passed over.
+///
+/// The first fault of the text is returned: `NoPattern` where no line says something; `BadCell` at a character that
+/// has no meaning there; `BadCount` at a number that is no count, or that no tag follows at once; `NoEnd` where runs
+/// end without `!`; `TooLarge` at a live cell whose column or row is 65,536 or more or that follows 65,536 others.
+/// `Memory` comes for want of memory alone.
+pub fn read_pattern(alloc: Global, bytes: &[u8]) -> Result<Vec<Cell>, PatternFault>
+    ensures answer { IsAnswer (λ v. v.items) (pattern_in bytes.now) result }
+{
+    let Some(opening) = first_told(bytes) else {
+        return Err(PatternFault::NoPattern);
+    };
+    if let Some(b'x') = opening.text.first() {
+        read_runs(alloc, opening.line + 1, opening.rest)
+    } else {
+        read_plain(alloc, bytes)
+    }
+}

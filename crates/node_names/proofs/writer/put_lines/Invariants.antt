@@ -1,6 +1,0 @@
-use Rattle.std.proofs.Common.{◌≡◌, ◌++◌, map, drop, string_bytes}
-use Rattle.node_names.specs.NamesFiles.{text_of}
-use Rattle.node_names.proofs.writer.put_lines.Given as goal
-
-abbrev pub invariant-loop-text : goal.invariant-loop-text
-invariant-loop-text l = string_bytes l.out ++ text_of (map string_bytes (drop l.text-index l.texts)) ≡ string_bytes l.fn.out ++ text_of (map string_bytes l.texts)

@@ -1,0 +1,14 @@
+pub mod Writes
+pub mod Texts
+pub mod Digits
+pub mod Fronts
+pub mod Once
+pub mod ReadNode
+pub mod ReadFields
+pub mod NodeLines
+pub mod ReportOnce
+pub mod Lines
+pub mod FieldNames
+pub mod ReportLines
+pub mod BadLines
+pub mod Refusals

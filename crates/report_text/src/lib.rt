@@ -1,0 +1,14 @@
+//! Reports of configurations, written and read, and the counted readers and writers that texts come from and go to.
+#![tactic(auto)]
+
+mod fault;
+mod number;
+mod report_reader;
+mod report_writer;
+mod tally;
+
+pub use fault::ReportFault;
+pub use number::{behind, read_number};
+pub use report_reader::read_report;
+pub use report_writer::{put_field, put_fields, report};
+pub use tally::{Cut, DeviceFault, Tally, write_text};

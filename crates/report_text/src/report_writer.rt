@@ -1,0 +1,62 @@
+//! Reports that are written.
+ghost use Rattle.std.specs.Prelude.{◌≡◌, ◌++◌, ◌<◌, [], OnOk, IfOk, string_bytes, length, slice_index_or};
+ghost use Rattle.rule_check.specs.Value.{names_of};
+ghost use Rattle.report_text.specs.Report.{field_text, fields_text, node_line, report_text};
+
+use rounds_plan::{Config, Plan};
+use rule_check::{Program, State};
+use std::alloc::{AllocError, Global};
+
+/// Writes a value of the field at a place behind what stands in the text: one space, the field's name, `=` and the value in
+/// decimal digits.
+///
+/// Where memory runs out some of it may stand there.
+pub fn put_field(
+    out: &mut String,
+    program: &Program,
+    place: u32,
+    value: u32,
+) -> Result<(), AllocError>
+    requires place { place < length program.now.fields }
+    ensures text { OnOk result (string_bytes out.new ≡ string_bytes out.old ++ field_text (slice_index_or (names_of program.now) place []) value) }
+{
+    let name = program.field_name(place).unwrap_or("");
+    write!(out, " {name}={value}")
+}
+
+/// Writes a state's fields behind what stands in the text: for each field, in order of declaration, one space, its
+/// name, `=` and its value in decimal digits, as in ` dist=3`. Words behind the fields are not written.
+///
+/// Where memory runs out some of it may stand there.
+pub fn put_fields(out: &mut String, program: &Program, state: &State) -> Result<(), AllocError>
+    ensures text { OnOk result (string_bytes out.new ≡ string_bytes out.old ++ fields_text (names_of program.now) state.now.words) }
+{
+    for place in 0..program.field_count() {
+        put_field(out, program, place, state.words[place as usize])?;
+    }
+    Ok(())
+}
+
+/// The line of a node.
+fn put_node(out: &mut String, program: &Program, node: u32, state: &State) -> Result<(), AllocError>
+    ensures { OnOk result (string_bytes out.new ≡ string_bytes out.old ++ node_line (names_of program.now) node state.now) }
+{
+    write!(out, "{node}")?;
+    put_fields(out, program, state)?;
+    out.push_str("\n")
+}
+
+/// The report of a configuration: its round, and for each node by rising number its fields with their values.
+pub fn report(alloc: Global, plan: &Plan, config: &Config) -> Result<Vec<u8>, AllocError>
+    requires nodes { length config.now.states ≡ length plan.now.network }
+    requires fields { config.now.fields ≡ length plan.now.program.fields }
+    ensures text { IfOk result (λ v. v.items ≡ report_text (names_of plan.now.program) config.now) }
+{
+    let mut out = String::new(alloc);
+    let rounds = config.rounds();
+    write!(out, "round {rounds}\n")?;
+    for (node, state) in config.states().iter().enumerate() {
+        put_node(&mut out, plan.program(), node as u32, state)?;
+    }
+    Ok(out.into_bytes())
+}

@@ -1,0 +1,122 @@
+-- Rounds in which only some batches are computed.
+use Rattle.std.specs.Prelude.{ℕ, ◌≡◌, ◌≢◌, ◌<◌, ◌≤◌, List, length, map, All, Bool, true, false, slice_index_or}
+use Rattle.std.specs.Global.{Vec}
+use Rattle.std.specs.List.{range_with_len}
+use Rattle.rule_check.specs.declared.state.State.{State}
+use Rattle.rule_check.specs.Value.{Rules}
+use Rattle.rule_check.specs.Rounds.{reads_round}
+use Rattle.link_net.specs.Neighbours.{Neighbours, AreRows, degree, neighbour}
+use Rattle.rounds_code.specs.Steps.{lane}
+use Rattle.rounds_code.specs.Block.{state_at}
+use Rattle.rounds_blocks.specs.declared.batch.Batch.{Batch}
+use Rattle.rounds_blocks.specs.declared.task.Task.{Task}
+use Rattle.rounds_blocks.specs.declared.share.Share.{Share}
+use Rattle.rounds_blocks.specs.declared.activity.Activity.{Activity}
+use Rattle.rounds_blocks.specs.Batches.{IsBatch, IsLayout}
+use Rattle.rounds_blocks.specs.Nears.{HaveNear, IsDue, Sleeps, StandsIn}
+use Rattle.rounds_blocks.specs.Rounds.{HaveWords, HasWord, IsNext, round_from}
+
+-- a program on a network, and the words of all nodes by fields
+pub record Walked : Type 0 where
+  pub rules : Rules
+  pub network : Neighbours
+  pub words : List (List ℕ)
+
+-- the state of a node by the words of all nodes
+abbrev pub state_by : List (List ℕ) → ℕ → State
+state_by words u = record { words = map (lane words u) (range_with_len 0 8) }
+
+-- Where a program does not read the number of the round, and neither a node nor a neighbour changed in the last round, the node's next state is its state.
+abbrev pub RestsWhereNothingMoved : Type 0
+RestsWhereNothingMoved = (rules : Rules) (network : Neighbours) (round later : ℕ) (before after : ℕ → State) (u : ℕ) → reads_round rules ≡ false
+    → after u ≡ round_from rules network round before u → after u ≡ before u
+    → ((j : ℕ) → j < degree network u → after (neighbour network u j) ≡ before (neighbour network u j))
+    → round_from rules network later after u ≡ after u
+
+-- both have the same state of the node
+abbrev pub IsAsBefore : List (Vec ℕ) → List (Vec ℕ) → ℕ → Type 0
+IsAsBefore from to u = state_at to u ≡ state_at from u
+
+-- they have different states of it
+abbrev pub Moved : List (Vec ℕ) → List (Vec ℕ) → ℕ → Type 0
+Moved from to u = state_at to u ≢ state_at from u
+
+-- a node of a batch moved
+pub record HasMoved (batches : List Batch) (from to : List (Vec ℕ)) : Type 0 where
+  pub node : ℕ
+  pub home : ℕ
+  pub stands : StandsIn batches node home
+  pub moved : Moved from to node
+
+-- what a round is made of, for a program with these rules
+pub record IsTask (rules : Rules) (task : Task) : Type 0 where
+  pub network : AreRows task.network.now
+  pub each : All (IsBatch task.network.now) task.batches.now
+  pub flags : length task.due.now ≡ length task.batches.now
+  pub fields : length task.from.now ≡ length rules.fields
+  pub nodes : HaveWords (length task.network.now) task.from.now
+
+-- the columns have the next words of a node
+abbrev pub HasNext : Rules → Task → List (Vec ℕ) → ℕ → Type 0
+HasNext rules task to u = IsNext rules task.network.now task.round task.from.now to u
+
+-- it holds of the nodes of each marked batch, from the first one on to the one behind the last
+abbrev pub HoldsOfDue : (ℕ → Type 0) → Task → ℕ → ℕ → Type 0
+HoldsOfDue P task first behind = (i : ℕ) (d : Batch) → first ≤ i → i < behind → IsDue task.due.now i → All P (slice_index_or task.batches.now i d).nodes
+
+-- a thread's part of each round: the batches from the first one on to the one behind the last, what computes a program's rules, and a column for each field
+pub record IsShare (rules : Rules) (nodes batches : ℕ) (share : Share) : Type 0 where
+  pub inside : share.behind ≤ batches
+  pub computes : share.block.rules ≡ rules
+  pub wide : length share.columns.items ≡ length rules.fields
+  pub long : HaveWords nodes share.columns.items
+
+-- the batch is in the share of this number
+pub record IsShared (shares : List Share) (i s : ℕ) : Type 0 where
+  pub there : s < length shares
+  pub from_first : (d : Share) → (slice_index_or shares s d).first ≤ i
+  pub before_end : (d : Share) → i < (slice_index_or shares s d).behind
+
+-- shares in which each batch is
+pub record AreShares (rules : Rules) (nodes batches : ℕ) (shares : List Share) : Type 0 where
+  pub each : All (IsShare rules nodes batches) shares
+  pub covered : 0 < length shares → (i : ℕ) → i < batches → (s : ℕ) × IsShared shares i s
+
+-- a field's column before and after: it has the words that the shares' columns have for the nodes of those of their batches that had to be computed, and keeps all others
+pub record IsCopied (task : Task) (shares : List Share) (field : ℕ) (before after : List ℕ) : Type 0 where
+  pub long : length after ≡ length before
+  pub copied : (word : ℕ → ℕ) (d : Vec ℕ) → All (λ share. HoldsOfDue (HasWord word (slice_index_or share.columns.items field d).items) task share.first share.behind) shares
+      → All (λ share. HoldsOfDue (HasWord word after) task share.first share.behind) shares
+  pub kept : (word : ℕ → ℕ) (d : Vec ℕ) (u : ℕ) → All (λ share. HoldsOfDue (HasWord word (slice_index_or share.columns.items field d).items) task share.first share.behind) shares
+      → HasWord word before u → HasWord word after u
+
+-- a node that the next round leaves as it is, and whose next words stand there already
+pub record Rests (rules : Rules) (network : Neighbours) (from to : List (Vec ℕ)) (u : ℕ) : Type 0 where
+  pub same : IsAsBefore from to u
+  pub next : (round : ℕ) → state_at to u ≡ round_from rules network round (state_at from) u
+
+-- the nodes of batches that are not marked rest
+abbrev pub SleepersRest : Rules → Neighbours → List Batch → List Bool → List (Vec ℕ) → List (Vec ℕ) → Type 0
+SleepersRest rules network batches due from to = (i : ℕ) (d : Batch) → i < length batches → Sleeps due i → All (Rests rules network from to) (slice_index_or batches i d).nodes
+
+-- which batches have to be computed: where the program reads the number of the round, all of them
+pub record IsActivity (network : Neighbours) (batches : List Batch) (activity : Activity) : Type 0 where
+  pub near : HaveNear network batches activity.nears.now
+  pub flags : length activity.due.items ≡ length batches
+  pub changes : length activity.changed.items ≡ length batches
+  pub all : activity.settles ≡ false → (i : ℕ) → i < length batches → IsDue activity.due.items i
+
+-- a program's states on the batches of a network, and how far each round has to look
+pub record IsWalk (rules : Rules) (network : Neighbours) (batches : List Batch) (activity : Activity) (shares : List Share) (from to : List (Vec ℕ)) : Type 0 where
+  pub whole : AreRows network
+  pub layout : IsLayout network batches
+  pub few : length rules.fields ≤ 8
+  pub shared : AreShares rules (length network) (length batches) shares
+  pub active : IsActivity network batches activity
+  pub unread : activity.settles ≡ true → reads_round rules ≡ false
+  pub settles : reads_round rules ≡ false → activity.settles ≡ true
+  pub wide : length from ≡ length rules.fields
+  pub long : HaveWords (length network) from
+  pub next_wide : length to ≡ length rules.fields
+  pub next_long : HaveWords (length network) to
+  pub rest : SleepersRest rules network batches activity.due.items from to

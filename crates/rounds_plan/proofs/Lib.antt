@@ -1,0 +1,10 @@
+pub mod SameNears
+pub mod Marks
+pub mod Values
+pub mod Replaced
+pub mod Openings
+pub mod Faultless
+pub mod Nears
+pub mod Resumed
+pub mod Names
+pub mod Entries

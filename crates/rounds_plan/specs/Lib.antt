@@ -1,0 +1,9 @@
+pub mod Rounds
+pub mod Configs
+pub mod Compare
+pub mod Plans
+pub mod Lockstep
+pub mod Resume
+pub mod Answer
+pub mod Opening
+pub mod PlanCauses

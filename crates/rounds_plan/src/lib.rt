@@ -1,0 +1,15 @@
+//! Plans, and the configurations of their rounds.
+#![tactic(auto)]
+
+mod config;
+mod difference;
+mod fault;
+mod opening;
+mod plan;
+mod plan_cause;
+
+pub use config::{Config, MOST_ROUNDS};
+pub use difference::{Difference, compare};
+pub use fault::{PlanFault, ResumeFault, RoundFault};
+pub use plan::Plan;
+pub use plan_cause::{PlanCause, diagnose_plan};

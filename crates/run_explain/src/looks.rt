@@ -1,0 +1,67 @@
+//! What a world shows of its nodes.
+ghost use Rattle.std.specs.Prelude.{◌≡◌, ◌≤◌};
+ghost use Rattle.link_net.specs.Neighbours.{degree, neighbour};
+ghost use Rattle.rounds_plan.specs.Configs.{most_rounds};
+ghost use Rattle.unison_world.specs.Counting.{moves_of, marks_of};
+ghost use Rattle.unison_world.specs.Progress.{marks_in};
+ghost use Rattle.unison_world.specs.Turns.{neighbours_of};
+ghost use Rattle.run_explain.specs.Reads.{one_if_read};
+
+use link_net::Network;
+use unison_world::{Answer, Step, World};
+
+/// How often a node has moved.
+pub(crate) fn moves(world: &World, node: u32) -> u32
+    ensures count { result ≡ moves_of world.now.counts node }
+    ensures limit { result ≤ most_rounds }
+{
+    // For the proof alone: the calls tell what holds of every world.
+    let _nodes = world.nodes();
+    let _stop = world.stop();
+    world.moves(node).unwrap_or(0)
+}
+
+/// How many slots a node has.
+pub(crate) fn degree(network: &Network, node: u32) -> u32
+    ensures { result ≡ degree network.now node }
+{
+    network.degree(node).unwrap_or(0)
+}
+
+/// The neighbour at a slot of a node.
+pub(crate) fn neighbour(network: &Network, node: u32, slot: u32) -> u32
+    ensures { result ≡ neighbour network.now node slot }
+{
+    network.neighbour(node, slot).unwrap_or(0)
+}
+
+/// The neighbours of a node by rising number.
+pub(crate) fn neighbours_of(network: &Network, node: u32) -> &[u32]
+    ensures { result.now ≡ neighbours_of network.now node }
+{
+    network.neighbours(node).unwrap_or(&[])
+}
+
+/// One for a slot that was read.
+fn one_if_read(answer: Answer) -> u32
+    ensures count { result ≡ one_if_read answer }
+    ensures most { result ≤ 1 }
+{
+    match answer {
+        Answer::Already => 1,
+        _ => 0,
+    }
+}
+
+/// How many slots of a node were read since it last moved.
+pub(crate) fn slots_read(world: &World, node: u32) -> u32
+    ensures { result ≡ marks_in (marks_of world.now.counts node) }
+{
+    // For the proof alone: the call tells what holds of every world.
+    let _nodes = world.nodes();
+    let mut read = 0;
+    for slot in 0..degree(world.plan().network(), node) {
+        read += one_if_read(world.ask(Step::Read { node, slot }));
+    }
+    read
+}

@@ -1,0 +1,5 @@
+use Rattle.run_schedule.specs.Walks.{GoesOn}
+use Rattle.run_schedule.proofs.rest.follow.Given as goal
+
+abbrev pub invariant-loop : goal.invariant-loop
+invariant-loop l = GoesOn l.initial.walk l.walk

@@ -1,0 +1,56 @@
+-- What a list of each manner is, and which lists there are not.
+use Rattle.std.specs.Prelude.{◌≡◌, ℕ, ◌<◌, List, take, length, nat_lt, nat_le, Option, Some, None, if◌then◌else◌}
+use Rattle.link_net.specs.Neighbours.{Neighbours}
+use Rattle.rounds_plan.specs.Configs.{most_rounds}
+use Rattle.rounds_plan.specs.Plans.{PlanView}
+use Rattle.unison_world.specs.declared.step.Step.{Step}
+use Rattle.unison_world.specs.Counting.{moves_of}
+use Rattle.unison_trace.specs.Histories.{run_of}
+use Rattle.run_schedule.specs.declared.fault.ListFault.{ListFault}
+use Rattle.run_schedule.specs.declared.fault.ListFault.TheVariants.{StopTooLarge, StopBelowStart, NoNode, Memory}
+use Rattle.run_schedule.specs.declared.manner.Manner.{Manner}
+use Rattle.run_schedule.specs.declared.manner.Manner.TheVariants.{Sweeps, Random, Starve, Ahead, SlowLinks}
+use Rattle.run_schedule.specs.Lists.{IsStepList, GoesToStop}
+use Rattle.run_schedule.specs.Sweeps.{sweeps_of}
+use Rattle.run_schedule.specs.Starving.{StarvesNode}
+
+-- the sweeps up to the stop, or the first of their steps
+pub record IsSwept (plan : PlanView) (stop limit : ℕ) (steps : List Step) : Type 0 where
+  pub exact : steps ≡ take limit (sweeps_of plan stop)
+  pub goes : GoesToStop plan stop limit steps
+
+-- the list goes on to the limit, or until the node stands at the stop
+pub record LeadsNode (plan : PlanView) (stop node limit : ℕ) (steps : List Step) : Type 0 where
+  pub list : IsStepList plan stop limit steps
+  pub ahead : length steps < limit → moves_of (run_of plan stop steps) node ≡ stop
+
+-- what a list of each manner is
+abbrev pub HasManner : PlanView → ℕ → Manner → ℕ → List Step → Type 0
+HasManner plan stop Sweeps limit steps = IsSwept plan stop limit steps
+HasManner plan stop (Random seed) limit steps = GoesToStop plan stop limit steps
+HasManner plan stop (Starve node) limit steps = StarvesNode plan stop node limit steps
+HasManner plan stop (Ahead node) limit steps = LeadsNode plan stop node limit steps
+HasManner plan stop (SlowLinks seed) limit steps = GoesToStop plan stop limit steps
+
+-- the node that a manner names
+abbrev pub node_in : Manner → Option ℕ
+node_in (Starve node) = Some node
+node_in (Ahead node) = Some node
+node_in manner = None
+
+-- the fault of a node that is none of the network's
+abbrev pub node_fault : Neighbours → Option ℕ → Option ListFault
+node_fault network None = None
+node_fault network (Some node) = if nat_le (length network) node then Some (NoNode node) else None
+
+-- why there is no list, whatever memory there is
+abbrev pub refusal_of : PlanView → ℕ → Manner → Option ListFault
+refusal_of plan stop manner =
+    if nat_lt most_rounds stop then Some StopTooLarge
+    else if nat_lt stop plan.start then Some StopBelowStart
+    else node_fault plan.network (node_in manner)
+
+-- the fault is that of the plan, the stop and the manner; want of memory comes only where these have none
+abbrev pub IsFaultOf : PlanView → ℕ → Manner → ListFault → Type 0
+IsFaultOf plan stop manner Memory = refusal_of plan stop manner ≡ None
+IsFaultOf plan stop manner fault = refusal_of plan stop manner ≡ Some fault

@@ -1,0 +1,16 @@
+use Rattle.std.proofs.Common.{◌≡◌, ◌+◌, ◌-◌, ◌≤◌}
+use Rattle.run_settle.specs.Outcomes.{IsRestless}
+use Rattle.run_settle.proofs.search.search.Given as goal
+
+abbrev pub invariant-loop-reach : goal.invariant-loop-reach
+invariant-loop-reach l = record {
+  plan : l.walk.plan ≡ l.course;
+  mark : l.mark ≡ l.walk;
+  some : 1 ≤ l.reach;
+  within : l.reach ≤ l.length + 1;
+  here : l.walk.round + 1 ≡ l.course.start + l.reach;
+  restless : IsRestless l.course l.walk.round;
+}
+
+abbrev pub decreases-loop-reach : goal.decreases-loop-reach
+decreases-loop-reach l = l.length - l.reach

@@ -1,0 +1,102 @@
+//! What becomes of the rounds of a plan, found out.
+ghost use Rattle.std.specs.Prelude.{◌≡◌, ◌*◌, ◌≤◌, None, false, IfOk, IfErr};
+ghost use Rattle.rule_check.specs.Rounds.{reads_round};
+ghost use Rattle.rounds_plan.specs.Configs.{most_rounds};
+ghost use Rattle.rounds_plan.specs.Plans.{IsPlan};
+ghost use Rattle.run_settle.specs.declared.settling.Settling.{Settling};
+ghost use Rattle.run_settle.specs.Outcomes.{IsSettling, IsFaultOf, refusal_of};
+ghost use Rattle.run_settle.specs.Searching.{IsFound, last_of};
+
+use crate::fault::SettleFault;
+use crate::search::{Found, search};
+use crate::settling::Settling;
+use crate::tail::first_round;
+use lockstep::Course;
+use rounds_plan::{MOST_ROUNDS, Plan};
+use std::alloc::{AllocError, Global};
+
+/// Why there is no answer, whatever memory there is.
+fn refusal(plan: &Plan, limit: u32) -> Option<SettleFault>
+    ensures { result ≡ refusal_of plan.now limit }
+{
+    if plan.program().uses_round() {
+        return Some(SettleFault::ReadsRound);
+    }
+    if limit > MOST_ROUNDS {
+        return Some(SettleFault::LimitTooLarge);
+    }
+    if limit < plan.start() {
+        return Some(SettleFault::LimitBelowStart);
+    }
+    None
+}
+
+/// What becomes of the rounds up to the limit, after what a search came upon.
+fn settling_of<'a>(
+    alloc: Global,
+    course: &'a Course<'a>,
+    found: Found,
+    limit: u32,
+) -> Result<Settling, AllocError>
+    requires whole { IsPlan course.now }
+    requires unread { reads_round course.now.program ≡ false }
+    requires found { IsFound course.now found }
+    requires last { last_of found ≤ 2 * most_rounds }
+    ensures settling { IfOk result (IsSettling course.now limit) }
+{
+    match found {
+        Found::Still { round } => {
+            if round >= limit {
+                return Ok(Settling::Open { limit });
+            }
+            Ok(Settling::Settles { round })
+        }
+        Found::Again { mark, period } => {
+            let round = first_round(alloc, course, mark, period)?;
+            if round + period > limit {
+                return Ok(Settling::Open { limit });
+            }
+            Ok(Settling::Repeats { round, period })
+        }
+    }
+}
+
+/// What becomes of the rounds up to the limit, where nothing refuses it.
+fn settled(alloc: Global, plan: &Plan, limit: u32) -> Result<Settling, AllocError>
+    requires unread { reads_round plan.now.program ≡ false }
+    requires late { plan.now.start ≤ limit }
+    requires few { limit ≤ most_rounds }
+    ensures settling { IfOk result (IsSettling plan.now limit) }
+    ensures only { IfOk result (λ found. (s : Settling) → IsSettling plan.now limit s → s ≡ found) }
+{
+    // For the proof: what holds of every plan.
+    let _phase = plan.phase();
+    let course = Course::new(alloc, plan)?;
+    let found = search(alloc, &course, limit)?;
+    let Some(found) = found else {
+        return Ok(Settling::Open { limit });
+    };
+    let settling = settling_of(alloc, &course, found, limit)?;
+    Ok(settling)
+}
+
+/// What becomes of the lockstep rounds of a plan from its start up to a limit, a round counted from round 0: the states of
+/// all nodes settle, or they repeat, or neither shows up to the limit. There is one answer for each plan and limit.
+///
+/// It takes memory for two walks over the rounds at a time, whatever the limit, and none makes more than twice the rounds
+/// from the start to the limit.
+///
+/// `ReadsRound` comes where the program reads the number of the round, else `LimitTooLarge` above 1,000,000,000, and else
+/// `LimitBelowStart` below the plan's start, all before any memory is taken; want of memory only where none of them does.
+pub fn settle(alloc: Global, plan: &Plan, limit: u32) -> Result<Settling, SettleFault>
+    ensures settling { IfOk result (IsSettling plan.now limit) }
+    ensures only { IfOk result (λ found. (s : Settling) → IsSettling plan.now limit s → s ≡ found) }
+    ensures refused { IfErr result (IsFaultOf plan.now limit) }
+    ensures fits { IfOk result (λ _. refusal_of plan.now limit ≡ None) }
+{
+    if let Some(fault) = refusal(plan, limit) {
+        return Err(fault);
+    }
+    let settling = settled(alloc, plan, limit)?;
+    Ok(settling)
+}

@@ -1,5 +1,0 @@
-use Rattle.step_lists.specs.Walks.{GoesOn}
-use Rattle.step_lists.proofs.rest.follow.Given as goal
-
-abbrev pub invariant-loop : goal.invariant-loop
-invariant-loop l = GoesOn l.initial.walk l.walk

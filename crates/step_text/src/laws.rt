@@ -1,7 +1,0 @@
-//! Laws of texts.
-ghost use Rattle.step_text.specs.Refusals.{BeginningsEnd};
-
-/// Every beginning of a text is the front of a whole one: its open repeats can be ended.
-pub fn beginnings_end()
-    ensures ends { BeginningsEnd }
-{}

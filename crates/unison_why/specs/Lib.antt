@@ -1,2 +1,0 @@
-pub mod FirstFault
-pub mod Given

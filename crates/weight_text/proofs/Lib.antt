@@ -1,4 +1,0 @@
-mod Digits
-mod Numerals
-mod Quotients
-mod Scaling

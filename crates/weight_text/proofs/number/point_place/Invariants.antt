@@ -1,7 +1,0 @@
-use Rattle.std.proofs.Common.{◌≡◌, ◌+◌, drop}
-use Rattle.std.specs.List.{position_or_len}
-use Rattle.weight_text.specs.Weights.{is_point}
-use Rattle.weight_text.proofs.number.point_place.Given as goal
-
-abbrev pub invariant-loop-place : goal.invariant-loop-place
-invariant-loop-place l = l.place + position_or_len is_point (drop l.place l.bytes) ≡ position_or_len is_point l.bytes
