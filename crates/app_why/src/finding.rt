@@ -3,10 +3,9 @@ ghost use Rattle.std.specs.Prelude.{◌≡◌, IfOk, IfSome, IsNone, Some, true}
 ghost use Rattle.link_net.specs.Causes.{fault_of};
 ghost use Rattle.app_jobs.specs.declared.fault.ServeFault.TheVariants as fault;
 ghost use Rattle.app_jobs.specs.Served.{given};
-ghost use Rattle.app_why.specs.FirstFault.{IsFirstFault, IsUnrefused, is_shown};
+ghost use Rattle.app_first_fault.specs.FirstFault.{IsFirstFault, IsUnrefused, is_shown};
 ghost use Rattle.app_why.specs.Given.{network_of, report_of, schedule_of};
 
-use crate::first::{answer, first_fault, network_cause};
 use crate::kinds::with_kind;
 use crate::lexical::tell_lexical;
 use crate::lines::{tell_report_line, tell_step};
@@ -21,6 +20,7 @@ use crate::runs::{
 use crate::shown::shown;
 use crate::syntax::tell_syntax;
 use crate::told::{Part, Texts, Told};
+use app_first_fault::{answer, first_fault, network_cause};
 use app_jobs::{Job, ServeFault, plan_from};
 use link_net::{NetCause, NetFile, read_network};
 use report_text::ReportFault;

@@ -3,7 +3,6 @@
 
 mod entries;
 mod finding;
-mod first;
 mod foreign;
 mod found;
 mod items;
@@ -22,6 +21,5 @@ mod syntax;
 mod told;
 
 pub use finding::{Finding, why};
-pub use first::first_fault;
 pub use place::{Place, line_from, place_at};
 pub use told::{Named, Texts};

@@ -1,28 +1,17 @@
 //! Unison for C: from texts to answers in the caller's memory, with no state and no threads. Each call answers 0 where it was
-//! done, else the number of the first fault on the way (`fault.rt`). `library/unison.h` declares them.
+//! done, else the number of the first fault on the way (`app_calls`). `library/unison.h` declares them.
 #![tactic(auto)]
 
 ghost use Rattle.std.specs.Prelude.{◌≡◌, ◌≢◌, ◌≤◌, length, true};
-ghost use Rattle.app_why.specs.FirstFault.{IsUnrefused};
-ghost use Rattle.unison_c.specs.Answers.{HasPlanWith, HasReplay, HasRoundWords, HasSettling, HaveRoundWords, IsSpelled, IsText, report_in, told_by};
-ghost use Rattle.unison_c.specs.Jobs.{HasJobWith, IsFirstNumber};
-ghost use Rattle.unison_c.specs.Numbers.{IsNumberOf};
-ghost use Rattle.unison_c.specs.Refusals.{AreNoRounds, IsNoReplay, IsNoRound, IsNoSettling, IsRefusedPlan, IsUnspelled, IsUntold, is_job};
+ghost use Rattle.app_first_fault.specs.FirstFault.{IsUnrefused};
+ghost use Rattle.app_calls.specs.Answers.{HasPlanWith, HasReplay, HasRoundWords, HasSettling, HaveRoundWords, IsSpelled, IsText, report_in, told_by};
+ghost use Rattle.app_calls.specs.Jobs.{HasJobWith, IsFirstNumber};
+ghost use Rattle.app_calls.specs.Numbers.{IsNumberOf};
+ghost use Rattle.app_calls.specs.Refusals.{AreNoRounds, IsNoReplay, IsNoRound, IsNoSettling, IsRefusedPlan, IsUnspelled, IsUntold, is_job};
 
-mod fault;
-mod plans;
-mod reasons;
-mod replays;
-mod rounds;
-mod settling;
-mod spelling;
-mod words;
-
-use crate::reasons::write_reason;
-use crate::replays::write_replay;
-use crate::rounds::{write_round, write_rounds};
-use crate::settling::write_settling;
-use crate::spelling::write_spelling;
+use app_calls::{
+    write_reason, write_replay, write_round, write_rounds, write_settling, write_spelling,
+};
 use std::alloc::Global;
 
 /// The number of the fault of too little room.

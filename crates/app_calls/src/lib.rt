@@ -1,0 +1,18 @@
+//! The calls for C, as they work on slices: from texts to answers in the caller's memory, with no state and no threads.
+#![tactic(auto)]
+
+mod fault;
+mod plans;
+mod reasons;
+mod replays;
+mod rounds;
+mod settling;
+mod spelling;
+mod words;
+
+pub use fault::Fault;
+pub use reasons::write_reason;
+pub use replays::write_replay;
+pub use rounds::{write_round, write_rounds};
+pub use settling::write_settling;
+pub use spelling::write_spelling;

@@ -1,9 +1,0 @@
-use Rattle.std.proofs.Common.{◌≡◌, ◌+◌, ◌*◌, ◌++◌, drop, length}
-use Rattle.unison_c.specs.Words.{words_in, words_of}
-use Rattle.unison_c.proofs.words.add_config.Given as goal
-
-abbrev pub invariant-loop-state : goal.invariant-loop-state
-invariant-loop-state l = record {
-  words : l.words.items ++ words_in l.fields (drop l.state-index l.config.states) ≡ l.initial.words.items ++ words_of l.config;
-  count : length l.words.items ≡ length l.initial.words.items + l.state-index * l.fields;
-}
