@@ -1,11 +1,11 @@
 //! Reports that are read.
-ghost use Rattle.std.specs.Prelude.{◌≡◌, ◌≤◌, ◌<◌, ◌^◌, ℕ, List, length, map, take, IfOk, IfErr, MatchResult};
+ghost use Rattle.std.specs.Prelude.{◌≡◌, ◌≤◌, ◌<◌, ◌^◌, ℕ, List, length, map, take, IfOk, IfErr, MatchResult, Err};
 ghost use Rattle.std.specs.Option.{option_map};
 ghost use Rattle.rule_check.specs.Value.{names_of};
 ghost use Rattle.rounds_plan.specs.Configs.{Configuration, most_rounds};
 ghost use Rattle.report_text.specs.Front.{IsFront, Ends, Anything};
 ghost use Rattle.report_text.specs.Report.{field_text, fields_text, node_line, node_lines, round_line};
-ghost use Rattle.report_text.specs.ReadReport.{IsStateOf, IsReportOf, IsRefusedReport, within_limit};
+ghost use Rattle.report_text.specs.ReadReport.{IsStateOf, IsReportOf, IsFirstBadLine, IsRefusedReport, within_limit};
 ghost use Rattle.rounds_plan.specs.Answer.{IsAnswer};
 ghost use Rattle.report_text.specs.NodeLines.{HasNodeLines, IsStopped};
 ghost use Rattle.report_text.specs.declared.fault.ReportFault.TheVariants.{BadLine, TooManyRounds, Memory};
@@ -95,12 +95,13 @@ fn plan_states(alloc: Global, plan: &Plan, lines: &[u8]) -> Result<Vec<State>, R
 /// spaces, the fields in order of declaration, and LF at each line's end.
 ///
 /// `BadLine` comes where the text is no report of a configuration with the plan's nodes and fields, and names the
-/// first line that cannot stand at its place, or the first that is missing. Else `TooManyRounds` comes where the
-/// round is above 1,000,000,000.
+/// first line that cannot stand at its place, or the first that is missing; where that is line 1, no memory is taken.
+/// Else `TooManyRounds` comes where the round is above 1,000,000,000.
 pub fn read_report(alloc: Global, plan: &Plan, text: &[u8]) -> Result<Config, ReportFault>
     ensures report { IfOk result (λ config. IsReportOf plan.now text.now config × (config.rounds ≤ most_rounds)) }
     ensures every_report { (c : Configuration) → IsReportOf plan.now text.now c → IsAnswer ReportFault.Memory (within_limit c) result }
     ensures refused { IfErr result (IsRefusedReport plan.now text.now) }
+    ensures at_once { IsFirstBadLine plan.now text.now 1 → result ≡ Err (BadLine 1) }
 {
     // For the proof: what holds of every plan, and of the names of its fields.
     let _phase = plan.phase();

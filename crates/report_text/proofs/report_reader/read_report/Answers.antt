@@ -4,7 +4,7 @@ use Rattle.rule_check.specs.WellFormed.{IsFieldName}
 use Rattle.rounds_plan.specs.Configs.{Configuration}
 use Rattle.report_text.specs.NodeLines.{HasNodeLines, IsStopped}
 use Rattle.report_text.proofs.ReportOnce.{round_first}
-use Rattle.report_text.proofs.BadLines.{bad_round}
+use Rattle.report_text.proofs.BadLines.{bad_round, good_round}
 use Rattle.report_text.proofs.Refusals.{is_report, only_report, err_memory, err_refused, low_round, high_round}
 use Rattle.report_text.proofs.report_reader.read_report.Goals as goal
 
@@ -52,3 +52,13 @@ returns-clause-every_report c report is =
     let has = c.in_ok-states.ensures.ok in
     let same = only_report p c.phase-phase.ensures.whole.fields c.args.text.now lines c.in-Some.rounds c.in-Some.ensures.1 c.in-Some.ensures.0 states report has is in
     low_round report (omega (arith, ap (λ (r : Configuration). r.rounds) same)) ∙ ap Ok (sym (c.of.ensures.parts ∙ same))
+
+pub returns-in_err-states-clause-at_once : goal.returns-in_err-states-clause-at_once
+returns-in_err-states-clause-at_once c first = absurd (good_round c.args.plan.now c.args.text.now c.in-Some.lines.now c.in-Some.rounds c.in-Some.ensures.1 c.in-Some.ensures.0 first)
+
+pub returns-then-rounds-gt-MOST_ROUNDS-clause-at_once :
+    goal.returns-then-rounds-gt-MOST_ROUNDS-clause-at_once
+returns-then-rounds-gt-MOST_ROUNDS-clause-at_once c first = absurd (good_round c.args.plan.now c.args.text.now c.in-Some.lines.now c.in-Some.rounds c.in-Some.ensures.1 c.in-Some.ensures.0 first)
+
+pub returns-clause-at_once : goal.returns-clause-at_once
+returns-clause-at_once c first = absurd (good_round c.args.plan.now c.args.text.now c.in-Some.lines.now c.in-Some.rounds c.in-Some.ensures.1 c.in-Some.ensures.0 first)
