@@ -4,7 +4,7 @@ ghost use Rattle.std.specs.Prelude.{◌≡◌, string_bytes};
 use std::marker::Model;
 
 /// The name of a field, seen as its bytes.
-#[derive(Drop)]
+#[derive(Debug, Drop)]
 pub struct Name {
     text: String,
 }
