@@ -1,5 +1,5 @@
--- The numbers of the faults: 1 for want of memory, wherever it comes; 2 to 15 for what a call alone refuses; from 16 on sixteen numbers
--- for each part. 3 stands for faults that no call answers.
+-- The numbers of the faults: 1 for running out of memory, wherever it comes; 2 to 15 for what a call alone refuses;
+-- from 16 on sixteen numbers for each part. 3 stands for faults that no call answers.
 use Rattle.std.specs.Prelude.{ℕ, ◌≡◌}
 use Rattle.rule_lang.specs.declared.fault.LangFault.{LangFault}
 use Rattle.rule_lang.specs.declared.fault.LangFault.TheVariants as lang

@@ -1,4 +1,4 @@
--- Why the calls write nothing: the first fault on the way. Want of memory may come anywhere.
+-- Why the calls write nothing: the first fault on the way. Memory may run out anywhere.
 use Rattle.std.specs.Prelude.{ℕ, ◌≡◌, ◌≢◌, ◌*◌, ◌<◌, ◌⊎◌, Bool, true, false, ◌||◌, ◌==◌, List, length, None, Some, Ok, Err}
 use Rattle.rule_lang.specs.Tree.{ItemTree}
 use Rattle.rule_lang.specs.Canonical.{program_text}

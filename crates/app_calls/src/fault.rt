@@ -32,7 +32,7 @@ pub enum Fault {
     NoJob,
     /// There is too little room.
     Room,
-    /// Want of memory.
+    /// Out of memory.
     Memory,
 }
 

@@ -1,4 +1,4 @@
--- The first fault with which a job would end, and when there is none: want of memory, threads and devices aside.
+-- The first fault with which a job would end, and when there is none: running out of memory, threads and devices aside.
 use Rattle.std.specs.Prelude.{ℕ, Bool, true, false, ◌≡◌, ◌≤◌, List, length, Option, None, Ok}
 use Rattle.rule_lang.specs.Tree.{ItemTree}
 use Rattle.rule_lang.specs.declared.fault.LangFault.TheVariants as lang
@@ -28,7 +28,7 @@ use Rattle.app_jobs.specs.declared.fault.ServeFault.{ServeFault}
 use Rattle.app_jobs.specs.declared.fault.ServeFault.TheVariants as fault
 use Rattle.app_jobs.specs.Served.{IsAccepted, HasResumed, IsRefusal, IsPlanRefusal}
 
--- the texts of a job show the fault: it is no want of memory, no thread that was refused, nothing that workers leave, and no device's
+-- the texts of a job show the fault: it is no running out of memory, no thread that was refused, nothing that workers leave, and no device's
 abbrev pub is_shown : ServeFault → Bool
 is_shown (fault.Lang lang.Memory) = false
 is_shown (fault.Lang f) = true

@@ -51,7 +51,7 @@ fn is_shown(fault: &ServeFault) -> bool
     }
 }
 
-/// The fault as an answer, or want of memory: that is all that remains where the texts do not show it.
+/// The fault as an answer, or running out of memory: that is all that remains where the texts do not show it.
 pub fn answer(fault: ServeFault) -> Result<Option<ServeFault>, AllocError>
     ensures fault { IfOk result (λ found. (found ≡ Some fault) × (is_shown fault ≡ true)) }
 {
@@ -192,8 +192,9 @@ pub fn network_cause(
     Ok(cause)
 }
 
-/// The first fault with which a job on these texts would end, found without doing it; none where it would be done, want
-/// of memory, threads and devices aside. `network` is not looked at for `check`, nor `schedule` but for `replay`.
+/// The first fault with which a job on these texts would end, found without doing it; none where it would be done,
+/// running out of memory, threads and devices aside. `network` is not looked at for `check`, nor `schedule` but for
+/// `replay`.
 pub fn first_fault(
     alloc: Global,
     job: &Job,

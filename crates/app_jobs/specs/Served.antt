@@ -175,7 +175,7 @@ RefusesReport p text (report.BadLine line) = IsFirstBadLine p text line
 RefusesReport p text report.TooManyRounds = (c : Configuration) × IsReportOf p text c × (most_rounds < c.rounds)
 RefusesReport p text report.Memory = Unit {0}
 
--- why the text of a program is refused: it is not read, or it is not well formed. Want of memory may come anywhere.
+-- why the text of a program is refused: it is not read, or it is not well formed. Memory may run out anywhere.
 abbrev pub RefusesProgram : List ℕ → ServeFault → Type 0
 RefusesProgram program (fault.Lang f) = IsRefusedAs program f
 RefusesProgram program (fault.Check f) = f ≢ check.Memory → (items : List ItemTree) × HasItems program items × (first_fault (rules_of items) ≡ Some f)
@@ -189,7 +189,7 @@ RefusesTexts program network from (fault.Plan f) = f ≢ plan.Memory → (items 
 RefusesTexts program network from (fault.Report f) = (p : PlanView) × (text : List ℕ) × HasPlan program network p × (from ≡ Some text) × RefusesReport p text f
 RefusesTexts program network from f = RefusesProgram program f
 
--- Why nothing was written: the first fault on the way from the texts to the answer. Want of memory may come anywhere.
+-- Why nothing was written: the first fault on the way from the texts to the answer. Memory may run out anywhere.
 abbrev pub IsRefusal : Job → List ℕ → List ℕ → Option (List ℕ) → ServeFault → Type 0
 IsRefusal job program network from (fault.Lang f) = RefusesProgram program (fault.Lang f)
 IsRefusal job program network from (fault.Check f) = RefusesProgram program (fault.Check f)
@@ -217,7 +217,7 @@ is_short f = false
 abbrev pub IsUnwritten : ServeFault → Type 0
 IsUnwritten f = is_short f ≡ false
 
--- want of memory, or why the text of a report is refused for a plan
+-- running out of memory, or why the text of a report is refused for a plan
 abbrev pub IsReportRefusal : PlanView → List ℕ → ServeFault → Type 0
 IsReportRefusal p text (fault.Report f) = RefusesReport p text f
 IsReportRefusal p text fault.Memory = Unit {0}

@@ -11,7 +11,7 @@ use Rattle.unison_trace.specs.declared.fault.ReplayFault.TheVariants as replay
 use Rattle.app_jobs.specs.declared.fault.ServeFault.{ServeFault}
 use Rattle.app_jobs.specs.declared.fault.ServeFault.TheVariants as fault
 
--- 3 for a refused schedule; 1 for want of memory, a device's fault and a refused opening
+-- 3 for a refused schedule; 1 for running out of memory, a device's fault and a refused opening
 abbrev pub replay_status : ReplayFault → ℕ
 replay_status replay.Read = 1
 replay_status replay.TooManyTurns = 3
@@ -21,7 +21,7 @@ replay_status (replay.Opening _) = 1
 replay_status (replay.Write _) = 1
 replay_status replay.Memory = 1
 
--- 1 for want of memory, a device's fault and a fault of a run; 3 for a refused program, network, plan, report or schedule
+-- 1 for running out of memory, a device's fault and a fault of a run; 3 for a refused program, network, plan, report or schedule
 abbrev pub status_of : ServeFault → ℕ
 status_of (fault.Lang lang.Memory) = 1
 status_of (fault.Lang _) = 3

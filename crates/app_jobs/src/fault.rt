@@ -34,7 +34,7 @@ pub enum ServeFault {
     Replay(ReplayFault),
     /// The device refused after the first `written` bytes of the answer.
     Write { written: u64 },
-    /// Want of memory.
+    /// Out of memory.
     Memory,
 }
 
@@ -119,8 +119,8 @@ impl<T: Drop> From<AllocFailed<T>> for ServeFault {
 }
 
 impl ServeFault {
-    /// The status with which the program ends: 1 for want of memory, a device's fault and a fault of a run, 3 for
-    /// a refused program, network, plan, report or schedule.
+    /// The status with which the program ends: 1 for running out of memory, a device's fault and a fault of a run, 3
+    /// for a refused program, network, plan, report or schedule.
     pub fn status(&self) -> u8
         ensures status { result ≡ status_of self.now }
     {
@@ -185,7 +185,7 @@ fn replay_status(fault: ReplayFault) -> u8
     }
 }
 
-/// The part with the name, or want of memory where there is no name.
+/// The part with the name, or running out of memory where there is no name.
 fn named(part: &'static str, name: Option<&'static str>) -> (&'static str, &'static str) {
     match name {
         Some(name) => (part, name),
@@ -193,7 +193,7 @@ fn named(part: &'static str, name: Option<&'static str>) -> (&'static str, &'sta
     }
 }
 
-/// The name that the fault line has for a refused program text; none for want of memory.
+/// The name that the fault line has for a refused program text; none where memory ran out.
 fn lang_name(fault: LangFault) -> Option<&'static str> {
     match fault {
         LangFault::TooLong => Some("TooLong"),
@@ -203,7 +203,7 @@ fn lang_name(fault: LangFault) -> Option<&'static str> {
     }
 }
 
-/// The name that the fault line has for a program that is not well formed; none for want of memory.
+/// The name that the fault line has for a program that is not well formed; none where memory ran out.
 fn check_name(fault: CheckFault) -> Option<&'static str> {
     match fault {
         CheckFault::TooManyFields => Some("TooManyFields"),
@@ -217,7 +217,7 @@ fn check_name(fault: CheckFault) -> Option<&'static str> {
     }
 }
 
-/// The name that the fault line has for a refused network; none for want of memory.
+/// The name that the fault line has for a refused network; none where memory ran out.
 fn net_name(fault: NetFault) -> Option<&'static str> {
     match fault {
         NetFault::NotToml => Some("NotToml"),
@@ -235,7 +235,7 @@ fn net_name(fault: NetFault) -> Option<&'static str> {
     }
 }
 
-/// The name that the fault line has for a refused plan; none for want of memory.
+/// The name that the fault line has for a refused plan; none where memory ran out.
 fn plan_name(fault: PlanFault) -> Option<&'static str> {
     match fault {
         PlanFault::UnknownField => Some("UnknownField"),
@@ -246,7 +246,7 @@ fn plan_name(fault: PlanFault) -> Option<&'static str> {
     }
 }
 
-/// The name that the fault line has for a refused report; none for want of memory.
+/// The name that the fault line has for a refused report; none where memory ran out.
 fn report_name(fault: ReportFault) -> Option<&'static str> {
     match fault {
         ReportFault::BadLine { .. } => Some("BadLine"),
@@ -255,7 +255,7 @@ fn report_name(fault: ReportFault) -> Option<&'static str> {
     }
 }
 
-/// The name that the fault line has for a refused round; none for want of memory.
+/// The name that the fault line has for a refused round; none where memory ran out.
 fn round_name(fault: RoundFault) -> Option<&'static str> {
     match fault {
         RoundFault::TooManyRounds => Some("TooManyRounds"),
@@ -264,7 +264,7 @@ fn round_name(fault: RoundFault) -> Option<&'static str> {
     }
 }
 
-/// The name that the fault line has for a refused run; none for want of memory.
+/// The name that the fault line has for a refused run; none where memory ran out.
 fn run_name(fault: RunFault) -> Option<&'static str> {
     match fault {
         RunFault::WorkerCount => Some("WorkerCount"),
@@ -290,7 +290,7 @@ fn replay_line(fault: ReplayFault) -> (&'static str, &'static str) {
     }
 }
 
-/// The name that the fault line has for a refused schedule; none for want of memory.
+/// The name that the fault line has for a refused schedule; none where memory ran out.
 fn schedule_name(fault: ScheduleFault) -> Option<&'static str> {
     match fault {
         ScheduleFault::BadLine { .. } => Some("BadLine"),
@@ -299,7 +299,7 @@ fn schedule_name(fault: ScheduleFault) -> Option<&'static str> {
     }
 }
 
-/// The name that the fault line has for a world that is not opened; none for want of memory.
+/// The name that the fault line has for a world that is not opened; none where memory ran out.
 fn open_name(fault: OpenFault) -> Option<&'static str> {
     match fault {
         OpenFault::StopTooLarge => Some("StopTooLarge"),

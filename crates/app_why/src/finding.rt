@@ -250,7 +250,7 @@ fn fault_text(
 /// Why a job on these texts is not done, told for people: the first fault as the job would end with it, found without
 /// doing the job; where nothing refuses it, that it is so, and notes on what is accepted and rarely meant.
 ///
-/// Want of memory, threads and devices are no faults here.
+/// Running out of memory, threads and devices are no faults here.
 pub fn why(alloc: Global, job: &Job, texts: &Texts) -> Result<Finding, AllocError>
     ensures refused { IfOk result (λ finding. IfSome finding.fault (IsFirstFault job.now texts.now.program.text.now (network_of texts.now) (report_of texts.now) (schedule_of texts.now))) }
     ensures shown { IfOk result (λ finding. IfSome finding.fault (λ f. is_shown f ≡ true)) }

@@ -178,7 +178,7 @@ fn stay_alike(alloc: Global, texts: &Texts, items: &[Item]) -> Result<bool, Allo
     }
 }
 
-/// Adds the note that all nodes stay alike, with an opening value that tells one of them apart.
+/// Adds the note that all nodes stay alike, with an initial value that tells one of them apart.
 fn put_alike(out: &mut String, items: &[Item]) -> Result<(), AllocError> {
     let Some((name, value)) = first_field(items) else {
         return Ok(());

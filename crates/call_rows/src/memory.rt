@@ -2,7 +2,8 @@
 //!
 //! A test whose name has `memory_is_refused` is run by `.ci/refuse_memory` with its first, second, .. request refused,
 //! and by the gate with ample memory. It prints `answer` where it has the answer, which it has compared, and `memory`
-//! where a call answered want of memory. Anything else fails the test; so does `memory` where nothing was refused.
+//! where a call answered running out of memory. Anything else fails the test; so does `memory` where nothing was
+//! refused.
 
 use call_fixtures::networks::{PAIR, PAIR_AT_TWO};
 use call_fixtures::programs::SWAP;
@@ -80,7 +81,7 @@ fn is_memory_of_texts(refusal: Refusal) -> bool {
     }
 }
 
-/// Prints what was found: the answer, which is compared, or want of memory. Any other fault fails the test.
+/// Prints what was found: the answer, which is compared, or running out of memory. Any other fault fails the test.
 fn tell(rt: &impl Print, found: Result<(), Stopped>) -> Result<(), Fail> {
     match found {
         Ok(()) => println!(rt; "answer")?,

@@ -151,6 +151,6 @@ HasEnds ns e = Contains ns e.first × Contains ns e.second
 abbrev pub AreNamed : DotGraph → Type 0
 AreNamed g = All (HasEnds (names g.nodes)) g.edges
 
--- what was returned, seen by view, is the defined result, or stands for want of memory
+-- what was returned, seen by view, is the defined result, or stands for running out of memory
 abbrev pub IsAnswer : {A B : Type 0} → (B → A) → Result A DotFault → Result B DotFault → Type 0
 IsAnswer view defined r = MatchResult r (λ x. defined ≡ Ok (view x)) (λ bad. bad ≢ Memory → defined ≡ Err bad)

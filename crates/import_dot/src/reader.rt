@@ -92,8 +92,8 @@ fn first_fault(text: &[u8], reading: Reading) -> DotFault
 /// `a -- b`; a subgraph as an end of an edge; a weight for all edges, as `edge [weight=2]`; an attribute without a value; a
 /// backslash, a control character or a string in angle brackets in a node's name; more than 64 subgraphs in one another.
 ///
-/// `BadLine` names the first fault of the text, also where memory runs out before it. `Memory` comes for want of memory
-/// alone.
+/// `BadLine` names the first fault of the text, also where memory runs out before it. `Memory` comes only where it
+/// runs out.
 pub fn read_dot<'a>(alloc: Global, text: &'a [u8], reading: &Reading) -> Result<Graph<'a>, DotFault>
     ensures answer { IsAnswer graph_view (graph_of reading.now.undirected reading.now.factor text.now) result }
     ensures refused { IfErr (graph_of reading.now.undirected reading.now.factor text.now) (λ fault. result ≡ Err fault) }

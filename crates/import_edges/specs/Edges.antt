@@ -52,6 +52,6 @@ edge_lines header text = drop (if header then 1 else 0) (told_from 1 text)
 abbrev pub edges_of : Bool → Option ℕ → List ℕ → Result (List NamedEdge) EdgeFault
 edges_of header factor text = edges_in factor (edge_lines header text)
 
--- what was returned, seen by view, is the defined result, or stands for want of memory
+-- what was returned, seen by view, is the defined result, or stands for running out of memory
 abbrev pub IsAnswer : {A B : Type 0} → (B → A) → Result A EdgeFault → Result B EdgeFault → Type 0
 IsAnswer view defined r = MatchResult r (λ x. defined ≡ Ok (view x)) (λ fault. fault ≢ Memory → defined ≡ Err fault)

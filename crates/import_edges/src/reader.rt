@@ -76,7 +76,7 @@ fn first_fault(from: Lines<'_>, factor: Option<u32>) -> EdgeFault
 /// whole number, the greater one where two are as near, and each edge tells whether its weight is exact.
 ///
 /// `BadLine` names the first line that says no edge, and what is wrong with it, also where memory runs out before that
-/// line. `Memory` comes for want of memory alone.
+/// line. `Memory` comes only where memory runs out.
 pub fn read_edges<'a>(
     alloc: Global,
     text: &'a [u8],

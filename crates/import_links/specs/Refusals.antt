@@ -37,7 +37,7 @@ pub record IsFirstBadEdge (names : List (List ℕ)) (edges : List NamedEdge) (fa
   pub are_names : AreNames (names_with names earlier)
   pub why : IsEdgeFault (names_with names earlier) here fault
 
--- why edges have no numbers behind these names: the first that has none, or want of memory
+-- why edges have no numbers behind these names: the first that has none, or running out of memory
 abbrev pub IsRefusal : List (List ℕ) → List NamedEdge → JoinFault → Type 0
 IsRefusal names edges Memory = Unit {0}
 IsRefusal names edges fault = IsFirstBadEdge names edges fault
@@ -51,7 +51,7 @@ pub record IsFirstBadMention (mentions : List Mention) (fault : JoinFault) : Typ
   pub are_names : AreNames (names_in [] (names_of earlier))
   pub why : IsNameFault (names_in [] (names_of earlier)) here.name.now here.line fault
 
--- why names that a text names have no numbers: the first that has none, or want of memory
+-- why names that a text names have no numbers: the first that has none, or running out of memory
 abbrev pub IsMentionRefusal : List Mention → JoinFault → Type 0
 IsMentionRefusal mentions Memory = Unit {0}
 IsMentionRefusal mentions fault = IsFirstBadMention mentions fault

@@ -64,7 +64,8 @@ pub struct Joined {
 
 /// The links of edges, each between the numbers of its ends. The nodes have the names that are given; the ends of the
 /// edges that are not among them are numbered behind them, in the order of their first appearance, the first end of an
-/// edge before the second. Else the fault of the first end that has no number; `Memory` comes for want of memory alone.
+/// edge before the second. Else the fault of the first end that has no number; `Memory` comes only where memory runs
+/// out.
 pub fn join(alloc: Global, names: NodeNames, edges: &[Edge]) -> Result<Joined, JoinFault>
     ensures named { IfOk result (λ joined. joined.names ≡ names_with names edges.now) }
     ensures links { IfOk result (λ joined. joined.links.items ≡ links_of names edges.now) }

@@ -11,7 +11,7 @@ use net_names::NodeNames;
 use std::alloc::Global;
 
 /// The names of the nodes that a text names, each once, in the order of their first appearance. Else the fault of the
-/// first that has no number; `Memory` comes for want of memory alone.
+/// first that has no number; `Memory` comes only where memory runs out.
 pub fn mentioned(alloc: Global, mentions: &[Mention]) -> Result<NodeNames, JoinFault>
     ensures named { IfOk result (λ names. names ≡ names_in [] (names_of mentions.now)) }
     ensures are_names { IfOk result (λ names. AreNames names) }

@@ -121,7 +121,7 @@ fn first_fault(edges: &[Edge]) -> NumberFault
 }
 
 /// The links of edges whose ends are the numbers of nodes, as they stand. Else the fault of the first end that is no
-/// number, also where memory runs out before it; `Memory` comes for want of memory alone.
+/// number, also where memory runs out before it; `Memory` comes only where memory runs out.
 pub fn join_numbers(alloc: Global, edges: &[Edge]) -> Result<Numbered, NumberFault>
     ensures links { IfOk result (λ n. links_in edges.now ≡ Ok n.links.items) }
     ensures nodes { IfOk result (λ n. n.nodes ≡ nodes_of n.links.items) }

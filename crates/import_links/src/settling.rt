@@ -38,7 +38,7 @@ fn listed(alloc: Global, nodes: u32, links: Vec<Link>) -> Result<LinkList, Settl
 
 /// The links between so many nodes that these links of a text make: links of a node with itself are dropped, and links
 /// that join the same two nodes are made into one, as it is asked; else they are refused. The first fault in the order
-/// of [`SettleFault`]; `Memory` comes for want of memory alone, and not in place of `SelfLoop`.
+/// of [`SettleFault`]; `Memory` comes only where memory runs out, and not in place of `SelfLoop`.
 pub fn settle(
     alloc: Global,
     nodes: u32,

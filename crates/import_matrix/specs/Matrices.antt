@@ -38,6 +38,6 @@ matrix_of undirected factor text =
     and_then (at_line 1 (header_in undirected (before_first is_line_feed text))) (λ has_values.
     matrix_in has_values factor (told_from 2 (after_first is_line_feed text)))
 
--- what was returned, seen by view, is the defined result, or stands for want of memory
+-- what was returned, seen by view, is the defined result, or stands for running out of memory
 abbrev pub IsAnswer : {A B : Type 0} → (B → A) → Result A MatrixFault → Result B MatrixFault → Type 0
 IsAnswer view defined r = MatchResult r (λ x. defined ≡ Ok (view x)) (λ fault. fault ≢ Memory → defined ≡ Err fault)

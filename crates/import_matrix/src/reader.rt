@@ -89,19 +89,20 @@ fn first_fault(from: Entries<'_>) -> MatrixFault
 /// The network of a Matrix Market file of the coordinate format.
 ///
 /// The first line is the header `%%MatrixMarket matrix coordinate FIELD SYMMETRY`, in letters of any case. FIELD is
-/// `pattern`, `integer` or `real`, and SYMMETRY is `symmetric` or `general`. Edges of the latter have a direction: they are
-/// refused as `Directed`, unless the reading leaves it aside. Behind the header a line without words, or whose first word
-/// begins with `#` or `%`, is passed over. The first other line says rows, columns and entries, as many columns as rows:
-/// these are the nodes, from 1 to 65,536. Each line behind it is an entry: a row and a column, counted from 1, and behind
-/// them a value, but for `pattern`. It is the link between these nodes, counted from 0. Its weight is the value, as
-/// `read_weight` reads it with the factor; where entries have no value 1, or the factor where one is given. Words are
-/// parted by blanks, tabs or commas. A line ends at LF or at the end of the text; a CR is taken as a blank.
+/// `pattern`, `integer` or `real`, and SYMMETRY is `symmetric` or `general`. Edges of the latter have a direction: they
+/// are refused as `Directed`, unless the reading leaves it aside. Behind the header a line without words, or whose
+/// first word begins with `#` or `%`, is passed over. The first other line says rows, columns and entries, as many
+/// columns as rows: these are the nodes, from 1 to 65,536. Each line behind it is an entry: a row and a column, counted
+/// from 1, and behind them a value, but for `pattern`. It is the link between these nodes, counted from 0. Its weight
+/// is the value, as `read_weight` reads it with the factor; where entries have no value 1, or the factor where one is
+/// given. Words are parted by blanks, tabs or commas. A line ends at LF or at the end of the text; a CR is taken as a
+/// blank.
 ///
 /// Links are taken as they stand there, also between a node and itself, and several between the same two nodes.
 ///
 /// `BadLine` names the first bad line and what is wrong with it, `TooManyEntries` the first line behind as many good
-/// entries as were said, `NoSize` and `TooFewEntries` come where no line is bad; all of these also where memory runs out.
-/// `Memory` comes for want of memory alone.
+/// entries as were said, `NoSize` and `TooFewEntries` come where no line is bad; all of these also where memory runs
+/// out. `Memory` comes only where memory runs out.
 pub fn read_matrix(alloc: Global, text: &[u8], reading: &Reading) -> Result<Matrix, MatrixFault>
     ensures answer { IsAnswer (λ m. (m.nodes, m.links.items)) (matrix_of reading.now.undirected reading.now.factor text.now) result }
     ensures refused { IfErr (matrix_of reading.now.undirected reading.now.factor text.now) (λ fault. result ≡ Err fault) }

@@ -1,4 +1,4 @@
--- The faults of the steps as those of taking. Want of memory is told in one form, whichever step it comes in.
+-- The faults of the steps as those of taking. Running out of memory is told in one form, whichever step it comes in.
 use Rattle.import_edges.specs.declared.fault.EdgeFault.{EdgeFault}
 use Rattle.import_edges.specs.declared.fault.EdgeFault.TheVariants as edges
 use Rattle.import_matrix.specs.declared.fault.MatrixFault.{MatrixFault}

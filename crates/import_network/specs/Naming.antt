@@ -35,7 +35,7 @@ pub record IsNamesOfGraph (read : Result DotGraph DotFault) (bytes : List ℕ) :
   pub is_read : read ≡ Ok graph
   pub names : IsNameFile (names_with (graph_names graph) graph.edges) bytes
 
--- why edges make no network where nodes have these names: an end that has no number; where each has one, the fault of their links; or want of memory
+-- why edges make no network where nodes have these names: an end that has no number; where each has one, the fault of their links; or running out of memory
 abbrev pub IsJoinFault : Mending → List (List ℕ) → List NamedEdge → TakeFault → Type 0
 IsJoinFault mending names edges Memory = Unit {0}
 IsJoinFault mending names edges (Join fault) = (fault ≢ join.Memory) × IsRefusal names edges fault

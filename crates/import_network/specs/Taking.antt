@@ -53,7 +53,7 @@ graph_draft g = named_draft (graph_names g) g.edges
 abbrev pub dot_draft : Bool → Option ℕ → List ℕ → Result Draft TakeFault
 dot_draft undirected factor text = and_then (told_as dot_fault (graph_of undirected factor text)) (λ g. Ok (graph_draft g))
 
--- the network's links, loops and doubles mended, or why there are none
+-- the network's links, self-loops and parallel edges mended, or why there are none
 abbrev pub made : Mending → Draft → Result Listing TakeFault
 made mending draft = told_as settle_fault (settled draft.nodes mending draft.links)
 
@@ -65,7 +65,7 @@ listing_in mending said = and_then said (made mending)
 abbrev pub is_rounded : PlacedLink → Bool
 is_rounded p = not p.exact
 
--- a reader of network files reads exactly the draft's network, of phase 0 and without opening values; and the three numbers are how many links were dropped, merged and rounded
+-- a reader of network files reads exactly the draft's network, of phase 0 and without initial values; and the three numbers are how many links were dropped, merged and rounded
 pub record IsMadeOf (mending : Mending) (draft : Draft) (taken : Taken) : Type 0 where
   pub listing : Listing
   pub is_settled : settled draft.nodes mending draft.links ≡ Ok listing

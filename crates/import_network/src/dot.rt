@@ -12,11 +12,11 @@ use import_dot::{Reading, read_dot};
 use import_links::{Mending, mentioned};
 use std::alloc::Global;
 
-/// The network file of a graph in Graphviz's language, as [`read_dot`] reads it, and the file of the names of its nodes,
-/// which are numbered in the order of their first appearance. The links are settled as `mending` says.
+/// The network file of a graph in Graphviz's language, as [`read_dot`] reads it, and the file of the names of its
+/// nodes, which are numbered in the order of their first appearance. The links are settled as `mending` says.
 ///
 /// `Dot` comes where the text is no such graph, also where memory runs out; `Join` where a node has no number; `Settle`
-/// where the links make no network; `Memory` for want of memory alone.
+/// where the links make no network; `Memory` only where memory runs out.
 pub fn take_dot(
     alloc: Global,
     text: &[u8],

@@ -31,11 +31,11 @@ pub(crate) fn join_and_finish(
     finished(alloc, nodes, joined.links.as_slice(), mending, names)
 }
 
-/// The network file of a list of edges, as [`read_edges`] reads it, whose ends are names, and the file of these names. The
-/// nodes are numbered in the order in which their names appear first. The links are settled as `mending` says.
+/// The network file of a list of edges, as [`read_edges`] reads it, whose ends are names, and the file of these names.
+/// The nodes are numbered in the order in which their names appear first. The links are settled as `mending` says.
 ///
 /// `Edges` comes where a line is bad, also where memory runs out; `Join` where an end has no number; `Settle` where the
-/// links make no network; `Memory` for want of memory alone.
+/// links make no network; `Memory` only where memory runs out.
 pub fn take_edges(
     alloc: Global,
     text: &[u8],

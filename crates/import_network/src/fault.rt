@@ -10,8 +10,8 @@ use import_matrix::MatrixFault;
 use std::alloc::AllocError;
 use thiserror::Error;
 
-/// Why a text makes no network file: the fault of the first step that fails. Want of memory is `Memory`, whichever step
-/// it comes in; the faults of the steps that stand here are never their own `Memory`.
+/// Why a text makes no network file: the fault of the first step that fails. Running out of memory is `Memory`,
+/// whichever step it comes in; the faults of the steps that stand here are never their own `Memory`.
 #[derive(Clone, Copy, Debug, PartialEq, Eq, Error)]
 pub enum TakeFault {
     /// The text is no list of edges.

@@ -25,7 +25,7 @@ fn count_rounded(links: &[PlacedLink]) -> usize
     rounded
 }
 
-/// The network file of links, of phase 0 and without opening values.
+/// The network file of links, of phase 0 and without initial values.
 fn network_file(alloc: Global, list: &LinkList) -> Result<Vec<u8>, AllocError>
     ensures { IfOk result (λ bytes. reading_of bytes.items ≡ Ok (described list.now 0 [])) }
 {

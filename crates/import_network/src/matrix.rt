@@ -12,11 +12,11 @@ use import_links::Mending;
 use import_matrix::{Reading, read_matrix};
 use std::alloc::Global;
 
-/// The network file of a Matrix Market file, as [`read_matrix`] reads it. Its links are settled as `mending` says. Nodes
-/// have no names.
+/// The network file of a Matrix Market file, as [`read_matrix`] reads it. Its links are settled as `mending` says.
+/// Nodes have no names.
 ///
 /// `Matrix` comes where the text is no matrix, also where memory runs out; `Settle` where its links make no network;
-/// `Memory` for want of memory alone.
+/// `Memory` only where memory runs out.
 pub fn take_matrix(
     alloc: Global,
     text: &[u8],

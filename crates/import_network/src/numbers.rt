@@ -28,11 +28,11 @@ fn join_and_finish(alloc: Global, edges: &[Edge], mending: Mending) -> Result<Ta
     )
 }
 
-/// The network file of a list of edges, as [`read_edges`] reads it, whose ends are the numbers of nodes. There are as many
-/// nodes as the greatest number asks for. The links are settled as `mending` says. Nodes have no names.
+/// The network file of a list of edges, as [`read_edges`] reads it, whose ends are the numbers of nodes. There are as
+/// many nodes as the greatest number asks for. The links are settled as `mending` says. Nodes have no names.
 ///
-/// `Edges` comes where a line is bad, also where memory runs out; `Numbers` where an end is no number of a node; `Settle`
-/// where the links make no network; `Memory` for want of memory alone.
+/// `Edges` comes where a line is bad, also where memory runs out; `Numbers` where an end is no number of a node;
+/// `Settle` where the links make no network; `Memory` only where memory runs out.
 pub fn take_numbers(
     alloc: Global,
     text: &[u8],

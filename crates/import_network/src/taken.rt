@@ -3,7 +3,7 @@
 /// A network file that was made from a text in another format.
 #[derive(Drop)]
 pub struct Taken {
-    /// The network file, of phase 0 and without opening values.
+    /// The network file, of phase 0 and without initial values.
     pub network: Vec<u8>,
     /// The file of the nodes' names; nothing where nodes have no names.
     pub names: Vec<u8>,

@@ -83,10 +83,10 @@ description_in ms = if has_unknown_key ms then Err UnknownKey else and_then (ok_
 abbrev pub reading_of : List ℕ → Result Description NetFault
 reading_of bytes = and_then (ok_or (document_of bytes) NotToml) description_in
 
--- the result stands for the defined one, or for want of memory
+-- the result stands for the defined one, or for running out of memory
 abbrev pub IsAnswerBy : {A B : Type 0} → (B → A) → Result A NetFault → Result B NetFault → Type 0
 IsAnswerBy view defined r = MatchResult r (λ x. defined ≡ Ok (view x)) (λ fault. fault ≢ Memory → defined ≡ Err fault)
 
--- the result is the defined one, or stands for want of memory
+-- the result is the defined one, or stands for running out of memory
 abbrev pub IsAnswer : {A : Type 0} → Result A NetFault → Result A NetFault → Type 0
 IsAnswer defined r = IsAnswerBy (λ x. x) defined r

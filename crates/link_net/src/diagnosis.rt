@@ -12,8 +12,9 @@ use crate::{NetCause, NetFault};
 use std::alloc::{AllocError, Global};
 use toml::Table;
 
-/// Why a network file is refused, with the place: `None` exactly where `read_network` gives a network, want of memory
-/// aside. Of several causes the first in the order of [`NetFault`], and of links, entries and nodes the first at fault.
+/// Why a network file is refused, with the place: `None` exactly where `read_network` gives a network, running out of
+/// memory aside. Of several causes the first in the order of [`NetFault`], and of links, entries and nodes the first at
+/// fault.
 pub fn diagnose(alloc: Global, bytes: &[u8]) -> Result<Option<NetCause>, AllocError>
     ensures agrees { IfOk result (λ cause. option_map fault_of cause ≡ refusal_of (reading_of bytes.now)) }
     ensures named { IfOk result (λ cause. IfSome cause (IsCause bytes.now)) }

@@ -1,4 +1,4 @@
-//! The opening values that a network file gives to fields.
+//! The initial values that a network file gives to fields.
 ghost use Rattle.std.specs.Prelude.{◌≡◌, string_bytes};
 
 use std::marker::Model;

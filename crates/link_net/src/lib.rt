@@ -1,4 +1,4 @@
-//! Network files: nodes, undirected links with weights, an opening phase and opening values.
+//! Network files: nodes, undirected links with weights, an opening phase and initial values.
 #![tactic(auto)]
 
 ghost use Rattle.std.specs.Prelude.{◌≡◌, false, Err};
@@ -35,7 +35,7 @@ pub use tables::{Link, MOST_LINKS, MOST_NEIGHBOURS, link_network};
 use toml::Table;
 
 /// Reads a network file: the description that its bytes are, or the first fault in the order of [`NetFault`],
-/// `BadWeight` after the others; `Memory` comes for want of memory alone. Bytes that are no UTF-8 take no memory.
+/// `BadWeight` after the others; `Memory` comes only where memory runs out. Bytes that are no UTF-8 take no memory.
 pub fn read_network(alloc: Global, bytes: &[u8]) -> Result<NetFile, NetFault>
     ensures answer { IsAnswer (reading_of bytes.now) result }
     ensures at_once { is_utf8 bytes.now ≡ false → result ≡ Err NotToml }

@@ -6,7 +6,7 @@ use crate::draft::FieldSets;
 use crate::{FieldSet, Network};
 use std::marker::Model;
 
-/// A network with its opening phase and the opening values of `set`.
+/// A network with its opening phase and the initial values of `set`.
 #[derive(Drop)]
 pub struct NetFile {
     network: Network,

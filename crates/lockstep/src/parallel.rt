@@ -11,10 +11,10 @@ use std::alloc::Global;
 use std::thread::Threads;
 
 /// The configuration of a round, as `lockstep` gives it. Each round is shared among as many threads as there are
-/// processors, or made in one piece where what has to be computed is too little to pay for them.
+/// processors, or made sequentially where what has to be computed is too little to pay for them.
 ///
-/// `TooManyRounds` comes above 1,000,000,000, and else `RoundsBelowStart` below the plan's start, both before
-/// anything is done.
+/// `TooManyRounds` comes above 1,000,000,000, and else `RoundsBelowStart` below the plan's start, both before anything
+/// is done.
 pub fn lockstep_par(
     rt: &(impl Threads + Sync),
     alloc: Global,

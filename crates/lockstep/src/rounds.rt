@@ -31,12 +31,12 @@ fn opening_config(alloc: Global, plan: &Plan) -> Result<Config, AllocError>
     Ok(Config::of(plan, plan.start(), states))
 }
 
-/// The configuration of a round, counted from round 0, by the textbook synchronous round: from the plan's opening
-/// states on all nodes move at once, each by its own state and its neighbours' states before. Where the program
-/// doesn't read the number of the round, none is computed behind the first one that changes nothing.
+/// The configuration of a round, counted from round 0, by the textbook synchronous round: from the plan's initial
+/// states on all nodes move at once, each by its own state and its neighbours' states before. Where the program doesn't
+/// read the number of the round, none is computed behind the first one that changes nothing.
 ///
-/// `TooManyRounds` comes above 1,000,000,000, and else `RoundsBelowStart` below the plan's start, both before
-/// anything is done.
+/// `TooManyRounds` comes above 1,000,000,000, and else `RoundsBelowStart` below the plan's start, both before anything
+/// is done.
 pub fn lockstep(alloc: Global, plan: &Plan, rounds: u32) -> Result<Config, RoundFault>
     ensures exact { IsAnswer RoundFault.Memory (rounds_of plan.now rounds) result }
     ensures at_once { IfErr (rounds_of plan.now rounds) (λ fault. result ≡ Err fault) }

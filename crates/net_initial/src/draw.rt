@@ -1,4 +1,4 @@
-//! Nodes drawn by lot.
+//! Nodes drawn at random.
 ghost use Rattle.std.specs.Prelude.{◌≡◌, ◌≢◌, ◌<◌, ◌≤◌, ◌^◌, All, Err, IfOk, IfErr};
 ghost use Rattle.rand.specs.Sample.{IsSampleOf};
 ghost use Rattle.net_initial.specs.declared.draw.DrawFault.TheVariants.{TooManyNodes, Memory};
@@ -40,8 +40,9 @@ fn as_nodes(alloc: Global, places: &[usize]) -> Result<Vec<u32>, AllocError>
     Ok(nodes)
 }
 
-/// So many different nodes of a network with so many nodes, drawn by lot, in the order in which they are drawn. The same
-/// seed draws the same nodes on every machine. `Memory` comes for want of memory alone, and where nothing refuses.
+/// So many different nodes of a network with so many nodes, drawn at random, in the order in which they are drawn. The
+/// same seed draws the same nodes on every machine. `Memory` comes only where memory runs out, and where nothing
+/// refuses.
 pub fn drawn_nodes(alloc: Global, nodes: u32, count: u32, seed: u64) -> Result<Vec<u32>, DrawFault>
     ensures drawn { IfOk result (λ v. IsSampleOf nodes count v.items) }
     ensures refused { IfErr result (λ fault. fault ≢ DrawFault.Memory → (fault ≡ DrawFault.TooManyNodes) × (nodes < count)) }

@@ -1,4 +1,4 @@
-//! Network files with other opening values.
+//! Network files with other initial values.
 #![tactic(auto)]
 
 mod asking;

@@ -1,4 +1,4 @@
-//! The text of a network file with other opening values.
+//! The text of a network file with other initial values.
 ghost use Rattle.std.specs.Prelude.{◌≡◌, ◌≢◌, ◌≤◌, length, Some, None, Ok, Err, IfOk, IfErr, IfSome};
 ghost use Rattle.link_net.specs.Names.{AreRising};
 ghost use Rattle.link_net.specs.Reading.{reading_of};
@@ -27,10 +27,10 @@ fn written(
     write_network(alloc, &list, phase, sets)
 }
 
-/// The text of the network file that openings make of a file, or the first fault in the order of [`OpenFault`]. It has the
-/// same network, the phase that is asked for or else the file's, and for each field that openings name a set with the value
-/// of the last opening that names the field and the node, or else the file's; the other sets stand as they are. `Memory`
-/// comes for want of memory alone, and only where what is asked for has no fault.
+/// The text of the network file that openings make of a file, or the first fault in the order of [`OpenFault`]. It has
+/// the same network, the phase that is asked for or else the file's, and for each field that openings name a set with
+/// the value of the last opening that names the field and the node, or else the file's; the other sets stand as they
+/// are. `Memory` comes only where memory runs out, and only where what is asked for has no fault.
 pub fn opened_text(
     alloc: Global,
     file: &NetFile,

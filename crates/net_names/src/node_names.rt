@@ -95,8 +95,8 @@ impl NodeNames {
     }
 
     /// The number of a name; a name that is not there yet is put behind the others. The first fault of [`NamesFault`]:
-    /// `BadName` where it is no name, `TooManyNames` where it is new and there are 65,536; `Memory` comes for want of
-    /// memory alone, and where neither of these holds. With a fault the names stay as they were.
+    /// `BadName` where it is no name, `TooManyNames` where it is new and there are 65,536; `Memory` comes only where
+    /// memory runs out, and where neither of these holds. With a fault the names stay as they were.
     pub fn number(&mut self, name: &str) -> Result<u32, NamesFault>
         ensures number { IfOk result (λ number. number_in self.old name.now ≡ Ok number) }
         ensures fault { IfErr result (λ fault. fault ≢ Memory → number_in self.old name.now ≡ Err fault) }

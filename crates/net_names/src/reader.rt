@@ -43,9 +43,9 @@ fn read_line(names: &mut NodeNames, bytes: &[u8]) -> Result<(), NamesFileFault>
     }
 }
 
-/// The names on the lines of a file: the name on line k + 1 is that of node k. A line ends with LF, or with CR and LF; a
-/// last line without an end counts where it is not empty. Else the fault of the first line that is no new name;
-/// `Memory` comes for want of memory alone.
+/// The names on the lines of a file: the name on line k + 1 is that of node k. A line ends with LF, or with CR and LF;
+/// a last line without an end counts where it is not empty. Else the fault of the first line that is no new name;
+/// `Memory` comes only where memory runs out.
 pub fn read_names(alloc: Global, bytes: &[u8]) -> Result<NodeNames, NamesFileFault>
     ensures names { IfOk result (λ names. HasNames bytes.now names) }
     ensures refused { IfErr result (IsFirstBadLine bytes.now) }

@@ -88,6 +88,6 @@ fault_in (Err fault ∷ pieces) = Some fault
 abbrev pub pattern_of : List (Result Run PatternFault) → Result (List Cell) PatternFault
 pattern_of pieces = judged 0 (cells_of (rows_of (written_out (runs_in pieces)))) (fault_in pieces)
 
--- what was returned, seen by view, is the defined result, or stands for want of memory
+-- what was returned, seen by view, is the defined result, or stands for running out of memory
 abbrev pub IsAnswer : {A B : Type 0} → (B → A) → Result A PatternFault → Result B PatternFault → Type 0
 IsAnswer view defined r = MatchResult r (λ x. defined ≡ Ok (view x)) (λ fault. fault ≢ Memory → defined ≡ Err fault)

@@ -23,10 +23,10 @@ use std::alloc::Global;
 /// Plain text: each line is a row of `.` for dead cells and `O` or `*` for live ones, an empty line an empty row; a
 /// line that begins with `!` is a comment. A CR at a line's end is passed over.
 ///
-/// The first fault of the text is returned: `NoPattern` where no line says something; `BadCell` at a character that
-/// has no meaning there; `BadCount` at a number that is no count, or that no tag follows at once; `NoEnd` where runs
-/// end without `!`; `TooLarge` at a live cell whose column or row is 65,536 or more or that follows 65,536 others.
-/// `Memory` comes for want of memory alone.
+/// The first fault of the text is returned: `NoPattern` where no line says something; `BadCell` at a character that has
+/// no meaning there; `BadCount` at a number that is no count, or that no tag follows at once; `NoEnd` where runs end
+/// without `!`; `TooLarge` at a live cell whose column or row is 65,536 or more or that follows 65,536 others. `Memory`
+/// comes only where memory runs out.
 pub fn read_pattern(alloc: Global, bytes: &[u8]) -> Result<Vec<Cell>, PatternFault>
     ensures answer { IsAnswer (λ v. v.items) (pattern_in bytes.now) result }
 {

@@ -80,9 +80,9 @@ fn nodes_of(
     Ok(nodes)
 }
 
-/// The nodes where the live cells of a pattern stand on a grid, in their order, where the pattern's first column and row
-/// stand at the corner's. `Outside` names the first cell that would stand outside the grid; nothing is taken round its edges.
-/// `Memory` comes for want of memory alone.
+/// The nodes where the live cells of a pattern stand on a grid, in their order, where the pattern's first column and
+/// row stand at the corner's. `Outside` names the first cell that would stand outside the grid; nothing is taken round
+/// its edges. `Memory` comes only where memory runs out.
 pub fn placed(
     alloc: Global,
     cells: &[Cell],

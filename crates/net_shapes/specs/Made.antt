@@ -5,7 +5,7 @@ use Rattle.net_text.specs.Listing.{Listing, described}
 use Rattle.net_shapes.specs.declared.shape.Shape.{Shape}
 use Rattle.net_shapes.specs.Shapes.{HasShape}
 
--- the text is a network file, and it reads to the network of links that have the shape, in phase 0, with no opening values
+-- the text is a network file, and it reads to the network of links that have the shape, in phase 0, with no initial values
 pub record IsMade (s : Shape) (text : List ℕ) : Type 0 where
   pub list : Listing
   pub shape : HasShape s list

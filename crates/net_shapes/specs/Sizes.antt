@@ -65,7 +65,7 @@ refusal_of s =
     else if nat_lt most_neighbours (neighbour_count s) then Some TooManyNeighbours
     else None
 
--- the refusal that a fault tells: want of memory refuses nothing
+-- the refusal that a fault tells: running out of memory refuses nothing
 abbrev pub refused_by : ShapeFault → Option ShapeFault
 refused_by Memory = None
 refused_by fault = Some fault

@@ -213,8 +213,8 @@ fn all_links(alloc: Global, shape: &Shape) -> Result<Vec<Link>, AllocError>
     Ok(links)
 }
 
-/// The links of a shape, each with weight 1, or why it has no network. `Memory` comes for want of memory alone, and where
-/// nothing refuses; before anything large is made the sizes are looked at.
+/// The links of a shape, each with weight 1, or why it has no network. `Memory` comes only where memory runs out, and
+/// where nothing refuses; before anything large is made the sizes are looked at.
 pub fn links_of(alloc: Global, shape: &Shape) -> Result<LinkList, ShapeFault>
     ensures made { IfOk result (λ list. HasShape shape.now list) }
     ensures count { IfOk result (λ list. length list.links ≡ link_count shape.now) }

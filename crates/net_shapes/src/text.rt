@@ -9,8 +9,8 @@ use link_net::FieldSet;
 use net_text::write_network;
 use std::alloc::Global;
 
-/// The text of the network file of a shape, with phase 0 and no opening values, or why it has no network. `Memory` comes for
-/// want of memory alone, and where nothing refuses.
+/// The text of the network file of a shape, with phase 0 and no initial values, or why it has no network. `Memory`
+/// comes only where memory runs out, and where nothing refuses.
 pub fn made_text(alloc: Global, shape: &Shape) -> Result<Vec<u8>, ShapeFault>
     ensures made { IfOk result (λ text. IsMade shape.now text.items) }
     ensures fits { IfOk result (λ _. refusal_of shape.now ≡ None) }

@@ -35,7 +35,7 @@ fn all_within(nodes: u32, links: &[Link]) -> bool
 
 impl LinkList {
     /// The list of these links between so many nodes, or the first fault: `NodeCount`, `BadLink`, `SelfLink`,
-    /// `LinkTwice`, `TooManyLinks`, `TooManyNeighbours`, in this order; `Memory` comes for want of memory alone.
+    /// `LinkTwice`, `TooManyLinks`, `TooManyNeighbours`, in this order; `Memory` comes only where memory runs out.
     pub fn new(alloc: Global, nodes: u32, links: Vec<Link>) -> Result<LinkList, NetFault>
         ensures listing { IsAnswer (listing_of nodes links.items) result }
     {

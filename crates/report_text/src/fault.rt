@@ -5,7 +5,7 @@ ghost use Rattle.report_text.specs.declared.fault.ReportFault.TheVariants.{Memor
 use std::alloc::{AllocError, AllocFailed};
 use thiserror::Error;
 
-/// Why a text is not read as a report: `BadLine` before `TooManyRounds`, and want of memory outside that order.
+/// Why a text is not read as a report: `BadLine` before `TooManyRounds`, and running out of memory outside that order.
 #[derive(Clone, Copy, Debug, PartialEq, Eq, Error)]
 pub enum ReportFault {
     /// The line of this number, counted from 1, is the first that cannot stand at its place in a report of the
@@ -15,7 +15,7 @@ pub enum ReportFault {
     /// The round is above 1,000,000,000.
     #[error("the round of the report is above 1000000000")]
     TooManyRounds,
-    /// Want of memory.
+    /// Out of memory.
     #[error("not enough memory")]
     Memory,
 }

@@ -116,7 +116,7 @@ impl<'a> Walk<'a> {
         Ok(())
     }
 
-    /// Moves all nodes one round on, in the step from a round, in one piece. Answers whether a state changed, where the
+    /// Moves all nodes one round on, in the step from a round, sequentially. Answers whether a state changed, where the
     /// program doesn't read the number of the round, and else true.
     pub fn round(&mut self, round: u32) -> bool
         ensures rules { self.new.rules ≡ self.old.rules }
@@ -139,7 +139,7 @@ impl<'a> Walk<'a> {
         moved
     }
 
-    /// What `round` does, each share in a thread; in one piece where no shares were given, or where threads save too
+    /// What `round` does, each share in a thread; sequentially where no shares were given, or where threads save too
     /// little of what has to be computed.
     pub fn round_shared(&mut self, rt: &(impl Threads + Sync), round: u32) -> bool
         ensures rules { self.new.rules ≡ self.old.rules }

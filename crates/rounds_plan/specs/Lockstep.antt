@@ -18,7 +18,7 @@ after p (suc k) u = round_from p.program p.network (p.start + k) (after p k) u
 unfoldable pub lockstep : PlanView → ℕ → ℕ → State
 lockstep p t u = after p (t - p.start) u
 
--- at the start it is the opening state
+-- at the start it is the initial state
 pub lockstep-start : (p : PlanView) (u : ℕ) → lockstep p p.start u ≡ slice_index_or p.opening u blank
 unfolding lockstep after
 lockstep-start p u = let e : p.start - p.start ≡ 0 = omega arith in ap (λ k. after p k u) e

@@ -13,7 +13,7 @@ use Rattle.rounds_plan.specs.declared.fault.PlanFault.{PlanFault}
 use Rattle.rounds_plan.specs.declared.fault.PlanFault.TheVariants.{UnknownField, BadNode, BadValue, SetTwice}
 use Rattle.rounds_plan.specs.Configs.{IsPlain, most_rounds}
 
--- a program on a network, the phase at which all nodes open, the opening state of each node, and the round of these states
+-- a program on a network, the phase at which all nodes open, the initial state of each node, and the round of these states
 pub record PlanView : Type 0 where
   pub program : Rules
   pub network : Neighbours
@@ -84,7 +84,7 @@ value_set (set ∷ sets) name u = option_or (value_set sets name u) (if bytes_eq
 abbrev pub replaced : List (List ℕ) → List FieldSet → ℕ → State → State
 replaced names sets u state = record { words = updated (λ name w. unwrap_or (value_set sets name u) w) names state.words }
 
--- the opening states of nodes: the program's opening values, replaced by those of `set`
+-- the initial states of nodes: the program's initial values, replaced by those of `set`
 abbrev pub openings_of : Rules → ℕ → List FieldSet → List State
 openings_of program nodes sets = map (λ u. replaced (names_of program) sets u (opening_of program)) (range_with_len 0 nodes)
 

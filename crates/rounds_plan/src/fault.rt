@@ -7,7 +7,8 @@ ghost use Rattle.rounds_plan.specs.declared.fault.RoundFault.TheVariants.{Memory
 use std::alloc::{AllocError, AllocFailed};
 use thiserror::Error;
 
-/// Why a program and a network make no plan: the first of these that holds, and want of memory outside that order.
+/// Why a program and a network make no plan: the first of these that holds, and running out of memory outside that
+/// order.
 #[derive(Clone, Copy, Debug, PartialEq, Eq, Error)]
 pub enum PlanFault {
     /// A key of `set` is no field of the program.
@@ -22,7 +23,7 @@ pub enum PlanFault {
     /// A node stands twice in the list of one field.
     #[error("a node stands twice in the list of one field of `set`")]
     SetTwice,
-    /// Want of memory.
+    /// Out of memory.
     #[error("not enough memory")]
     Memory,
 }
@@ -49,7 +50,7 @@ pub enum ResumeFault {
     /// The configuration has another number of nodes or of fields than the plan.
     #[error("the configuration has another number of nodes or of fields than the plan")]
     Foreign,
-    /// Want of memory.
+    /// Out of memory.
     #[error("not enough memory")]
     Memory,
 }
@@ -76,7 +77,7 @@ pub enum RoundFault {
     /// More than 1,000,000,000 rounds.
     #[error("more than 1000000000 rounds")]
     TooManyRounds,
-    /// Want of memory.
+    /// Out of memory.
     #[error("not enough memory")]
     Memory,
     /// The round asked for lies before the plan's start.

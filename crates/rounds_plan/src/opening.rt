@@ -1,4 +1,4 @@
-//! The opening states of a plan: the program's opening values, replaced by those of `set`.
+//! The initial states of a plan: the program's initial values, replaced by those of `set`.
 ghost use Rattle.link_net.specs.declared.field_set.FieldSet.{FieldSet};
 ghost use Rattle.std.specs.Prelude.{List, [], ◌∷◌, ◌++◌, ◌≡◌, ◌≢◌, ℕ, ◌<◌, ◌≤◌, ◌^◌, Bool, true, false, not, length, vec_len, replicate, IfOk, IfErr, IfSome, All, MatchResult, OnOk, slice_index_or, Some, None, Ok, Err, if◌then◌else◌};
 ghost use Rattle.std.specs.List.{list_any};
@@ -148,7 +148,7 @@ fn check_sets(
     Ok(())
 }
 
-/// Puts the values of one field more into the opening states.
+/// Puts the values of one field more into the initial states.
 fn put_set(program: &Program, states: &mut [State], set: &FieldSet)
     requires few { length states.old ≤ 65536 }
     requires known { is_among (names_of program.now) set.now.name ≡ true }
@@ -165,7 +165,7 @@ fn put_set(program: &Program, states: &mut [State], set: &FieldSet)
     }
 }
 
-/// The opening states of so many nodes, where the keys and the pairs of `set` have no fault.
+/// The initial states of so many nodes, where the keys and the pairs of `set` have no fault.
 fn opening_states(
     alloc: Global,
     program: &Program,
@@ -186,7 +186,7 @@ fn opening_states(
     Ok(states)
 }
 
-/// The opening states of a plan, in the order of the nodes.
+/// The initial states of a plan, in the order of the nodes.
 pub(crate) fn opening_by(
     alloc: Global,
     program: &Program,

@@ -37,9 +37,9 @@ impl Model for Plan {
 }
 
 impl Plan {
-    /// The plan of a program on a network: each node opens with the program's opening values, replaced by those
-    /// of the file's `set`; the start is round 0. The first fault of `set` is answered, and then both are dropped.
-    /// All faults but `SetTwice`, which takes a mark for each node, are found before any memory is taken.
+    /// The plan of a program on a network: each node opens with the program's initial values, replaced by those of the
+    /// file's `set`; the start is round 0. The first fault of `set` is answered, and then both are dropped. All faults
+    /// but `SetTwice`, which takes a mark for each node, are found before any memory is taken.
     pub fn new(alloc: Global, program: Program, file: NetFile) -> Result<Plan, PlanFault>
         ensures plan { IsAnswer PlanFault.Memory (plan_of program file) result }
         ensures at_once { IfErr (plan_of program file) (λ fault. fault ≢ PlanFault.SetTwice → result ≡ Err fault) }
@@ -108,28 +108,28 @@ impl Plan {
         self.phase
     }
 
-    /// The round of the opening states, counted from round 0.
+    /// The round of the initial states, counted from round 0.
     pub fn start(&self) -> u32
         ensures start { result ≡ self.now.start }
     {
         self.start
     }
 
-    /// The opening states by rising number of the node.
+    /// The initial states by rising number of the node.
     pub fn openings(&self) -> &[State]
         ensures openings { result.now ≡ self.now.opening }
     {
         self.opening.as_slice()
     }
 
-    /// The opening state of a node, or none where there is no such node.
+    /// The initial state of a node, or none where there is no such node.
     pub fn opening(&self, node: u32) -> Option<State>
         ensures opening { result ≡ slice_get self.now.opening node }
     {
         self.opening.get(node as usize).copied()
     }
 
-    /// Whether the plans are equal: equal program, network, phase, opening states and start.
+    /// Whether the plans are equal: equal program, network, phase, initial states and start.
     pub fn same(&self, other: &Plan) -> bool
         ensures exact { IsTrue result ↔ (self.now ≡ other.now) }
     {

@@ -149,8 +149,8 @@ fn set_twice(alloc: Global, nodes: u32, sets: &[FieldSet]) -> Result<Option<Plan
     Ok(None)
 }
 
-/// Why a program and a network file make no plan: none exactly where `Plan::new` makes one, want of memory aside. All
-/// causes but `SetTwice`, which takes a mark for each node, are found without taking memory.
+/// Why a program and a network file make no plan: none exactly where `Plan::new` makes one, running out of memory
+/// aside. All causes but `SetTwice`, which takes a mark for each node, are found without taking memory.
 pub fn diagnose_plan(
     alloc: Global,
     program: &Program,

@@ -196,9 +196,9 @@ fn ill_formed(items: &[Item]) -> Option<CheckCause>
     too_many_aggregates(items)
 }
 
-/// Why a program is refused: none exactly where `check` gives a program, want of memory aside.
+/// Why a program is refused: none exactly where `check` gives a program, running out of memory aside.
 ///
-/// Want of memory comes in place of any answer but `TooManyFields`.
+/// Running out of memory comes in place of any answer but `TooManyFields`.
 pub fn diagnose(alloc: Global, source: &Source) -> Result<Option<CheckCause>, AllocError>
     ensures agrees { IfOk result (λ cause. option_map fault_of cause ≡ first_fault (rules_of source.now)) }
     ensures named { IfOk result (λ cause. IfSome cause (IsCause source.now)) }

@@ -6,8 +6,8 @@ ghost use Rattle.rule_check.specs.declared.fault.CheckFault.TheVariants.{Memory}
 use std::alloc::{AllocError, AllocFailed};
 use thiserror::Error;
 
-/// Why a program is refused: the first cause that holds, in this order. Want of memory can come in
-/// place of each but `TooManyFields`.
+/// Why a program is refused: the first cause that holds, in this order. Running out of memory can come in place of each
+/// but `TooManyFields`.
 #[derive(Clone, Copy, Debug, PartialEq, Eq, Error)]
 pub enum CheckFault {
     /// More than 8 `field` items.
@@ -31,7 +31,7 @@ pub enum CheckFault {
     /// More than 16 aggregates in all expressions together.
     #[error("TooManyAggregates")]
     TooManyAggregates,
-    /// Want of memory.
+    /// Out of memory.
     #[error("Memory")]
     Memory,
 }

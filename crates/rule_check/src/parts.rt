@@ -44,7 +44,7 @@ impl Name {
     }
 }
 
-/// A declared field, with its opening value.
+/// A declared field, with its initial value.
 #[derive(Drop)]
 pub struct Field {
     pub name: Name,

@@ -51,7 +51,7 @@ pub fn same_rules(xs: &[Rule], ys: &[Rule]) -> bool
     true
 }
 
-/// Whether both fields have one name and one opening value.
+/// Whether both fields have one name and one initial value.
 fn same_field(x: &Field, y: &Field) -> bool
     ensures exact { IsTrue result ↔ (x.now ≡ y.now) }
 {

@@ -10,7 +10,7 @@ use crate::parts::{Field, Gatherer, Rule};
 use crate::run::{DEPTH, Frame, run};
 use crate::table::{gathered, opening};
 
-/// Each field's opening value.
+/// Each field's initial value.
 pub fn opening_words(fields: &[Field], words: &mut [u32; 8])
     requires few { length fields.now ≤ 8 }
     ensures exact { words.new ≡ updated (λ v w. v) (map (λ f. f.opening) fields.now) words.old }

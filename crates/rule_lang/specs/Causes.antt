@@ -32,7 +32,7 @@ abbrev pub NoMemoryWanted : Stuck → Type 0
 NoMemoryWanted (Token left expected) = Unit {0}
 NoMemoryWanted Memory = ⊥
 
--- the refusal stands for the cause: a token that cannot stand somewhere, or want of memory
+-- the refusal stands for the cause: a token that cannot stand somewhere, or running out of memory
 abbrev pub IsStuckAs : Stuck → Refusal → Type 0
 IsStuckAs (Token left expected) r = (at : ℕ) × (r ≡ refusal.Cause (cause.Syntax at expected))
 IsStuckAs Memory r = r ≡ refusal.Memory

@@ -15,7 +15,7 @@ pub record HasProgram (text : List ℕ) (items : List ItemTree) : Type 0 where
   pub tree : HasTree tokens items
 
 -- Why a text is refused, the first cause that holds: too many bytes, no token list, a token list without a tree.
--- Want of memory can come in place of each but the first.
+-- Running out of memory can come in place of each but the first.
 abbrev pub IsRefusedAs : List ℕ → LangFault → Type 0
 IsRefusedAs text TooLong = 65536 < length text
 IsRefusedAs text (Lex at) = (length text ≤ 65536) × ((tokens : List Tok) → HasTokens text tokens → ⊥)

@@ -24,7 +24,7 @@ pub data Tree : Type 0 where
   OverTree : (agg : Agg) (part : Tree) → Tree
   ChoiceTree : (test then else : Tree) → Tree
 
--- an item: a field and its opening value, or a field and its next value
+-- an item: a field and its initial value, or a field and its next value
 pub data ItemTree : Type 0 where
   FieldTree : (name : List ℕ) (value : ℕ) → ItemTree
   NextTree : (name : List ℕ) (body : Tree) → ItemTree

@@ -72,7 +72,7 @@ impl LangCause {
     }
 }
 
-/// Why there is no program: a cause in the text, or want of memory.
+/// Why there is no program: a cause in the text, or running out of memory.
 #[derive(Clone, Copy)]
 pub enum Refusal {
     Cause(LangCause),

@@ -6,8 +6,8 @@ ghost use Rattle.rule_lang.specs.declared.fault.LangFault.TheVariants.{Memory};
 use std::alloc::{AllocError, AllocFailed};
 use thiserror::Error;
 
-/// Why a program text was refused: the first cause that holds, in this order, but that want of
-/// memory can come in place of `Lex`, of `Syntax` and of an answer. No contract speaks of `at`.
+/// Why a program text was refused: the first cause that holds, in this order, but that running out of memory can come
+/// in place of `Lex`, of `Syntax` and of an answer. No contract speaks of `at`.
 #[derive(Clone, Copy, Debug, PartialEq, Eq, Error)]
 pub enum LangFault {
     /// The text has more than 65,536 bytes.
@@ -22,7 +22,7 @@ pub enum LangFault {
     /// text breaks off inside an item, `at` is the length of the text.
     #[error("Syntax")]
     Syntax { at: u32 },
-    /// Want of memory.
+    /// Out of memory.
     #[error("Memory")]
     Memory,
 }

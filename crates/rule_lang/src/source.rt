@@ -73,8 +73,8 @@ fn read(alloc: Global, text: &[u8]) -> Result<Source, Refusal>
     }
 }
 
-/// The program that a text is: `Ok` exactly where the text has at most 65,536 bytes, a token list
-/// and a tree, want of memory aside. `LangFault` says when each error comes.
+/// The program that a text is: `Ok` exactly where the text has at most 65,536 bytes, a token list and a tree, running
+/// out of memory aside. `LangFault` says when each error comes.
 pub fn read_program(alloc: Global, text: &[u8]) -> Result<Source, LangFault>
     ensures read { IsReadAs text.now (λ source. source) result }
 {
@@ -84,8 +84,8 @@ pub fn read_program(alloc: Global, text: &[u8]) -> Result<Source, LangFault>
     }
 }
 
-/// Why a text is no program, and where: none exactly where `read_program` gives a program, want of memory aside. A
-/// text that is too long takes no memory.
+/// Why a text is no program, and where: none exactly where `read_program` gives a program, running out of memory aside.
+/// A text that is too long takes no memory.
 pub fn diagnose(alloc: Global, text: &[u8]) -> Result<Option<LangCause>, AllocError>
     ensures agrees { IfOk result (IsExplained text.now) }
     ensures place { IfOk result (λ found. IfSome found (λ cause. place_of cause ≤ length text.now)) }
@@ -104,9 +104,8 @@ pub fn one_program()
         → HasProgram text left → HasProgram text right → left ≡ right }
 {}
 
-/// A law, which does nothing when it runs: the canonical spelling of the items of a `Source` has
-/// these items; where it has at most 65,536 bytes, `read_program` gives an equal `Source` for it,
-/// want of memory aside.
+/// A law, which does nothing when it runs: the canonical spelling of the items of a `Source` has these items; where it
+/// has at most 65,536 bytes, `read_program` gives an equal `Source` for it, running out of memory aside.
 pub fn canonical_is_read_back()
     ensures spelled { (items : List ItemTree) → IsProgram items → HasProgram (program_text items) items }
     // Any answer that `read_program` can give for the spelling, by its clause `read`.

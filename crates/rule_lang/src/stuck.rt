@@ -14,7 +14,7 @@ use std::alloc::{AllocError, AllocFailed};
 pub enum Stuck {
     /// The first of the last `left` tokens cannot stand at its place, or their end where `left` is 0; this could.
     Token { left: usize, expected: Expected },
-    /// Want of memory.
+    /// Out of memory.
     Memory,
 }
 

@@ -86,7 +86,7 @@ pub enum Expr {
 /// An item of a program.
 #[derive(Drop, PartialEq)]
 pub enum Item {
-    /// `field name = value;`: a field and its opening value.
+    /// `field name = value;`: a field and its initial value.
     Field { name: String, value: u32 },
     /// `next name = body;`: the next value of a field.
     Next { name: String, body: Expr },

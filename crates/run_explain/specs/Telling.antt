@@ -37,7 +37,7 @@ step_lines network stop counts number c (step ∷ steps) =
 abbrev pub told_text : PlanView → ℕ → Bool → List Step → List ℕ
 told_text plan stop counts steps = step_lines plan.network stop counts 1 (at_start plan.network plan.start) steps ++ summary_text plan stop steps
 
--- why nothing is told: there is no such world; want of memory comes only where there is one
+-- why nothing is told: there is no such world; running out of memory comes only where there is one
 abbrev pub IsTellFault : PlanView → ℕ → OpenFault → Type 0
 IsTellFault plan stop Memory = opening_of plan stop ≡ Ok (opened plan stop)
 IsTellFault plan stop fault = opening_of plan stop ≡ Err fault

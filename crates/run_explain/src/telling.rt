@@ -104,18 +104,18 @@ fn told_on(
     Ok(out.into_bytes())
 }
 
-/// The text of a list of steps that are made, in order, on a world of the plan whose nodes move up to a stop: a line for each
-/// step, and a summary. Answers that change nothing do not stop it.
+/// The text of a list of steps that are made, in order, on a world of the plan whose nodes move up to a stop: a line
+/// for each step, and a summary. Answers that change nothing do not stop it.
 ///
-/// The line of a step has its number, counted from 1, the step as a schedule spells it, and its answer with the reason in the
-/// counts before it, as in `3  write 1  NotReady: 2 of 3 neighbours read`. Where the counts are asked for, a line of all counts
-/// after it follows each, by rising number of the node, as in `  counts 0 1 0 2`. The summary comes after an empty line: how many
-/// steps there were, how many reads were taken, how many nodes moved, how many steps were refused, and how many by each answer;
-/// the least and the greatest count at the end; and how far the count of a node that had just moved was from a neighbour's, at
-/// most. That is never above 1: `differ_by_one_at_most`.
+/// The line of a step has its number, counted from 1, the step as a schedule spells it, and its answer with the reason
+/// in the counts before it, as in `3 write 1 NotReady: 2 of 3 neighbours read`. Where the counts are asked for, a line
+/// of all counts after it follows each, by rising number of the node, as in ` counts 0 1 0 2`. The summary comes after
+/// an empty line: how many steps there were, how many reads were taken, how many nodes moved, how many steps were
+/// refused, and how many by each answer; the least and the greatest count at the end; and how far the count of a node
+/// that had just moved was from a neighbour's, at most. That is never above 1: `differ_by_one_at_most`.
 ///
-/// `StopTooLarge` comes above 1,000,000,000, and else `StopBelowStart` below the plan's start, both before memory is taken;
-/// want of memory only where neither does.
+/// `StopTooLarge` comes above 1,000,000,000, and else `StopBelowStart` below the plan's start, both before memory is
+/// taken; `Memory` only where neither does.
 pub fn told(
     alloc: Global,
     plan: Arc<Plan>,

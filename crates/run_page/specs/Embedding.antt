@@ -22,7 +22,7 @@ abbrev pub IsEmbedded : List ℕ → List ℕ → List ℕ → Type 0
 IsEmbedded viewer content page =
     (before : List ℕ) × (after : List ℕ) × (viewer ≡ before ++ (mark ++ after)) × (page ≡ before ++ (content ++ after)) × StandsOnlyAt viewer (length before)
 
--- the mark stands nowhere, or at two places, which may share bytes; want of memory comes only where it stands at one place
+-- the mark stands nowhere, or at two places, which may share bytes; running out of memory comes only where it stands at one place
 abbrev pub IsEmbedFault : List ℕ → EmbedFault → Type 0
 IsEmbedFault viewer NoMark = (i : ℕ) → ¬ StandsAt viewer i
 IsEmbedFault viewer MarkTwice = (i : ℕ) × (j : ℕ) × (i < j) × StandsAt viewer i × StandsAt viewer j

@@ -48,7 +48,7 @@ abbrev pub steps_refusal : PlanView → ℕ → List Step → Look → Option Pa
 steps_refusal p stop steps look =
     option_or (opening_refusal p stop look) (values_refusal (values_in p look (count_of (reached p stop steps)) + length steps))
 
--- the fault is the one that is defined, or want of memory, where what is known before memory is taken has none
+-- the fault is the one that is defined, or running out of memory, where what is known before memory is taken has none
 abbrev pub IsFault : Option PageFault → Option PageFault → PageFault → Type 0
 IsFault early all Memory = early ≡ None
 IsFault early all fault = all ≡ Some fault

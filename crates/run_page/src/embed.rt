@@ -20,7 +20,7 @@ pub enum EmbedFault {
     /// The mark stands at two places, which may share bytes.
     #[error("MarkTwice")]
     MarkTwice,
-    /// Want of memory.
+    /// Out of memory.
     #[error("Memory")]
     Memory,
 }

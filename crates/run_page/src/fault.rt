@@ -29,7 +29,7 @@ pub enum PageFault {
     /// The data has more than 20,000,000 values.
     #[error("TooManyValues")]
     TooManyValues,
-    /// Want of memory.
+    /// Out of memory.
     #[error("Memory")]
     Memory,
 }

@@ -23,7 +23,7 @@ pub enum PictureFault {
     /// There would be more than 1,000,000 cells.
     #[error("TooManyCells")]
     TooManyCells,
-    /// Want of memory.
+    /// Out of memory.
     #[error("Memory")]
     Memory,
 }

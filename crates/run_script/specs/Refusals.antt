@@ -89,6 +89,6 @@ pub record IsUnclosed (network : Neighbours) (names : Option (List (List ℕ))) 
   pub place : slice_get (map (λ l. l.0) told) (length (begun_lines outer)) ≡ Some line
   pub names_it : fault ≡ RepeatWithoutEnd line
 
--- why a text says no steps, but for want of memory: a line is bad, or at its end a repeat is open
+-- why a text says no steps, but for running out of memory: a line is bad, or at its end a repeat is open
 abbrev pub IsRefused : Neighbours → Option (List (List ℕ)) → List ℕ → StepTextFault → Type 0
 IsRefused network names text fault = fault ≢ Memory → IsFirstBadLine network names (told_from 1 text) fault ⊎ IsUnclosed network names (told_from 1 text) fault

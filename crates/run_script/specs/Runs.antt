@@ -69,6 +69,6 @@ closed steps (Some last) = Err (RepeatWithoutEnd last.line)
 abbrev pub read_text : Neighbours → Option (List (List ℕ)) → List ℕ → Result (List Step) StepTextFault
 read_text network names text = and_then (behind_all network names unread (told_from 1 text)) (λ r. closed r.steps (last_open r.opens))
 
--- what was returned, seen by view, is the defined result, or stands for want of memory
+-- what was returned, seen by view, is the defined result, or stands for running out of memory
 abbrev pub IsAnswer : {A B : Type 0} → (B → A) → Result A StepTextFault → Result B StepTextFault → Type 0
 IsAnswer view defined r = MatchResult r (λ x. defined ≡ Ok (view x)) (λ fault. fault ≢ Memory → defined ≡ Err fault)

@@ -47,26 +47,26 @@ fn read_text(
 /// The steps that a text says, in order.
 ///
 /// A line ends at LF or at the end of the text. Its words are parted by blanks, tabs or commas, and a CR is taken as a
-/// blank; a word that begins with `#` begins a comment, which goes to the end of the line. A line without words, or whose
-/// first word begins with `#` or `%`, is passed over, whatever bytes stand in it. Each other line has one of these forms,
-/// and the first that fits is the line's:
+/// blank; a word that begins with `#` begins a comment, which goes to the end of the line. A line without words, or
+/// whose first word begins with `#` or `%`, is passed over, whatever bytes stand in it. Each other line has one of
+/// these forms, and the first that fits is the line's:
 ///
 /// - `sweep`: a turn of each node by rising number;
 /// - `}`: the end of the last `repeat` that has none yet;
 /// - `NODE moves`: the node moves;
 /// - `NODE turn`: the node reads all its slots by rising number, and then it moves;
 /// - `repeat COUNT {`: the lines up to the `}` that belongs to it come so many times, from 1 to 1,000,000; it may stand
-///   inside 63 others;
+/// inside 63 others;
 /// - `NODE reads all`: the node reads all its slots by rising number;
 /// - `NODE reads NODE`: the first node reads the slot at which it has the second as its neighbour.
 ///
 /// A node is called by its number, in decimal digits without leading zeros. Where names are given, it is called by its
-/// name alone, and numbers call nothing, except as names. So a node can't be called whose name has a blank or a comma in
-/// it, or begins with `#`, or begins with `%` where it is the first word of a line; and a node that is called `all` can't
-/// be read by its name alone.
+/// name alone, and numbers call nothing, except as names. So a node can't be called whose name has a blank or a comma
+/// in it, or begins with `#`, or begins with `%` where it is the first word of a line; and a node that is called `all`
+/// can't be read by its name alone.
 ///
-/// The fault is that of the first line that can't stand behind those before it; `RepeatWithoutEnd` comes where all lines
-/// stand. There are at most 1,000,000 steps. `Memory` comes for want of memory alone.
+/// The fault is that of the first line that can't stand behind those before it; `RepeatWithoutEnd` comes where all
+/// lines stand. There are at most 1,000,000 steps. `Memory` comes only where memory runs out.
 pub fn written(
     alloc: Global,
     network: &Network,

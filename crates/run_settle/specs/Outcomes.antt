@@ -53,7 +53,7 @@ refusal_of p limit =
     else if nat_lt limit p.start then Some LimitBelowStart
     else None
 
--- the fault is that of the plan and the limit; want of memory comes only where these have none
+-- the fault is that of the plan and the limit; running out of memory comes only where these have none
 abbrev pub IsFaultOf : PlanView → ℕ → SettleFault → Type 0
 IsFaultOf p limit Memory = refusal_of p limit ≡ None
 IsFaultOf p limit fault = refusal_of p limit ≡ Some fault

@@ -17,7 +17,7 @@ pub enum SettleFault {
     /// The limit lies before the plan's start.
     #[error("the limit lies before the start of the plan")]
     LimitBelowStart,
-    /// Want of memory.
+    /// Out of memory.
     #[error("not enough memory")]
     Memory,
 }

@@ -80,14 +80,15 @@ fn settled(alloc: Global, plan: &Plan, limit: u32) -> Result<Settling, AllocErro
     Ok(settling)
 }
 
-/// What becomes of the lockstep rounds of a plan from its start up to a limit, a round counted from round 0: the states of
-/// all nodes settle, or they repeat, or neither shows up to the limit. There is one answer for each plan and limit.
+/// What becomes of the lockstep rounds of a plan from its start up to a limit, a round counted from round 0: the states
+/// of all nodes settle, or they repeat, or neither shows up to the limit. There is one answer for each plan and limit.
 ///
-/// It takes memory for two walks over the rounds at a time, whatever the limit, and none makes more than twice the rounds
-/// from the start to the limit.
+/// It takes memory for two walks over the rounds at a time, whatever the limit, and none makes more than twice the
+/// rounds from the start to the limit.
 ///
-/// `ReadsRound` comes where the program reads the number of the round, else `LimitTooLarge` above 1,000,000,000, and else
-/// `LimitBelowStart` below the plan's start, all before any memory is taken; want of memory only where none of them does.
+/// `ReadsRound` comes where the program reads the number of the round, else `LimitTooLarge` above 1,000,000,000, and
+/// else `LimitBelowStart` below the plan's start, all before any memory is taken; `Memory` only where none of them
+/// does.
 pub fn settle(alloc: Global, plan: &Plan, limit: u32) -> Result<Settling, SettleFault>
     ensures settling { IfOk result (IsSettling plan.now limit) }
     ensures only { IfOk result (λ found. (s : Settling) → IsSettling plan.now limit s → s ≡ found) }

@@ -17,7 +17,7 @@ pub enum WatchFault {
     /// The program has no field at this place.
     #[error("NoField")]
     NoField { place: u32 },
-    /// Want of memory.
+    /// Out of memory.
     #[error("Memory")]
     Memory,
 }

@@ -11,7 +11,7 @@ use Rattle.unison_pool.specs.declared.team.Halted.{Halted}
 use Rattle.unison_pool.specs.declared.team.Halted.TheVariants as halted
 use Rattle.unison_pool.specs.Refusals.{IsTooSmall}
 
--- where the workers were told to end: a refused thread and want of memory by their names; a full trace where the limit that was asked is this one and is too small, else foreign
+-- where the workers were told to end: a refused thread and running out of memory by their names; a full trace where the limit that was asked is this one and is too small, else foreign
 abbrev pub IsHaltAnswer : PlanView → ℕ → Option ℕ → Halted → RunFault → Type 0
 IsHaltAnswer plan stop trace halted.NoThread fault = fault ≡ run.NoThread
 IsHaltAnswer plan stop trace (halted.Fault log.Memory) fault = fault ≡ run.Memory

@@ -30,7 +30,7 @@ pub enum RunFault {
     /// The least node below the stop after the workers ended, and its moves.
     #[error("node {node} has moved {moves} times and stands below the stop")]
     Unfinished { node: u32, moves: u32 },
-    /// Want of memory.
+    /// Out of memory.
     #[error("not enough memory")]
     Memory,
     /// The stop lies before the plan's start.

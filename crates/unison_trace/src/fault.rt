@@ -16,7 +16,7 @@ pub enum LogFault {
     /// As many steps are stored as the limit allows.
     #[error("{limit} steps are stored, and no more may be")]
     TraceFull { limit: u32 },
-    /// Want of memory.
+    /// Out of memory.
     #[error("not enough memory")]
     Memory,
 }
@@ -46,7 +46,7 @@ pub enum ScheduleFault {
     /// There are more than 1,000,000 steps.
     #[error("there are more than 1000000 steps")]
     TooManySteps,
-    /// Want of memory.
+    /// Out of memory.
     #[error("not enough memory")]
     Memory,
 }
@@ -85,7 +85,7 @@ pub enum ReplayFault {
     /// The writer failed: only the first `written` bytes of the report went out.
     #[error("only the first {written} bytes were written")]
     Write { written: u64 },
-    /// Want of memory.
+    /// Out of memory.
     #[error("not enough memory")]
     Memory,
 }

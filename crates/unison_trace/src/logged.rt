@@ -76,8 +76,8 @@ pub fn steps_needed(plan: &Plan, stop: u32) -> u64
 impl Logged {
     /// A world of a plan before any step, whose nodes move up to a stop, with no steps stored. The limit is how many
     /// steps may be stored, and counts as 1,000,000 where it is above; without one none are stored. `StopTooLarge`
-    /// comes above 1,000,000,000, and else `StopBelowStart` below the plan's start, both before anything is done, so also
-    /// before want of memory.
+    /// comes above 1,000,000,000, and else `StopBelowStart` below the plan's start, both before anything is done, so
+    /// also before running out of memory.
     pub fn new(
         alloc: Global,
         plan: Arc<Plan>,
@@ -167,8 +167,8 @@ impl Logged {
     }
 
     /// The configuration of the stop, where the plan and the stop are the world's and every node stands at the stop,
-    /// and the stored steps. `Foreign` comes where the plan or the stop isn't the world's, and else `Unfinished`
-    /// with the least node below the stop; want of memory only where neither does.
+    /// and the stored steps. `Foreign` comes where the plan or the stop isn't the world's, and else `Unfinished` with
+    /// the least node below the stop; `Memory` only where neither does.
     pub fn finish(self, alloc: Global, plan: &Plan, stop: u32) -> Result<Finished, FinishFault>
         ensures config { IfOk result (λ finished. IsFinish self.world plan.now stop (Ok finished.config)) }
         ensures trace { IfOk result (λ finished. option_map (λ v. v.items) finished.trace ≡ steps_in self.log) }

@@ -26,7 +26,7 @@ abbrev pub moved_node : Rules → Node → State → Node
 moved_node rules n s = record { moves = n.moves + 1; register = published n.register s; desk = cleared rules n.desk }
 
 -- The node with number u has the phase, the lockstep states and the sums of its count. Subtraction stops at 0 and the
--- lockstep state of a round before the start is the opening one, so at the start the state before is the opening state.
+-- lockstep state of a round before the start is the opening one, so at the start the state before is the initial state.
 pub record IsNodePicture (plan : PlanView) (u : ℕ) (node : Node) : Type 0 where
   pub started : plan.start ≤ node.moves
   pub phase : node.register.phase ≡ (plan.phase + node.moves) % 3

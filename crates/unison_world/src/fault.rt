@@ -12,7 +12,7 @@ pub enum OpenFault {
     /// The stop is above 1,000,000,000.
     #[error("the stop is above 1000000000")]
     StopTooLarge,
-    /// Want of memory.
+    /// Out of memory.
     #[error("not enough memory")]
     Memory,
     /// The stop lies before the plan's start.
@@ -45,7 +45,7 @@ pub enum FinishFault {
     /// The least node below the stop, and its moves.
     #[error("node {node} has moved {moves} times and stands below the stop")]
     Unfinished { node: u32, moves: u32 },
-    /// Want of memory.
+    /// Out of memory.
     #[error("not enough memory")]
     Memory,
 }

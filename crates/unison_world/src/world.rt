@@ -56,8 +56,9 @@ impl Model for World {
 }
 
 impl World {
-    /// A world of a plan before any step, whose nodes move up to a stop. `StopTooLarge` comes above 1,000,000,000,
-    /// and else `StopBelowStart` below the plan's start, both before anything is done, so also before want of memory.
+    /// A world of a plan before any step, whose nodes move up to a stop. `StopTooLarge` comes above 1,000,000,000, and
+    /// else `StopBelowStart` below the plan's start, both before anything is done, so also before running out of
+    /// memory.
     pub fn new(alloc: Global, plan: Arc<Plan>, stop: u32) -> Result<World, OpenFault>
         ensures exact { IsAnswer OpenFault.Memory (opening_of (arc_value plan) stop) result }
         ensures memory { IfErr result (λ fault. fault ≡ OpenFault.Memory → opening_of (arc_value plan) stop ≡ Ok (opened (arc_value plan) stop)) }
@@ -207,7 +208,7 @@ impl World {
 
     /// The configuration of the stop, where the plan and the stop are the world's and every node stands at the stop.
     /// `Foreign` comes where the plan or the stop isn't the world's, and else `Unfinished` with the least node below
-    /// the stop; want of memory only where neither does.
+    /// the stop; `Memory` only where neither does.
     pub fn finish(self, alloc: Global, plan: &Plan, stop: u32) -> Result<Config, FinishFault>
         ensures answer { IsFinish self plan.now stop result }
         ensures memory { IfErr result (λ fault. fault ≡ FinishFault.Memory → IsOf self plan.now stop × AtStopBelow self (length self.plan.network)) }
