@@ -3,7 +3,7 @@ ghost use Rattle.std.specs.Prelude.{◌≡◌, ◌≢◌, ◌≤◌, ◌++◌, �
 ghost use Rattle.std.specs.Bool.{OnTrue, OnFalse};
 ghost use Rattle.std.specs.Fmt.{decimal};
 ghost use Rattle.csv.specs.Records.{fields_of, partial_of};
-ghost use Rattle.report_csv.specs.Csv.{no_node, cell_of};
+ghost use Rattle.report_csv.specs.Csv.{no_node, cell_of, IsNode};
 
 use csv::ByteRecord;
 use net_names::NodeNames;
@@ -35,6 +35,7 @@ pub(crate) fn put_node(
     requires whole { partial_of line.old ≡ [] }
     ensures cell { IfOk result (λ put. OnTrue put (fields_of line.new ≡ fields_of line.old ++ cell_of names.now true value ∷ [])) }
     ensures whole { OnOk result (partial_of line.new ≡ []) }
+    ensures node { IfOk result (λ put. OnTrue put (IsNode names.now value)) }
     ensures none { IfOk result (λ put. OnFalse put ((value ≢ no_node) × (length names.now ≤ value))) }
 {
     if value == NO_NODE {

@@ -3,7 +3,9 @@
 
 mod cells;
 mod fault;
+mod marks;
 mod named;
+mod records;
 
 pub use fault::CsvFault;
 pub use named::names_csv;

@@ -1,109 +1,78 @@
 //! Tables that are printed with names.
-ghost use Rattle.std.specs.Prelude.{◌≡◌, ◌≢◌, [], length, Err, IfErr, OnOk};
-ghost use Rattle.csv.specs.Records.{partial_of};
+ghost use Rattle.std.specs.Prelude.{◌≡◌, ◌≢◌, ◌++◌, ◌∷◌, [], length, map, Err, Some, IfOk, IfErr, OnOk, slice_get};
+ghost use Rattle.std.specs.String.{string_bytes};
+ghost use Rattle.csv.specs.Records.{fields_of};
+ghost use Rattle.csv.specs.Writing.{default_writer, row_text};
 ghost use Rattle.report_csv.specs.declared.fault.CsvFault.TheVariants.{NameCount};
-ghost use Rattle.report_csv.specs.Csv.{IsCellFault};
+ghost use Rattle.report_csv.specs.Csv.{AreNodes, AreRowsOfNodes, IsCsv, IsCsvFault, IsRowFault, IsRowsFault, csv_text, node_cells, node_records, records_text};
+ghost use Rattle.report_csv.specs.Writing.{IsReady, written};
 
 use crate::CsvFault;
-use crate::cells::{put_node, put_number};
+use crate::marks::marks_of;
+use crate::records::{Printing, headings_of, record_of};
 use csv::{ByteRecord, Writer};
 use net_names::NodeNames;
 use report_table::{Row, Table};
 use std::alloc::{AllocError, Global};
 
-/// Which of the fields of a table hold numbers of nodes.
-type Marks = [bool; 8];
-
-/// Which of the table's fields are among those that are asked to hold nodes.
-fn marks_of(fields: &[&str], asked: &[String]) -> Result<Marks, CsvFault> {
-    let mut marks = [false; 8];
-    for (place, name) in asked.iter().enumerate() {
-        let Some(at) = fields.iter().position(|field| *field == name.as_str()) else {
-            return Err(CsvFault::UnknownField { place });
-        };
-        if let Some(mark) = marks.get_mut(at) {
-            *mark = true;
-        }
-    }
-    Ok(marks)
-}
-
-/// The headings: `node`, `moves` where the table has them, and the fields.
-fn headings(alloc: Global, table: &Table<'_>) -> Result<ByteRecord, AllocError> {
-    let mut record = ByteRecord::new(alloc);
-    record.push_field(b"node")?;
-    if table.round().is_none() {
-        record.push_field(b"moves")?;
-    }
-    for field in table.fields() {
-        record.push_field(field.as_bytes())?;
-    }
-    Ok(record)
-}
-
-/// What a row is printed with.
-#[derive(Drop)]
-struct Printing<'a, 't> {
-    alloc: Global,
-    table: &'a Table<'t>,
-    names: &'a NodeNames,
-    marks: Marks,
-}
-
-/// Puts the values of a node's fields.
-fn put_values(
-    line: &mut ByteRecord,
-    by: &Printing<'_, '_>,
-    node: u32,
-    row: &Row,
-) -> Result<(), CsvFault>
-    requires whole { partial_of line.old ≡ [] }
-    ensures whole { OnOk result (partial_of line.new ≡ []) }
-    ensures refused { IfErr result (IsCellFault by.now.names.now) }
-{
-    for field in 0..by.table.fields().len() {
-        let value = row.state.words.get(field).copied().unwrap_or(0);
-        if !by.marks.get(field).copied().unwrap_or(false) {
-            put_number(by.alloc, line, value)?;
-        } else if !put_node(line, by.names, value)? {
-            return Err(CsvFault::NoNode { node, field, value });
-        }
-    }
-    Ok(())
-}
-
-/// The record of a node's row.
-fn record_of(by: &Printing<'_, '_>, node: u32, row: &Row) -> Result<ByteRecord, CsvFault>
-    ensures refused { IfErr result (IsCellFault by.now.names.now) }
-{
-    let mut line = ByteRecord::new(by.alloc);
-    line.push_field(by.names.name(node).unwrap_or("").as_bytes())?;
-    if let Some(moves) = row.moves {
-        put_number(by.alloc, &mut line, moves)?;
-    }
-    put_values(&mut line, by, node, row)?;
-    Ok(line)
-}
-
 /// Writes a record. What refuses it is want of memory: the text grows in memory alone.
-fn write(writer: &mut Writer<Vec<u8>>, record: &ByteRecord) -> Result<(), AllocError> {
-    match writer.write_byte_record(record) {
+fn write(writer: &mut Writer<Vec<u8>>, line: &ByteRecord) -> Result<(), AllocError>
+    requires ready { IsReady writer.old }
+    ensures ready { OnOk result (IsReady writer.new) }
+    ensures text { OnOk result (written writer.new ≡ written writer.old ++ row_text default_writer (fields_of line.now)) }
+{
+    match writer.write_byte_record(line) {
         Ok(()) => Ok(()),
         Err(_) => Err(AllocError),
     }
 }
 
+/// Writes the record of a node's row.
+fn write_row(
+    writer: &mut Writer<Vec<u8>>,
+    by: &Printing<'_, '_>,
+    node: u32,
+    row: &Row,
+) -> Result<(), CsvFault>
+    requires ready { IsReady writer.old }
+    ensures ready { OnOk result (IsReady writer.new) }
+    ensures text { OnOk result (written writer.new ≡ written writer.old ++ row_text default_writer (node_cells by.now.names.now by.now.marks.now (length by.now.table.now.fields) node row.now)) }
+    ensures nodes { OnOk result (AreNodes by.now.names.now by.now.marks.now row.now.state.words (length by.now.table.now.fields)) }
+    ensures refused { IfErr result (IsRowFault by.now.names.now by.now.marks.now row.now.state.words (length by.now.table.now.fields) node) }
+{
+    let line = record_of(by, node, row)?;
+    write(writer, &line)?;
+    Ok(())
+}
+
+/// Writes the records of all rows.
+fn write_rows(writer: &mut Writer<Vec<u8>>, by: &Printing<'_, '_>) -> Result<(), CsvFault>
+    requires ready { IsReady writer.old }
+    requires counted { length by.now.names.now ≡ length by.now.table.now.rows }
+    ensures text { OnOk result (written writer.new ≡ written writer.old ++ records_text (node_records by.now.names.now by.now.marks.now (length by.now.table.now.fields) 0 by.now.table.now.rows)) }
+    ensures nodes { OnOk result (AreRowsOfNodes by.now.names.now by.now.marks.now (length by.now.table.now.fields) by.now.table.now.rows (length by.now.table.now.rows)) }
+    ensures refused { IfErr result (IsRowsFault by.now.names.now by.now.marks.now (length by.now.table.now.fields) by.now.table.now.rows) }
+{
+    for node in 0..by.names.count() {
+        let Some(row) = by.table.rows().get(node as usize) else {
+            return Ok(());
+        };
+        write_row(writer, by, node, row)?;
+    }
+    Ok(())
+}
+
 /// The text of all records.
 fn text_of(by: &Printing<'_, '_>) -> Result<Vec<u8>, CsvFault>
-    ensures refused { IfErr result (IsCellFault by.now.names.now) }
+    requires counted { length by.now.names.now ≡ length by.now.table.now.rows }
+    ensures text { IfOk result (λ v. v.items ≡ csv_text by.now.names.now by.now.marks.now by.now.table.now by.now.table.now.rows) }
+    ensures nodes { OnOk result (AreRowsOfNodes by.now.names.now by.now.marks.now (length by.now.table.now.fields) by.now.table.now.rows (length by.now.table.now.rows)) }
+    ensures refused { IfErr result (IsRowsFault by.now.names.now by.now.marks.now (length by.now.table.now.fields) by.now.table.now.rows) }
 {
     let mut writer = Writer::from_writer(Vec::new(by.alloc));
-    write(&mut writer, &headings(by.alloc, by.table)?)?;
-    for node in 0..by.names.count() {
-        if let Some(row) = by.table.rows().get(node as usize) {
-            write(&mut writer, &record_of(by, node, row)?)?;
-        }
-    }
+    let headings = headings_of(by.alloc, by.table)?;
+    write(&mut writer, &headings)?;
+    write_rows(&mut writer, by)?;
     match writer.into_inner() {
         Ok(text) => Ok(text),
         Err(_) => Err(CsvFault::Memory),
@@ -112,7 +81,10 @@ fn text_of(by: &Printing<'_, '_>) -> Result<Vec<u8>, CsvFault>
 
 /// A report as CSV: a record of headings, `node`, `moves` where it is a replay report, and the fields; then a record for each
 /// node: its name, its moves, and its values. A field that is asked to hold nodes has names for its values, too, and an empty
-/// cell for 4294967295. The first fault in the order of [`CsvFault`]; `Memory` comes for want of memory alone.
+/// cell for 4294967295. Of fields that share a name, as no program has them, the first alone holds nodes.
+///
+/// The first fault in the order of [`CsvFault`], the first node and then the first field with a value that is no node;
+/// `Memory` comes for want of memory alone.
 pub fn names_csv(
     alloc: Global,
     table: &Table<'_>,
@@ -121,6 +93,8 @@ pub fn names_csv(
 ) -> Result<Vec<u8>, CsvFault>
     ensures counted { OnOk result (length names.now ≡ length table.now.rows) }
     ensures at_once { length names.now ≢ length table.now.rows → result ≡ Err (NameCount (length names.now) (length table.now.rows)) }
+    ensures text { IfOk result (λ v. IsCsv table.now names.now (map string_bytes node_fields.now) v.items) }
+    ensures refused { IfErr result (IsCsvFault table.now names.now (map string_bytes node_fields.now)) }
 {
     let nodes = table.rows().len();
     if names.count() as usize != nodes {
@@ -129,11 +103,11 @@ pub fn names_csv(
             nodes,
         });
     }
-    let marks = marks_of(table.fields(), node_fields)?;
+    let marks = marks_of(alloc, table.fields(), node_fields)?;
     text_of(&Printing {
         alloc,
         table,
         names,
-        marks,
+        marks: &marks,
     })
 }

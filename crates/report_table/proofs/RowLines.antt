@@ -124,6 +124,33 @@ module _ (names : List (List ℕ)) (fields : ℕ) (counted : Bool) (count : leng
         left = more.left ∙ ap (λ n. row_lines names n more.tail) at;
       }
 
+-- the row of a node whose line stands at the front
+pub record NextRow (names : List (List ℕ)) (fields : ℕ) (counted : Bool) (u : ℕ) (rest : List ℕ) : Type 0 where
+  pub row : Row
+  pub behind : List ℕ
+  pub fits : IsRow fields counted row
+  pub is : rest ≡ row_line names u row ++ behind
+
+-- behind fewer rows the next one of more stands
+pub rows_next : (names : List (List ℕ)) (fields : ℕ) (counted : Bool) → length names ≡ fields → fields ≤ 8 → (u : ℕ) (good rows : List Row) (rest more : List ℕ) → All (IsRow fields counted) good → All (IsRow fields counted) rows → length good < length rows
+    → row_lines names u good ++ rest ≡ row_lines names u rows ++ more → NextRow names fields counted (u + length good) rest
+rows_next names fields counted count few u [] [] rest more fits suits less same = absurd (omega arith)
+rows_next names fields counted count few u [] (s ∷ rows) rest more fits suits less same =
+    let at : u ≡ u + 0 = omega arith in
+    record {
+      row = s;
+      behind = row_lines names (u + 1) rows ++ more;
+      fits = suits 0 any_row (omega arith);
+      is = same ∙ append_assoc (row_line names u s) (row_lines names (u + 1) rows) more ∙ ap (λ n. row_line names n s ++ (row_lines names (u + 1) rows ++ more)) at;
+    }
+rows_next names fields counted count few u (g ∷ good) [] rest more fits suits less same = absurd (omega arith)
+rows_next names fields counted count few u (g ∷ good) (s ∷ rows) rest more fits suits less same =
+    let apart = sym (append_assoc (row_line names u g) (row_lines names (u + 1) good) rest) ∙ same ∙ append_assoc (row_line names u s) (row_lines names (u + 1) rows) more in
+    let head = row_once names fields count few counted u g s (row_lines names (u + 1) good ++ rest) (row_lines names (u + 1) rows ++ more) (fits 0 any_row (omega arith)) (suits 0 any_row (omega arith)) apart in
+    let next = rows_next names fields counted count few (u + 1) good rows rest more (all_behind (IsRow fields counted) g good fits) (all_behind (IsRow fields counted) s rows suits) (omega arith) head.1 in
+    let at : u + 1 + length good ≡ u + suc (length good) = omega arith in
+    subst (λ n. NextRow names fields counted n rest) at next
+
 line_last : (names : List (List ℕ)) (u k : ℕ) (rows : List Row) (row : Row) → k ≡ u + length rows → row_lines names u (rows ++ row ∷ []) ≡ row_lines names u rows ++ row_line names k row
 line_last names u k [] row at = let e : u ≡ k = omega arith in append-nil (row_line names u row) ∙ ap (λ n. row_line names n row) e
 line_last names u k (s ∷ rows) row at =

@@ -1,5 +1,5 @@
 -- Tables that are read.
-use Rattle.std.proofs.Common.{Result, Ok, Err, IfErr, IsErrAnd, get_or, ◌⊎◌, inl, inr, ◌≡◌, ◌≢◌, ℕ, ◌+◌, ◌<◌, ◌≤◌, ◌==◌, Bool, true, false, List, [], ◌∷◌, ◌++◌, length, refl, sym, ap, subst, ◌∙◌, arith, length-append, All, Option, Some, None}
+use Rattle.std.proofs.Common.{Result, Ok, Err, IfErr, IsErrAnd, get_or, ◌⊎◌, inl, inr, ◌≡◌, ◌≢◌, ℕ, ◌+◌, ◌<◌, ◌≤◌, ◌==◌, Bool, true, false, List, [], ◌∷◌, ◌++◌, length, refl, sym, ap, subst, ◌∙◌, arith, append_assoc, length-append, All, Option, Some, None}
 use Rattle.std.specs.Fmt.{decimal}
 use Rattle.std.proofs.lemmas.Bool.Decides.{Decides-eqb}
 use Rattle.std.proofs.lemmas.Fmt.{decimal_digit}
@@ -12,8 +12,8 @@ use Rattle.report_text.proofs.ReportOnce.{all_behind}
 use Rattle.report_table.specs.declared.row.Row.{Row}
 use Rattle.report_table.specs.declared.fault.TableFault.{TableFault}
 use Rattle.report_table.specs.declared.fault.TableFault.TheVariants.{BadLine, TooManyNodes, Memory}
-use Rattle.report_table.specs.Tables.{TableView, AreFields, IsRow, IsTable, HasTable, FitRound, row_text, row_line, row_lines, round_text, is_counted}
-use Rattle.report_table.specs.Refusals.{IsStopped, AreRefused, IsRefused, round_lines}
+use Rattle.report_table.specs.Tables.{TableView, IsRow, IsTable, HasTable, FitRound, row_text, row_line, row_lines, round_text, is_counted}
+use Rattle.report_table.specs.Stops.{IsStopped, AreFirstNames, AreRefused, round_lines}
 use Rattle.report_table.proofs.RowLines.{any_row, row_some, rows_continue}
 use Rattle.report_text.proofs.ReadFields.{Small}
 
@@ -81,13 +81,13 @@ head_apart d x y more b is digit e =
     let same : b ≡ 114 = ap (λ l. get_or l 0 0) first in
     omega (arith, same, digit)
 
-zero_first : (names : List (List ℕ)) (rows : List Row) (u r : ℕ) (lines : List ℕ) → 1 ≤ length rows → u < 10 → row_lines names u rows ≡ round_line r ++ lines → ⊥
-zero_first names [] u r lines some low e = omega arith
-zero_first names (row ∷ rows) u r lines some low e = head_apart (decimal u) (row_text names row) (row_lines names (u + 1) rows) _ (48 + u) (decimal_digit u low) (omega arith) e
+pub zero_first : (names : List (List ℕ)) (rows : List Row) (more : List ℕ) (u r : ℕ) (lines : List ℕ) → 1 ≤ length rows → u < 10 → row_lines names u rows ++ more ≡ round_line r ++ lines → ⊥
+zero_first names [] more u r lines some low e = omega arith
+zero_first names (row ∷ rows) more u r lines some low e = head_apart (decimal u) (row_text names row) (row_lines names (u + 1) rows ++ more) _ (48 + u) (decimal_digit u low) (omega arith) (sym (append_assoc (row_line names u row) (row_lines names (u + 1) rows) more) ∙ e)
 
 module _ (bytes : List ℕ) (t : TableView) (has : HasTable bytes t) where
   round_cases : (round : Option ℕ) → FitRound round → (r : ℕ) (lines : List ℕ) → Small r → round_text round ++ row_lines t.fields 0 t.rows ≡ round_line r ++ lines → (round ≡ Some r) × (lines ≡ row_lines t.fields 0 t.rows)
-  round_cases None fit r lines small e = absurd (zero_first t.fields t.rows 0 r lines has.is_table.some (omega arith) e)
+  round_cases None fit r lines small e = absurd (zero_first t.fields t.rows [] 0 r lines has.is_table.some (omega arith) (append-nil (row_lines t.fields 0 t.rows) ∙ e))
   round_cases (Some q) fit r lines small e =
       let once = round_once q r (row_lines t.fields 0 t.rows) lines fit small e in
       (ap Some once.0, sym once.1)
@@ -122,12 +122,10 @@ lines_is : {A : Type 0} (round : Option ℕ) (lines : List ℕ) (result : Result
 lines_is round lines (Ok x) fault given why = tt
 lines_is round lines (Err e) fault given why = subst (AreRefused round lines) (sym given) why
 
-pub lines_refused : {A : Type 0} (round : Option ℕ) (lines : List ℕ) (fields : List (List ℕ)) → AreFields fields → (fault : TableFault) (result : Result A TableFault) → IsErrAnd result (λ e. e ≡ fault) → IsStopped fields (is_counted round) (round_lines round) lines fault → IfErr result (AreRefused round lines)
-lines_refused round lines fields are fault result given stop = lines_is round lines result fault given (record { fields = fields; are_fields = are; why = stop })
+are_refused : (round : Option ℕ) (lines : List ℕ) (fields : List (List ℕ)) → AreFirstNames (is_counted round) lines fields → (fault : TableFault) → IsStopped fields (is_counted round) (round_lines round) lines fault → AreRefused round lines fault
+are_refused round lines fields names (BadLine line) stop = record { fields = fields; names = names; why = stop }
+are_refused round lines fields names (TooManyNodes line) stop = record { fields = fields; names = names; why = stop }
+are_refused round lines fields names Memory stop = tt
 
-pub memory_refused : (round : Option ℕ) (lines : List ℕ) → AreRefused round lines Memory
-memory_refused round lines = record { fields = []; are_fields = record { few = omega arith; names = λ k d inside. absurd (omega arith) }; why = tt }
-
-pub refused_all : {A : Type 0} (round : Option ℕ) → FitRound round → (text lines : List ℕ) → text ≡ round_text round ++ lines → (result : Result A TableFault) → IfErr result (AreRefused round lines) → IfErr result (IsRefused text)
-refused_all round fit text lines cut (Ok x) why = tt
-refused_all round fit text lines cut (Err fault) why = record { round = round; fit = fit; lines = lines; cut = cut; why = why }
+pub lines_refused : {A : Type 0} (round : Option ℕ) (lines : List ℕ) (fields : List (List ℕ)) → AreFirstNames (is_counted round) lines fields → (fault : TableFault) (result : Result A TableFault) → IsErrAnd result (λ e. e ≡ fault) → IsStopped fields (is_counted round) (round_lines round) lines fault → IfErr result (AreRefused round lines)
+lines_refused round lines fields names fault result given stop = lines_is round lines result fault given (are_refused round lines fields names fault stop)

@@ -1,3 +1,4 @@
 pub mod Tables
+pub mod Stops
 pub mod Refusals
 pub mod Reports

@@ -1,52 +1,36 @@
 -- Why a text has no table.
-use Rattle.std.specs.Prelude.{◌≡◌, ◌≢◌, ◌<◌, ℕ, ◌+◌, Bool, List, [], ◌++◌, length, All, ◌⊎◌, Option, Some, None}
+use Rattle.std.specs.Prelude.{◌≡◌, ◌≢◌, ◌≤◌, ℕ, ◌+◌, ◌-◌, List, [], ◌++◌, length, take}
 use Rattle.link_net.specs.Limits.{most_nodes}
-use Rattle.report_table.specs.declared.row.Row.{Row}
+use Rattle.report_text.specs.Lines.{lines_of}
 use Rattle.report_table.specs.declared.fault.TableFault.{TableFault}
 use Rattle.report_table.specs.declared.fault.TableFault.TheVariants.{BadLine, TooManyNodes, Memory}
-use Rattle.report_table.specs.Tables.{AreFields, FitRound, IsRow, is_counted, round_text, row_line, row_lines}
+use Rattle.report_table.specs.Tables.{TableView, IsTable, table_text}
 
--- the text has the lines of some nodes from node 0 on, fewer than there may be, and what stands behind them does not begin with a line of the next node; it is not empty, but where there is no line at all
-pub record StopsAt (names : List (List ℕ)) (counted : Bool) (text : List ℕ) (passed : ℕ) : Type 0 where
-  pub good : List Row
+-- the first lines of the text, so many, are the first lines of some table's text; where one of the two has fewer lines, so has the other
+pub record BeginsLikeTable (text : List ℕ) (count : ℕ) : Type 0 where
+  pub table : TableView
+  pub is_table : IsTable table
+  pub same : take count (lines_of text) ≡ take count (lines_of (table_text table))
+
+-- the text is that of a table with as many nodes as there may be, and something behind it, from the line with this number on
+pub record HasTooManyNodes (text : List ℕ) (number : ℕ) : Type 0 where
+  pub table : TableView
+  pub is_table : IsTable table
+  pub full : length table.rows ≡ most_nodes
   pub rest : List ℕ
-  pub cut : text ≡ row_lines names 0 good ++ rest
-  pub fit : All (IsRow (length names) counted) good
-  pub few : length good < most_nodes
-  pub place : passed ≡ length good
-  pub missing : (row : Row) (behind : List ℕ) → IsRow (length names) counted row → rest ≢ row_line names (length good) row ++ behind
-  pub opened : (good ≡ []) ⊎ (rest ≢ [])
+  pub whole : text ≡ table_text table ++ rest
+  pub more : rest ≢ []
+  pub place : number ≡ length (lines_of (table_text table)) + 1
 
--- the text has the lines of as many nodes as there may be, and something behind them
-pub record GoesOn (names : List (List ℕ)) (counted : Bool) (text : List ℕ) : Type 0 where
-  pub good : List Row
-  pub rest : List ℕ
-  pub cut : text ≡ row_lines names 0 good ++ rest
-  pub fit : All (IsRow (length names) counted) good
-  pub full : length good ≡ most_nodes
-  pub opened : rest ≢ []
+-- the line with this number, counted from 1, is the first that no table has behind the lines before it, or the first that is missing; and not for want of a table with more nodes
+pub record IsFirstBadLine (text : List ℕ) (number : ℕ) : Type 0 where
+  pub counted : 1 ≤ number
+  pub before : BeginsLikeTable text (number - 1)
+  pub bad : BeginsLikeTable text number → ⊥
+  pub few : HasTooManyNodes text number → ⊥
 
--- why a text is not the lines of nodes; so many lines stand before it. Lines are counted from 1
-abbrev pub IsStopped : List (List ℕ) → Bool → ℕ → List ℕ → TableFault → Type 0
-IsStopped names counted before text (BadLine line) = (passed : ℕ) × StopsAt names counted text passed × (line ≡ before + (passed + 1))
-IsStopped names counted before text (TooManyNodes line) = GoesOn names counted text × (line ≡ before + (most_nodes + 1))
-IsStopped names counted before text Memory = Unit {0}
-
--- how many lines a round has
-abbrev pub round_lines : Option ℕ → ℕ
-round_lines None = 0
-round_lines (Some round) = 1
-
--- why the lines behind that of the round are refused: with some names of fields
-pub record AreRefused (round : Option ℕ) (lines : List ℕ) (fault : TableFault) : Type 0 where
-  pub fields : List (List ℕ)
-  pub are_fields : AreFields fields
-  pub why : IsStopped fields (is_counted round) (round_lines round) lines fault
-
--- why a text is refused: a line of a round or none, and behind it lines that are refused
-pub record IsRefused (text : List ℕ) (fault : TableFault) : Type 0 where
-  pub round : Option ℕ
-  pub fit : FitRound round
-  pub lines : List ℕ
-  pub cut : text ≡ round_text round ++ lines
-  pub why : AreRefused round lines fault
+-- why a text is refused
+abbrev pub IsRefused : List ℕ → TableFault → Type 0
+IsRefused text (BadLine line) = IsFirstBadLine text line
+IsRefused text (TooManyNodes line) = HasTooManyNodes text line
+IsRefused text Memory = Unit {0}

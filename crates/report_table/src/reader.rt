@@ -6,7 +6,8 @@ ghost use Rattle.report_text.specs.Front.{IsFront, Anything};
 ghost use Rattle.report_text.specs.Report.{round_line};
 ghost use Rattle.report_table.specs.declared.fault.TableFault.TheVariants.{Memory};
 ghost use Rattle.report_table.specs.Tables.{TableView, IsTable, IsRow, HasTable, row_lines, is_counted};
-ghost use Rattle.report_table.specs.Refusals.{IsStopped, AreRefused, IsRefused, round_lines};
+ghost use Rattle.report_table.specs.Stops.{IsStopped, AreRefused, round_lines};
+ghost use Rattle.report_table.specs.Refusals.{IsRefused};
 
 use crate::fault::TableFault;
 use crate::first_line::first_names;

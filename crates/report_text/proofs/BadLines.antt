@@ -32,7 +32,7 @@ bad_round p text none = record {
 blank_words : (k : ℕ) → get_or {A = ℕ} (replicate {A = ℕ} 8 0) k 0 ≡ 0
 blank_words k = elim (cases_lt k 8) [ inl near ↦ get_or-replicate {A = ℕ} 8 k 0 0 near | inr far ↦ get_or_past {X = ℕ} (replicate {A = ℕ} 8 0) k 0 (omega (arith, length-replicate {A = ℕ} 8 0)) ]
 
-blank_fits : (fields : ℕ) → IsStateOf fields blank
+pub blank_fits : (fields : ℕ) → IsStateOf fields blank
 blank_fits fields = record {
   count = length-replicate {A = ℕ} 8 0;
   small = All-replicate {X = ℕ} (λ w. w < 2 ^ 32) 8 0 (omega arith);

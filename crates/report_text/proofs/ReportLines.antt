@@ -17,13 +17,13 @@ digits_inline : (ds : List ℕ) → IsDigits ds → IsInLine ds
 digits_inline [] each = tt
 digits_inline (d ∷ ds) each = (λ ten. let low = digit_bounds d each.0 in absurd (omega (arith, low.0)), digits_inline ds each.1)
 
-number_inline : (n : ℕ) → n < 2 ^ 32 → IsInLine (decimal n)
+pub number_inline : (n : ℕ) → n < 2 ^ 32 → IsInLine (decimal n)
 number_inline n small = digits_inline (decimal n) (decimal_digits n small)
 
 field_inline : (name : List ℕ) (v : ℕ) → IsInLine name → v < 2 ^ 32 → IsInLine (field_text name v)
 field_inline name v plain small = ((λ ten. absurd (omega arith)), inline_append name (codes "=" ++ decimal v) plain ((λ ten. absurd (omega arith)), number_inline v small))
 
-fields_inline : (names : List (List ℕ)) (words : List ℕ) → All IsInLine names → SmallWords names words → IsInLine (fields_text names words)
+pub fields_inline : (names : List (List ℕ)) (words : List ℕ) → All IsInLine names → SmallWords names words → IsInLine (fields_text names words)
 fields_inline [] words plain small = tt
 fields_inline (name ∷ names) [] plain small = tt
 fields_inline (name ∷ names) (w ∷ words) plain small =

@@ -1,7 +1,7 @@
 use Rattle.std.proofs.Common.{◌∙◌, All, length, map, sym, ap, subst}
 use Rattle.std.proofs.lemmas.List.{length-map}
-use Rattle.report_table.specs.Tables.{AreFields, IsRow, is_counted, row_lines}
-use Rattle.report_table.specs.Refusals.{IsStopped, round_lines}
+use Rattle.report_table.specs.Tables.{IsRow, is_counted, row_lines}
+use Rattle.report_table.specs.Stops.{IsStopped, AreFirstNames, round_lines}
 use Rattle.report_table.proofs.Tables.{first_row, err_memory, lines_refused, table_same}
 use Rattle.report_table.proofs.reader.read_lines.Goals as goal
 
@@ -23,7 +23,8 @@ returns-in_err-rows-clause-refused c =
     let names = ap (map (λ f. f.now)) c.deref.ensures.value in
     let stop = subst (λ n. IsStopped (map (λ f. f.now) c.deref.result.now) c.is_counted-counted.result n c.args.lines.now fault) c.round_lines-before.ensures c.in_err-rows.ensures.refused in
     let stopped = subst (λ b. IsStopped (map (λ f. f.now) c.deref.result.now) b (round_lines c.args.round) c.args.lines.now fault) c.is_counted-counted.ensures stop in
-    lines_refused c.args.round c.args.lines.now (map (λ f. f.now) c.deref.result.now) (subst AreFields (sym names) c.in_ok-fields.ensures.fields) fault c.from_residual-in_err-rows.result c.from_residual-in_err-rows.ensures.1 stopped
+    let found = subst (λ b. AreFirstNames b c.args.lines.now (map (λ f. f.now) c.in_ok-fields.fields.items)) c.is_counted-counted.ensures (record { are_fields = c.in_ok-fields.ensures.fields; only = c.in_ok-fields.ensures.only }) in
+    lines_refused c.args.round c.args.lines.now (map (λ f. f.now) c.deref.result.now) (subst (AreFirstNames (is_counted c.args.round) c.args.lines.now) (sym names) found) fault c.from_residual-in_err-rows.result c.from_residual-in_err-rows.ensures.1 stopped
 
 pub returns-clause-one : goal.returns-clause-one
 returns-clause-one c t is round e =

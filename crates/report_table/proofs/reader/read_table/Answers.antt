@@ -1,5 +1,6 @@
 use Rattle.std.proofs.Common.{Some, None, refl}
-use Rattle.report_table.proofs.Tables.{round_read, round_none, refused_all}
+use Rattle.report_table.proofs.Tables.{round_read, round_none}
+use Rattle.report_table.proofs.BadLines.{refused_all}
 use Rattle.report_table.proofs.reader.read_table.Goals as goal
 
 pub returns-in-Some-clause-one : goal.returns-in-Some-clause-one
@@ -23,7 +24,7 @@ returns-in-None-clause-only c t has =
     c.read_lines-in-None.ensures.only t has.is_table r.0 r.1
 
 pub returns-in-Some-clause-refused : goal.returns-in-Some-clause-refused
-returns-in-Some-clause-refused c = refused_all (Some c.in-Some.round) c.in-Some.ensures.1 c.args.bytes.now c.in-Some.lines.now c.in-Some.ensures.0 c.read_lines.result c.read_lines.ensures.refused
+returns-in-Some-clause-refused c = refused_all (Some c.in-Some.round) c.args.bytes.now c.in-Some.lines.now (c.in-Some.ensures.1, c.in-Some.ensures.0) c.read_lines.result c.read_lines.ensures.refused
 
 pub returns-in-None-clause-refused : goal.returns-in-None-clause-refused
-returns-in-None-clause-refused c = refused_all None tt c.args.bytes.now c.args.bytes.now refl c.read_lines-in-None.result c.read_lines-in-None.ensures.refused
+returns-in-None-clause-refused c = refused_all None c.args.bytes.now c.args.bytes.now (c.in-None.ensures, refl) c.read_lines-in-None.result c.read_lines-in-None.ensures.refused

@@ -1,0 +1,2 @@
+pub mod AskedFields
+pub mod CsvLines
