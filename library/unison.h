@@ -29,7 +29,7 @@ extern "C" {
  * fault lines in docs/formats.md, part and name. */
 enum unison_fault {
     /* Made from library/faults.toml by library/faults: */
-    UNISON_MEMORY = 1,     /* want of memory, which may come anywhere */
+    UNISON_MEMORY = 1,     /* out of memory, which may come anywhere */
     UNISON_ROOM = 2,       /* there is too little room for an answer; its sizes are set */
     UNISON_NEVER = 3,      /* never: the proved clauses leave no fault of this number */
     UNISON_NOT_RISING = 4, /* a round of the list is not above the one before it */

@@ -123,7 +123,7 @@ class NetworkError(UnisonError):
 
 
 class PlanError(UnisonError):
-    """The opening values of a network are refused, beside the program that they are for."""
+    """The initial values of a network are refused, beside the program that they are for."""
 
 
 class ReportError(UnisonError):
@@ -156,4 +156,4 @@ def error_of(number: int, diagnosis: str = "") -> UnisonError:
 
 def fault_of(number: int, diagnosis: str = "") -> Exception:
     """The exception for an answer of the library."""
-    return MemoryError("unison: want of memory") if number == MEMORY else error_of(number, diagnosis)
+    return MemoryError("unison: out of memory") if number == MEMORY else error_of(number, diagnosis)
