@@ -1,5 +1,5 @@
 -- Rows that are lent.
-use Rattle.std.proofs.Common.{◌≡◌, ◌∙◌, ℕ, ◌≤◌, List, [], length, map, ap, arith, Option, Some, None, option_map, IfSome, Bor}
+use Rattle.std.proofs.Common.{◌≡◌, ℕ, ◌≤◌, List, [], length, map, ap, arith, Option, Some, None, option_map, IfSome, Bor}
 use Rattle.std.specs.List.{slice_get}
 use Rattle.std.proofs.lemmas.List.{length-map}
 use Rattle.std.proofs.lemmas.Option.{get_or_from_slice_get}

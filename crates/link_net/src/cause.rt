@@ -5,7 +5,7 @@ ghost use Rattle.link_net.specs.Causes.{fault_of};
 use crate::NetFault;
 
 /// Why a network file is refused, with the place. Links, and entries of arrays, are counted from 0 in the file's order.
-#[derive(Debug, Drop)]
+#[derive(Drop)]
 pub enum NetCause {
     /// The bytes are no TOML document: the byte at which the reader of TOML stopped, counted from 0, and what it says.
     NotToml { at: usize, message: String },

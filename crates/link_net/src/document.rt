@@ -1,5 +1,6 @@
 //! The shape of a network document: its keys and values, their numbers unchecked.
-ghost use Rattle.std.specs.Prelude.{◌≡◌, ℕ, not, string_bytes, List, option_map, option_and_then, codes, IfErr, IsSome};
+ghost use Rattle.std.specs.Prelude.{◌≡◌, false, Err, ℕ, not, string_bytes, List, option_map, option_and_then, codes, IfErr, IsSome};
+ghost use Rattle.std.specs.Str.{is_utf8};
 ghost use Rattle.std.specs.Option.{ok_or};
 ghost use Rattle.toml.specs.Data.{get_member, as_array};
 ghost use Rattle.toml.specs.View.{view, table_view, array_view};
@@ -12,11 +13,15 @@ use std::alloc::Global;
 use toml::value::Array;
 use toml::{Table, Value};
 
-/// The table that the bytes are.
+/// The table that the bytes are. Bytes that are no UTF-8 take no memory.
 pub(crate) fn read_table(alloc: Global, bytes: &[u8]) -> Result<Table, NetFault>
-    ensures { IsAnswerBy table_view (ok_or (document_of bytes.now) NetFault.NotToml) result }
+    ensures answer { IsAnswerBy table_view (ok_or (document_of bytes.now) NetFault.NotToml) result }
+    ensures at_once { is_utf8 bytes.now ≡ false → result ≡ Err NetFault.NotToml }
 {
-    match toml::table_from_slice(alloc, bytes) {
+    let Ok(text) = std::str::from_utf8(bytes) else {
+        return Err(NetFault::NotToml);
+    };
+    match toml::table_from_str(alloc, text) {
         Ok(table) => Ok(table),
         Err(error) => {
             if error.is_memory() {

@@ -6,7 +6,7 @@ use crate::FieldSet;
 use std::marker::Model;
 
 /// Links as the file has them: two ends and a weight each. Seen as their list.
-#[derive(Debug, Drop)]
+#[derive(Drop)]
 pub(crate) struct DraftLinks {
     items: Vec<(i64, i64, i64)>,
 }
@@ -36,7 +36,7 @@ impl DraftLinks {
 }
 
 /// The field sets of a file, by rising order of the names' bytes. Seen as their list.
-#[derive(Debug, Drop)]
+#[derive(Drop)]
 pub(crate) struct FieldSets {
     items: Vec<FieldSet>,
 }
@@ -73,7 +73,7 @@ impl FieldSets {
 }
 
 /// A document of the right shape, its numbers unchecked.
-#[derive(Debug, Drop)]
+#[derive(Drop)]
 pub(crate) struct Draft {
     pub(crate) nodes: i64,
     pub(crate) links: DraftLinks,

@@ -34,7 +34,7 @@ impl Name {
 }
 
 /// Pairs of numbers in the file's order, seen as their list.
-#[derive(Debug, Drop)]
+#[derive(Drop)]
 pub struct Pairs {
     items: Vec<(i64, i64)>,
 }
@@ -65,7 +65,7 @@ impl Pairs {
 
 /// What one key of `set` gives: the field's name, and the pairs [node, value] in the file's order.
 /// The numbers are those of the file, in any range.
-#[derive(Debug, Drop)]
+#[derive(Drop)]
 pub struct FieldSet {
     pub name: Name,
     pub pairs: Pairs,

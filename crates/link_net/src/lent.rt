@@ -7,7 +7,7 @@ use crate::network::part_of;
 use std::marker::Model;
 
 /// What rounds read of a network that stands elsewhere: for each node its neighbours, and the weights of the links to them.
-#[derive(Debug, Drop)]
+#[derive(Drop)]
 pub struct NetRows<'a> {
     /// Where each node's part of the two lists below begins, and last where they end.
     offsets: &'a [usize],

@@ -1,8 +1,10 @@
 //! Network files: nodes, undirected links with weights, an opening phase and opening values.
 #![tactic(auto)]
 
-ghost use Rattle.std.specs.Prelude.{◌≡◌};
+ghost use Rattle.std.specs.Prelude.{◌≡◌, false, Err};
+ghost use Rattle.std.specs.Str.{is_utf8};
 ghost use Rattle.toml.specs.View.{table_view};
+ghost use Rattle.link_net.specs.declared.fault.NetFault.TheVariants.{NotToml};
 ghost use Rattle.link_net.specs.Reading.{IsAnswer, reading_of, description_in};
 
 mod cause;
@@ -33,9 +35,10 @@ pub use tables::{Link, MOST_LINKS, MOST_NEIGHBOURS, link_network};
 use toml::Table;
 
 /// Reads a network file: the description that its bytes are, or the first fault in the order of [`NetFault`],
-/// `BadWeight` after the others; `Memory` comes for want of memory alone.
+/// `BadWeight` after the others; `Memory` comes for want of memory alone. Bytes that are no UTF-8 take no memory.
 pub fn read_network(alloc: Global, bytes: &[u8]) -> Result<NetFile, NetFault>
     ensures answer { IsAnswer (reading_of bytes.now) result }
+    ensures at_once { is_utf8 bytes.now ≡ false → result ≡ Err NotToml }
 {
     let table = document::read_table(alloc, bytes)?;
     describe_table(alloc, &table)

@@ -7,7 +7,7 @@ use crate::{FieldSet, Network};
 use std::marker::Model;
 
 /// A network with its opening phase and the opening values of `set`.
-#[derive(Debug, Drop)]
+#[derive(Drop)]
 pub struct NetFile {
     network: Network,
     phase: u8,

@@ -10,7 +10,7 @@ use std::marker::Model;
 
 /// A network: undirected links between nodes that are numbered from 0, each link with a weight.
 /// The neighbours of a node stand by rising number, in slots that are numbered from 0.
-#[derive(Debug, Drop)]
+#[derive(Drop)]
 pub struct Network {
     /// Where each node's part of the two lists below begins, and last where they end.
     offsets: Vec<usize>,

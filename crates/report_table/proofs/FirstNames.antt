@@ -1,5 +1,5 @@
 -- The names of the fields that the first line has.
-use Rattle.std.proofs.Common.{◌⊎◌, inl, inr, ◌≡◌, ◌≢◌, ℕ, suc, ◌+◌, ◌<◌, ◌≤◌, ◌^◌, Bool, true, false, List, [], ◌∷◌, ◌++◌, length, refl, sym, ap, subst, ◌∙◌, arith, append_assoc, length-append, All, Option, Some, None, codes, IsTrue, not}
+use Rattle.std.proofs.Common.{◌⊎◌, inl, inr, ◌≡◌, ℕ, ◌+◌, ◌<◌, ◌≤◌, ◌^◌, Bool, true, false, List, [], ◌∷◌, ◌++◌, length, refl, sym, ap, subst, ◌∙◌, arith, append_assoc, length-append, All, Some, None, codes, IsTrue}
 use Rattle.std.specs.Fmt.{decimal}
 use Rattle.std.specs.Char.{is_ascii_alphabetic}
 use Rattle.std.specs.List.{AllByRecursion, slice_get}
@@ -16,9 +16,9 @@ use Rattle.report_text.proofs.Digits.{number_once}
 use Rattle.report_text.proofs.Once.{ends_fields}
 use Rattle.report_text.proofs.ReportOnce.{all_behind}
 use Rattle.report_table.specs.declared.row.Row.{Row}
-use Rattle.report_table.specs.Tables.{AreFields, IsRow, row_text, row_line}
+use Rattle.report_table.specs.Tables.{IsRow, row_text, row_line}
 use Rattle.report_table.proofs.RowLines.{ending, ends_ending, row_ends, row_moved}
-use Rattle.report_table.proofs.RowFronts.{Small}
+use Rattle.report_text.proofs.ReadFields.{Small}
 
 word_each : (word : List ℕ) → IsWord word → AllByRecursion (λ b. IsTrue (is_word_byte b)) word
 word_each [] h = absurd h

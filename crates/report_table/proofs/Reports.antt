@@ -1,8 +1,7 @@
 -- Reports as tables.
-use Rattle.std.proofs.Common.{◌≡◌, ℕ, ◌+◌, List, [], ◌∷◌, ◌++◌, map, refl, ap, Some, None}
+use Rattle.std.proofs.Common.{◌≡◌, ℕ, ◌+◌, List, [], ◌∷◌, ◌++◌, map, refl, ap, None}
 use Rattle.rule_check.specs.declared.state.State.{State}
 use Rattle.report_text.specs.Report.{node_line, node_lines, round_line}
-use Rattle.report_table.specs.declared.row.Row.{Row}
 use Rattle.report_table.specs.Tables.{row_lines}
 use Rattle.report_table.specs.Reports.{ReportsAreTables}
 

@@ -1,5 +1,5 @@
 -- A row that is read part by part.
-use Rattle.std.proofs.Common.{get_or, map, zero, suc, ◌≡◌, ◌≢◌, ℕ, ◌+◌, ◌<◌, ◌≤◌, ◌^◌, Bool, true, false, List, [], ◌∷◌, ◌++◌, length, refl, sym, ap, subst, ◌∙◌, arith, append_assoc, Option, Some, None, codes}
+use Rattle.std.proofs.Common.{◌≡◌, ◌≢◌, ℕ, ◌<◌, ◌^◌, Bool, true, false, List, [], ◌∷◌, ◌++◌, sym, ap, ◌∙◌, append_assoc, Option, Some, None, codes}
 use Rattle.std.specs.Fmt.{decimal}
 use Rattle.std.specs.Option.{option_map}
 use Rattle.std.proofs.lemmas.List.{append_cancel_left}
@@ -8,12 +8,9 @@ use Rattle.report_text.specs.Front.{IsFront, Ends, Anything}
 use Rattle.report_text.specs.Report.{fields_text}
 use Rattle.report_text.specs.ReadReport.{IsStateOf}
 use Rattle.report_text.proofs.Digits.{number_once}
-use Rattle.report_table.specs.declared.row.Row.{Row}
-use Rattle.report_table.specs.Tables.{row_text, row_line, FitMoves, IsRow}
+use Rattle.report_text.proofs.ReadFields.{Small}
+use Rattle.report_table.specs.Tables.{row_text, row_line, IsRow}
 use Rattle.report_table.proofs.RowLines.{ending, ends_ending, row_plain, row_moved, row_ends}
-
-abbrev pub Small : ℕ → Type 0
-Small n = n < 2 ^ 32
 
 -- the fields and the end of their line
 abbrev pub ended : List (List ℕ) → State → List ℕ
@@ -54,9 +51,3 @@ module _ (names : List (List ℕ)) (fields node : ℕ) (counted : Bool) (bytes :
   pub other_row : (n : ℕ) (rest : List ℕ) → bytes ≡ decimal n ++ rest → n < 2 ^ 32 → Ends rest → n ≢ node → IsFront (row_line names node) (IsRow fields counted) Anything bytes None
   other_row n rest is small ends other = λ row behind fits any e.
       other (number_once n node rest (row_text names row ++ behind) small tiny ends (row_ends names fields row behind counted fits) (sym is ∙ e ∙ append_assoc (decimal node) (row_text names row) behind)).0
-
--- what stands at a place of the views
-pub at_place : {A : Type 0} (f : A → List ℕ) (xs : List A) (p : ℕ) (d : A) → p < length xs → f (get_or xs p d) ≡ get_or (map f xs) p []
-at_place f [] p d inside = absurd (omega arith)
-at_place f (x ∷ xs) zero d inside = refl
-at_place f (x ∷ xs) (suc p) d inside = at_place f xs p d (omega arith)

@@ -1,5 +1,5 @@
 -- Tables that are read.
-use Rattle.std.proofs.Common.{Result, Ok, Err, IfErr, IsErrAnd, get_or, ◌⊎◌, inl, inr, ◌≡◌, ◌≢◌, ℕ, suc, ◌+◌, ◌<◌, ◌≤◌, ◌^◌, ◌==◌, Bool, true, false, List, [], ◌∷◌, ◌++◌, length, refl, sym, ap, subst, ◌∙◌, arith, append_assoc, length-append, All, Option, Some, None}
+use Rattle.std.proofs.Common.{Result, Ok, Err, IfErr, IsErrAnd, get_or, ◌⊎◌, inl, inr, ◌≡◌, ◌≢◌, ℕ, ◌+◌, ◌<◌, ◌≤◌, ◌==◌, Bool, true, false, List, [], ◌∷◌, ◌++◌, length, refl, sym, ap, subst, ◌∙◌, arith, length-append, All, Option, Some, None}
 use Rattle.std.specs.Fmt.{decimal}
 use Rattle.std.proofs.lemmas.Bool.Decides.{Decides-eqb}
 use Rattle.std.proofs.lemmas.Fmt.{decimal_digit}
@@ -13,9 +13,9 @@ use Rattle.report_table.specs.declared.row.Row.{Row}
 use Rattle.report_table.specs.declared.fault.TableFault.{TableFault}
 use Rattle.report_table.specs.declared.fault.TableFault.TheVariants.{BadLine, TooManyNodes, Memory}
 use Rattle.report_table.specs.Tables.{TableView, AreFields, IsRow, IsTable, HasTable, FitRound, row_text, row_line, row_lines, round_text, is_counted}
-use Rattle.report_table.specs.Refusals.{StopsAt, GoesOn, IsStopped, AreRefused, IsRefused, round_lines}
-use Rattle.report_table.proofs.RowLines.{any_row, row_some, Continues, rows_continue}
-use Rattle.report_table.proofs.RowFronts.{Small}
+use Rattle.report_table.specs.Refusals.{IsStopped, AreRefused, IsRefused, round_lines}
+use Rattle.report_table.proofs.RowLines.{any_row, row_some, rows_continue}
+use Rattle.report_text.proofs.ReadFields.{Small}
 
 pub is_nothing : (bytes : List ℕ) (empty : Bool) → empty ≡ (length bytes == 0) → empty ≡ true → bytes ≡ []
 is_nothing [] empty is holds = refl

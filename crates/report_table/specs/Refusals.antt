@@ -1,5 +1,5 @@
 -- Why a text has no table.
-use Rattle.std.specs.Prelude.{◌≡◌, ◌≢◌, ◌≤◌, ◌<◌, ℕ, ◌+◌, Bool, List, [], ◌++◌, length, All, ◌⊎◌, Option, Some, None}
+use Rattle.std.specs.Prelude.{◌≡◌, ◌≢◌, ◌<◌, ℕ, ◌+◌, Bool, List, [], ◌++◌, length, All, ◌⊎◌, Option, Some, None}
 use Rattle.link_net.specs.Limits.{most_nodes}
 use Rattle.report_table.specs.declared.row.Row.{Row}
 use Rattle.report_table.specs.declared.fault.TableFault.{TableFault}

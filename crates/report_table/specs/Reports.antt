@@ -2,7 +2,6 @@
 use Rattle.std.specs.Prelude.{◌≡◌, ℕ, List, map, Some, None}
 use Rattle.rounds_plan.specs.Configs.{Configuration}
 use Rattle.report_text.specs.Report.{report_text}
-use Rattle.report_table.specs.declared.row.Row.{Row}
 use Rattle.report_table.specs.Tables.{TableView, table_text}
 
 -- the table of the configuration of a program with these fields: its round, and its states without moves

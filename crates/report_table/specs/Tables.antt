@@ -1,7 +1,6 @@
 -- Reports and replay reports as tables, without the program and the network that they were made from.
 use Rattle.std.specs.Prelude.{◌≡◌, ◌≤◌, ◌<◌, ◌^◌, ℕ, ◌+◌, Bool, true, false, List, [], ◌∷◌, ◌++◌, length, codes, All, Option, Some, None}
 use Rattle.std.specs.Fmt.{decimal}
-use Rattle.rule_check.specs.declared.state.State.{State}
 use Rattle.rule_check.specs.WellFormed.{IsFieldName}
 use Rattle.report_text.specs.Report.{fields_text, round_line}
 use Rattle.report_text.specs.ReadReport.{IsStateOf}

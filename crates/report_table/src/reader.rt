@@ -14,18 +14,8 @@ use crate::row::Row;
 use crate::row_reader::read_row;
 use crate::table::Table;
 use link_net::MOST_NODES;
-use report_text::{behind, read_number};
+use report_text::read_round;
 use std::alloc::Global;
-
-/// The round that the line of the round gives, and what stands behind the line.
-fn read_round(bytes: &[u8]) -> Option<(u32, &[u8])>
-    ensures { IsFront round_line (λ t. t < 2 ^ 32) Anything bytes.now (option_map (λ x. (x.0, x.1.now)) result) }
-{
-    let number = behind(b"round ", bytes)?;
-    let (rounds, end) = read_number(number)?;
-    let more = behind(b"\n", end)?;
-    Some((rounds, more))
-}
 
 /// The rows of the lines of all nodes; so many lines stand before them.
 fn read_rows(

@@ -39,6 +39,23 @@ blank_fits fields = record {
   plain = λ k far. blank_words k;
 }
 
+-- a round's line fits as the first one
+pub good_round : (p : PlanView) (text lines : List ℕ) (t : ℕ) → t < 2 ^ 32 → text ≡ round_line t ++ lines → IsFirstBadLine p text 1 → ⊥
+good_round p text lines t small cut first =
+    let states = replicate (length p.network) blank in
+    first.bad (record {
+      other = record { rounds = t; fields = length p.program.fields; states = states };
+      shape = record {
+        round = small;
+        fields = refl;
+        nodes = length-replicate (length p.network) blank;
+        states = All-replicate (IsStateOf (length p.program.fields)) (length p.network) blank (blank_fits (length p.program.fields));
+      };
+      same =
+          ap (λ ls. slice_get ls 0) (round_split t (node_lines (names_of p.program) 0 states) small)
+          ∙ sym (ap (λ ls. slice_get ls 0) (ap lines_of cut ∙ round_split t lines small));
+    })
+
 module _ (p : PlanView) (few : length p.program.fields ≤ 8) (narrow : length p.network ≤ 65536) (plain : All IsInLine (names_of p.program)) where
   -- the line behind the good ones is that of no node
   no_node : (lines : List ℕ) (number : ℕ) (stop : StopsAtLine (names_of p.program) (length p.program.fields) (length p.network) lines number) (tail : List State) → length stop.good + length tail ≡ length p.network → All (IsStateOf (length p.program.fields)) tail → slice_get (lines_of (node_lines (names_of p.program) (length stop.good) tail)) 0 ≡ slice_get (lines_of stop.rest) 0 → ⊥

@@ -1,5 +1,7 @@
 -- The names of fields have no LF in them: they are words.
-use Rattle.std.proofs.Common.{◌≡◌, ◌≢◌, ℕ, true, List, [], ◌∷◌, All, subst}
+use Rattle.std.proofs.Common.{◌≡◌, ◌≢◌, ◌<◌, ◌+◌, ◌++◌, ◌∙◌, ℕ, true, List, [], ◌∷◌, All, subst, ap, sym, map, take, set, length, get_or, add-one}
+use Rattle.std.proofs.lemmas.List.{map-append, take_more_set}
+use Rattle.std.proofs.Math.Seq.{take-suc}
 use Rattle.std.specs.Char.{is_ascii_alphabetic}
 use Rattle.std.specs.List.{AllByRecursion}
 use Rattle.rule_lang.specs.Tokens.{IsWord, is_word_byte}
@@ -22,3 +24,10 @@ word_in_line (b ∷ bytes) h = (letter_in_line b h.0, bytes_in_line bytes h.1)
 
 pub names_in_line : (names : List (List ℕ)) → All IsFieldName names → All IsInLine names
 names_in_line names each k d inside = word_in_line _ (each k d inside).0
+
+-- the names so far, with one more
+pub names_more : {A : Type 0} (view : A → List ℕ) (xs : List A) (names : List (List ℕ)) (p : ℕ) (x : A) → p < length xs → p < length names → view x ≡ get_or names p [] → map view (take p xs) ≡ take p names → map view (take (p + 1) (set xs p x)) ≡ take (p + 1) names
+names_more view xs names p x inside more is so_far =
+    ap (map view) (take_more_set xs p x inside) ∙ map-append view (take p xs) (x ∷ [])
+    ∙ ap (λ ns. ns ++ view x ∷ []) so_far ∙ ap (λ n. take p names ++ n ∷ []) is
+    ∙ sym (ap (λ k. take k names) (add-one p) ∙ take-suc names p [] more)

@@ -1,5 +1,5 @@
 -- One field more that was read.
-use Rattle.std.proofs.Common.{◌≡◌, ℕ, zero, suc, ◌+◌, ◌<◌, ◌^◌, List, [], ◌∷◌, ◌++◌, length, get_or, set, take, drop, sym, ap, ◌∙◌, arith, append_assoc, add-one}
+use Rattle.std.proofs.Common.{◌≡◌, ℕ, zero, suc, ◌+◌, ◌<◌, ◌^◌, List, [], ◌∷◌, ◌++◌, length, get_or, set, map, refl, take, drop, sym, ap, ◌∙◌, arith, append_assoc, add-one}
 use Rattle.std.proofs.lemmas.List.{append-nil}
 use Rattle.report_text.specs.Front.{Ends}
 use Rattle.report_text.specs.Report.{field_text, fields_text}
@@ -31,3 +31,12 @@ left_more names words rest more behind p v inside long small tiny ends stops rea
     (field_once (get_or names p []) v (get_or words p 0) more (fields_text (drop (p + 1) names) (drop (p + 1) words) ++ behind) small tiny ends
     (ends_fields (drop (p + 1) names) (drop (p + 1) words) behind stops)
     (sym read ∙ left_apart names words rest behind p inside long left)).1
+
+abbrev pub Small : ℕ → Type 0
+Small n = n < 2 ^ 32
+
+-- what stands at a place of the views
+pub at_place : {A : Type 0} (f : A → List ℕ) (xs : List A) (p : ℕ) (d : A) → p < length xs → f (get_or xs p d) ≡ get_or (map f xs) p []
+at_place f [] p d inside = absurd (omega arith)
+at_place f (x ∷ xs) zero d inside = refl
+at_place f (x ∷ xs) (suc p) d inside = at_place f xs p d (omega arith)

@@ -2,13 +2,15 @@
 #![tactic(auto)]
 
 mod fault;
+mod fields_reader;
 mod number;
 mod report_reader;
 mod report_writer;
 mod tally;
 
 pub use fault::ReportFault;
+pub use fields_reader::read_state;
 pub use number::{behind, read_number};
-pub use report_reader::read_report;
+pub use report_reader::{read_report, read_round};
 pub use report_writer::{put_field, put_fields, report};
 pub use tally::{Cut, DeviceFault, Tally, write_text};

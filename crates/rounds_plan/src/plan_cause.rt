@@ -1,5 +1,5 @@
 //! Why a program and a network file make no plan, with the entries of `set` at fault.
-ghost use Rattle.std.specs.Prelude.{ℕ, List, ◌≡◌, ◌≤◌, false, not, length, replicate, IfOk, IfSome, is_some, Some, None, if◌then◌else◌};
+ghost use Rattle.std.specs.Prelude.{ℕ, List, ◌≡◌, ◌≢◌, ◌≤◌, false, is_err, IfErr, not, length, replicate, IfOk, IfSome, is_some, Some, None, if◌then◌else◌};
 ghost use Rattle.std.specs.Option.{option_map};
 ghost use Rattle.std.specs.Result.{result_err};
 ghost use Rattle.std.specs.List.{list_any};
@@ -149,7 +149,8 @@ fn set_twice(alloc: Global, nodes: u32, sets: &[FieldSet]) -> Result<Option<Plan
     Ok(None)
 }
 
-/// Why a program and a network file make no plan: none exactly where `Plan::new` makes one, want of memory aside.
+/// Why a program and a network file make no plan: none exactly where `Plan::new` makes one, want of memory aside. All
+/// causes but `SetTwice`, which takes a mark for each node, are found without taking memory.
 pub fn diagnose_plan(
     alloc: Global,
     program: &Program,
@@ -157,6 +158,7 @@ pub fn diagnose_plan(
 ) -> Result<Option<PlanCause>, AllocError>
     ensures agrees { IfOk result (λ cause. option_map plan_fault_of cause ≡ result_err (plan_of program.now file.now)) }
     ensures named { IfOk result (λ cause. IfSome cause (IsPlanCause program.now file.now)) }
+    ensures at_once { IfErr (plan_of program.now file.now) (λ fault. fault ≢ SetTwice → is_err result ≡ false) }
 {
     let nodes = file.network().nodes();
     let sets = file.sets();

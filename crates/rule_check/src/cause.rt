@@ -1,7 +1,7 @@
 //! Why a program is refused, with the items at fault.
 
 /// Why a program is refused, with the item at fault; items are counted from 0, in the text's order.
-#[derive(Debug, Drop)]
+#[derive(Drop)]
 pub enum CheckCause {
     /// The ninth `field` item.
     TooManyFields { item: usize },

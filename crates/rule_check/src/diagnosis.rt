@@ -179,6 +179,23 @@ fn too_many_aggregates(items: &[Item]) -> Option<CheckCause>
     None
 }
 
+/// Why a program whose names are in order is refused.
+fn ill_formed(items: &[Item]) -> Option<CheckCause>
+    ensures agrees { option_map fault_of result
+        ≡ (if list_any (λ n. looks_outside n.body) (nexts_of (items_of items.now)) then Some NeighbourOutside else
+        (if list_any (λ n. nests n.body) (nexts_of (items_of items.now)) then Some NestedAggregate else
+        (if nat_lt 16 (length (all_parts (nexts_of (items_of items.now)))) then Some TooManyAggregates else None))) }
+    ensures named { IfSome result (IsCause (items_of items.now)) }
+{
+    if let Some(cause) = outside(items) {
+        return Some(cause);
+    }
+    if let Some(cause) = nested(items) {
+        return Some(cause);
+    }
+    too_many_aggregates(items)
+}
+
 /// Why a program is refused: none exactly where `check` gives a program, want of memory aside.
 ///
 /// Want of memory comes in place of any answer but `TooManyFields`.
@@ -188,29 +205,17 @@ pub fn diagnose(alloc: Global, source: &Source) -> Result<Option<CheckCause>, Al
     ensures many { 8 < length (rules_of source.now).fields → IsOk result }
 {
     let items = source.items();
-    let many = too_many_fields(items);
-    if many.is_some() {
-        return Ok(many);
+    if let Some(cause) = too_many_fields(items) {
+        return Ok(Some(cause));
     }
-    let field_repeat = field_twice(alloc, items)?;
-    if field_repeat.is_some() {
-        return Ok(field_repeat);
+    if let Some(cause) = field_twice(alloc, items)? {
+        return Ok(Some(cause));
     }
-    let next_repeat = next_twice(alloc, items)?;
-    if next_repeat.is_some() {
-        return Ok(next_repeat);
+    if let Some(cause) = next_twice(alloc, items)? {
+        return Ok(Some(cause));
     }
-    let unknown_name = unknown(alloc, items)?;
-    if unknown_name.is_some() {
-        return Ok(unknown_name);
+    if let Some(cause) = unknown(alloc, items)? {
+        return Ok(Some(cause));
     }
-    let form = outside(items);
-    if form.is_some() {
-        return Ok(form);
-    }
-    let nest = nested(items);
-    if nest.is_some() {
-        return Ok(nest);
-    }
-    Ok(too_many_aggregates(items))
+    Ok(ill_formed(items))
 }

@@ -1,5 +1,5 @@
 -- Internal: what a function of the parser returns for what can be read, and why nothing can be. No public clause cites it.
-use Rattle.std.specs.Prelude.{ℕ, List, [], ◌∷◌, Option, Some, None, Result, Ok, Err, length, ◌≡◌, ◌≤◌}
+use Rattle.std.specs.Prelude.{ℕ, List, Option, Some, None, Result, Ok, Err, length, ◌≡◌, ◌≤◌}
 use Rattle.rule_lang.specs.declared.cause.Expected.{Expected}
 use Rattle.rule_lang.specs.declared.cause.LangCause.TheVariants as cause
 use Rattle.rule_lang.specs.declared.cause.Refusal.{Refusal}

@@ -73,7 +73,7 @@ impl LangCause {
 }
 
 /// Why there is no program: a cause in the text, or want of memory.
-#[derive(Clone, Copy, Debug)]
+#[derive(Clone, Copy)]
 pub enum Refusal {
     Cause(LangCause),
     Memory,

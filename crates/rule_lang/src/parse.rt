@@ -4,7 +4,7 @@ ghost use Rattle.std.specs.Prelude.{◌≡◌, IfOk, string_bytes};
 ghost use Rattle.std.specs.Option.{option_map};
 ghost use Rattle.rule_lang.specs.View.{tree_of, item_of, items_of, toks_of};
 ghost use Rattle.rule_lang.specs.Causes.{Gives, IsProgramOf};
-ghost use Rattle.rule_lang.specs.Reading.{near_of, field_at, next_at, item_at, infix_at, choice_at, over_at, prefix_at, form_at, expr_at};
+ghost use Rattle.rule_lang.specs.Reading.{◌>>=◌ as ◌and_then◌, then_at, else_at, near_of, field_at, next_at, item_at, infix_at, choice_at, over_at, prefix_at, form_at, expr_at};
 
 use crate::cause::Expected;
 use crate::expect::{
@@ -63,6 +63,45 @@ fn expression<'t, 'a>(
     }
 }
 
+/// An expression of at most this depth, in a box, and the tokens behind it.
+#[cycle(expression)]
+fn part<'t, 'a>(
+    alloc: Global,
+    depth: u32,
+    tokens: &'t [Lexeme<'a>],
+) -> Result<(Box<Expr>, &'t [Lexeme<'a>]), Stuck>
+    ensures { Gives (λ x. (tree_of x.0.value, toks_of x.1.now)) result (expr_at depth (toks_of tokens.now)) }
+{
+    let (part, rest) = expression(alloc, depth, tokens)?;
+    Ok((Box::new(alloc, part)?, rest))
+}
+
+/// The word `then`, and a part.
+#[cycle(expression)]
+fn then_part<'t, 'a>(
+    alloc: Global,
+    depth: u32,
+    tokens: &'t [Lexeme<'a>],
+) -> Result<(Box<Expr>, &'t [Lexeme<'a>]), Stuck>
+    ensures { Gives (λ x. (tree_of x.0.value, toks_of x.1.now)) result (then_at (toks_of tokens.now) and_then expr_at depth) }
+{
+    let rest = word_then(tokens)?;
+    part(alloc, depth, rest)
+}
+
+/// The word `else`, and a part.
+#[cycle(expression)]
+fn else_part<'t, 'a>(
+    alloc: Global,
+    depth: u32,
+    tokens: &'t [Lexeme<'a>],
+) -> Result<(Box<Expr>, &'t [Lexeme<'a>]), Stuck>
+    ensures { Gives (λ x. (tree_of x.0.value, toks_of x.1.now)) result (else_at (toks_of tokens.now) and_then expr_at depth) }
+{
+    let rest = word_else(tokens)?;
+    part(alloc, depth, rest)
+}
+
 /// What follows an opening bracket.
 #[cycle(expression)]
 #[tactic(auto, unfolding(crate::specs::Reading::infix_at))]
@@ -73,12 +112,10 @@ fn infix<'t, 'a>(
 ) -> Result<(Expr, &'t [Lexeme<'a>]), Stuck>
     ensures { Gives (λ x. (tree_of x.0, toks_of x.1.now)) result (infix_at (expr_at depth) (toks_of tokens.now)) }
 {
-    let (left, rest) = expression(alloc, depth, tokens)?;
+    let (left, rest) = part(alloc, depth, tokens)?;
     let (op, rest) = operator_at(rest)?;
-    let (right, rest) = expression(alloc, depth, rest)?;
+    let (right, rest) = part(alloc, depth, rest)?;
     let rest = close(rest)?;
-    let left = Box::new(alloc, left)?;
-    let right = Box::new(alloc, right)?;
     Ok((Expr::Infix(op, left, right), rest))
 }
 
@@ -100,8 +137,8 @@ fn prefix<'t, 'a>(
         Keyword::Round => Ok((Expr::Round, tokens)),
         Keyword::If => choice(alloc, depth, tokens),
         Keyword::Not => {
-            let (part, rest) = expression(alloc, depth, tokens)?;
-            Ok((Expr::Not(Box::new(alloc, part)?), rest))
+            let (part, rest) = part(alloc, depth, tokens)?;
+            Ok((Expr::Not(part), rest))
         }
         _ => {
             let Some(agg) = aggregate(word) else {
@@ -110,8 +147,8 @@ fn prefix<'t, 'a>(
                     expected: Expected::Expression,
                 });
             };
-            let (part, rest) = expression(alloc, depth, tokens)?;
-            Ok((Expr::Over(agg, Box::new(alloc, part)?), rest))
+            let (part, rest) = part(alloc, depth, tokens)?;
+            Ok((Expr::Over(agg, part), rest))
         }
     }
 }
@@ -126,14 +163,9 @@ fn choice<'t, 'a>(
 ) -> Result<(Expr, &'t [Lexeme<'a>]), Stuck>
     ensures { Gives (λ x. (tree_of x.0, toks_of x.1.now)) result (choice_at (expr_at depth) (toks_of tokens.now)) }
 {
-    let (test, rest) = expression(alloc, depth, tokens)?;
-    let rest = word_then(rest)?;
-    let (yes, rest) = expression(alloc, depth, rest)?;
-    let rest = word_else(rest)?;
-    let (no, rest) = expression(alloc, depth, rest)?;
-    let test = Box::new(alloc, test)?;
-    let yes = Box::new(alloc, yes)?;
-    let no = Box::new(alloc, no)?;
+    let (test, rest) = part(alloc, depth, tokens)?;
+    let (yes, rest) = then_part(alloc, depth, rest)?;
+    let (no, rest) = else_part(alloc, depth, rest)?;
     Ok((Expr::Choice(test, yes, no), rest))
 }
 

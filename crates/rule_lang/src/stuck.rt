@@ -10,7 +10,7 @@ use crate::token::Lexeme;
 use std::alloc::{AllocError, AllocFailed};
 
 /// Why a token list has no tree.
-#[derive(Clone, Copy, Debug)]
+#[derive(Clone, Copy)]
 pub enum Stuck {
     /// The first of the last `left` tokens cannot stand at its place, or their end where `left` is 0; this could.
     Token { left: usize, expected: Expected },

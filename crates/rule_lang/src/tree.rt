@@ -55,7 +55,7 @@ pub enum Agg {
 }
 
 /// An expression.
-#[derive(Debug, Drop, PartialEq)]
+#[derive(Drop, PartialEq)]
 pub enum Expr {
     /// A number.
     Number(u32),
@@ -84,7 +84,7 @@ pub enum Expr {
 }
 
 /// An item of a program.
-#[derive(Debug, Drop, PartialEq)]
+#[derive(Drop, PartialEq)]
 pub enum Item {
     /// `field name = value;`: a field and its opening value.
     Field { name: String, value: u32 },

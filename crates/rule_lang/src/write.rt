@@ -115,22 +115,27 @@ fn put_expression(alloc: Global, out: &mut String, expr: &Expr) -> Result<(), Al
     }
 }
 
+/// Adds how an item begins, up to what its name is given.
+fn put_head(out: &mut String, word: &str, name: &str) -> Result<(), AllocError>
+    ensures { OnOk result (string_bytes out.new ≡ string_bytes out.old ++ (word.now ++ (name.now ++ codes " = "))) }
+{
+    out.push_str(word)?;
+    out.push_str(name)?;
+    out.push_str(" = ")
+}
+
 /// Adds an item, a line.
 fn put_item(alloc: Global, out: &mut String, item: &Item) -> Result<(), AllocError>
     ensures { OnOk result (string_bytes out.new ≡ string_bytes out.old ++ item_text (item_of item.now)) }
 {
     match item {
         Item::Field { name, value } => {
-            out.push_str("field ")?;
-            out.push_str(name)?;
-            out.push_str(" = ")?;
+            put_head(out, "field ", name)?;
             put_number(alloc, out, *value)?;
             out.push_str(";\n")
         }
         Item::Next { name, body } => {
-            out.push_str("next ")?;
-            out.push_str(name)?;
-            out.push_str(" = ")?;
+            put_head(out, "next ", name)?;
             put_expression(alloc, out, body)?;
             out.push_str(";\n")
         }

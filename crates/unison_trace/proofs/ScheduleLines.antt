@@ -197,3 +197,34 @@ no_bytes (b ∷ bytes) h = (let e = (Decides-eqb (length (b ∷ bytes)) 0).0 (sy
 pub some_bytes : (bytes : List ℕ) → false ≡ (length bytes == 0) → bytes ≢ []
 some_bytes [] h e = cc
 some_bytes (b ∷ bytes) h e = cc
+
+at_first : (text : List ℕ) (step : Step) (lines : List (List ℕ)) → IsStep step → lines_of text ≡ line_of step ∷ lines → (good : List Step) (bad : List ℕ) (more : List (List ℕ)) → lines_of text ≡ map line_of good ++ bad ∷ more → 1 ≡ length good + 1 → ((s : Step) → IsStep s → bad ≢ line_of s) → ⊥
+at_first text step lines fits is [] bad more found place none = let same : bad ≡ line_of step = cc in none step fits same
+at_first text step lines fits is (g ∷ good) bad more found place none = omega arith
+
+no_first : (good : List Step) (bad : List ℕ) (more : List (List ℕ)) → [] ≡ map line_of good ++ bad ∷ more → ⊥
+no_first [] bad more found = cc
+no_first (g ∷ good) bad more found = cc
+
+good_alone : (text rest : List ℕ) (good : List Step) → text ≡ text_of good ++ rest → All IsStep good → IsFirstBadLine text 1 → length good ≡ 0
+good_alone text rest [] cut each bad = refl
+good_alone text rest (step ∷ good) cut each bad =
+    absurd (at_first text step (map line_of good ++ lines_of rest) (All-head IsStep step good each) (ap lines_of cut ∙ lines_behind (step ∷ good) rest each) bad.good bad.bad bad.more bad.lines bad.place bad.no_step)
+
+-- where the first line is bad, no step was read
+pub alone : (text rest : List ℕ) (count : ℕ) (kept : List Step) → IsReadTo text rest count kept → IsFirstBadLine text 1 → count ≡ 0
+alone text rest count kept r bad = r.many ∙ good_alone text rest r.good r.cut r.numbers bad
+
+-- nor stands one in front
+pub no_step_first : (text rest more : List ℕ) (count : ℕ) (kept : List Step) (step : Step) → IsReadTo text rest count kept → rest ≡ line_of step ++ more → IsStep step → IsFirstBadLine text 1 → ⊥
+no_step_first text rest more count kept step r is fits bad =
+    let none = alone text more (count + 1) (take most_steps (kept ++ step ∷ [])) (read_more text rest more count kept (take most_steps (kept ++ step ∷ [])) step r is fits refl) bad in
+    omega (arith, none)
+
+whole_or_bad : (text : List ℕ) (good : List Step) → HasSteps text good → IsFirstBadLine text 1 → ⊥
+whole_or_bad text [] has bad = no_first bad.good bad.bad bad.more (sym has.lines ∙ bad.lines)
+whole_or_bad text (step ∷ good) has bad = at_first text step (map line_of good) (All-head IsStep step good has.numbers) has.lines bad.good bad.bad bad.more bad.lines bad.place bad.no_step
+
+-- and the text is not one of steps alone
+pub no_end_first : (text rest : List ℕ) (count : ℕ) (kept : List Step) (r : IsReadTo text rest count kept) → rest ≡ [] → IsFirstBadLine text 1 → ⊥
+no_end_first text rest count kept r none bad = whole_or_bad text r.good (read_all text rest count kept r none) bad

@@ -1,10 +1,11 @@
 //! Schedules that are read.
-ghost use Rattle.std.specs.Prelude.{◌≡◌, ◌≤◌, ◌<◌, ◌^◌, ◌++◌, ◌∷◌, [], List, length, min, take, IfOk, IfErr, OnOk};
+ghost use Rattle.std.specs.Prelude.{◌≡◌, ◌≤◌, ◌<◌, ◌^◌, ◌++◌, ◌∷◌, [], List, length, min, take, IfOk, IfErr, OnOk, Err};
 ghost use Rattle.std.specs.Option.{option_map};
 ghost use Rattle.report_text.specs.Front.{IsFront, Anything};
 ghost use Rattle.unison_world.specs.declared.step.Step.{Step};
+ghost use Rattle.unison_trace.specs.declared.fault.ScheduleFault.TheVariants.{BadLine};
 ghost use Rattle.unison_trace.specs.Histories.{most_steps};
-ghost use Rattle.unison_trace.specs.Schedules.{HasSteps, IsRefusedSchedule, IsStep, line_of};
+ghost use Rattle.unison_trace.specs.Schedules.{HasSteps, IsFirstBadLine, IsRefusedSchedule, IsStep, line_of};
 ghost use Rattle.unison_trace.specs.ReadLines.{AreSmall, number_line, pair_line};
 
 use crate::fault::ScheduleFault;
@@ -63,13 +64,14 @@ fn keep(steps: &mut Vec<Step>, count: u64, step: Step) -> Result<(), ScheduleFau
 /// The steps of a schedule, a line for each: `read U J` or `write U` and LF, with numbers up to 4294967295 without
 /// leading zeros.
 ///
-/// `BadLine` names the first line that is no such line, counted from 1. Else `TooManySteps` comes where there are
-/// more than 1,000,000 steps.
+/// `BadLine` names the first line that is no such line, counted from 1; where that is line 1, no memory is taken. Else
+/// `TooManySteps` comes where there are more than 1,000,000 steps.
 pub fn read_schedule(alloc: Global, text: &[u8]) -> Result<Vec<Step>, ScheduleFault>
     ensures steps { IfOk result (λ v. HasSteps text.now v.items) }
     ensures only { IfOk result (λ v. (steps : List Step) → HasSteps text.now steps → steps ≡ v.items) }
     ensures few { IfOk result (λ v. length v.items ≤ most_steps) }
     ensures refused { IfErr result (IsRefusedSchedule text.now) }
+    ensures at_once { IsFirstBadLine text.now 1 → result ≡ Err (BadLine 1) }
 {
     let mut steps = Vec::new(alloc);
     let mut rest = text;

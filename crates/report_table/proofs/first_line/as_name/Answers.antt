@@ -1,5 +1,5 @@
 use Rattle.std.proofs.Common.{sym, ◌∙◌}
-use Rattle.report_table.proofs.FirstNames.{is_named, is_reserved, no_letter}
+use Rattle.report_table.proofs.FirstNames.{is_named, is_reserved}
 use Rattle.report_table.proofs.first_line.as_name.Goals as goal
 
 pub returns-in-Some : goal.returns-in-Some

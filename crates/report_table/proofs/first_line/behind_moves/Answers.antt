@@ -1,4 +1,4 @@
-use Rattle.std.proofs.Common.{◌≡◌, ◌∙◌, ◌++◌, ◌<◌, ◌^◌, ap, sym, subst, append_assoc, length, map, None, Some, arith, true, false, codes}
+use Rattle.std.proofs.Common.{◌∙◌, ◌++◌, subst, append_assoc, arith}
 use Rattle.std.specs.Fmt.{decimal}
 use Rattle.report_table.specs.Tables.{IsRow, row_text}
 use Rattle.report_table.proofs.RowLines.{row_ends, row_plain, row_moved}

@@ -1,4 +1,4 @@
-use Rattle.std.proofs.Common.{◌≤◌, length, arith}
+use Rattle.std.proofs.Common.{length, arith}
 use Rattle.report_table.proofs.first_line.first_names.Goals as goal
 
 pub returns-in-Some-clause-only : goal.returns-in-Some-clause-only

@@ -1,4 +1,4 @@
-use Rattle.std.proofs.Common.{◌≡◌, ◌∙◌, ◌++◌, ◌∷◌, ◌<◌, ◌^◌, ap, sym, subst, codes}
+use Rattle.std.proofs.Common.{◌∙◌, ◌++◌, sym, subst}
 use Rattle.std.specs.Fmt.{decimal}
 use Rattle.rule_check.specs.WellFormed.{IsFieldName}
 use Rattle.report_text.proofs.Digits.{number_once}

@@ -1,8 +1,8 @@
-use Rattle.std.proofs.Common.{◌≡◌, ◌∙◌, All, length, map, sym, ap, subst}
+use Rattle.std.proofs.Common.{◌∙◌, All, length, map, sym, ap, subst}
 use Rattle.std.proofs.lemmas.List.{length-map}
 use Rattle.report_table.specs.Tables.{AreFields, IsRow, is_counted, row_lines}
 use Rattle.report_table.specs.Refusals.{IsStopped, round_lines}
-use Rattle.report_table.proofs.Tables.{first_row, only_memory, same_rows, err_memory, lines_refused, memory_refused, table_same}
+use Rattle.report_table.proofs.Tables.{first_row, err_memory, lines_refused, table_same}
 use Rattle.report_table.proofs.reader.read_lines.Goals as goal
 
 pub returns-in_err-rows-clause-only : goal.returns-in_err-rows-clause-only

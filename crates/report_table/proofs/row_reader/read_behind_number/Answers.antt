@@ -1,4 +1,4 @@
-use Rattle.std.proofs.Common.{◌≡◌, length, map, None, Some}
+use Rattle.std.proofs.Common.{length, map, None, Some}
 use Rattle.report_table.proofs.RowFronts.{plain_front}
 use Rattle.report_table.proofs.row_reader.read_behind_number.Goals as goal
 

@@ -1,4 +1,4 @@
-use Rattle.std.proofs.Common.{◌≡◌, length, map, None, Some}
+use Rattle.std.proofs.Common.{length, map, None, Some}
 use Rattle.report_table.proofs.RowFronts.{moves_no_number, moved_front}
 use Rattle.report_table.proofs.row_reader.read_moved.Goals as goal
 

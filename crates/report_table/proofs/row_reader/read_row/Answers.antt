@@ -1,4 +1,4 @@
-use Rattle.std.proofs.Common.{◌≡◌, ◌∙◌, ◌++◌, ap, length, map, None, Some}
+use Rattle.std.proofs.Common.{◌∙◌, ◌++◌, ap, length, map}
 use Rattle.std.specs.Fmt.{decimal}
 use Rattle.report_text.specs.Front.{Anything}
 use Rattle.report_text.proofs.Fronts.{lead}

@@ -4,7 +4,7 @@ use Rattle.rule_check.specs.WellFormed.{IsFieldName}
 use Rattle.rounds_plan.specs.Configs.{Configuration}
 use Rattle.report_text.specs.NodeLines.{HasNodeLines, IsStopped}
 use Rattle.report_text.proofs.ReportOnce.{round_first}
-use Rattle.report_text.proofs.BadLines.{bad_round}
+use Rattle.report_text.proofs.BadLines.{bad_round, good_round}
 use Rattle.report_text.proofs.Refusals.{is_report, only_report, err_memory, err_refused, low_round, high_round}
 use Rattle.report_text.proofs.report_reader.read_report.Goals as goal
 
@@ -16,8 +16,7 @@ returns-in_err-states-clause-every_report c report is =
     let p = c.args.plan.now in
     let lines = c.in-Some.lines.now in
     let fault = c.in_err-states.field-0.0 in
-    let nodes : c.nodes.result ≡ length p.network = c.nodes.ensures.count ∙ ap length c.network.ensures.network in
-    let stop = subst (λ n. IsStopped (names_of p.program) (length p.program.fields) n lines fault) nodes (subst (λ r. IsStopped (names_of r) (length r.fields) c.nodes.result lines fault) c.program-program.ensures.program c.in_err-states.ensures.bad) in
+    let stop = c.in_err-states.ensures.bad in
     err_memory p c.phase-phase.ensures.whole.fields c.args.text.now lines c.in-Some.rounds c.in-Some.ensures.1 c.in-Some.ensures.0 c.from_residual.result fault c.from_residual.ensures.1 stop report is
 
 pub returns-in_err-states-clause-refused : goal.returns-in_err-states-clause-refused
@@ -25,9 +24,8 @@ returns-in_err-states-clause-refused c =
     let p = c.args.plan.now in
     let lines = c.in-Some.lines.now in
     let fault = c.in_err-states.field-0.0 in
-    let nodes : c.nodes.result ≡ length p.network = c.nodes.ensures.count ∙ ap length c.network.ensures.network in
-    let stop = subst (λ n. IsStopped (names_of p.program) (length p.program.fields) n lines fault) nodes (subst (λ r. IsStopped (names_of r) (length r.fields) c.nodes.result lines fault) c.program-program.ensures.program c.in_err-states.ensures.bad) in
-    let names = subst (λ r. All IsFieldName (names_of r)) c.program-program.ensures.program c.field_count-names.ensures.names in
+    let stop = c.in_err-states.ensures.bad in
+    let names = subst (λ r. All IsFieldName (names_of r)) c.program.ensures.program c.field_count-names.ensures.names in
     let narrow : length p.network ≤ 65536 = c.phase-phase.ensures.whole.network.nodes in
     err_refused p c.phase-phase.ensures.whole.fields c.args.text.now lines c.in-Some.rounds c.in-Some.ensures.1 c.in-Some.ensures.0 narrow names c.from_residual.result fault c.from_residual.ensures.1 stop
 
@@ -43,8 +41,7 @@ returns-then-rounds-gt-MOST_ROUNDS-clause-refused c =
     let p = c.args.plan.now in
     let lines = c.in-Some.lines.now in
     let states = c.in_ok-states.states.items in
-    let nodes : c.nodes.result ≡ length p.network = c.nodes.ensures.count ∙ ap length c.network.ensures.network in
-    let has = subst (λ n. HasNodeLines (names_of p.program) (length p.program.fields) n lines states) nodes (subst (λ r. HasNodeLines (names_of r) (length r.fields) c.nodes.result lines states) c.program-program.ensures.program c.in_ok-states.ensures.ok) in
+    let has = c.in_ok-states.ensures.ok in
     (_, is_report p c.phase-phase.ensures.whole.fields c.args.text.now lines c.in-Some.rounds c.in-Some.ensures.1 c.in-Some.ensures.0 states has, omega arith)
 
 pub returns-clause-every_report : goal.returns-clause-every_report
@@ -52,7 +49,16 @@ returns-clause-every_report c report is =
     let p = c.args.plan.now in
     let lines = c.in-Some.lines.now in
     let states = c.in_ok-states.states.items in
-    let nodes : c.nodes.result ≡ length p.network = c.nodes.ensures.count ∙ ap length c.network.ensures.network in
-    let has = subst (λ n. HasNodeLines (names_of p.program) (length p.program.fields) n lines states) nodes (subst (λ r. HasNodeLines (names_of r) (length r.fields) c.nodes.result lines states) c.program-program.ensures.program c.in_ok-states.ensures.ok) in
+    let has = c.in_ok-states.ensures.ok in
     let same = only_report p c.phase-phase.ensures.whole.fields c.args.text.now lines c.in-Some.rounds c.in-Some.ensures.1 c.in-Some.ensures.0 states report has is in
     low_round report (omega (arith, ap (λ (r : Configuration). r.rounds) same)) ∙ ap Ok (sym (c.of.ensures.parts ∙ same))
+
+pub returns-in_err-states-clause-at_once : goal.returns-in_err-states-clause-at_once
+returns-in_err-states-clause-at_once c first = absurd (good_round c.args.plan.now c.args.text.now c.in-Some.lines.now c.in-Some.rounds c.in-Some.ensures.1 c.in-Some.ensures.0 first)
+
+pub returns-then-rounds-gt-MOST_ROUNDS-clause-at_once :
+    goal.returns-then-rounds-gt-MOST_ROUNDS-clause-at_once
+returns-then-rounds-gt-MOST_ROUNDS-clause-at_once c first = absurd (good_round c.args.plan.now c.args.text.now c.in-Some.lines.now c.in-Some.rounds c.in-Some.ensures.1 c.in-Some.ensures.0 first)
+
+pub returns-clause-at_once : goal.returns-clause-at_once
+returns-clause-at_once c first = absurd (good_round c.args.plan.now c.args.text.now c.in-Some.lines.now c.in-Some.rounds c.in-Some.ensures.1 c.in-Some.ensures.0 first)

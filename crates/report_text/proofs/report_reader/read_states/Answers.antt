@@ -1,7 +1,6 @@
-use Rattle.std.proofs.Common.{◌≡◌, ◌∙◌, ◌++◌, ◌∷◌, [], All, length, sym, ap, subst, arith}
+use Rattle.std.proofs.Common.{◌≡◌, ◌∙◌, ◌++◌, ◌∷◌, [], All, length, map, sym, ap, subst, arith}
 use Rattle.std.proofs.lemmas.Grind.{common_steps}
 use Rattle.std.proofs.lemmas.List.Elements.{All-push}
-use Rattle.rule_check.specs.Value.{names_of}
 use Rattle.report_text.specs.Report.{node_lines}
 use Rattle.report_text.specs.ReadReport.{IsStateOf}
 use Rattle.report_text.proofs.NodeLines.{lines_more}
@@ -9,8 +8,8 @@ use Rattle.report_text.proofs.report_reader.read_states.Goals as goal
 
 pub loop-node-preserved : goal.loop-node-preserved
 loop-node-preserved c =
-    let names = names_of c.args.program.now in
-    let fields = length c.args.program.now.fields in
+    let names = map (λ f. f.now) c.args.fields.now in
+    let fields = length c.args.fields.now in
     let pushed : c.push.new.self.items ≡ c.loop-node.states.items ++ c.in-Some.state ∷ [] = grind (arith, common_steps) in
     record {
       count = grind (arith, common_steps);

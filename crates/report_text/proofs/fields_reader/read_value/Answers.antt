@@ -2,8 +2,8 @@ use Rattle.std.proofs.Common.{◌≡◌, ◌∙◌, ◌++◌, ◌<◌, ◌^◌, 
 use Rattle.std.specs.Fmt.{decimal}
 use Rattle.report_text.specs.Front.{Ends}
 use Rattle.report_text.proofs.Fronts.{lead, lead_none}
-use Rattle.report_table.proofs.RowFronts.{Small}
-use Rattle.report_table.proofs.row_reader.read_value.Goals as goal
+use Rattle.report_text.proofs.ReadFields.{Small}
+use Rattle.report_text.proofs.fields_reader.read_value.Goals as goal
 
 pub returns-in_err-value : goal.returns-in_err-value
 returns-in_err-value c = record {

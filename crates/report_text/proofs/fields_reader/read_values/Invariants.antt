@@ -3,7 +3,7 @@ use Rattle.rule_check.specs.declared.state.State.{State}
 use Rattle.report_text.specs.Front.{Ends}
 use Rattle.report_text.specs.Report.{fields_text}
 use Rattle.report_text.specs.ReadReport.{IsStateOf}
-use Rattle.report_table.proofs.row_reader.read_values.Given as goal
+use Rattle.report_text.proofs.fields_reader.read_values.Given as goal
 
 abbrev pub invariant-loop-place : goal.invariant-loop-place
 invariant-loop-place l = record {

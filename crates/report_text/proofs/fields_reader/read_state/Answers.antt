@@ -4,7 +4,7 @@ use Rattle.report_text.specs.ReadReport.{IsStateOf}
 use Rattle.report_text.specs.Report.{fields_text}
 use Rattle.report_text.proofs.Fronts.{line_open}
 use Rattle.report_text.proofs.ReadNode.{states_once}
-use Rattle.report_table.proofs.row_reader.read_state.Goals as goal
+use Rattle.report_text.proofs.fields_reader.read_state.Goals as goal
 
 pub returns-in_err-more : goal.returns-in_err-more
 returns-in_err-more c = record {
