@@ -103,7 +103,7 @@ def by_turns(*calls):
 
 
 def ours(program, network, rounds):
-    """The calls of the product for rounds in one piece, for rounds by threads, and for none."""
+    """The calls of the product for sequential rounds, for rounds by threads, and for none."""
     return [[worlds, way, program, network, str(stop), "0"] for way, stop in (("rounds", rounds), ("parallel", rounds), ("rounds", 0))]
 
 
@@ -135,7 +135,7 @@ def long(seconds):
 
 
 def beside(job, name, kind, network, program, rounds):
-    """Rounds in one piece and by threads, beside a loop that is written by hand and tells its own seconds, all by turns: the cells of a line."""
+    """Sequential rounds and rounds by threads, beside a loop that is written by hand and tells its own seconds, all interleaved: the cells of a line."""
     by_hand, one, shared, none = by_turns([f"{work}/loops", job, name, network, str(rounds)], *ours(program, network, rounds))
     told = [output.split() for output, _ in by_hand]
     if not int(told[0][1]) == int(one[0][0]) == int(shared[0][0]):
@@ -147,8 +147,8 @@ def beside(job, name, kind, network, program, rounds):
 
 
 def lockstep():
-    """Rounds in one piece and by threads, beside a loop that is written by hand for the one program."""
-    table("program", "network", "rounds", "by hand", "one piece", "ratio", "threads", "to one piece")
+    """Sequential rounds and rounds by threads, beside a loop that is written by hand for the one program."""
+    table("program", "network", "rounds", "by hand", "sequential", "ratio", "threads", "to sequential")
     for name, rounds in ROUNDS.items():
         for kind in (*KINDS, "hub") if name == "heavy" else KINDS:
             line(*beside("run", name, kind, network_of(kind, SETS.get(name)), f"{work}/{name}.rules", rounds))
@@ -156,14 +156,14 @@ def lockstep():
 
 def little():
     """Rounds in which little moves, beside a loop that looks at all nodes and ends, as the product may, where a round changes nothing."""
-    table("what moves little", "network", "rounds", "by hand", "one piece", "ratio", "threads", "to one piece", "wanted")
+    table("what moves little", "network", "rounds", "by hand", "sequential", "ratio", "threads", "to sequential", "wanted")
     for name, kind, rounds, wanted in LITTLE:
         text, sets = little_program(name)
         line(*beside("settle", name, kind, network_of(kind, sets), written("little.rules", text), rounds), wanted)
 
 
 def processors():
-    """How many times one processor's work the machine does when four calls in one piece are made at once: what threads can gain at most."""
+    """How many times one processor's work the machine does when four sequential calls are made at once: what threads can gain at most."""
     name, rounds, calls = "heavy", ROUNDS["heavy"], 4
     table("program", "network", "one call alone", f"{calls} calls at once", "processors' worth")
     for kind in ("torus", "path"):
@@ -180,8 +180,8 @@ def processors():
 
 
 def small():
-    """Rounds in one piece and by threads, by turns, where a round is small."""
-    table("program", "nodes", "rounds", "one piece", "threads", "to one piece")
+    """Sequential rounds and rounds by threads, interleaved, where a round is small."""
+    table("program", "nodes", "rounds", "sequential", "threads", "to sequential")
     for name in ("distance", "heavy"):
         for side, rounds in ((16, 4000), (32, 2000), (64, 1000), (96, 500)):
             network = written("small.toml", torus(side))

@@ -28,9 +28,10 @@ extern "C" {
 /* Why a call was not done: the first fault on the way from the texts to the answer. The names behind UNISON_ are those of the
  * fault lines in docs/formats.md, part and name. */
 enum unison_fault {
-    UNISON_MEMORY = 1, /* want of memory, which may come anywhere */
-    UNISON_ROOM = 2,   /* there is too little room for an answer; its sizes are set */
-    UNISON_NEVER = 3,  /* never: the proved clauses leave no fault of this number */
+    /* Made from library/faults.toml by library/faults: */
+    UNISON_MEMORY = 1,     /* out of memory, which may come anywhere */
+    UNISON_ROOM = 2,       /* there is too little room for an answer; its sizes are set */
+    UNISON_NEVER = 3,      /* never: the proved clauses leave no fault of this number */
     UNISON_NOT_RISING = 4, /* a round of the list is not above the one before it */
     UNISON_NO_JOB = 5,     /* there is no job of this number */
 
@@ -76,6 +77,7 @@ enum unison_fault {
     UNISON_PROGRAM_READS_ROUND = 128, /* unison_settle alone */
     UNISON_LIMIT_TOO_LARGE = 129,
     UNISON_LIMIT_BELOW_START = 130
+    /* (end of what is made) */
 };
 
 /* What becomes of the rounds (unison_settle). */

@@ -190,7 +190,7 @@ class Values(unittest.TestCase):
 
 
 class Worked(unittest.TestCase):
-    """language.md, the opening example and Worked examples; formats.md and README.md, their reports."""
+    """language.md, the opening example and Worked examples; formats.md and docs/commands, their reports."""
 
     def test_language_page(self):
         two = PAIR + "[set]\ns = [[0, 5], [1, 7]]\n"
@@ -213,28 +213,25 @@ class Worked(unittest.TestCase):
         self.assertEqual(schedule, (EXAMPLES / "schedules/ahead.txt").read_text())
         self.assertEqual(replay(SWAP, (EXAMPLES / "pair.toml").read_text(), schedule, 10), indented(page, "    0 moves 1 s=7"))
 
-    def test_readme(self):
-        """Each command of the README that is one of the five, in the README's order, and the report that it shows."""
-        page = (TOP / "README.md").read_text()
-        lines = re.findall(r"^    ./unison ((?:check|lockstep|run|replay|compare) .*)$", page, re.MULTILINE)
-        self.assertGreaterEqual(len(lines), 8)
+    def test_command_pages(self):
+        """docs/commands: each command of the five on its page, and what the page shows of it."""
+        seen = 0
         with tempfile.TemporaryDirectory() as folder:
-            places = {"steps.txt": f"{folder}/steps", "report.txt": f"{folder}/report", "torus.toml": str(EXAMPLES / "torus.toml")}
-            for line in lines:
-                words, _, into = line.partition(" > ")
-                words = [str(TOP / word) if word.startswith("examples/") else places.get(word, word) for word in words.split()]
-                status, printed, told = unison.answer(words)
-                self.assertEqual((status, told), (0, ""), line)
-                if into:
-                    Path(places[into]).write_text(printed)
-                if line.endswith("path.toml --rounds 2") or "--from" in words:
-                    self.assertEqual(printed, indented(page, "    round 2"))
-                if words[0] == "check":
-                    self.assertEqual(printed, canonical((EXAMPLES / "majority.rules").read_text()))
-                if words[0] == "compare":
-                    self.assertEqual(printed, "same\n")
-                if words[0] == "replay":
-                    self.assertEqual(printed, "0 moves 2 dist=0\n1 moves 2 dist=1\n2 moves 2 dist=2\n")
+            for name in ("check", "lockstep", "run", "replay", "compare"):
+                page = (TOP / "docs/commands" / f"{name}.md").read_text()
+                lines = re.findall(r"^    (?:\$ )?./unison ((?:check|lockstep|run|replay|compare) .*)\n((?:    (?!\$ |\./).*\n)*)", page, re.MULTILINE)
+                for line, shown in lines:
+                    words, _, into = line.partition(" > ")
+                    words = [str(TOP / word) if word.startswith("examples/") else word for word in words.split()]
+                    words = [f"{folder}/{word}" if word in ("steps.txt", "report.txt") else word for word in words]
+                    status, printed, told = unison.answer(words)
+                    self.assertEqual((status, told), (0, ""), line)
+                    if into:
+                        Path(folder, into).write_text(printed)
+                    if shown:
+                        self.assertEqual(printed, re.sub("^    ", "", shown, flags=re.MULTILINE), line)
+                    seen += 1
+        self.assertGreaterEqual(seen, 8)
 
     def test_stays_as_it_is(self):
         program = (EXAMPLES / "distance.rules").read_text()

@@ -1,4 +1,4 @@
-"""Graphs of Graphviz, read as docs/lab.md describes them, and as the language's own grammar has it where that says more."""
+"""Graphs of Graphviz, read as docs/commands/import.md describes them, and as the language's own grammar has it where that says more."""
 
 import collections
 import re

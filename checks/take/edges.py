@@ -1,4 +1,4 @@
-"""Lists of edges, read as docs/lab.md describes them."""
+"""Lists of edges, read as docs/commands/import.md describes them."""
 
 import re
 

@@ -1,4 +1,4 @@
-"""Matrix Market, read as docs/lab.md describes it. Where a line has several faults, docs/lab.md does not say which is told: all are allowed."""
+"""Matrix Market, read as docs/commands/import.md describes it. Where a line has several faults, docs/commands/import.md does not say which is told: all are allowed."""
 
 import re
 
@@ -34,7 +34,7 @@ def size_of(number, line, words, end):
     kinds = {"NotSquare": across != down, "NoNodes": 0 in (across, down), "TooManyNodes": max(across, down) > 65536}
     if any(kinds.values()):
         raise Fault("|".join(kind for kind, holds in kinds.items() if holds), number, *([0] if kinds["NoNodes"] else []))
-    if entries >= 2**64:  # docs/lab.md sets no bound: nobody has so many
+    if entries >= 2**64:  # docs/commands/import.md sets no bound: nobody has so many
         raise Fault("BadSize|TooFewEntries", number, *end)
     return across, entries
 

@@ -14,7 +14,7 @@ Item = collections.namedtuple("Item", "lines ends weight rounded", defaults=(1, 
 
 
 class Fault(Exception):
-    """A refusal: the kinds that it may have, `?WHAT` where docs/lab.md names none, and the lines that may be told, 0 for none; of a double also the lines of
+    """A refusal: the kinds that it may have, `?WHAT` where docs/commands/import.md names none, and the lines that may be told, 0 for none; of a double also the lines of
     the earlier edge."""
 
     def __init__(self, kinds, *lines, earlier=()):

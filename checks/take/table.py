@@ -1,6 +1,6 @@
 """Texts by hand with their outcome, written without the readers: (words, text, outcome).
 
-An outcome is `NAMES: LINKS` or `#NODES: LINKS`, with `; dropped 1` and the like; or `KINDS LINES`, of which any may be told: `?WHAT` where docs/lab.md names no
+An outcome is `NAMES: LINKS` or `#NODES: LINKS`, with `; dropped 1` and the like; or `KINDS LINES`, of which any may be told: `?WHAT` where docs/commands/import.md names no
 kind, 0 where no line is told. Other texts, with the whole of what is told, and wrong words stand in cases/take_*.toml."""
 
 MERGE = "edges --merge-doubles "

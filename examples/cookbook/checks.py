@@ -28,7 +28,7 @@ NONE = 4294967295
 
 
 class Net:
-    """A network file: how many nodes, for each its neighbours with the weights of the links, and the opening values that it sets."""
+    """A network file: how many nodes, for each its neighbours with the weights of the links, and the initial values that it sets."""
 
     def __init__(self, path):
         document = tomllib.loads(path.read_text())
@@ -41,7 +41,7 @@ class Net:
         self.sets = {name: dict(pairs) for name, pairs in document.get("set", {}).items()}
 
     def opening(self, name, default):
-        """The opening values of a field."""
+        """The initial values of a field."""
         return [self.sets.get(name, {}).get(node, default) for node in range(self.nodes)]
 
     def degree(self, node):

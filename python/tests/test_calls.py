@@ -127,8 +127,8 @@ def test_want_of_memory_is_a_memory_error():
         "    except MemoryError as error:\n        print(str(error) or 'python')\n"
     )
     lines = printed.splitlines()
-    assert lines[-1] == "done" and set(lines) <= {"done", "unison: want of memory", "python"}, lines
-    if "unison: want of memory" not in lines:
+    assert lines[-1] == "done" and set(lines) <= {"done", "unison: out of memory", "python"}, lines
+    if "unison: out of memory" not in lines:
         skip("memory was never short in the library")
 
 

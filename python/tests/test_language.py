@@ -1,4 +1,4 @@
-"""The worked values of docs/language.md, docs/formats.md and docs/lab.md."""
+"""The worked values of docs/language.md, docs/formats.md and docs/commands."""
 
 from support import DISTANCE, SWAP, raised
 
@@ -64,7 +64,7 @@ def test_fields_openings_and_the_round():
 
 
 def test_distances_on_the_path_watched():
-    """docs/lab.md, watch."""
+    """docs/commands/watch.md."""
     path = unison.Network(3, [(0, 1), (1, 2)], set={"dist": {0: 0}})
     watched = unison.watch(unison.Program(DISTANCE), path, range(3))
     assert [[int(value) for value in row] for row in watched["dist"]] == [[0, M, M], [0, 1, M], [0, 1, 2]]

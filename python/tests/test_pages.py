@@ -50,10 +50,10 @@ def run_piece(piece, names):
     return told.getvalue()
 
 
-def test_the_page_of_the_package():
-    """python/README.md: its pieces run one after the other."""
+def run_page(path):
+    """The pieces of a page run one after the other, and print what it shows."""
     names = {}
-    pieces = shown(PYTHON / "README.md")
+    pieces = shown(path)
     assert len(pieces) > 5
     for piece, printed in pieces:
         for module in re.findall(r"import (networkx|pandas|numpy|matplotlib)", piece):
@@ -62,14 +62,12 @@ def test_the_page_of_the_package():
         assert printed == "" or found == printed, f"{piece}\nprints\n{found}"
 
 
-def test_the_five_lines_of_the_first_page():
-    page = (ROOT / "README.md").read_text()
-    found = re.search(r"```python\n(.*?)```", page, re.DOTALL)
-    if found is None:
-        skip("README.md shows no Python")
-    printed = run_piece(found[1], {})
-    says = re.findall(r"#-> (.*)", found[1])
-    assert says and printed.splitlines() == says, printed
+def test_the_page_of_the_package():
+    run_page(PYTHON / "README.md")
+
+
+def test_the_tutorial():
+    run_page(ROOT / "docs" / "tutorials" / "python.md")
 
 
 def test_the_version_stands_once():

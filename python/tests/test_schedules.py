@@ -62,7 +62,7 @@ def test_steps_that_are_none():
 
 
 def test_refused_steps_change_nothing():
-    """docs/lab.md: what a reader sees of a neighbour that is level, ahead, behind."""
+    """docs/commands/explain.md: what a reader sees of a neighbour that is level, ahead, behind."""
     pair = unison.Network(2, [(0, 1)], set={"s": [5, 7]})
     swap = unison.Program(SWAP)
     ahead = [*schedule.turn(pair, 1), *schedule.turn(pair, 0)]
@@ -77,7 +77,7 @@ def test_refused_steps_change_nothing():
 
 
 def test_a_starved_node_holds_the_others_back():
-    """docs/lab.md: the counts of a ring of twenty come to rest at the distance from node 7, which makes no step."""
+    """docs/commands/schedule.md: the counts of a ring of twenty come to rest at the distance from node 7, which makes no step."""
     ring = unison.Network(20, [(node, (node + 1) % 20) for node in range(20)])
     steps = [step for step in schedule.sweep(ring, 20) if step.node != 7]
     replayed = unison.replay(unison.Program("field s = 0; next s = most n.id;"), ring, steps)

@@ -10,6 +10,7 @@ ROOM = 2
 
 #: For each number that the library answers (library/unison.h) the part and the name of the fault, as in docs/formats.md.
 FAULTS: Dict[int, Tuple[str, str]] = {
+    # Made from library/faults.toml by library/faults:
     3: ("library", "Never"),
     4: ("run", "NotRising"),
     5: ("library", "NoJob"),
@@ -49,10 +50,12 @@ FAULTS: Dict[int, Tuple[str, str]] = {
     128: ("program", "ReadsRound"),
     129: ("run", "LimitTooLarge"),
     130: ("run", "LimitBelowStart"),
+    # (end of what is made)
 }
 
 #: What is told where the library's `unison_why` finds no such fault: it looks at checks, rounds and replays alone.
 MEANINGS = {
+    # Made from library/faults.toml by library/faults:
     4: "a round of the list is not above the one before it",
     80: "the round is above 1000000000",
     81: "the round lies before that of the report to go on from",
@@ -61,6 +64,7 @@ MEANINGS = {
     128: "the program reads the number of the round, so that equal states need not lead to equal states",
     129: "the limit is above 1000000000",
     130: "the limit lies before the round of the report to go on from",
+    # (end of what is made)
 }
 
 PLACE = re.compile(r"[^:\n]*:([0-9]+):([0-9]+): ")
@@ -119,7 +123,7 @@ class NetworkError(UnisonError):
 
 
 class PlanError(UnisonError):
-    """The opening values of a network are refused, beside the program that they are for."""
+    """The initial values of a network are refused, beside the program that they are for."""
 
 
 class ReportError(UnisonError):
@@ -152,4 +156,4 @@ def error_of(number: int, diagnosis: str = "") -> UnisonError:
 
 def fault_of(number: int, diagnosis: str = "") -> Exception:
     """The exception for an answer of the library."""
-    return MemoryError("unison: want of memory") if number == MEMORY else error_of(number, diagnosis)
+    return MemoryError("unison: out of memory") if number == MEMORY else error_of(number, diagnosis)

@@ -60,7 +60,7 @@ def from_networkx(
 
     - `weight`: the attribute of edges that is the weight of the link, 1 where an edge has none; None: all weights are 1. Weights
       are whole numbers from 0 to 4294967295.
-    - `set`: opening values by the nodes' names, as in `Network`; `networkx.get_node_attributes(graph, "s")` gives such a dict.
+    - `set`: initial values by the nodes' names, as in `Network`; `networkx.get_node_attributes(graph, "s")` gives such a dict.
     - `scale`: weights are multiplied by this number and rounded to the nearest whole number, half up; floats count as what they
       are in binary: `Fraction("0.1")` and `Decimal("0.1")` are exact.
     - `undirected`: a directed graph is taken, its edges as links; else it is refused.

@@ -11,7 +11,7 @@ from . import _calls, faults
 from ._document import Document, Link, Sets, read, write
 
 Name = Hashable
-#: Opening values of a field: one for all nodes, one for each node by rising number, or some by the names of their nodes.
+#: Initial values of a field: one for all nodes, one for each node by rising number, or some by the names of their nodes.
 Openings = Union[int, Sequence[int], Mapping[Any, int]]
 
 LONGEST = 2**63
@@ -39,14 +39,14 @@ def plain(values: Any) -> Any:
 
 
 class Network:
-    """Nodes, numbered from 0, and undirected links between them, with weights and opening values.
+    """Nodes, numbered from 0, and undirected links between them, with weights and initial values.
 
     - `nodes`: how many there are, 1 to 65,536; or their names in order, any values that can be keys of a dict, each once. With names, links
-      and opening values name their nodes by them.
+      and initial values name their nodes by them.
     - `links`: pairs of nodes, or triples of two nodes and a weight: at most 262,144, and 4,096 of one node; none of a node with
       itself, none twice. A weight is a whole number from 0 to 4294967295, and 1 where none is given.
     - `weights`: one for all links, or one for each link in their order; then links are pairs.
-    - `set`: for each field its opening values: one for all nodes, one for each node in order, or a dict from nodes to values.
+    - `set`: for each field its initial values: one for all nodes, one for each node in order, or a dict from nodes to values.
       Nodes and fields that are not named open as the program says. A network without `set` serves all programs.
     - `phase`: the opening phase of the nodes' registers, 0, 1 or 2; no result depends on it.
 
@@ -121,14 +121,14 @@ class Network:
 
     def _pairs(self, field: str, openings: Any, count: int) -> List[Tuple[int, int]]:
         """The entries of a field, by rising number."""
-        what = f"an opening value of {field}"
+        what = f"an initial value of {field}"
         if isinstance(openings, Mapping):
             return sorted((self._end(node), whole(value, what)) for node, value in openings.items())
         if is_number(openings):
             return [(node, whole(openings, what)) for node in range(count)]
         values = [whole(value, what) for value in plain(openings)]
         if len(values) != count:
-            raise ValueError(f"{field} has {len(values)} opening values, and there are {count} nodes")
+            raise ValueError(f"{field} has {len(values)} initial values, and there are {count} nodes")
         return list(enumerate(values))
 
     @classmethod
@@ -146,7 +146,7 @@ class Network:
         network._call_nodes(None if names is None else tuple(names))
         try:
             network._count = accept(network._text, {})
-        except faults.PlanError:  # it is a network, with opening values for fields
+        except faults.PlanError:  # it is a network, with initial values for fields
             network._count = network._read().nodes
             accept(network._text, network._read().sets)
         if network._names is not None and len(network._names) != network.nodes:
@@ -178,7 +178,7 @@ class Network:
         return to_networkx(self, values)
 
     def with_set(self, set: Mapping[str, Openings]) -> Network:
-        """The same nodes and links with these opening values, and no others.
+        """The same nodes and links with these initial values, and no others.
 
         >>> import unison
         >>> network = unison.Network(2, [(0, 1)], set={"s": 1})
@@ -221,7 +221,7 @@ class Network:
 
     @property
     def set(self) -> Dict[str, Dict[int, int]]:
-        """For each field that is named the opening values by the nodes' numbers."""
+        """For each field that is named the initial values by the nodes' numbers."""
         return {field: dict(pairs) for field, pairs in self._read().sets.items()}
 
     @property
@@ -289,8 +289,8 @@ def weighted(links: List[Link], weights: Any) -> List[Link]:
 
 
 def accept(text: str, sets: Sets) -> Optional[int]:
-    """How many nodes a network has, which the library looks at with its opening values, where a program can have fields of these
-    names; else its opening values are looked at when it is used, and None is answered."""
+    """How many nodes a network has, which the library looks at with its initial values, where a program can have fields of these
+    names; else its initial values are looked at when it is used, and None is answered."""
     network = text.encode("utf-8", "surrogateescape")
     program = "".join(f"field {name} = 0;\n" for name in sets).encode("utf-8", "surrogateescape")
     try:
@@ -300,7 +300,7 @@ def accept(text: str, sets: Sets) -> Optional[int]:
 
 
 def accept_links(network: bytes) -> Optional[int]:
-    """How many nodes a network has, or None where opening values are in the way of being told."""
+    """How many nodes a network has, or None where initial values are in the way of being told."""
     try:
         return _calls.sizes(_calls.Texts(b"", network))[0]
     except faults.PlanError:

@@ -56,7 +56,7 @@ class Program:
 
     @property
     def openings(self) -> Dict[str, int]:
-        """The opening value of each field, which a network's `set` replaces node by node."""
+        """The initial value of each field, which a network's `set` replaces node by node."""
         return dict(self._openings)
 
     @property
