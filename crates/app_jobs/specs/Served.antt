@@ -2,6 +2,7 @@
 use denote.Bor.{Bor}
 use Rattle.std.specs.Prelude.{Option, option_map, ℕ, Bool, true, false, ◌≡◌, ◌≢◌, ◌≤◌, ◌<◌, List, [], ◌∷◌, ◌++◌, codes, length, Some, None, Ok, Err}
 use Rattle.std.specs.Io.KnownBytes.{Appends}
+use Rattle.rule_lang.specs.declared.fault.LangFault.TheVariants as lang
 use Rattle.rule_lang.specs.Tree.{ItemTree}
 use Rattle.rule_lang.specs.Program.{HasProgram, IsRefusedAs}
 use Rattle.rule_lang.specs.Canonical.{program_text}
@@ -181,6 +182,10 @@ RefusesProgram program (fault.Lang f) = IsRefusedAs program f
 RefusesProgram program (fault.Check f) = f ≢ check.Memory → (items : List ItemTree) × HasItems program items × (first_fault (rules_of items) ≡ Some f)
 RefusesProgram program fault.Memory = Unit {0}
 RefusesProgram program f = ⊥
+
+-- a program's text that is too long is refused as that, whatever memory there is
+abbrev pub IsLongFirst : List ℕ → ServeFault → Type 0
+IsLongFirst program f = 65536 < length program → f ≡ fault.Lang lang.TooLong
 
 -- why the texts of a program and a network, and of a report where there is one, give no plan: the first fault on the way
 abbrev pub RefusesTexts : List ℕ → List ℕ → Option (List ℕ) → ServeFault → Type 0

@@ -2,7 +2,7 @@
 ghost use Rattle.std.specs.Prelude.{◌≡◌, ℕ, List, Option, Some, IfOk, IfErr};
 ghost use Rattle.std.specs.Arc.{arc_value};
 ghost use Rattle.rule_check.specs.Items.{rules_of};
-ghost use Rattle.app_jobs.specs.Served.{HasPlan, HasResumed, IsAccepted, IsReportRefusal, IsResumedAs, IsUnwritten, RefusesProgram, RefusesTexts, given};
+ghost use Rattle.app_jobs.specs.Served.{HasPlan, HasResumed, IsAccepted, IsLongFirst, IsReportRefusal, IsResumedAs, IsUnwritten, RefusesProgram, RefusesTexts, given};
 
 use crate::fault::ServeFault;
 use link_net::read_network;
@@ -17,6 +17,7 @@ use std::sync::Arc;
 pub(crate) fn program_of(alloc: Global, text: &[u8]) -> Result<(Source, Program), ServeFault>
     ensures accepted { IfOk result (λ x. IsAccepted text.now x.0 × (x.1 ≡ rules_of x.0)) }
     ensures refused { IfErr result (RefusesProgram text.now) }
+    ensures long { IfErr result (IsLongFirst text.now) }
     ensures unwritten { IfErr result IsUnwritten }
 {
     let source = read_program(alloc, text)?;
@@ -28,6 +29,7 @@ pub(crate) fn program_of(alloc: Global, text: &[u8]) -> Result<(Source, Program)
 fn plan_of_texts(alloc: Global, program: &[u8], network: &[u8]) -> Result<Plan, ServeFault>
     ensures plan { IfOk result (HasPlan program.now network.now) }
     ensures refused { (from : Option (List ℕ)) → IfErr result (RefusesTexts program.now network.now from) }
+    ensures long { IfErr result (IsLongFirst program.now) }
     ensures unwritten { IfErr result IsUnwritten }
 {
     let (_source, program) = program_of(alloc, program)?;
@@ -51,7 +53,8 @@ fn resumed(alloc: Global, plan: Plan, text: &[u8]) -> Result<Plan, ServeFault>
 /// The plan of the texts of a program and a network; with the text of a report, the plan that goes on from there.
 ///
 /// The first fault on the way is answered: of reading the program (`Lang`) and checking it (`Check`), of reading the
-/// network (`Net`), of making the plan (`Plan`), of reading the report (`Report`).
+/// network (`Net`), of making the plan (`Plan`), of reading the report (`Report`). A program's text that is too long takes
+/// no memory.
 pub fn plan_from(
     alloc: Global,
     program: &[u8],
@@ -60,6 +63,7 @@ pub fn plan_from(
 ) -> Result<Plan, ServeFault>
     ensures plan { IfOk result (HasResumed program.now network.now (given from.entry)) }
     ensures refused { IfErr result (RefusesTexts program.now network.now (given from.entry)) }
+    ensures long { IfErr result (IsLongFirst program.now) }
     ensures unwritten { IfErr result IsUnwritten }
 {
     let plan = plan_of_texts(alloc, program, network)?;
@@ -78,6 +82,7 @@ pub(crate) fn shared_plan(
 ) -> Result<Arc<Plan>, ServeFault>
     ensures plan { IfOk result (λ p. HasResumed program.now network.now (given from.entry) (arc_value p)) }
     ensures refused { IfErr result (RefusesTexts program.now network.now (given from.entry)) }
+    ensures long { IfErr result (IsLongFirst program.now) }
     ensures unwritten { IfErr result IsUnwritten }
 {
     let plan = plan_from(alloc, program, network, from)?;

@@ -5,7 +5,7 @@ ghost use Rattle.std.specs.Io.KnownBytes.{Appends};
 ghost use Rattle.unison_trace.specs.declared.fault.ReplayFault.{ReplayFault as Refused};
 ghost use Rattle.unison_trace.specs.ReplayFaults.{IsReplayed, IsReplayFault};
 ghost use Rattle.app_jobs.specs.declared.job.Job.{Job};
-ghost use Rattle.app_jobs.specs.Served.{HasTrace, IsDone, IsRefusal, IsServeRefusal, IsServed, IsUnscheduled, IsUnwritten, given, is_short};
+ghost use Rattle.app_jobs.specs.Served.{HasTrace, IsDone, IsLongFirst, IsRefusal, IsServeRefusal, IsServed, IsUnscheduled, IsUnwritten, given, is_short};
 
 use crate::fault::ServeFault;
 use crate::job::Job;
@@ -94,6 +94,7 @@ fn serve_replay<R: Read, W: Write>(
         (R.remaining schedule.old.inner) (R.remaining schedule.new.inner) (W.contents out.old.inner) (W.contents out.new.inner)) }
     ensures refused { IfErr result (IsServeRefusal (Job.Replay stop) program.now network.now (given from.entry)
         (R.remaining schedule.old.inner) (R.remaining schedule.new.inner) (W.contents out.old.inner) (W.contents out.new.inner)) }
+    ensures long { IfErr result (IsLongFirst program.now) }
     ensures inside { IfErr result (λ f. (written : ℕ) → f ≡ ServeFault.Write written → ⊥) }
     ensures read { IsTrue schedule.new.failed ↔ (result ≡ Err (ServeFault.Replay ReplayFault.Read)) }
     ensures calls { schedule.new.calls ≤ schedule.old.calls + 27000001 }
@@ -123,6 +124,7 @@ fn serve_text<W: Write>(
         × IsServed job.now program.now network.now (given from.entry) text
         × Appends (W.contents out.old.inner) (W.contents out.new.inner) text) }
     ensures refused { IfErr result (IsRefusal job.now program.now network.now (given from.entry)) }
+    ensures long { IfErr result (IsLongFirst program.now) }
     ensures cut { (written : ℕ) → result ≡ Err (ServeFault.Write written) → (text : List ℕ)
         × IsServed job.now program.now network.now (given from.entry) text
         × (written ≤ length text)
@@ -138,7 +140,8 @@ fn serve_text<W: Write>(
 /// there is one, each where the job has it; makes the answer, and then writes it. `report` is the text of the
 /// report to go on from; `check` uses the program alone, and `replay` alone reads the schedule.
 ///
-/// The first fault on that way is answered; before the answer is whole nothing is written. `Write`, which with a
+/// The first fault on that way is answered, a program's text that is too long before memory is taken; before the answer is
+/// whole nothing is written. `Write`, which with a
 /// replay stands inside `Replay`, says how many of the answer's first bytes went out before the device refused.
 pub fn serve<R: Read, W: Write>(
     rt: &(impl Threads + Wait + Sync),
@@ -160,6 +163,7 @@ pub fn serve<R: Read, W: Write>(
         (R.remaining schedule.old.inner) (R.remaining schedule.new.inner) (W.contents out.old.inner) (W.contents out.new.inner)) }
     ensures refused { IfErr result (IsServeRefusal job.now program.now network.now (given report.entry)
         (R.remaining schedule.old.inner) (R.remaining schedule.new.inner) (W.contents out.old.inner) (W.contents out.new.inner)) }
+    ensures long { IfErr result (IsLongFirst program.now) }
     ensures quiet { IfErr result (λ f. IsUnwritten f → out.new ≡ out.old) }
     ensures marked { MatchResult result (λ _. out.new.failed ≡ false) (λ f. out.new.failed ≡ is_short f) }
     ensures cut { (written : ℕ) → result ≡ Err (ServeFault.Write written) → (text : List ℕ)

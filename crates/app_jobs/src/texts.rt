@@ -2,7 +2,7 @@
 ghost use Rattle.std.specs.Prelude.{◌≡◌, ℕ, List, false, Option, None, IfOk, IfErr, option_map};
 ghost use Rattle.std.specs.Arc.{arc_value};
 ghost use Rattle.app_jobs.specs.declared.job.Job.{Job};
-ghost use Rattle.app_jobs.specs.Served.{AreTextOf, HasPlanShape, HasPlanText, HasTrace, IsPlanRefusal, IsPlanServed, IsPlanTrace, IsRefusal, IsRoundReport, IsServed, IsTraceText, IsUnscheduled, IsUnwritten, RefusesProgram, given, same_text, trace_limit};
+ghost use Rattle.app_jobs.specs.Served.{AreTextOf, HasPlanShape, HasPlanText, HasTrace, IsLongFirst, IsPlanRefusal, IsPlanServed, IsPlanTrace, IsRefusal, IsRoundReport, IsServed, IsTraceText, IsUnscheduled, IsUnwritten, RefusesProgram, given, same_text, trace_limit};
 
 use crate::comparison::difference_line;
 use crate::fault::ServeFault;
@@ -23,6 +23,7 @@ use unison_world::Step;
 fn canonical(alloc: Global, program: &[u8]) -> Result<Vec<u8>, ServeFault>
     ensures served { (network : List ℕ) (from : Option (List ℕ)) → IfOk result (λ text. IsServed Job.Check program.now network from text.items) }
     ensures refused { IfErr result (RefusesProgram program.now) }
+    ensures long { IfErr result (IsLongFirst program.now) }
     ensures unwritten { IfErr result IsUnwritten }
 {
     let (source, _program) = program_of(alloc, program)?;
@@ -187,6 +188,7 @@ pub(crate) fn answer(
     ensures trace { IfOk result (λ t. HasTrace job.now program.now network.now (given from.entry) (option_map (λ v. v.items) t.trace)) }
     ensures agrees { IfOk result (λ t. t.differs ≡ false) }
     ensures refused { IfErr result (IsRefusal job.now program.now network.now (given from.entry)) }
+    ensures long { IfErr result (IsLongFirst program.now) }
     ensures unwritten { IfErr result IsUnwritten }
 {
     if let Job::Check = *job {
