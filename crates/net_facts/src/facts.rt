@@ -1,6 +1,8 @@
 //! What one wants to know of a network.
-ghost use Rattle.std.specs.Prelude.{◌≡◌, ◌*◌, length, IfOk};
+ghost use Rattle.std.specs.Prelude.{◌≡◌, ◌<◌, ◌*◌, ◌++◌, ◌∷◌, ℕ, List, [], length, map, IfOk};
 ghost use Rattle.std.specs.List.{sum_by};
+ghost use Rattle.link_net.specs.Neighbours.{degree, row};
+ghost use Rattle.net_facts.specs.Facts.{IsRange, IsRangeOf, weights_of};
 
 use crate::walks::{components, diameter};
 use link_net::Network;
@@ -34,7 +36,9 @@ pub struct Facts {
 }
 
 /// The range with a number taken in.
-fn with(range: Option<Range>, number: u32) -> Option<Range> {
+fn with(range: Option<Range>, number: u32) -> Option<Range>
+    ensures range { (numbers : List ℕ) → IsRangeOf numbers range → IsRangeOf (numbers ++ number ∷ []) result }
+{
     match range {
         Some(range) => Some(Range {
             least: range.least.min(number),
@@ -47,18 +51,41 @@ fn with(range: Option<Range>, number: u32) -> Option<Range> {
     }
 }
 
+/// How many neighbours a node has.
+fn degree_at(network: &Network, node: u32) -> u32
+    ensures { result ≡ degree network.now node }
+{
+    match network.degree(node) {
+        Some(degree) => degree,
+        None => 0,
+    }
+}
+
 /// The least and the greatest number of neighbours of a node.
-fn degrees(network: &Network) -> Option<Range> {
+fn degrees(network: &Network) -> Option<Range>
+    ensures { IsRangeOf (map length network.now) result }
+{
     let mut range = None;
     for node in 0..network.nodes() {
-        let neighbours = network.neighbours(node).unwrap_or(&[]);
-        range = with(range, neighbours.len() as u32);
+        range = with(range, degree_at(network, node));
     }
     range
 }
 
+/// The weights of the links of a node.
+fn weights_at(network: &Network, node: u32) -> &[u32]
+    ensures { result.now ≡ map (λ a. a.1) (row network.now node) }
+{
+    match network.weights(node) {
+        Some(weights) => weights,
+        None => &[],
+    }
+}
+
 /// The range with the weights of a node's links taken in.
-fn with_weights(range: Option<Range>, weights: &[u32]) -> Option<Range> {
+fn with_weights(range: Option<Range>, weights: &[u32]) -> Option<Range>
+    ensures range { (numbers : List ℕ) → IsRangeOf numbers range → IsRangeOf (numbers ++ weights.now) result }
+{
     let mut range = range;
     for weight in weights {
         range = with(range, *weight);
@@ -67,10 +94,12 @@ fn with_weights(range: Option<Range>, weights: &[u32]) -> Option<Range> {
 }
 
 /// The least and the greatest weight.
-fn weights(network: &Network) -> Option<Range> {
+fn weights(network: &Network) -> Option<Range>
+    ensures { IsRangeOf (weights_of network.now) result }
+{
     let mut range = None;
     for node in 0..network.nodes() {
-        range = with_weights(range, network.weights(node).unwrap_or(&[]));
+        range = with_weights(range, weights_at(network, node));
     }
     range
 }
@@ -87,6 +116,8 @@ fn small_diameter(alloc: Global, network: &Network) -> Result<Option<u32>, Alloc
 pub fn facts_of(alloc: Global, network: &Network) -> Result<Facts, AllocError>
     ensures nodes { IfOk result (λ f. f.nodes ≡ length network.now) }
     ensures links { IfOk result (λ f. 2 * f.links ≡ sum_by length network.now) }
+    ensures degrees { IfOk result (λ f. IsRange (map length network.now) f.degrees) }
+    ensures weights { IfOk result (λ f. IsRangeOf (weights_of network.now) f.weights) }
 {
     Ok(Facts {
         nodes: network.nodes(),

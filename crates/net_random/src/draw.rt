@@ -38,6 +38,9 @@ fn drawn_links(alloc: Global, lot: &Lot, rng: &mut Pcg64) -> Result<Vec<Link>, A
 /// before anything is drawn; `TooManyNeighbours` comes where a node of the links that were drawn has more than 4,096
 /// neighbours, `Undrawn` where a regular network or a small world was not found by trial, and `Memory` for want of memory
 /// alone.
+///
+/// No clause says which seeds find such a network, nor that any does: a body that always answers `Undrawn` for them is
+/// proved, too. Cases draw both kinds, and compare what is forced whatever is drawn.
 pub fn drawn(alloc: Global, lot: &Lot, seed: u64) -> Result<LinkList, LotFault>
     ensures nodes { IfOk result (λ list. list.nodes ≡ node_count lot.now) }
     ensures links { IfOk result (λ list. HasLot lot.now list.links) }
