@@ -20,7 +20,7 @@ refusal_of lot =
 abbrev pub MayCrowd : Lot → Type 0
 MayCrowd lot = (links : List Link) × HasLot lot links × (is_crowded (node_count lot) links ≡ true)
 
--- the fault is the lot's: the sizes are refused by it, or they fit, and the links that were drawn are, or are not the lot's where it draws by trial; want of memory refuses nothing
+-- the fault is the lot's: the sizes are refused by it, or they fit, and the links that were drawn are, or are not the lot's where it draws by trial; running out of memory refuses nothing
 abbrev pub IsFaultOf : Lot → LotFault → Type 0
 IsFaultOf lot Memory = refusal_of lot ≡ None
 IsFaultOf lot TooManyNeighbours = (refusal_of lot ≡ None) × MayCrowd lot

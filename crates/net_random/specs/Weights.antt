@@ -14,7 +14,7 @@ ends l = (l.0, l.1)
 abbrev pub AllBetween : ℕ → ℕ → List Link → Type 0
 AllBetween low high links = AllByRecursion (λ l. (low ≤ l.2) × (l.2 ≤ high)) links
 
--- the text is a network file, and it reads to these links, each with a weight from low to high, in phase 0, with no opening values
+-- the text is a network file, and it reads to these links, each with a weight from low to high, in phase 0, with no initial values
 pub record IsWeighted (list : Listing) (low high : ℕ) (text : List ℕ) : Type 0 where
   pub drawn : Listing
   pub nodes : drawn.nodes ≡ list.nodes
@@ -22,7 +22,7 @@ pub record IsWeighted (list : Listing) (low high : ℕ) (text : List ℕ) : Type
   pub weights : AllBetween low high drawn.links
   pub reads : reading_of text ≡ Ok (described drawn 0 [])
 
--- no weight lies between exactly where this is told; want of memory refuses nothing
+-- no weight lies between exactly where this is told; running out of memory refuses nothing
 abbrev pub IsFaultOf : ℕ → ℕ → WeightFault → Type 0
 IsFaultOf low high NoWeight = high < low
 IsFaultOf low high Memory = low ≤ high

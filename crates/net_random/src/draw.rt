@@ -1,4 +1,4 @@
-//! Networks drawn by lot.
+//! Networks drawn at random.
 ghost use Rattle.std.specs.Prelude.{◌≡◌, None, false, IfOk, IfErr};
 ghost use Rattle.net_random.specs.Lots.{node_count, is_by_trial, HasLot};
 ghost use Rattle.net_random.specs.Sizes.{refusal_of, IsFaultOf};
@@ -34,10 +34,10 @@ fn drawn_links(alloc: Global, lot: &Lot, rng: &mut Pcg64) -> Result<Vec<Link>, A
     }
 }
 
-/// The network that a seed draws by a lot, each link with weight 1, or why there is none. What the sizes refuse is refused
-/// before anything is drawn; `TooManyNeighbours` comes where a node of the links that were drawn has more than 4,096
-/// neighbours, `Undrawn` where a regular network or a small world was not found by trial, and `Memory` for want of memory
-/// alone.
+/// The network that a seed draws by a lot, each link with weight 1, or why there is none. What the sizes refuse is
+/// refused before anything is drawn; `TooManyNeighbours` comes where a node of the links that were drawn has more than
+/// 4,096 neighbours, `Undrawn` where a regular network or a small world was not found by trial, and `Memory` only where
+/// memory runs out.
 ///
 /// No clause says which seeds find such a network, nor that any does: a body that always answers `Undrawn` for them is
 /// proved, too. Cases draw both kinds, and compare what is forced whatever is drawn.

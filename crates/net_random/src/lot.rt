@@ -1,6 +1,6 @@
-//! Ways to draw a network by lot.
+//! Ways to draw a network at random.
 
-/// A way to draw a network by lot, with its size.
+/// A way to draw a network at random, with its size.
 #[derive(Clone, Copy, Debug, PartialEq, Eq)]
 pub enum Lot {
     /// So many different links among all pairs of nodes. All sets of so many links are alike.

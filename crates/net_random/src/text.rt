@@ -9,8 +9,8 @@ use link_net::FieldSet;
 use net_text::write_network;
 use std::alloc::Global;
 
-/// The text of the network file of a lot, with phase 0 and no opening values, or why it has no network. The same seed gives
-/// the same text on every machine. `Memory` comes for want of memory alone, and where the sizes refuse nothing.
+/// The text of the network file of a lot, with phase 0 and no initial values, or why it has no network. The same seed
+/// gives the same text on every machine. `Memory` comes only where memory runs out, and where the sizes refuse nothing.
 pub fn drawn_text(alloc: Global, lot: &Lot, seed: u64) -> Result<Vec<u8>, LotFault>
     ensures drawn { IfOk result (λ text. IsDrawn lot.now text.items) }
     ensures fits { IfOk result (λ _. refusal_of lot.now ≡ None) }

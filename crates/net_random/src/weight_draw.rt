@@ -30,9 +30,9 @@ fn drawn_weights(
     Ok(drawn)
 }
 
-/// The links of the list in their order, each with a weight from `low` to `high`, both included, that the seed draws; the
-/// weights that they had are not looked at. `NoWeight` where `low` is above `high`; `Memory` for want of memory alone, and
-/// not where there is no weight.
+/// The links of the list in their order, each with a weight from `low` to `high`, both included, that the seed draws;
+/// the weights that they had are not looked at. `NoWeight` where `low` is above `high`; `Memory` only where memory runs
+/// out, and not where there is no weight.
 pub fn weighted(
     alloc: Global,
     list: &LinkList,

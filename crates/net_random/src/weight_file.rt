@@ -8,9 +8,9 @@ use link_net::FieldSet;
 use net_text::{LinkList, write_network};
 use std::alloc::Global;
 
-/// The text of the network file of these links, with weights from `low` to `high`, both included, that the seed draws, in
-/// phase 0, without opening values. `NoWeight` where `low` is above `high`; `Memory` for want of memory alone, and not
-/// where there is no weight.
+/// The text of the network file of these links, with weights from `low` to `high`, both included, that the seed draws,
+/// in phase 0, without initial values. `NoWeight` where `low` is above `high`; `Memory` only where memory runs out, and
+/// not where there is no weight.
 pub fn weighted_text(
     alloc: Global,
     list: &LinkList,

@@ -15,7 +15,7 @@ use net_names::NodeNames;
 use report_table::{Row, Table};
 use std::alloc::{AllocError, Global};
 
-/// Writes a record. What refuses it is want of memory: the text grows in memory alone.
+/// Writes a record. What refuses it is running out of memory: the text grows in memory alone.
 fn write(writer: &mut Writer<Vec<u8>>, line: &ByteRecord) -> Result<(), AllocError>
     requires ready { IsReady writer.old }
     ensures ready { OnOk result (IsReady writer.new) }
@@ -79,12 +79,13 @@ fn text_of(by: &Printing<'_, '_>) -> Result<Vec<u8>, CsvFault>
     }
 }
 
-/// A report as CSV: a record of headings, `node`, `moves` where it is a replay report, and the fields; then a record for each
-/// node: its name, its moves, and its values. A field that is asked to hold nodes has names for its values, too, and an empty
-/// cell for 4294967295. Of fields that share a name, as no program has them, the first alone holds nodes.
+/// A report as CSV: a record of headings, `node`, `moves` where it is a replay report, and the fields; then a record
+/// for each node: its name, its moves, and its values. A field that is asked to hold nodes has names for its values,
+/// too, and an empty cell for 4294967295. Of fields that share a name, as no program has them, the first alone holds
+/// nodes.
 ///
 /// The first fault in the order of [`CsvFault`], the first node and then the first field with a value that is no node;
-/// `Memory` comes for want of memory alone.
+/// `Memory` comes only where memory runs out.
 pub fn names_csv(
     alloc: Global,
     table: &Table<'_>,

@@ -94,8 +94,8 @@ fn read_lines<'a>(
 /// single spaces, the same names of fields in the same order on each line, and LF at each line's end.
 ///
 /// `BadLine` comes where the text has no table, and names the first line that can't stand behind those before it, or
-/// the first that is missing; `TooManyNodes` where more stands behind the lines of 65,536 nodes. `Memory` comes for
-/// want of memory alone.
+/// the first that is missing; `TooManyNodes` where more stands behind the lines of 65,536 nodes. `Memory` comes only
+/// where memory runs out.
 pub fn read_table<'a>(alloc: Global, bytes: &'a [u8]) -> Result<Table<'a>, TableFault>
     ensures table { IfOk result (λ table. HasTable bytes.now table) }
     ensures one { (t : TableView) → HasTable bytes.now t → IfOk result (λ table. table ≡ t) }
