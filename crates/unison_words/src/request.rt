@@ -4,9 +4,10 @@ ghost use Rattle.unison_words.specs.declared.request.UsageFault.TheVariants.{Mem
 
 use std::alloc::AllocError;
 use unison_jobs::Job;
+use word_table::WordsFault;
 
 /// A job and the paths of its files.
-#[derive(Debug, Drop)]
+#[derive(Drop)]
 pub struct Request {
     pub job: Job,
     pub program: String,
@@ -17,7 +18,7 @@ pub struct Request {
 }
 
 /// Why there is no request.
-#[derive(Debug, Drop)]
+#[derive(Drop)]
 pub enum UsageFault {
     /// Help was asked for; this is its text.
     Help { text: String },
@@ -32,5 +33,15 @@ impl From<AllocError> for UsageFault {
 
     fn from(_error: AllocError) -> UsageFault {
         UsageFault::Memory
+    }
+}
+
+impl From<WordsFault> for UsageFault {
+    fn from(fault: WordsFault) -> UsageFault {
+        match fault {
+            WordsFault::Help { text } => UsageFault::Help { text },
+            WordsFault::Usage { text } => UsageFault::Usage { text },
+            WordsFault::Memory => UsageFault::Memory,
+        }
     }
 }
