@@ -1,10 +1,9 @@
 //! Arguments that several commands have, and what they give.
 
-use app_table::{Argument, Kind, OPTION, Value, Words, WordsFault, number};
+use app_table::{Argument, Kind, OPTION, Reading, Value, WordsFault, number};
 use link_net::MOST_NODES;
 use rounds_plan::MOST_ROUNDS;
 use run_watch::Span;
-use std::alloc::{AllocError, Global};
 
 /// A round, counted from round 0.
 pub(crate) const ROUND: Value = Value::Number {
@@ -51,6 +50,9 @@ pub(crate) const PROGRAM: Argument = Argument {
     ..FILE
 };
 
+/// `PROGRAM`, as it is read.
+static PROGRAM_ARGUMENT: Argument = PROGRAM;
+
 pub(crate) const NETWORK: Argument = Argument {
     name: "network",
     value_name: "NETWORK",
@@ -58,17 +60,26 @@ pub(crate) const NETWORK: Argument = Argument {
     ..FILE
 };
 
+/// `NETWORK`, as it is read.
+pub(crate) static NETWORK_ARGUMENT: Argument = NETWORK;
+
 pub(crate) const FROM: Argument = Argument {
     name: "from",
     help: "A report to go on from: its states and its round are the start",
     ..FILE_OPTION
 };
 
+/// `FROM`, as it is read.
+static FROM_ARGUMENT: Argument = FROM;
+
 pub(crate) const NAMES: Argument = Argument {
     name: "names",
     help: "Call nodes by the names in FILE, a line each, node 0 first",
     ..FILE_OPTION
 };
+
+/// `NAMES`, as it is read.
+pub(crate) static NAMES_ARGUMENT: Argument = NAMES;
 
 pub(crate) const ROUNDS: Argument = Argument {
     name: "rounds",
@@ -77,6 +88,9 @@ pub(crate) const ROUNDS: Argument = Argument {
     help: "The first and the last round, both counted from round 0: 0 to 1000000000",
     ..OPTION
 };
+
+/// `ROUNDS`, as it is read.
+static ROUNDS_ARGUMENT: Argument = ROUNDS;
 
 pub(crate) const EVERY: Argument = Argument {
     name: "every",
@@ -89,12 +103,18 @@ pub(crate) const EVERY: Argument = Argument {
     ..OPTION
 };
 
+/// `EVERY`, as it is read.
+pub(crate) static EVERY_ARGUMENT: Argument = EVERY;
+
 pub(crate) const ONLY: Argument = Argument {
     name: "only",
     value_name: "FIELD,..",
     help: "Show these fields alone, in this order, with a comma between two",
     ..OPTION
 };
+
+/// `ONLY`, as it is read.
+static ONLY_ARGUMENT: Argument = ONLY;
 
 pub(crate) const FIELD: Argument = Argument {
     name: "field",
@@ -103,8 +123,11 @@ pub(crate) const FIELD: Argument = Argument {
     ..OPTION
 };
 
+/// `FIELD`, as it is read.
+pub(crate) static FIELD_ARGUMENT: Argument = FIELD;
+
 /// The paths of the texts that a plan is made of.
-#[derive(Debug, Drop)]
+#[derive(Drop)]
 pub struct PlanPaths {
     pub program: String,
     pub network: String,
@@ -114,21 +137,16 @@ pub struct PlanPaths {
 
 impl PlanPaths {
     /// The paths that the words of a command with `PROGRAM`, `NETWORK` and `FROM` name.
-    pub(crate) fn of(alloc: Global, words: &Words) -> Result<PlanPaths, AllocError> {
-        let program = words.needed_text(alloc, &PROGRAM)?;
-        let network = words.needed_text(alloc, &NETWORK)?;
-        let from = words.text(alloc, &FROM)?;
-        Ok(PlanPaths {
+    pub(crate) fn of(reading: &mut Reading) -> PlanPaths {
+        let program = reading.needed_text(&PROGRAM_ARGUMENT);
+        let network = reading.needed_text(&NETWORK_ARGUMENT);
+        let from = reading.text(&FROM_ARGUMENT);
+        PlanPaths {
             program,
             network,
             from,
-        })
+        }
     }
-}
-
-/// Wrong words, as this text says.
-pub(crate) fn wrong(alloc: Global, text: &str) -> WordsFault {
-    WordsFault::told(String::from_str(alloc, text))
 }
 
 /// The rounds of a word `FIRST..LAST`, so many between two that are shown.
@@ -139,32 +157,43 @@ fn span_of(word: &str, every: u32) -> Option<Span> {
     Span::new(first, last, every)
 }
 
-/// The rounds that `--rounds` and `--every` name. `Usage` where that are none.
-pub(crate) fn span_in(alloc: Global, words: &Words) -> Result<Span, WordsFault> {
-    let every = words.number_or(alloc, &EVERY, 1)?;
-    let found = words.needed_text(alloc, &ROUNDS)?;
-    let found = found.as_str();
-    match span_of(found, every) {
-        Some(span) => Ok(span),
-        None => Err(WordsFault::told(format!(in alloc;
-            "--rounds: expected FIRST..LAST, whole numbers from 0 to 1000000000, the first not the greater one, found `{found}`"
-        ))),
+/// Notes that a word names no rounds.
+fn refuse_span(reading: &mut Reading, found: &str) {
+    reading.refuse_as(format!(in reading.alloc();
+        "--rounds: expected FIRST..LAST, whole numbers from 0 to 1000000000, the first not the greater one, found `{found}`"
+    ));
+}
+
+/// The rounds that `--rounds` and `--every` name. Where that are none wrong words are noted.
+pub(crate) fn span_in(reading: &mut Reading) -> Option<Span> {
+    let every = reading.number_or(&EVERY_ARGUMENT, 1);
+    let found = reading.needed_text(&ROUNDS_ARGUMENT);
+    let span = span_of(found.as_str(), every);
+    if span.is_none() {
+        refuse_span(reading, found.as_str());
+    }
+    span
+}
+
+/// Puts a part of a text behind the others.
+fn put_part(parts: &mut Vec<String>, reading: &mut Reading, part: &str) {
+    let part = reading.copied(part);
+    if parts.push(part).is_err() {
+        reading.refuse(WordsFault::Memory);
     }
 }
 
 /// The words between the commas of a text.
-fn parts_of(alloc: Global, text: &str) -> Result<Vec<String>, AllocError> {
-    let mut parts = Vec::new(alloc);
+fn parts_of(reading: &mut Reading, text: &str) -> Vec<String> {
+    let mut parts = Vec::new(reading.alloc());
     for part in text.split(',') {
-        parts.push(String::from_str(alloc, part)?)?;
+        put_part(&mut parts, reading, part);
     }
-    Ok(parts)
+    parts
 }
 
 /// The fields that `--only` names, where it is given.
-pub(crate) fn only_in(alloc: Global, words: &Words) -> Result<Option<Vec<String>>, AllocError> {
-    match words.text(alloc, &ONLY)? {
-        Some(text) => Ok(Some(parts_of(alloc, text.as_str())?)),
-        None => Ok(None),
-    }
+pub(crate) fn only_in(reading: &mut Reading) -> Option<Vec<String>> {
+    let text = reading.text(&ONLY_ARGUMENT)?;
+    Some(parts_of(reading, text.as_str()))
 }

@@ -53,7 +53,7 @@ static MANUAL: Command = Command {
 };
 
 /// What a command does.
-#[derive(Clone, Copy, Debug, PartialEq, Eq)]
+#[derive(Clone, Copy, PartialEq, Eq)]
 pub enum Task {
     Completion,
     Csv,
@@ -73,7 +73,7 @@ pub enum Task {
 }
 
 /// Commands that belong together.
-#[derive(Clone, Copy, Debug)]
+#[derive(Clone, Copy)]
 pub struct Group {
     pub title: &'static str,
     pub tasks: &'static [Task],

@@ -1,7 +1,7 @@
 //! `csv`: a report as CSV.
 
 use crate::arguments::{FILE, FILE_OPTION};
-use app_table::{Argument, Command, Kind, OPTION, WordsFault, parse};
+use app_table::{Argument, Command, Kind, OPTION, Reading, WordsFault};
 use std::alloc::Global;
 
 const REPORT: Argument = Argument {
@@ -11,12 +11,18 @@ const REPORT: Argument = Argument {
     ..FILE
 };
 
+/// `REPORT`, as it is read.
+static REPORT_ARGUMENT: Argument = REPORT;
+
 const NAMES: Argument = Argument {
     name: "names",
     kind: Kind::Required,
     help: "The names of the nodes, a line each, node 0 first, as import writes them",
     ..FILE_OPTION
 };
+
+/// `NAMES`, as it is read.
+static NAMES_ARGUMENT: Argument = NAMES;
 
 const NODE_FIELD: Argument = Argument {
     name: "node-field",
@@ -25,6 +31,9 @@ const NODE_FIELD: Argument = Argument {
     help: "Print names for this field's values too, which are numbers of nodes, or 4294967295 for none; as often as wanted",
     ..OPTION
 };
+
+/// `NODE_FIELD`, as it is read.
+static NODE_FIELD_ARGUMENT: Argument = NODE_FIELD;
 
 /// `csv` and what it takes.
 static CSV: Command = Command {
@@ -43,7 +52,7 @@ pub(crate) fn csv() -> &'static Command {
 }
 
 /// What `csv` is asked for.
-#[derive(Debug, Drop)]
+#[derive(Drop)]
 pub struct CsvRequest {
     /// The path of the report.
     pub report: String,
@@ -53,17 +62,23 @@ pub struct CsvRequest {
     pub node_fields: Vec<String>,
 }
 
+/// What plain words ask for.
+fn request_in(reading: &mut Reading) -> CsvRequest {
+    let report = reading.needed_text(&REPORT_ARGUMENT);
+    let names = reading.needed_text(&NAMES_ARGUMENT);
+    let node_fields = reading.texts(&NODE_FIELD_ARGUMENT);
+    CsvRequest {
+        report,
+        names,
+        node_fields,
+    }
+}
+
 impl CsvRequest {
     /// What the words ask for, the command's name first.
     pub fn parse(alloc: Global, line: &[String]) -> Result<CsvRequest, WordsFault> {
-        let words = parse(alloc, csv(), line)?;
-        let report = words.needed_text(alloc, &REPORT)?;
-        let names = words.needed_text(alloc, &NAMES)?;
-        let node_fields = words.texts(alloc, &NODE_FIELD)?;
-        Ok(CsvRequest {
-            report,
-            names,
-            node_fields,
-        })
+        let mut reading = Reading::of(alloc, csv(), line)?;
+        let asked = request_in(&mut reading);
+        reading.end(asked)
     }
 }

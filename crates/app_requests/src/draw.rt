@@ -1,11 +1,12 @@
 //! `image` and `dot`: rounds as pictures, and networks for Graphviz.
-ghost use Rattle.std.specs.Prelude.{◌≤◌, IfOk};
+ghost use Rattle.std.specs.Prelude.{◌≤◌, IfOk, IfSome};
 ghost use Rattle.rounds_plan.specs.Configs.{most_rounds};
 
 use crate::arguments::{
-    EVERY, FIELD, FROM, NAMES, NETWORK, PROGRAM, PlanPaths, ROUND, ROUNDS, WIDTH, span_in, wrong,
+    EVERY, FIELD, FIELD_ARGUMENT, FROM, NAMES, NAMES_ARGUMENT, NETWORK, PROGRAM, PlanPaths, ROUND,
+    ROUNDS, WIDTH, span_in,
 };
-use app_table::{Argument, Command, Kind, OPTION, Words, WordsFault, parse};
+use app_table::{Argument, Command, Kind, OPTION, Reading, WordsFault};
 use link_net::MOST_NODES;
 use run_watch::Span;
 use std::alloc::Global;
@@ -18,6 +19,9 @@ const GRID: Argument = Argument {
     ..OPTION
 };
 
+/// `GRID`, as it is read.
+static GRID_ARGUMENT: Argument = GRID;
+
 const DRAWN_ROUND: Argument = Argument {
     name: "rounds",
     kind: Kind::Required,
@@ -26,6 +30,9 @@ const DRAWN_ROUND: Argument = Argument {
     help: "The round that is drawn, counted from round 0: 0 to 1000000000",
     ..OPTION
 };
+
+/// `DRAWN_ROUND`, as it is read.
+static DRAWN_ROUND_ARGUMENT: Argument = DRAWN_ROUND;
 
 /// `image` and what it takes.
 static IMAGE: Command = Command {
@@ -60,7 +67,7 @@ pub(crate) fn dot() -> &'static Command {
 }
 
 /// What `image` is asked for.
-#[derive(Debug, Drop)]
+#[derive(Drop)]
 pub struct ImageRequest {
     pub plan: PlanPaths,
     /// The rounds of which the picture is made: one alone where there is a grid.
@@ -72,7 +79,7 @@ pub struct ImageRequest {
 }
 
 /// What `dot` is asked for.
-#[derive(Debug, Drop)]
+#[derive(Drop)]
 pub struct DotRequest {
     pub plan: PlanPaths,
     /// The round that is drawn, counted from round 0.
@@ -84,26 +91,24 @@ pub struct DotRequest {
 }
 
 /// Refuses a grid of more than one round.
-fn check_frame(alloc: Global, span: &Span, grid: u32) -> Result<(), WordsFault> {
+fn check_frame(reading: &mut Reading, span: &Span, grid: u32) {
     if grid > 0 && span.first() != span.last() {
-        return Err(wrong(
-            alloc,
+        reading.refuse_words(
             "--grid: the frame of one round is shown, so the first and the last round are the same, as in --rounds 8..8",
-        ));
+        );
     }
-    Ok(())
 }
 
-/// What plain words ask for.
-fn image_in(alloc: Global, words: &Words) -> Result<ImageRequest, WordsFault>
-    ensures within { IfOk result (λ r. r.grid ≤ MOST_NODES) }
+/// What plain words ask for, where they name rounds.
+fn image_in(reading: &mut Reading) -> Option<ImageRequest>
+    ensures within { IfSome result (λ r. r.grid ≤ MOST_NODES) }
 {
-    let grid = words.number_or(alloc, &GRID, 0)?;
-    let span = span_in(alloc, words)?;
-    check_frame(alloc, &span, grid)?;
-    let field = words.text(alloc, &FIELD)?;
-    let plan = PlanPaths::of(alloc, words)?;
-    Ok(ImageRequest {
+    let grid = reading.number_or(&GRID_ARGUMENT, 0);
+    let span = span_in(reading)?;
+    check_frame(reading, &span, grid);
+    let field = reading.text(&FIELD_ARGUMENT);
+    let plan = PlanPaths::of(reading);
+    Some(ImageRequest {
         plan,
         span,
         field,
@@ -112,19 +117,19 @@ fn image_in(alloc: Global, words: &Words) -> Result<ImageRequest, WordsFault>
 }
 
 /// What plain words ask for.
-fn dot_in(alloc: Global, words: &Words) -> Result<DotRequest, WordsFault>
-    ensures within { IfOk result (λ r. r.round ≤ most_rounds) }
+fn dot_in(reading: &mut Reading) -> DotRequest
+    ensures within { result.round ≤ most_rounds }
 {
-    let round = words.number_or(alloc, &DRAWN_ROUND, 0)?;
-    let field = words.text(alloc, &FIELD)?;
-    let names = words.text(alloc, &NAMES)?;
-    let plan = PlanPaths::of(alloc, words)?;
-    Ok(DotRequest {
+    let round = reading.number_or(&DRAWN_ROUND_ARGUMENT, 0);
+    let field = reading.text(&FIELD_ARGUMENT);
+    let names = reading.text(&NAMES_ARGUMENT);
+    let plan = PlanPaths::of(reading);
+    DotRequest {
         plan,
         round,
         field,
         names,
-    })
+    }
 }
 
 impl ImageRequest {
@@ -132,8 +137,9 @@ impl ImageRequest {
     pub fn parse(alloc: Global, line: &[String]) -> Result<ImageRequest, WordsFault>
         ensures within { IfOk result (λ r. r.grid ≤ MOST_NODES) }
     {
-        let words = parse(alloc, image(), line)?;
-        image_in(alloc, &words)
+        let mut reading = Reading::of(alloc, image(), line)?;
+        let asked = image_in(&mut reading);
+        reading.end_some(asked)
     }
 }
 
@@ -142,7 +148,8 @@ impl DotRequest {
     pub fn parse(alloc: Global, line: &[String]) -> Result<DotRequest, WordsFault>
         ensures within { IfOk result (λ r. r.round ≤ most_rounds) }
     {
-        let words = parse(alloc, dot(), line)?;
-        dot_in(alloc, &words)
+        let mut reading = Reading::of(alloc, dot(), line)?;
+        let asked = dot_in(&mut reading);
+        reading.end(asked)
     }
 }

@@ -3,7 +3,7 @@ ghost use Rattle.std.specs.Prelude.{◌≤◌, IfOk};
 ghost use Rattle.rounds_plan.specs.Configs.{most_rounds};
 
 use crate::arguments::{FILE, FLAG, FROM, NETWORK, PROGRAM, PlanPaths, ROUND};
-use app_table::{Argument, Command, Kind, OPTION, Words, WordsFault, parse};
+use app_table::{Argument, Command, Kind, OPTION, Reading, WordsFault};
 use std::alloc::Global;
 
 const SCHEDULE: Argument = Argument {
@@ -12,6 +12,9 @@ const SCHEDULE: Argument = Argument {
     help: "The file of the steps: lines `read NODE SLOT` and `write NODE`, or - for standard input",
     ..FILE
 };
+
+/// `SCHEDULE`, as it is read.
+static SCHEDULE_ARGUMENT: Argument = SCHEDULE;
 
 const STOP: Argument = Argument {
     name: "stop",
@@ -22,11 +25,17 @@ const STOP: Argument = Argument {
     ..OPTION
 };
 
+/// `STOP`, as it is read.
+static STOP_ARGUMENT: Argument = STOP;
+
 const COUNTS: Argument = Argument {
     name: "counts",
     help: "Show all counts after each step",
     ..FLAG
 };
+
+/// `COUNTS`, as it is read.
+static COUNTS_ARGUMENT: Argument = COUNTS;
 
 /// `explain` and what it takes.
 static EXPLAIN: Command = Command {
@@ -45,7 +54,7 @@ pub(crate) fn explain() -> &'static Command {
 }
 
 /// What `explain` is asked for.
-#[derive(Debug, Drop)]
+#[derive(Drop)]
 pub struct ExplainRequest {
     pub plan: PlanPaths,
     /// The path of the schedule.
@@ -57,18 +66,18 @@ pub struct ExplainRequest {
 }
 
 /// What plain words ask for.
-fn request_in(alloc: Global, words: &Words) -> Result<ExplainRequest, WordsFault>
-    ensures within { IfOk result (λ r. r.stop ≤ most_rounds) }
+fn request_in(reading: &mut Reading) -> ExplainRequest
+    ensures within { result.stop ≤ most_rounds }
 {
-    let stop = words.number_or(alloc, &STOP, 0)?;
-    let schedule = words.needed_text(alloc, &SCHEDULE)?;
-    let plan = PlanPaths::of(alloc, words)?;
-    Ok(ExplainRequest {
+    let stop = reading.number_or(&STOP_ARGUMENT, 0);
+    let schedule = reading.needed_text(&SCHEDULE_ARGUMENT);
+    let plan = PlanPaths::of(reading);
+    ExplainRequest {
         plan,
         schedule,
         stop,
-        counts: words.has(&COUNTS),
-    })
+        counts: reading.has(&COUNTS_ARGUMENT),
+    }
 }
 
 impl ExplainRequest {
@@ -76,7 +85,8 @@ impl ExplainRequest {
     pub fn parse(alloc: Global, line: &[String]) -> Result<ExplainRequest, WordsFault>
         ensures within { IfOk result (λ r. r.stop ≤ most_rounds) }
     {
-        let words = parse(alloc, explain(), line)?;
-        request_in(alloc, &words)
+        let mut reading = Reading::of(alloc, explain(), line)?;
+        let asked = request_in(&mut reading);
+        reading.end(asked)
     }
 }

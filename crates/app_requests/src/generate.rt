@@ -2,9 +2,7 @@
 ghost use Rattle.std.specs.Prelude.{◌≤◌, IfOk, IfSome};
 
 use crate::arguments::{FLAG, NUMBER};
-use app_table::{
-    Argument, Command, Kind, OPTION, Subcommand, Value, Words, WordsFault, number, parse,
-};
+use app_table::{Argument, Command, Kind, OPTION, Reading, Subcommand, Value, WordsFault, number};
 use net_random::Lot;
 use net_shapes::Shape;
 use std::alloc::Global;
@@ -30,6 +28,9 @@ const NODES: Argument = Argument {
     ..SIZE
 };
 
+/// `NODES`, as it is read.
+static NODES_ARGUMENT: Argument = NODES;
+
 const RING_NODES: Argument = Argument {
     help: "The number of nodes, 3 or more",
     ..NODES
@@ -52,12 +53,18 @@ const LEFT: Argument = Argument {
     ..SIZE
 };
 
+/// `LEFT`, as it is read.
+static LEFT_ARGUMENT: Argument = LEFT;
+
 const RIGHT: Argument = Argument {
     name: "B",
     value_name: "B",
     help: "The number of the others",
     ..SIZE
 };
+
+/// `RIGHT`, as it is read.
+static RIGHT_ARGUMENT: Argument = RIGHT;
 
 const DIMENSION: Argument = Argument {
     name: "D",
@@ -66,6 +73,9 @@ const DIMENSION: Argument = Argument {
     ..SIZE
 };
 
+/// `DIMENSION`, as it is read.
+static DIMENSION_ARGUMENT: Argument = DIMENSION;
+
 const GRID_WIDTH: Argument = Argument {
     name: "W",
     value_name: "W",
@@ -73,12 +83,18 @@ const GRID_WIDTH: Argument = Argument {
     ..SIZE
 };
 
+/// `GRID_WIDTH`, as it is read.
+static GRID_WIDTH_ARGUMENT: Argument = GRID_WIDTH;
+
 const GRID_HEIGHT: Argument = Argument {
     name: "H",
     value_name: "H",
     help: "The number of rows",
     ..SIZE
 };
+
+/// `GRID_HEIGHT`, as it is read.
+static GRID_HEIGHT_ARGUMENT: Argument = GRID_HEIGHT;
 
 const TORUS_WIDTH: Argument = Argument {
     help: "The number of nodes in a row, 3 or more",
@@ -97,11 +113,17 @@ const ARITY: Argument = Argument {
     ..NEEDED
 };
 
+/// `ARITY`, as it is read.
+static ARITY_ARGUMENT: Argument = ARITY;
+
 const DIAGONALS: Argument = Argument {
     name: "diagonals",
     help: "Link each node with the four beside its corners, too",
     ..FLAG
 };
+
+/// `DIAGONALS`, as it is read.
+static DIAGONALS_ARGUMENT: Argument = DIAGONALS;
 
 const LINKS: Argument = Argument {
     name: "links",
@@ -110,12 +132,18 @@ const LINKS: Argument = Argument {
     ..NEEDED
 };
 
+/// `LINKS`, as it is read.
+static LINKS_ARGUMENT: Argument = LINKS;
+
 const LINKS_EACH: Argument = Argument {
     name: "links-each",
     value_name: "K",
     help: "The number of nodes before it with which a node is linked",
     ..NEEDED
 };
+
+/// `LINKS_EACH`, as it is read.
+static LINKS_EACH_ARGUMENT: Argument = LINKS_EACH;
 
 const DEGREE: Argument = Argument {
     name: "degree",
@@ -124,12 +152,18 @@ const DEGREE: Argument = Argument {
     ..NEEDED
 };
 
+/// `DEGREE`, as it is read.
+static DEGREE_ARGUMENT: Argument = DEGREE;
+
 const NEAR: Argument = Argument {
     name: "near",
     value_name: "K",
     help: "The number of nodes that follow it round the ring with which a node is linked at first",
     ..NEEDED
 };
+
+/// `NEAR`, as it is read.
+static NEAR_ARGUMENT: Argument = NEAR;
 
 const REWIRE: Argument = Argument {
     name: "rewire",
@@ -142,6 +176,9 @@ const REWIRE: Argument = Argument {
     ..NEEDED
 };
 
+/// `REWIRE`, as it is read.
+static REWIRE_ARGUMENT: Argument = REWIRE;
+
 /// The seed by which links are drawn.
 const SEED: Argument = Argument {
     name: "seed",
@@ -150,6 +187,9 @@ const SEED: Argument = Argument {
     ..NEEDED
 };
 
+/// `SEED`, as it is read.
+static SEED_ARGUMENT: Argument = SEED;
+
 /// The weights of links that are drawn.
 const WEIGHTS: Argument = Argument {
     name: "weights",
@@ -157,6 +197,9 @@ const WEIGHTS: Argument = Argument {
     help: "Draw the weight of each link, from LOW to HIGH, by the seed",
     ..OPTION
 };
+
+/// `WEIGHTS`, as it is read.
+static WEIGHTS_ARGUMENT: Argument = WEIGHTS;
 
 /// The weights of a shape's links, which need a seed.
 const SHAPE_WEIGHTS: Argument = Argument {
@@ -282,21 +325,21 @@ pub(crate) fn generate() -> &'static Command {
 }
 
 /// Of which network the file is.
-#[derive(Clone, Copy, Debug, PartialEq, Eq)]
+#[derive(Clone, Copy, PartialEq, Eq)]
 pub enum Topology {
     Shape(Shape),
     Lot(Lot),
 }
 
 /// Weights that are to be drawn, from a least to a greatest one, both included.
-#[derive(Clone, Copy, Debug, PartialEq, Eq)]
+#[derive(Clone, Copy, PartialEq, Eq)]
 pub struct Weights {
     pub low: u32,
     pub high: u32,
 }
 
 /// What `generate` is asked for.
-#[derive(Clone, Copy, Debug, PartialEq, Eq)]
+#[derive(Clone, Copy, PartialEq, Eq)]
 pub struct GenerateRequest {
     pub topology: Topology,
     /// The weights of the links, where they are to be drawn.
@@ -306,109 +349,109 @@ pub struct GenerateRequest {
 }
 
 /// The number of an argument that has to be there.
-fn size(alloc: Global, words: &Words, argument: &Argument) -> Result<u32, WordsFault> {
-    words.number_or(alloc, argument, 0)
+fn size(reading: &mut Reading, argument: &Argument) -> u32 {
+    reading.number_or(argument, 0)
 }
 
 /// A grid, or a torus where that is named.
-fn rows_in(alloc: Global, words: &Words) -> Result<Shape, WordsFault> {
-    let width = size(alloc, words, &GRID_WIDTH)?;
-    let height = size(alloc, words, &GRID_HEIGHT)?;
-    if words.subcommand() == "grid" {
-        return Ok(Shape::Grid { width, height });
+fn rows_in(reading: &mut Reading) -> Shape {
+    let width = size(reading, &GRID_WIDTH_ARGUMENT);
+    let height = size(reading, &GRID_HEIGHT_ARGUMENT);
+    if reading.subcommand() == "grid" {
+        return Shape::Grid { width, height };
     }
-    let diagonals = words.has(&DIAGONALS);
-    Ok(Shape::Torus {
+    let diagonals = reading.has(&DIAGONALS_ARGUMENT);
+    Shape::Torus {
         width,
         height,
         diagonals,
-    })
+    }
 }
 
 /// A shape of two sides.
-fn bipartite_in(alloc: Global, words: &Words) -> Result<Shape, WordsFault> {
-    let left = size(alloc, words, &LEFT)?;
-    let right = size(alloc, words, &RIGHT)?;
-    Ok(Shape::Bipartite { left, right })
+fn bipartite_in(reading: &mut Reading) -> Shape {
+    let left = size(reading, &LEFT_ARGUMENT);
+    let right = size(reading, &RIGHT_ARGUMENT);
+    Shape::Bipartite { left, right }
 }
 
 /// A tree.
-fn tree_in(alloc: Global, words: &Words) -> Result<Shape, WordsFault> {
-    let nodes = size(alloc, words, &NODES)?;
-    let arity = size(alloc, words, &ARITY)?;
-    Ok(Shape::Tree { nodes, arity })
+fn tree_in(reading: &mut Reading) -> Shape {
+    let nodes = size(reading, &NODES_ARGUMENT);
+    let arity = size(reading, &ARITY_ARGUMENT);
+    Shape::Tree { nodes, arity }
 }
 
 /// A hypercube.
-fn hypercube_in(alloc: Global, words: &Words) -> Result<Shape, WordsFault> {
-    let dimension = size(alloc, words, &DIMENSION)?;
-    Ok(Shape::Hypercube { dimension })
+fn hypercube_in(reading: &mut Reading) -> Shape {
+    let dimension = size(reading, &DIMENSION_ARGUMENT);
+    Shape::Hypercube { dimension }
 }
 
 /// A shape that has one number, that of its nodes.
-fn simple_in(alloc: Global, words: &Words) -> Result<Shape, WordsFault> {
-    let nodes = size(alloc, words, &NODES)?;
-    match words.subcommand() {
-        "path" => Ok(Shape::Path { nodes }),
-        "ring" => Ok(Shape::Ring { nodes }),
-        "star" => Ok(Shape::Star { nodes }),
-        _ => Ok(Shape::Complete { nodes }),
+fn simple_in(reading: &mut Reading) -> Shape {
+    let nodes = size(reading, &NODES_ARGUMENT);
+    match reading.subcommand() {
+        "path" => Shape::Path { nodes },
+        "ring" => Shape::Ring { nodes },
+        "star" => Shape::Star { nodes },
+        _ => Shape::Complete { nodes },
     }
 }
 
 /// The shape that is named, with its numbers.
-fn shape_in(alloc: Global, words: &Words) -> Result<Shape, WordsFault> {
-    match words.subcommand() {
-        "bipartite" => bipartite_in(alloc, words),
-        "tree" => tree_in(alloc, words),
-        "grid" | "torus" => rows_in(alloc, words),
-        "hypercube" => hypercube_in(alloc, words),
-        _ => simple_in(alloc, words),
+fn shape_in(reading: &mut Reading) -> Shape {
+    match reading.subcommand() {
+        "bipartite" => bipartite_in(reading),
+        "tree" => tree_in(reading),
+        "grid" | "torus" => rows_in(reading),
+        "hypercube" => hypercube_in(reading),
+        _ => simple_in(reading),
     }
 }
 
 /// A small world of so many nodes.
-fn small_world_in(alloc: Global, nodes: u32, words: &Words) -> Result<Lot, WordsFault> {
-    let near = size(alloc, words, &NEAR)?;
-    let rewire = size(alloc, words, &REWIRE)?;
-    Ok(Lot::SmallWorld {
+fn small_world_in(reading: &mut Reading, nodes: u32) -> Lot {
+    let near = size(reading, &NEAR_ARGUMENT);
+    let rewire = size(reading, &REWIRE_ARGUMENT);
+    Lot::SmallWorld {
         nodes,
         near,
         rewire,
-    })
+    }
 }
 
 /// The lot that is named, with its numbers.
-fn lot_in(alloc: Global, words: &Words) -> Result<Lot, WordsFault> {
-    let nodes = size(alloc, words, &NODES)?;
-    match words.subcommand() {
+fn lot_in(reading: &mut Reading) -> Lot {
+    let nodes = size(reading, &NODES_ARGUMENT);
+    match reading.subcommand() {
         "random" => {
-            let links = size(alloc, words, &LINKS)?;
-            Ok(Lot::Random { nodes, links })
+            let links = size(reading, &LINKS_ARGUMENT);
+            Lot::Random { nodes, links }
         }
         "preferential" => {
-            let each = size(alloc, words, &LINKS_EACH)?;
-            Ok(Lot::Preferential { nodes, each })
+            let each = size(reading, &LINKS_EACH_ARGUMENT);
+            Lot::Preferential { nodes, each }
         }
         "regular" => {
-            let degree = size(alloc, words, &DEGREE)?;
-            Ok(Lot::Regular { nodes, degree })
+            let degree = size(reading, &DEGREE_ARGUMENT);
+            Lot::Regular { nodes, degree }
         }
-        "small-world" => small_world_in(alloc, nodes, words),
-        _ => Ok(Lot::Tree { nodes }),
+        "small-world" => small_world_in(reading, nodes),
+        _ => Lot::Tree { nodes },
     }
 }
 
 /// The network that is named.
-fn topology_in(alloc: Global, words: &Words) -> Result<Topology, WordsFault> {
-    match words.subcommand() {
+fn topology_in(reading: &mut Reading) -> Topology {
+    match reading.subcommand() {
         "random" | "random-tree" | "preferential" | "regular" | "small-world" => {
-            let lot = lot_in(alloc, words)?;
-            Ok(Topology::Lot(lot))
+            let lot = lot_in(reading);
+            Topology::Lot(lot)
         }
         _ => {
-            let shape = shape_in(alloc, words)?;
-            Ok(Topology::Shape(shape))
+            let shape = shape_in(reading);
+            Topology::Shape(shape)
         }
     }
 }
@@ -423,34 +466,37 @@ fn weights_of(text: &str) -> Option<Weights>
     Some(Weights { low, high })
 }
 
-/// The weights that the words ask for, where they ask for some.
-fn weights_in(alloc: Global, words: &Words) -> Result<Option<Weights>, WordsFault>
-    ensures ordered { IfOk result (λ o. IfSome o (λ w. w.low ≤ w.high)) }
+/// Notes that a text names no weights.
+fn refuse_weights(reading: &mut Reading, found: &str) {
+    reading.refuse_as(format!(in reading.alloc();
+        "--weights: expected LOW..HIGH, two whole numbers from 0 to 4294967295 of which the first is not the greater one, found `{found}`"
+    ));
+}
+
+/// The weights that the words ask for, where they ask for some. A text that names none is noted as wrong words.
+fn weights_in(reading: &mut Reading) -> Option<Weights>
+    ensures ordered { IfSome result (λ w. w.low ≤ w.high) }
 {
-    let Some(found) = words.text(alloc, &WEIGHTS)? else {
-        return Ok(None);
-    };
-    let found = found.as_str();
-    match weights_of(found) {
-        Some(weights) => Ok(Some(weights)),
-        None => Err(WordsFault::told(format!(in alloc;
-            "--weights: expected LOW..HIGH, two whole numbers from 0 to 4294967295 of which the first is not the greater one, found `{found}`"
-        ))),
+    let found = reading.text(&WEIGHTS_ARGUMENT)?;
+    let weights = weights_of(found.as_str());
+    if weights.is_none() {
+        refuse_weights(reading, found.as_str());
     }
+    weights
 }
 
 /// What plain words ask for.
-fn request_in(alloc: Global, words: &Words) -> Result<GenerateRequest, WordsFault>
-    ensures ordered { IfOk result (λ r. IfSome r.weights (λ w. w.low ≤ w.high)) }
+fn request_in(reading: &mut Reading) -> GenerateRequest
+    ensures ordered { IfSome result.weights (λ w. w.low ≤ w.high) }
 {
-    let topology = topology_in(alloc, words)?;
-    let weights = weights_in(alloc, words)?;
-    let seed = words.number_or(alloc, &SEED, 0)?;
-    Ok(GenerateRequest {
+    let topology = topology_in(reading);
+    let weights = weights_in(reading);
+    let seed = reading.number_or(&SEED_ARGUMENT, 0);
+    GenerateRequest {
         topology,
         weights,
         seed,
-    })
+    }
 }
 
 impl GenerateRequest {
@@ -459,7 +505,8 @@ impl GenerateRequest {
     pub fn parse(alloc: Global, line: &[String]) -> Result<GenerateRequest, WordsFault>
         ensures ordered { IfOk result (λ r. IfSome r.weights (λ w. w.low ≤ w.high)) }
     {
-        let words = parse(alloc, generate(), line)?;
-        request_in(alloc, &words)
+        let mut reading = Reading::of(alloc, generate(), line)?;
+        let asked = request_in(&mut reading);
+        reading.end(asked)
     }
 }

@@ -1,8 +1,8 @@
 //! `import`: a network from another format.
 ghost use Rattle.std.specs.Prelude.{◌≤◌, IfOk, IfSome};
 
-use crate::arguments::{FILE, FILE_OPTION, FLAG, wrong};
-use app_table::{Argument, Choice, Command, OPTION, Subcommand, Value, Words, WordsFault, parse};
+use crate::arguments::{FILE, FILE_OPTION, FLAG};
+use app_table::{Argument, Choice, Command, OPTION, Reading, Subcommand, Value, WordsFault};
 use import_links::{Doubles, Kept, Loops, Mending};
 use std::alloc::Global;
 
@@ -11,6 +11,9 @@ const TEXT: Argument = Argument {
     help: "The text that is taken in, or - for standard input",
     ..FILE
 };
+
+/// `TEXT`, as it is read.
+static TEXT_ARGUMENT: Argument = TEXT;
 
 const SCALE: Argument = Argument {
     name: "scale",
@@ -23,11 +26,17 @@ const SCALE: Argument = Argument {
     ..OPTION
 };
 
+/// `SCALE`, as it is read.
+static SCALE_ARGUMENT: Argument = SCALE;
+
 const DROP_LOOPS: Argument = Argument {
     name: "drop-loops",
     help: "Drop edges of a node with itself, which are refused else",
     ..FLAG
 };
+
+/// `DROP_LOOPS`, as it is read.
+static DROP_LOOPS_ARGUMENT: Argument = DROP_LOOPS;
 
 const PARALLEL: Argument = Argument {
     name: "parallel",
@@ -51,11 +60,17 @@ const PARALLEL: Argument = Argument {
     ..OPTION
 };
 
+/// `PARALLEL`, as it is read.
+static PARALLEL_ARGUMENT: Argument = PARALLEL;
+
 const NAMES: Argument = Argument {
     name: "names",
     help: "Where to write the names of the nodes, a line each, node 0 first",
     ..FILE_OPTION
 };
+
+/// `NAMES`, as it is read.
+static NAMES_ARGUMENT: Argument = NAMES;
 
 const HEADER: Argument = Argument {
     name: "header",
@@ -63,17 +78,26 @@ const HEADER: Argument = Argument {
     ..FLAG
 };
 
+/// `HEADER`, as it is read.
+static HEADER_ARGUMENT: Argument = HEADER;
+
 const NUMBERS: Argument = Argument {
     name: "numbers",
     help: "The names are the numbers of the nodes, from 0, as they stand",
     ..FLAG
 };
 
+/// `NUMBERS`, as it is read.
+static NUMBERS_ARGUMENT: Argument = NUMBERS;
+
 const UNDIRECTED: Argument = Argument {
     name: "undirected",
     help: "Take directed edges as undirected ones",
     ..FLAG
 };
+
+/// `UNDIRECTED`, as it is read.
+static UNDIRECTED_ARGUMENT: Argument = UNDIRECTED;
 
 const FORMATS: [Subcommand; 3] = [
     Subcommand {
@@ -113,7 +137,7 @@ pub(crate) fn import() -> &'static Command {
 }
 
 /// The format of a text that is taken in.
-#[derive(Clone, Copy, Debug, PartialEq, Eq)]
+#[derive(Clone, Copy, PartialEq, Eq)]
 pub enum Format {
     /// Lines of two names and a weight.
     Edges,
@@ -144,7 +168,7 @@ impl Format {
 }
 
 /// What `import` is asked for.
-#[derive(Debug, Drop)]
+#[derive(Drop)]
 pub struct ImportRequest {
     /// The format of the text.
     pub format: Format,
@@ -165,67 +189,63 @@ pub struct ImportRequest {
 }
 
 /// The factor that the words name; it is 1 or more.
-fn factor_in(alloc: Global, words: &Words) -> Result<Option<u32>, WordsFault>
-    ensures positive { IfOk result (λ o. IfSome o (λ factor. 1 ≤ factor)) }
+fn factor_in(reading: &mut Reading) -> Option<u32>
+    ensures positive { IfSome result (λ factor. 1 ≤ factor) }
 {
-    let factor = words.number_or(alloc, &SCALE, 0)?;
-    if factor == 0 {
-        return Ok(None);
-    }
-    Ok(Some(factor))
+    let factor = reading.number_or(&SCALE_ARGUMENT, 0);
+    if factor > 0 { Some(factor) } else { None }
 }
 
 /// What becomes of edges between the same two nodes.
-fn doubles_in(alloc: Global, words: &Words) -> Result<Doubles, WordsFault> {
-    match words.choice(alloc, &PARALLEL)? {
-        None => Ok(Doubles::Refused),
-        Some("min") => Ok(Doubles::Merged(Kept::Least)),
-        Some("max") => Ok(Doubles::Merged(Kept::Most)),
-        Some(_) => Ok(Doubles::Merged(Kept::First)),
+fn doubles_in(reading: &mut Reading) -> Doubles {
+    match reading.choice(&PARALLEL_ARGUMENT) {
+        None => Doubles::Refused,
+        Some("min") => Doubles::Merged(Kept::Least),
+        Some("max") => Doubles::Merged(Kept::Most),
+        Some(_) => Doubles::Merged(Kept::First),
     }
 }
 
-/// What becomes of loops and doubles.
-fn mending_in(alloc: Global, words: &Words) -> Result<Mending, WordsFault> {
-    let doubles = doubles_in(alloc, words)?;
-    let loops = if words.has(&DROP_LOOPS) {
+/// What becomes of loops.
+fn loops_in(reading: &Reading) -> Loops {
+    if reading.has(&DROP_LOOPS_ARGUMENT) {
         Loops::Dropped
     } else {
         Loops::Refused
-    };
-    Ok(Mending { loops, doubles })
+    }
 }
 
 /// Refuses `--names` beside `--numbers`: numbers have no other names.
-fn check_names(alloc: Global, words: &Words) -> Result<(), WordsFault> {
-    if words.has(&NUMBERS) && words.has(&NAMES) {
-        return Err(wrong(
-            alloc,
+fn check_names(reading: &mut Reading) {
+    if reading.has(&NUMBERS_ARGUMENT) && reading.has(&NAMES_ARGUMENT) {
+        reading.refuse_words(
             "--names cannot stand beside --numbers, where nodes have no names but their numbers",
-        ));
+        );
     }
-    Ok(())
 }
 
 /// What plain words ask for.
-fn request_in(alloc: Global, words: &Words) -> Result<ImportRequest, WordsFault>
-    ensures positive { IfOk result (λ r. IfSome r.factor (λ factor. 1 ≤ factor)) }
+fn request_in(reading: &mut Reading) -> ImportRequest
+    ensures positive { IfSome result.factor (λ factor. 1 ≤ factor) }
 {
-    check_names(alloc, words)?;
-    let factor = factor_in(alloc, words)?;
-    let mending = mending_in(alloc, words)?;
-    let names = words.text(alloc, &NAMES)?;
-    let path = words.needed_text(alloc, &TEXT)?;
-    Ok(ImportRequest {
-        format: Format::named(words.subcommand()),
+    check_names(reading);
+    let factor = factor_in(reading);
+    let doubles = doubles_in(reading);
+    let names = reading.text(&NAMES_ARGUMENT);
+    let path = reading.needed_text(&TEXT_ARGUMENT);
+    ImportRequest {
+        format: Format::named(reading.subcommand()),
         path,
         names,
-        header: words.has(&HEADER),
-        numbers: words.has(&NUMBERS),
-        undirected: words.has(&UNDIRECTED),
+        header: reading.has(&HEADER_ARGUMENT),
+        numbers: reading.has(&NUMBERS_ARGUMENT),
+        undirected: reading.has(&UNDIRECTED_ARGUMENT),
         factor,
-        mending,
-    })
+        mending: Mending {
+            loops: loops_in(reading),
+            doubles,
+        },
+    }
 }
 
 impl ImportRequest {
@@ -234,7 +254,8 @@ impl ImportRequest {
     pub fn parse(alloc: Global, line: &[String]) -> Result<ImportRequest, WordsFault>
         ensures positive { IfOk result (λ r. IfSome r.factor (λ factor. 1 ≤ factor)) }
     {
-        let words = parse(alloc, import(), line)?;
-        request_in(alloc, &words)
+        let mut reading = Reading::of(alloc, import(), line)?;
+        let asked = request_in(&mut reading);
+        reading.end(asked)
     }
 }

@@ -1,7 +1,7 @@
 //! `info`: what one wants to know of a network.
 
-use crate::arguments::NETWORK;
-use app_table::{Command, WordsFault, parse};
+use crate::arguments::{NETWORK, NETWORK_ARGUMENT};
+use app_table::{Command, Reading, WordsFault};
 use std::alloc::Global;
 
 /// `info` and what it takes.
@@ -21,7 +21,7 @@ pub(crate) fn info() -> &'static Command {
 }
 
 /// What `info` is asked for.
-#[derive(Debug, Drop)]
+#[derive(Drop)]
 pub struct InfoRequest {
     /// The path of the network.
     pub network: String,
@@ -30,8 +30,8 @@ pub struct InfoRequest {
 impl InfoRequest {
     /// What the words ask for, the command's name first.
     pub fn parse(alloc: Global, line: &[String]) -> Result<InfoRequest, WordsFault> {
-        let words = parse(alloc, info(), line)?;
-        let network = words.needed_text(alloc, &NETWORK)?;
-        Ok(InfoRequest { network })
+        let mut reading = Reading::of(alloc, info(), line)?;
+        let network = reading.needed_text(&NETWORK_ARGUMENT);
+        reading.end(InfoRequest { network })
     }
 }

@@ -1,10 +1,12 @@
 //! `init`: other opening values of a network.
 ghost use Rattle.std.specs.Prelude.{◌≤◌, IfOk, IfSome};
 
-use crate::arguments::{FILE_OPTION, NAMES, NETWORK, NUMBER, WIDTH};
-use app_table::{Argument, Choice, Command, Kind, OPTION, Value, Words, WordsFault, number, parse};
+use crate::arguments::{
+    FILE_OPTION, NAMES, NAMES_ARGUMENT, NETWORK, NETWORK_ARGUMENT, NUMBER, WIDTH,
+};
+use app_table::{Argument, Choice, Command, Kind, OPTION, Reading, Value, WordsFault, number};
 use link_net::MOST_NODES;
-use std::alloc::{AllocError, Global};
+use std::alloc::Global;
 
 /// An option that may be given as often as wanted.
 const REPEATED: Argument = Argument {
@@ -19,6 +21,9 @@ const SET: Argument = Argument {
     ..REPEATED
 };
 
+/// `SET`, as it is read.
+static SET_ARGUMENT: Argument = SET;
+
 const SET_RANDOM: Argument = Argument {
     name: "set-random",
     value_name: "FIELD=VALUE:COUNT",
@@ -26,6 +31,9 @@ const SET_RANDOM: Argument = Argument {
     needs: Some("seed"),
     ..REPEATED
 };
+
+/// `SET_RANDOM`, as it is read.
+static SET_RANDOM_ARGUMENT: Argument = SET_RANDOM;
 
 const SEED: Argument = Argument {
     name: "seed",
@@ -36,6 +44,9 @@ const SEED: Argument = Argument {
     ..OPTION
 };
 
+/// `SEED`, as it is read.
+static SEED_ARGUMENT: Argument = SEED;
+
 const CELLS: Argument = Argument {
     name: "cells",
     kind: Kind::Repeated,
@@ -45,6 +56,9 @@ const CELLS: Argument = Argument {
     ..FILE_OPTION
 };
 
+/// `CELLS`, as it is read.
+static CELLS_ARGUMENT: Argument = CELLS;
+
 const GRID_WIDTH: Argument = Argument {
     name: "width",
     value: WIDTH,
@@ -53,6 +67,9 @@ const GRID_WIDTH: Argument = Argument {
     needs: Some("cells"),
     ..OPTION
 };
+
+/// `GRID_WIDTH`, as it is read.
+static GRID_WIDTH_ARGUMENT: Argument = GRID_WIDTH;
 
 const PHASE: Argument = Argument {
     name: "phase",
@@ -75,6 +92,9 @@ const PHASE: Argument = Argument {
     ..OPTION
 };
 
+/// `PHASE`, as it is read.
+static PHASE_ARGUMENT: Argument = PHASE;
+
 /// `init` and what it takes.
 static INIT: Command = Command {
     name: "init",
@@ -94,7 +114,7 @@ pub(crate) fn init() -> &'static Command {
 }
 
 /// A word of `--set FIELD=NODE:VALUE`.
-#[derive(Debug, Drop)]
+#[derive(Drop)]
 pub struct SetWord {
     pub field: String,
     /// A node's number or name, or `*` for all nodes.
@@ -103,7 +123,7 @@ pub struct SetWord {
 }
 
 /// A word of `--set-random FIELD=VALUE:COUNT`.
-#[derive(Debug, Drop)]
+#[derive(Drop)]
 pub struct LotWord {
     pub field: String,
     pub value: u32,
@@ -112,7 +132,7 @@ pub struct LotWord {
 }
 
 /// A word of `--cells FIELD=FILE@X,Y`.
-#[derive(Debug, Drop)]
+#[derive(Drop)]
 pub struct CellsWord {
     pub field: String,
     /// The path of the pattern.
@@ -124,7 +144,7 @@ pub struct CellsWord {
 }
 
 /// What `init` is asked for.
-#[derive(Debug, Drop)]
+#[derive(Drop)]
 pub struct InitRequest {
     /// The path of the network.
     pub network: String,
@@ -150,33 +170,41 @@ fn set_parts(word: &str) -> Option<(&str, &str, u32)> {
     Some((field, node, value))
 }
 
-/// The word of `--set`.
-fn set_word(alloc: Global, word: &str) -> Result<SetWord, WordsFault> {
-    match set_parts(word) {
-        Some((field, node, value)) => Ok(SetWord {
-            field: String::from_str(alloc, field)?,
-            node: String::from_str(alloc, node)?,
-            value,
-        }),
-        None => Err(WordsFault::told(format!(in alloc;
-            "--set: expected FIELD=NODE:VALUE, with a whole number from 0 to 4294967295 behind the last colon, found `{word}`"
-        ))),
-    }
+/// Notes that a word of `--set` has not its parts.
+fn refuse_set(reading: &mut Reading, word: &str) {
+    reading.refuse_as(format!(in reading.alloc();
+        "--set: expected FIELD=NODE:VALUE, with a whole number from 0 to 4294967295 behind the last colon, found `{word}`"
+    ));
+}
+
+/// The word of `--set`, where it has its parts.
+fn set_word(reading: &mut Reading, word: &str) -> Option<SetWord> {
+    let (field, node, value) = set_parts(word)?;
+    let field = reading.copied(field);
+    let node = reading.copied(node);
+    Some(SetWord { field, node, value })
 }
 
 /// Puts a word behind the others.
-fn put_set(sets: &mut Vec<SetWord>, word: SetWord) -> Result<(), AllocError> {
-    sets.push(word)?;
-    Ok(())
+fn put_set(sets: &mut Vec<SetWord>, reading: &mut Reading, word: &str) {
+    match set_word(reading, word) {
+        Some(set) => {
+            if sets.push(set).is_err() {
+                reading.refuse(WordsFault::Memory);
+            }
+        }
+        None => refuse_set(reading, word),
+    }
 }
 
 /// The words of `--set`, in their order.
-fn sets_in(alloc: Global, words: &Words) -> Result<Vec<SetWord>, WordsFault> {
-    let mut sets = Vec::new(alloc);
-    for word in &words.texts(alloc, &SET)? {
-        put_set(&mut sets, set_word(alloc, word.as_str())?)?;
+fn sets_in(reading: &mut Reading) -> Vec<SetWord> {
+    let words = reading.texts(&SET_ARGUMENT);
+    let mut sets = Vec::new(reading.alloc());
+    for word in &words {
+        put_set(&mut sets, reading, word.as_str());
     }
-    Ok(sets)
+    sets
 }
 
 /// The parts of a word of `--set-random`.
@@ -188,33 +216,44 @@ fn lot_parts(word: &str) -> Option<(&str, u32, u32)> {
     Some((field, value, count))
 }
 
-/// The word of `--set-random`.
-fn lot_word(alloc: Global, word: &str) -> Result<LotWord, WordsFault> {
-    match lot_parts(word) {
-        Some((field, value, count)) => Ok(LotWord {
-            field: String::from_str(alloc, field)?,
-            value,
-            count,
-        }),
-        None => Err(WordsFault::told(format!(in alloc;
-            "--set-random: expected FIELD=VALUE:COUNT, two whole numbers from 0 to 4294967295 behind the first =, found `{word}`"
-        ))),
-    }
+/// Notes that a word of `--set-random` has not its parts.
+fn refuse_lot(reading: &mut Reading, word: &str) {
+    reading.refuse_as(format!(in reading.alloc();
+        "--set-random: expected FIELD=VALUE:COUNT, two whole numbers from 0 to 4294967295 behind the first =, found `{word}`"
+    ));
+}
+
+/// The word of `--set-random`, where it has its parts.
+fn lot_word(reading: &mut Reading, word: &str) -> Option<LotWord> {
+    let (field, value, count) = lot_parts(word)?;
+    let field = reading.copied(field);
+    Some(LotWord {
+        field,
+        value,
+        count,
+    })
 }
 
 /// Puts a word behind the others.
-fn put_lot(lots: &mut Vec<LotWord>, word: LotWord) -> Result<(), AllocError> {
-    lots.push(word)?;
-    Ok(())
+fn put_lot(lots: &mut Vec<LotWord>, reading: &mut Reading, word: &str) {
+    match lot_word(reading, word) {
+        Some(lot) => {
+            if lots.push(lot).is_err() {
+                reading.refuse(WordsFault::Memory);
+            }
+        }
+        None => refuse_lot(reading, word),
+    }
 }
 
 /// The words of `--set-random`, in their order.
-fn lots_in(alloc: Global, words: &Words) -> Result<Vec<LotWord>, WordsFault> {
-    let mut lots = Vec::new(alloc);
-    for word in &words.texts(alloc, &SET_RANDOM)? {
-        put_lot(&mut lots, lot_word(alloc, word.as_str())?)?;
+fn lots_in(reading: &mut Reading) -> Vec<LotWord> {
+    let words = reading.texts(&SET_RANDOM_ARGUMENT);
+    let mut lots = Vec::new(reading.alloc());
+    for word in &words {
+        put_lot(&mut lots, reading, word.as_str());
     }
-    Ok(lots)
+    lots
 }
 
 /// The parts of a word of `--cells`: what stands before the first `=`, what follows up to the last `@`, and the two numbers
@@ -228,62 +267,73 @@ fn cells_parts(word: &str) -> Option<(&str, &str, u32, u32)> {
     Some((field, path, column, row))
 }
 
-/// The word of `--cells`.
-fn cells_word(alloc: Global, word: &str) -> Result<CellsWord, WordsFault> {
-    match cells_parts(word) {
-        Some((field, path, column, row)) => Ok(CellsWord {
-            field: String::from_str(alloc, field)?,
-            path: String::from_str(alloc, path)?,
-            column,
-            row,
-        }),
-        None => Err(WordsFault::told(format!(in alloc;
-            "--cells: expected FIELD=FILE@X,Y, with a column and a row from 0 to 65535 behind the last @, found `{word}`"
-        ))),
-    }
+/// Notes that a word of `--cells` has not its parts.
+fn refuse_cells(reading: &mut Reading, word: &str) {
+    reading.refuse_as(format!(in reading.alloc();
+        "--cells: expected FIELD=FILE@X,Y, with a column and a row from 0 to 65535 behind the last @, found `{word}`"
+    ));
+}
+
+/// The word of `--cells`, where it has its parts.
+fn cells_word(reading: &mut Reading, word: &str) -> Option<CellsWord> {
+    let (field, path, column, row) = cells_parts(word)?;
+    let field = reading.copied(field);
+    let path = reading.copied(path);
+    Some(CellsWord {
+        field,
+        path,
+        column,
+        row,
+    })
 }
 
 /// Puts a word behind the others.
-fn put_cells(cells: &mut Vec<CellsWord>, word: CellsWord) -> Result<(), AllocError> {
-    cells.push(word)?;
-    Ok(())
+fn put_cells(cells: &mut Vec<CellsWord>, reading: &mut Reading, word: &str) {
+    match cells_word(reading, word) {
+        Some(pattern) => {
+            if cells.push(pattern).is_err() {
+                reading.refuse(WordsFault::Memory);
+            }
+        }
+        None => refuse_cells(reading, word),
+    }
 }
 
 /// The words of `--cells`, in their order.
-fn cells_in(alloc: Global, words: &Words) -> Result<Vec<CellsWord>, WordsFault> {
-    let mut cells = Vec::new(alloc);
-    for word in &words.texts(alloc, &CELLS)? {
-        put_cells(&mut cells, cells_word(alloc, word.as_str())?)?;
+fn cells_in(reading: &mut Reading) -> Vec<CellsWord> {
+    let words = reading.texts(&CELLS_ARGUMENT);
+    let mut cells = Vec::new(reading.alloc());
+    for word in &words {
+        put_cells(&mut cells, reading, word.as_str());
     }
-    Ok(cells)
+    cells
 }
 
 /// The phase that the words ask for, where they ask for one.
-fn phase_in(alloc: Global, words: &Words) -> Result<Option<u8>, WordsFault>
-    ensures phase { IfOk result (λ o. IfSome o (λ phase. phase ≤ 2)) }
+fn phase_in(reading: &mut Reading) -> Option<u8>
+    ensures phase { IfSome result (λ phase. phase ≤ 2) }
 {
-    match words.choice(alloc, &PHASE)? {
-        None => Ok(None),
-        Some("0") => Ok(Some(0)),
-        Some("1") => Ok(Some(1)),
-        Some(_) => Ok(Some(2)),
+    match reading.choice(&PHASE_ARGUMENT)? {
+        "0" => Some(0),
+        "1" => Some(1),
+        _ => Some(2),
     }
 }
 
 /// What plain words ask for.
-fn request_in(alloc: Global, words: &Words) -> Result<InitRequest, WordsFault>
-    ensures phase { IfOk result (λ r. IfSome r.phase (λ phase. phase ≤ 2)) }
-    ensures width { IfOk result (λ r. (1 ≤ r.width) × (r.width ≤ MOST_NODES)) }
+fn request_in(reading: &mut Reading) -> InitRequest
+    ensures phase { IfSome result.phase (λ phase. phase ≤ 2) }
+    ensures width { (1 ≤ result.width) × (result.width ≤ MOST_NODES) }
 {
-    let phase = phase_in(alloc, words)?;
-    let seed = words.number_or(alloc, &SEED, 0)?;
-    let width = words.number_or(alloc, &GRID_WIDTH, 1)?;
-    let lots = lots_in(alloc, words)?;
-    let cells = cells_in(alloc, words)?;
-    let sets = sets_in(alloc, words)?;
-    let names = words.text(alloc, &NAMES)?;
-    let network = words.needed_text(alloc, &NETWORK)?;
-    Ok(InitRequest {
+    let phase = phase_in(reading);
+    let seed = reading.number_or(&SEED_ARGUMENT, 0);
+    let width = reading.number_or(&GRID_WIDTH_ARGUMENT, 1);
+    let lots = lots_in(reading);
+    let cells = cells_in(reading);
+    let sets = sets_in(reading);
+    let names = reading.text(&NAMES_ARGUMENT);
+    let network = reading.needed_text(&NETWORK_ARGUMENT);
+    InitRequest {
         network,
         names,
         sets,
@@ -292,7 +342,7 @@ fn request_in(alloc: Global, words: &Words) -> Result<InitRequest, WordsFault>
         width,
         seed,
         phase,
-    })
+    }
 }
 
 impl InitRequest {
@@ -301,7 +351,8 @@ impl InitRequest {
         ensures phase { IfOk result (λ r. IfSome r.phase (λ phase. phase ≤ 2)) }
         ensures width { IfOk result (λ r. (1 ≤ r.width) × (r.width ≤ MOST_NODES)) }
     {
-        let words = parse(alloc, init(), line)?;
-        request_in(alloc, &words)
+        let mut reading = Reading::of(alloc, init(), line)?;
+        let asked = request_in(&mut reading);
+        reading.end(asked)
     }
 }

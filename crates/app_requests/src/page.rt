@@ -1,12 +1,12 @@
 //! `page`: an HTML page on which a run is stepped through.
-ghost use Rattle.std.specs.Prelude.{◌≤◌, IfOk};
+ghost use Rattle.std.specs.Prelude.{◌≤◌, IfOk, IfSome};
 ghost use Rattle.app_requests.specs.Requests.{IsRunWithin};
 
 use crate::arguments::{
-    EVERY, FILE_OPTION, FROM, NAMES, NETWORK, ONLY, PROGRAM, PlanPaths, ROUND, ROUNDS, WIDTH,
-    only_in, span_in, wrong,
+    EVERY, EVERY_ARGUMENT, FILE_OPTION, FROM, NAMES, NAMES_ARGUMENT, NETWORK, ONLY, PROGRAM,
+    PlanPaths, ROUND, ROUNDS, WIDTH, only_in, span_in,
 };
-use app_table::{Argument, Command, Kind, OPTION, Words, WordsFault, parse};
+use app_table::{Argument, Command, Kind, OPTION, Reading, WordsFault};
 use link_net::MOST_NODES;
 use run_watch::Span;
 use std::alloc::Global;
@@ -16,12 +16,18 @@ const SHOWN_ROUNDS: Argument = Argument {
     ..ROUNDS
 };
 
+/// `SHOWN_ROUNDS`, as it is read.
+static SHOWN_ROUNDS_ARGUMENT: Argument = SHOWN_ROUNDS;
+
 const STEPS: Argument = Argument {
     name: "steps",
     value_name: "SCHEDULE",
     help: "Show the single steps of this schedule, or - for standard input",
     ..FILE_OPTION
 };
+
+/// `STEPS`, as it is read.
+static STEPS_ARGUMENT: Argument = STEPS;
 
 const STOP: Argument = Argument {
     name: "stop",
@@ -31,6 +37,9 @@ const STOP: Argument = Argument {
     ..OPTION
 };
 
+/// `STOP`, as it is read.
+static STOP_ARGUMENT: Argument = STOP;
+
 const GRID: Argument = Argument {
     name: "grid",
     value: WIDTH,
@@ -39,11 +48,17 @@ const GRID: Argument = Argument {
     ..OPTION
 };
 
+/// `GRID`, as it is read.
+static GRID_ARGUMENT: Argument = GRID;
+
 const VIEWER: Argument = Argument {
     name: "viewer",
     help: "The viewer into which the run is put; unison names that of its own folder, viewer/page.html",
     ..FILE_OPTION
 };
+
+/// `VIEWER`, as it is read.
+static VIEWER_ARGUMENT: Argument = VIEWER;
 
 /// `page` and what it takes.
 static PAGE: Command = Command {
@@ -74,7 +89,7 @@ pub(crate) fn page() -> &'static Command {
 }
 
 /// The run that a page shows.
-#[derive(Debug, Drop)]
+#[derive(Drop)]
 pub enum PageRun {
     /// These lockstep rounds.
     Rounds { span: Span },
@@ -83,7 +98,7 @@ pub enum PageRun {
 }
 
 /// How a run is shown on a page.
-#[derive(Debug, Drop)]
+#[derive(Drop)]
 pub struct PageView {
     /// The fields that are shown, where not all are.
     pub only: Option<Vec<String>>,
@@ -94,7 +109,7 @@ pub struct PageView {
 }
 
 /// What `page` is asked for.
-#[derive(Debug, Drop)]
+#[derive(Drop)]
 pub struct PageRequest {
     pub plan: PlanPaths,
     pub run: PageRun,
@@ -103,83 +118,88 @@ pub struct PageRequest {
     pub viewer: String,
 }
 
-/// Rounds, of which words for steps are not given.
-fn rounds_in(alloc: Global, words: &Words) -> Result<PageRun, WordsFault>
-    ensures within { IfOk result IsRunWithin }
+/// Rounds, of which words for steps are not given; none where no rounds are named.
+fn rounds_in(reading: &mut Reading) -> Option<PageRun>
+    ensures within { IfSome result IsRunWithin }
 {
-    if words.has(&STOP) {
-        return Err(wrong(
-            alloc,
+    if reading.has(&STOP_ARGUMENT) {
+        reading.refuse_words(
             "--stop goes with --steps; the last of the rounds stands in --rounds FIRST..LAST",
-        ));
+        );
     }
-    let span = span_in(alloc, words)?;
-    Ok(PageRun::Rounds { span })
+    let span = span_in(reading)?;
+    Some(PageRun::Rounds { span })
+}
+
+/// Refuses words for rounds beside steps, and steps with no round at which nodes stop.
+fn check_steps(reading: &mut Reading) {
+    if reading.has(&EVERY_ARGUMENT) {
+        reading.refuse_words("--every goes with --rounds");
+    }
+    if !reading.has(&STOP_ARGUMENT) {
+        reading.refuse_words("--steps: the round at which nodes stop is wanted too: --stop T");
+    }
 }
 
 /// Steps, with the round at which nodes stop.
-fn steps_in(alloc: Global, words: &Words) -> Result<PageRun, WordsFault>
-    ensures within { IfOk result IsRunWithin }
+fn steps_in(reading: &mut Reading) -> PageRun
+    ensures within { IsRunWithin result }
 {
-    if words.has(&EVERY) {
-        return Err(wrong(alloc, "--every goes with --rounds"));
-    }
-    if !words.has(&STOP) {
-        return Err(wrong(
-            alloc,
-            "--steps: the round at which nodes stop is wanted too: --stop T",
-        ));
-    }
-    let stop = words.number_or(alloc, &STOP, 0)?;
-    let schedule = words.needed_text(alloc, &STEPS)?;
-    Ok(PageRun::Steps { schedule, stop })
+    check_steps(reading);
+    let stop = reading.number_or(&STOP_ARGUMENT, 0);
+    let schedule = reading.needed_text(&STEPS_ARGUMENT);
+    PageRun::Steps { schedule, stop }
 }
 
-/// The run that is shown.
-fn run_in(alloc: Global, words: &Words) -> Result<PageRun, WordsFault>
-    ensures within { IfOk result IsRunWithin }
+/// The run that is shown, where one is named.
+fn run_in(reading: &mut Reading) -> Option<PageRun>
+    ensures within { IfSome result IsRunWithin }
 {
-    match (words.has(&SHOWN_ROUNDS), words.has(&STEPS)) {
-        (true, false) => rounds_in(alloc, words),
-        (false, true) => steps_in(alloc, words),
-        _ => Err(wrong(
-            alloc,
-            "what the page shows is wanted, once: --rounds FIRST..LAST, or --steps SCHEDULE --stop T",
-        )),
+    match (
+        reading.has(&SHOWN_ROUNDS_ARGUMENT),
+        reading.has(&STEPS_ARGUMENT),
+    ) {
+        (true, false) => rounds_in(reading),
+        (false, true) => Some(steps_in(reading)),
+        _ => {
+            reading.refuse_words(
+                "what the page shows is wanted, once: --rounds FIRST..LAST, or --steps SCHEDULE --stop T",
+            );
+            None
+        }
     }
 }
 
 /// How the run is shown.
-fn view_in(alloc: Global, words: &Words) -> Result<PageView, WordsFault>
-    ensures within { IfOk result (λ v. v.grid ≤ MOST_NODES) }
+fn view_in(reading: &mut Reading) -> PageView
+    ensures within { result.grid ≤ MOST_NODES }
 {
-    let grid = words.number_or(alloc, &GRID, 0)?;
-    let only = only_in(alloc, words)?;
-    let names = words.text(alloc, &NAMES)?;
-    Ok(PageView { only, names, grid })
+    let grid = reading.number_or(&GRID_ARGUMENT, 0);
+    let only = only_in(reading);
+    let names = reading.text(&NAMES_ARGUMENT);
+    PageView { only, names, grid }
 }
 
 /// The path of the viewer, which has to be there.
-fn viewer_in(alloc: Global, words: &Words) -> Result<String, WordsFault> {
-    match words.text(alloc, &VIEWER)? {
-        Some(path) => Ok(path),
-        None => Err(wrong(
-            alloc,
+fn viewer_in(reading: &mut Reading) -> String {
+    if !reading.has(&VIEWER_ARGUMENT) {
+        reading.refuse_words(
             "--viewer FILE is wanted: the viewer's page, viewer/page.html of the repository; ./unison page names it by itself",
-        )),
+        );
     }
+    reading.needed_text(&VIEWER_ARGUMENT)
 }
 
-/// What plain words ask for.
-fn request_in(alloc: Global, words: &Words) -> Result<PageRequest, WordsFault>
-    ensures run { IfOk result (λ r. IsRunWithin r.run) }
-    ensures grid { IfOk result (λ r. r.view.grid ≤ MOST_NODES) }
+/// What plain words ask for, where they name a run.
+fn request_in(reading: &mut Reading) -> Option<PageRequest>
+    ensures run { IfSome result (λ r. IsRunWithin r.run) }
+    ensures grid { IfSome result (λ r. r.view.grid ≤ MOST_NODES) }
 {
-    let run = run_in(alloc, words)?;
-    let view = view_in(alloc, words)?;
-    let viewer = viewer_in(alloc, words)?;
-    let plan = PlanPaths::of(alloc, words)?;
-    Ok(PageRequest {
+    let run = run_in(reading)?;
+    let view = view_in(reading);
+    let viewer = viewer_in(reading);
+    let plan = PlanPaths::of(reading);
+    Some(PageRequest {
         plan,
         run,
         view,
@@ -193,7 +213,8 @@ impl PageRequest {
         ensures run { IfOk result (λ r. IsRunWithin r.run) }
         ensures grid { IfOk result (λ r. r.view.grid ≤ MOST_NODES) }
     {
-        let words = parse(alloc, page(), line)?;
-        request_in(alloc, &words)
+        let mut reading = Reading::of(alloc, page(), line)?;
+        let asked = request_in(&mut reading);
+        reading.end_some(asked)
     }
 }

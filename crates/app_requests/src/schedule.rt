@@ -2,8 +2,10 @@
 ghost use Rattle.std.specs.Prelude.{◌≤◌, IfOk};
 ghost use Rattle.app_requests.specs.Requests.{AreWithin, IsScheduleWithin};
 
-use crate::arguments::{FILE, FROM, NAMES, NETWORK, NUMBER, PROGRAM, PlanPaths, ROUND};
-use app_table::{Argument, Command, Kind, OPTION, Subcommand, Value, Words, WordsFault, parse};
+use crate::arguments::{
+    FILE, FROM, NAMES, NAMES_ARGUMENT, NETWORK, NUMBER, PROGRAM, PlanPaths, ROUND,
+};
+use app_table::{Argument, Command, Kind, OPTION, Reading, Subcommand, Value, WordsFault};
 use rounds_plan::MOST_ROUNDS;
 use std::alloc::{AllocError, Global};
 use unison_trace::MOST_STEPS;
@@ -16,6 +18,9 @@ const STOP: Argument = Argument {
     ..OPTION
 };
 
+/// `STOP`, as it is read.
+static STOP_ARGUMENT: Argument = STOP;
+
 const COUNT: Argument = Argument {
     name: "count",
     value: Value::Number {
@@ -27,6 +32,9 @@ const COUNT: Argument = Argument {
     ..OPTION
 };
 
+/// `COUNT`, as it is read.
+static COUNT_ARGUMENT: Argument = COUNT;
+
 const SEED: Argument = Argument {
     name: "seed",
     value: NUMBER,
@@ -34,6 +42,9 @@ const SEED: Argument = Argument {
     help: "The same seed draws the same steps on every machine: 0 to 4294967295, and 0 where it is left out",
     ..OPTION
 };
+
+/// `SEED`, as it is read.
+static SEED_ARGUMENT: Argument = SEED;
 
 const REFUSED: Argument = Argument {
     name: "refused",
@@ -43,6 +54,9 @@ const REFUSED: Argument = Argument {
     ..OPTION
 };
 
+/// `REFUSED`, as it is read.
+static REFUSED_ARGUMENT: Argument = REFUSED;
+
 const NODE: Argument = Argument {
     name: "node",
     kind: Kind::Positional,
@@ -51,11 +65,17 @@ const NODE: Argument = Argument {
     ..OPTION
 };
 
+/// `NODE`, as it is read.
+static NODE_ARGUMENT: Argument = NODE;
+
 const LINES: Argument = Argument {
     name: "lines",
     help: "The file of the lines, or - for standard input",
     ..FILE
 };
+
+/// `LINES`, as it is read.
+static LINES_ARGUMENT: Argument = LINES;
 
 /// What a manner that names no node takes.
 const OF_ALL: [Argument; 7] = [PROGRAM, NETWORK, STOP, COUNT, SEED, REFUSED, FROM];
@@ -121,7 +141,7 @@ pub(crate) fn schedule() -> &'static Command {
 }
 
 /// In which manner steps are made.
-#[derive(Debug, Drop)]
+#[derive(Drop)]
 pub enum StepsManner {
     /// Each node by rising number reads all its slots and moves, again and again.
     Sweeps,
@@ -136,7 +156,7 @@ pub enum StepsManner {
 }
 
 /// Up to where steps go, and by what they are drawn.
-#[derive(Clone, Copy, Debug, PartialEq, Eq)]
+#[derive(Clone, Copy, PartialEq, Eq)]
 pub struct Limits {
     /// The round at which nodes stop, counted from round 0.
     pub stop: u32,
@@ -149,7 +169,7 @@ pub struct Limits {
 }
 
 /// Steps in a manner.
-#[derive(Debug, Drop)]
+#[derive(Drop)]
 pub struct Listing {
     pub plan: PlanPaths,
     pub manner: StepsManner,
@@ -159,7 +179,7 @@ pub struct Listing {
 }
 
 /// Steps from lines for people.
-#[derive(Debug, Drop)]
+#[derive(Drop)]
 pub struct Writing {
     pub plan: PlanPaths,
     /// The path of the lines.
@@ -169,77 +189,76 @@ pub struct Writing {
 }
 
 /// What `schedule` is asked for.
-#[derive(Debug, Drop)]
+#[derive(Drop)]
 pub enum ScheduleRequest {
     Listing(Listing),
     Writing(Writing),
 }
 
 /// The manner of the subcommand that is named.
-fn manner_in(alloc: Global, words: &Words) -> Result<StepsManner, AllocError> {
-    match words.subcommand() {
-        "sweeps" => return Ok(StepsManner::Sweeps),
-        "random" => return Ok(StepsManner::Random),
-        "slow-links" => return Ok(StepsManner::SlowLinks),
-        _ => {}
+fn manner_in(reading: &mut Reading) -> StepsManner {
+    match reading.subcommand() {
+        "sweeps" => StepsManner::Sweeps,
+        "random" => StepsManner::Random,
+        "slow-links" => StepsManner::SlowLinks,
+        "starve" => StepsManner::Starve {
+            node: reading.needed_text(&NODE_ARGUMENT),
+        },
+        _ => StepsManner::Ahead {
+            node: reading.needed_text(&NODE_ARGUMENT),
+        },
     }
-    let node = words.needed_text(alloc, &NODE)?;
-    if words.subcommand() == "starve" {
-        return Ok(StepsManner::Starve { node });
-    }
-    Ok(StepsManner::Ahead { node })
 }
 
 /// Up to where steps go, and by what they are drawn.
-fn limits_in(alloc: Global, words: &Words) -> Result<Limits, WordsFault>
-    ensures within { IfOk result AreWithin }
+fn limits_in(reading: &mut Reading) -> Limits
+    ensures within { AreWithin result }
 {
-    let stop = words.number_or(alloc, &STOP, MOST_ROUNDS)?;
-    let count = words.number_or(alloc, &COUNT, MOST_STEPS)?;
-    let seed = words.number_or(alloc, &SEED, 0)?;
-    let refused = words.number_or(alloc, &REFUSED, 0)?;
-    Ok(Limits {
+    let stop = reading.number_or(&STOP_ARGUMENT, MOST_ROUNDS);
+    let count = reading.number_or(&COUNT_ARGUMENT, MOST_STEPS);
+    let seed = reading.number_or(&SEED_ARGUMENT, 0);
+    let refused = reading.number_or(&REFUSED_ARGUMENT, 0);
+    Limits {
         stop,
         seed,
         count,
         refused,
-    })
+    }
 }
 
 /// The steps in a manner.
-fn listing_in(alloc: Global, words: &Words) -> Result<Listing, WordsFault>
-    ensures within { IfOk result (λ l. AreWithin l.limits) }
+fn listing_in(reading: &mut Reading) -> Listing
+    ensures within { AreWithin result.limits }
 {
-    let limits = limits_in(alloc, words)?;
-    let names = words.text(alloc, &NAMES)?;
-    let manner = manner_in(alloc, words)?;
-    let plan = PlanPaths::of(alloc, words)?;
-    Ok(Listing {
+    let limits = limits_in(reading);
+    let names = reading.text(&NAMES_ARGUMENT);
+    let manner = manner_in(reading);
+    let plan = PlanPaths::of(reading);
+    Listing {
         plan,
         manner,
         limits,
         names,
-    })
+    }
 }
 
 /// The steps from lines.
-fn writing_in(alloc: Global, words: &Words) -> Result<Writing, AllocError> {
-    let lines = words.needed_text(alloc, &LINES)?;
-    let names = words.text(alloc, &NAMES)?;
-    let plan = PlanPaths::of(alloc, words)?;
-    Ok(Writing { plan, lines, names })
+fn writing_in(reading: &mut Reading) -> Writing {
+    let lines = reading.needed_text(&LINES_ARGUMENT);
+    let names = reading.text(&NAMES_ARGUMENT);
+    let plan = PlanPaths::of(reading);
+    Writing { plan, lines, names }
 }
 
 /// What plain words ask for.
-fn request_in(alloc: Global, words: &Words) -> Result<ScheduleRequest, WordsFault>
-    ensures within { IfOk result IsScheduleWithin }
+fn request_in(reading: &mut Reading) -> ScheduleRequest
+    ensures within { IsScheduleWithin result }
 {
-    if words.subcommand() == "write" {
-        let writing = writing_in(alloc, words)?;
-        return Ok(ScheduleRequest::Writing(writing));
+    if reading.subcommand() == "write" {
+        ScheduleRequest::Writing(writing_in(reading))
+    } else {
+        ScheduleRequest::Listing(listing_in(reading))
     }
-    let listing = listing_in(alloc, words)?;
-    Ok(ScheduleRequest::Listing(listing))
 }
 
 impl ScheduleRequest {
@@ -247,7 +266,8 @@ impl ScheduleRequest {
     pub fn parse(alloc: Global, line: &[String]) -> Result<ScheduleRequest, WordsFault>
         ensures within { IfOk result IsScheduleWithin }
     {
-        let words = parse(alloc, schedule(), line)?;
-        request_in(alloc, &words)
+        let mut reading = Reading::of(alloc, schedule(), line)?;
+        let asked = request_in(&mut reading);
+        reading.end(asked)
     }
 }

@@ -3,7 +3,7 @@ ghost use Rattle.std.specs.Prelude.{◌≤◌, IfOk};
 ghost use Rattle.rounds_plan.specs.Configs.{most_rounds};
 
 use crate::arguments::{FLAG, FROM, NETWORK, PROGRAM, PlanPaths, ROUND};
-use app_table::{Argument, Command, OPTION, Words, WordsFault, parse};
+use app_table::{Argument, Command, OPTION, Reading, WordsFault};
 use std::alloc::Global;
 
 /// The limit where none is given.
@@ -17,11 +17,17 @@ const LIMIT: Argument = Argument {
     ..OPTION
 };
 
+/// `LIMIT`, as it is read.
+static LIMIT_ARGUMENT: Argument = LIMIT;
+
 const REPORT: Argument = Argument {
     name: "report",
     help: "Print the report of round R, too",
     ..FLAG
 };
+
+/// `REPORT`, as it is read.
+static REPORT_ARGUMENT: Argument = REPORT;
 
 /// `settle` and what it takes.
 static SETTLE: Command = Command {
@@ -40,7 +46,7 @@ pub(crate) fn settle() -> &'static Command {
 }
 
 /// What `settle` is asked for.
-#[derive(Debug, Drop)]
+#[derive(Drop)]
 pub struct SettleRequest {
     pub plan: PlanPaths,
     /// The round up to which it is looked, counted from round 0.
@@ -50,16 +56,16 @@ pub struct SettleRequest {
 }
 
 /// What plain words ask for.
-fn request_in(alloc: Global, words: &Words) -> Result<SettleRequest, WordsFault>
-    ensures within { IfOk result (λ r. r.limit ≤ most_rounds) }
+fn request_in(reading: &mut Reading) -> SettleRequest
+    ensures within { result.limit ≤ most_rounds }
 {
-    let limit = words.number_or(alloc, &LIMIT, DEFAULT_LIMIT)?;
-    let plan = PlanPaths::of(alloc, words)?;
-    Ok(SettleRequest {
+    let limit = reading.number_or(&LIMIT_ARGUMENT, DEFAULT_LIMIT);
+    let plan = PlanPaths::of(reading);
+    SettleRequest {
         plan,
         limit,
-        report: words.has(&REPORT),
-    })
+        report: reading.has(&REPORT_ARGUMENT),
+    }
 }
 
 impl SettleRequest {
@@ -67,7 +73,8 @@ impl SettleRequest {
     pub fn parse(alloc: Global, line: &[String]) -> Result<SettleRequest, WordsFault>
         ensures within { IfOk result (λ r. r.limit ≤ most_rounds) }
     {
-        let words = parse(alloc, settle(), line)?;
-        request_in(alloc, &words)
+        let mut reading = Reading::of(alloc, settle(), line)?;
+        let asked = request_in(&mut reading);
+        reading.end(asked)
     }
 }

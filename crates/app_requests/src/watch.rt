@@ -1,9 +1,10 @@
 //! `watch`: all rounds from one to another.
 
 use crate::arguments::{
-    EVERY, FLAG, FROM, NAMES, NETWORK, ONLY, PROGRAM, PlanPaths, ROUNDS, only_in, span_in, wrong,
+    EVERY, FLAG, FROM, NAMES, NAMES_ARGUMENT, NETWORK, ONLY, PROGRAM, PlanPaths, ROUNDS, only_in,
+    span_in,
 };
-use app_table::{Argument, Choice, Command, OPTION, Value, Words, WordsFault, parse};
+use app_table::{Argument, Choice, Command, OPTION, Reading, Value, WordsFault};
 use run_watch::{Format, Span};
 use std::alloc::Global;
 
@@ -28,11 +29,17 @@ const FORMAT: Argument = Argument {
     ..OPTION
 };
 
+/// `FORMAT`, as it is read.
+static FORMAT_ARGUMENT: Argument = FORMAT;
+
 const CHANGES: Argument = Argument {
     name: "changes",
     help: "Show, from the second shown round on, only nodes that have another value in a shown field than in the round shown before, and in reports how many",
     ..FLAG
 };
+
+/// `CHANGES`, as it is read.
+static CHANGES_ARGUMENT: Argument = CHANGES;
 
 const TABLE_NAMES: Argument = Argument {
     help: "In CSV and JSON call nodes by the names in FILE, a line each, node 0 first",
@@ -66,7 +73,7 @@ pub(crate) fn watch() -> &'static Command {
 }
 
 /// How rounds are shown.
-#[derive(Debug, Drop)]
+#[derive(Drop)]
 pub struct View {
     pub format: Format,
     /// The fields that are shown, where not all are.
@@ -78,7 +85,7 @@ pub struct View {
 }
 
 /// What `watch` is asked for.
-#[derive(Debug, Drop)]
+#[derive(Drop)]
 pub struct WatchRequest {
     pub plan: PlanPaths,
     /// The rounds that are watched.
@@ -87,45 +94,50 @@ pub struct WatchRequest {
 }
 
 /// The form of the text.
-fn format_in(alloc: Global, words: &Words) -> Result<Format, WordsFault> {
-    match words.choice(alloc, &FORMAT)?.unwrap_or("report") {
-        "csv" => Ok(Format::Csv),
-        "json" => Ok(Format::Json),
-        _ => Ok(Format::Report),
+fn format_in(reading: &mut Reading) -> Format {
+    match reading.choice(&FORMAT_ARGUMENT).unwrap_or("report") {
+        "csv" => Format::Csv,
+        "json" => Format::Json,
+        _ => Format::Report,
+    }
+}
+
+/// Refuses names that are given for reports, which have numbers.
+fn check_names(reading: &mut Reading, format: Format) {
+    if format == Format::Report && reading.has(&NAMES_ARGUMENT) {
+        reading.refuse_words(
+            "--names: reports have numbers for nodes; add --format csv or --format json",
+        );
     }
 }
 
 /// How rounds are to be shown. `Usage` where names are given for reports, which have numbers.
-fn view_in(alloc: Global, words: &Words) -> Result<View, WordsFault> {
-    let format = format_in(alloc, words)?;
-    if format == Format::Report && words.has(&NAMES) {
-        return Err(wrong(
-            alloc,
-            "--names: reports have numbers for nodes; add --format csv or --format json",
-        ));
-    }
-    let only = only_in(alloc, words)?;
-    let names = words.text(alloc, &NAMES)?;
-    Ok(View {
+fn view_in(reading: &mut Reading) -> View {
+    let format = format_in(reading);
+    check_names(reading, format);
+    let only = only_in(reading);
+    let names = reading.text(&NAMES_ARGUMENT);
+    View {
         format,
         only,
-        changes: words.has(&CHANGES),
+        changes: reading.has(&CHANGES_ARGUMENT),
         names,
-    })
+    }
 }
 
-/// What plain words ask for.
-fn request_in(alloc: Global, words: &Words) -> Result<WatchRequest, WordsFault> {
-    let view = view_in(alloc, words)?;
-    let span = span_in(alloc, words)?;
-    let plan = PlanPaths::of(alloc, words)?;
-    Ok(WatchRequest { plan, span, view })
+/// What plain words ask for, where they name rounds.
+fn request_in(reading: &mut Reading) -> Option<WatchRequest> {
+    let view = view_in(reading);
+    let span = span_in(reading)?;
+    let plan = PlanPaths::of(reading);
+    Some(WatchRequest { plan, span, view })
 }
 
 impl WatchRequest {
     /// What the words ask for, the command's name first.
     pub fn parse(alloc: Global, line: &[String]) -> Result<WatchRequest, WordsFault> {
-        let words = parse(alloc, watch(), line)?;
-        request_in(alloc, &words)
+        let mut reading = Reading::of(alloc, watch(), line)?;
+        let asked = request_in(&mut reading);
+        reading.end_some(asked)
     }
 }

@@ -5,7 +5,7 @@ ghost use Rattle.app_table.specs.declared.fault.WordsFault.TheVariants.{Memory};
 use std::alloc::AllocError;
 
 /// Why a command line gives nothing.
-#[derive(Debug, Drop)]
+#[derive(Drop)]
 pub enum WordsFault {
     /// Help was asked for; this is its text.
     Help { text: String },

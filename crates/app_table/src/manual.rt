@@ -1,150 +1,148 @@
 //! A page of the manual, for `man`: each command with its arguments.
 
+use crate::draft::Draft;
 use crate::table::{Argument, Command, Kind, Subcommand};
-use std::alloc::AllocError;
 
 /// Adds a character so that `man` shows it as it is.
-fn put_char(out: &mut String, c: char) -> Result<(), AllocError> {
+fn put_char(draft: &mut Draft, c: char) {
     match c {
-        '-' => out.push_str("\\-"),
-        '\\' => out.push_str("\\e"),
-        _ => out.push(c),
+        '-' => draft.put("\\-"),
+        '\\' => draft.put("\\e"),
+        _ => draft.put_char(c),
     }
 }
 
 /// Adds a text so that `man` shows it as it is.
-fn put_text(out: &mut String, text: &str) -> Result<(), AllocError> {
+fn put_text(draft: &mut Draft, text: &str) {
     for c in text.chars() {
-        put_char(out, c)?;
+        put_char(draft, c);
     }
-    Ok(())
 }
 
 /// Adds a line of text. What stands before it keeps a point at its head from being read as a request.
-fn put_line(out: &mut String, text: &str) -> Result<(), AllocError> {
-    out.push_str("\\&")?;
-    put_text(out, text)?;
-    out.push_str("\n")
+fn put_line(draft: &mut Draft, text: &str) {
+    draft.put("\\&");
+    put_text(draft, text);
+    draft.put("\n");
 }
 
 /// Adds the head of the page and what the program is.
-pub fn put_head(out: &mut String, about: &str) -> Result<(), AllocError> {
-    out.push_str(".TH UNISON 1\n.SH NAME\nunison \\- ")?;
-    put_text(out, about)?;
-    out.push_str("\n.SH SYNOPSIS\n.B unison\n.I COMMAND WORDS..\n")
+pub fn put_head(draft: &mut Draft, about: &str) {
+    draft.put(".TH UNISON 1\n.SH NAME\nunison \\- ");
+    put_text(draft, about);
+    draft.put("\n.SH SYNOPSIS\n.B unison\n.I COMMAND WORDS..\n");
 }
 
 /// Adds the title of a group of commands.
-pub fn put_title(out: &mut String, title: &str) -> Result<(), AllocError> {
-    write!(out, ".SH {title}\n")
+pub fn put_title(draft: &mut Draft, title: &str) {
+    draft.put(".SH ");
+    draft.put(title);
+    draft.put("\n");
 }
 
 /// Adds the name of a command, with that of a subcommand where there is one, and the line about it.
-fn put_name(out: &mut String, name: &str, subcommand: &str, about: &str) -> Result<(), AllocError> {
-    out.push_str(".SS ")?;
-    put_text(out, name)?;
+fn put_name(draft: &mut Draft, name: &str, subcommand: &str, about: &str) {
+    draft.put(".SS ");
+    put_text(draft, name);
     if !subcommand.is_empty() {
-        out.push_str(" ")?;
-        put_text(out, subcommand)?;
+        draft.put(" ");
+        put_text(draft, subcommand);
     }
-    out.push_str("\n")?;
-    put_line(out, about)
+    draft.put("\n");
+    put_line(draft, about);
 }
 
 /// Adds an option's name, in bold type.
-fn put_option(out: &mut String, name: &str) -> Result<(), AllocError> {
-    out.push_str("\\fB\\-\\-")?;
-    put_text(out, name)?;
-    out.push_str("\\fR")
+fn put_option(draft: &mut Draft, name: &str) {
+    draft.put("\\fB\\-\\-");
+    put_text(draft, name);
+    draft.put("\\fR");
 }
 
 /// Adds what stands for a value, in italics.
-fn put_value(out: &mut String, name: &str) -> Result<(), AllocError> {
-    out.push_str("\\fI")?;
-    put_text(out, name)?;
-    out.push_str("\\fR")
+fn put_value(draft: &mut Draft, name: &str) {
+    draft.put("\\fI");
+    put_text(draft, name);
+    draft.put("\\fR");
+}
+
+/// Adds an option's name, and what stands for its value where it has one.
+fn put_option_label(draft: &mut Draft, argument: &Argument) {
+    put_option(draft, argument.name);
+    if argument.kind != Kind::Flag {
+        draft.put(" ");
+        put_value(draft, argument.value_name);
+    }
 }
 
 /// Adds an argument's names: of its option, and of its value where it has one.
-fn put_label(out: &mut String, argument: &Argument) -> Result<(), AllocError> {
+fn put_label(draft: &mut Draft, argument: &Argument) {
     if argument.kind == Kind::Positional {
-        return put_value(out, argument.value_name);
+        put_value(draft, argument.value_name);
+    } else {
+        put_option_label(draft, argument);
     }
-    put_option(out, argument.name)?;
-    if argument.kind == Kind::Flag {
-        return Ok(());
-    }
-    out.push_str(" ")?;
-    put_value(out, argument.value_name)
 }
 
 /// Adds arguments with their help.
-fn put_arguments(out: &mut String, arguments: &[Argument]) -> Result<(), AllocError> {
+fn put_arguments(draft: &mut Draft, arguments: &[Argument]) {
     for argument in arguments {
-        out.push_str(".TP\n")?;
-        put_label(out, argument)?;
-        out.push_str("\n")?;
-        put_line(out, argument.help)?;
+        draft.put(".TP\n");
+        put_label(draft, argument);
+        draft.put("\n");
+        put_line(draft, argument.help);
     }
-    Ok(())
 }
 
 /// Adds what stands behind the help, a paragraph for each line.
-fn put_notes(out: &mut String, notes: &str) -> Result<(), AllocError> {
+fn put_notes(draft: &mut Draft, notes: &str) {
     for line in notes.lines() {
-        out.push_str(".PP\n")?;
-        put_line(out, line)?;
+        draft.put(".PP\n");
+        put_line(draft, line);
     }
-    Ok(())
 }
 
 /// Adds a subcommand of the command of this name.
-fn put_subcommand(out: &mut String, name: &str, row: &Subcommand) -> Result<(), AllocError> {
-    put_name(out, name, row.name, row.about)?;
-    put_arguments(out, row.arguments)?;
-    put_notes(out, row.notes)
+fn put_subcommand(draft: &mut Draft, name: &str, row: &Subcommand) {
+    put_name(draft, name, row.name, row.about);
+    put_arguments(draft, row.arguments);
+    put_notes(draft, row.notes);
 }
 
 /// Adds a command with its subcommands.
-pub fn put_command(out: &mut String, command: &Command) -> Result<(), AllocError> {
-    put_name(out, command.name, "", command.about)?;
-    put_arguments(out, command.arguments)?;
-    put_notes(out, command.notes)?;
+pub fn put_command(draft: &mut Draft, command: &Command) {
+    put_name(draft, command.name, "", command.about);
+    put_arguments(draft, command.arguments);
+    put_notes(draft, command.notes);
     for subcommand in command.subcommands {
-        put_subcommand(out, command.name, subcommand)?;
+        put_subcommand(draft, command.name, subcommand);
     }
-    Ok(())
 }
 
-/// Adds an argument of a command of `clap`, with its help.
-fn put_arg(out: &mut String, argument: &clap::Arg<'_>) -> Result<(), AllocError> {
-    out.push_str(".TP\n")?;
-    match argument.get_long() {
-        Some(long) => put_option(out, long)?,
-        None => put_value(out, argument.get_id())?,
+/// Adds an argument of a command without forms: the name by which its value is found, in bold type for an option.
+fn put_plain_label(draft: &mut Draft, argument: &Argument) {
+    if argument.kind == Kind::Positional {
+        put_value(draft, argument.name);
+    } else {
+        put_option(draft, argument.name);
     }
-    out.push_str("\n")?;
-    put_line(out, argument.get_help().unwrap_or(""))
 }
 
-/// Adds a command of `clap`.
-fn put_parser(out: &mut String, parser: &clap::Command<'_>) -> Result<(), AllocError> {
-    put_name(out, parser.get_name(), "", parser.get_about().unwrap_or(""))?;
-    for argument in parser.get_arguments() {
-        put_arg(out, argument)?;
+/// Adds a command without forms, its arguments by their names alone.
+fn put_plain_command(draft: &mut Draft, row: &Subcommand) {
+    put_name(draft, row.name, "", row.about);
+    for argument in row.arguments {
+        draft.put(".TP\n");
+        put_plain_label(draft, argument);
+        draft.put("\n");
+        put_line(draft, argument.help);
     }
-    Ok(())
 }
 
-/// Adds a group of commands of `clap`.
-pub fn put_parsers(
-    out: &mut String,
-    title: &str,
-    parsers: &[clap::Command<'_>],
-) -> Result<(), AllocError> {
-    put_title(out, title)?;
-    for parser in parsers {
-        put_parser(out, parser)?;
+/// Adds a group of commands without forms.
+pub fn put_plain_commands(draft: &mut Draft, title: &str, rows: &[Subcommand]) {
+    put_title(draft, title);
+    for row in rows {
+        put_plain_command(draft, row);
     }
-    Ok(())
 }

@@ -10,6 +10,15 @@ use std::alloc::{AllocError, Global};
 /// A command as `clap` has it.
 type Parser<'a> = clap::Command<'a>;
 
+/// What a parser does with the value of an option of this kind.
+fn action_of(kind: Kind) -> ArgAction {
+    if kind == Kind::Repeated {
+        ArgAction::Append
+    } else {
+        ArgAction::Set
+    }
+}
+
 /// The parser of an argument, but for what it needs and its other names.
 fn plain_arg<'a>(alloc: Global, row: &Argument) -> Arg<'a> {
     let arg = Arg::new(alloc, row.name).help(row.help);
@@ -18,100 +27,121 @@ fn plain_arg<'a>(alloc: Global, row: &Argument) -> Arg<'a> {
             .value_name(row.value_name)
             .required(true)
             .action(ArgAction::Set),
-        Kind::Required => arg
-            .long(row.name)
-            .value_name(row.value_name)
-            .required(true)
-            .action(ArgAction::Set),
-        Kind::Optional => arg
-            .long(row.name)
-            .value_name(row.value_name)
-            .action(ArgAction::Set),
-        Kind::Repeated => arg
-            .long(row.name)
-            .value_name(row.value_name)
-            .action(ArgAction::Append),
         Kind::Flag => arg.long(row.name).action(ArgAction::SetTrue),
+        kind => arg
+            .long(row.name)
+            .value_name(row.value_name)
+            .required(kind == Kind::Required)
+            .action(action_of(kind)),
     }
 }
 
 /// The parser of an argument.
 fn arg_of<'a>(alloc: Global, row: &Argument) -> Result<Arg<'a>, AllocError> {
-    let arg = plain_arg(alloc, row).aliases(row.aliases)?;
-    match row.needs {
-        Some(other) => arg.requires_arg(other),
-        None => Ok(arg),
-    }
+    plain_arg(alloc, row)
+        .aliases(row.aliases)?
+        .requires_all(row.needs.as_slice())
 }
 
-/// The parser with one argument more.
-fn with_argument<'a>(
-    alloc: Global,
-    parser: Parser<'a>,
-    row: &Argument,
-) -> Result<Parser<'a>, AllocError> {
+/// Puts the parser of an argument behind the others.
+fn put_arg<'a>(args: &mut Vec<Arg<'a>>, alloc: Global, row: &Argument) -> Result<(), AllocError> {
     let arg = arg_of(alloc, row)?;
-    parser.arg(arg)
+    args.push(arg)?;
+    Ok(())
 }
 
-/// The parser with arguments.
-fn with_arguments<'a>(
-    alloc: Global,
-    parser: Parser<'a>,
-    rows: &[Argument],
-) -> Result<Parser<'a>, AllocError> {
-    let mut parser = parser;
+/// The parsers of arguments.
+fn args_of<'a>(alloc: Global, rows: &[Argument]) -> Result<Vec<Arg<'a>>, AllocError> {
+    let mut args = Vec::new(alloc);
     for row in rows {
-        parser = with_argument(alloc, parser, row)?;
+        put_arg(&mut args, alloc, row)?;
     }
-    Ok(parser)
+    Ok(args)
 }
 
 /// The parser of a subcommand.
 fn subcommand_parser<'a>(alloc: Global, row: &Subcommand) -> Result<Parser<'a>, AllocError> {
-    let parser = Parser::new(alloc, row.name)
+    let args = args_of(alloc, row.arguments)?;
+    Parser::new(alloc, row.name)
         .about(row.about)
-        .after_help(row.notes);
-    with_arguments(alloc, parser, row.arguments)
+        .after_help(row.notes)
+        .args(args)
 }
 
-/// The parser with one subcommand more.
-fn with_subcommand<'a>(
+/// Puts the parser of a subcommand behind the others.
+fn put_subcommand<'a>(
+    parsers: &mut Vec<Parser<'a>>,
     alloc: Global,
-    parser: Parser<'a>,
     row: &Subcommand,
-) -> Result<Parser<'a>, AllocError> {
-    let subcommand = subcommand_parser(alloc, row)?;
-    parser.subcommand(subcommand)
+) -> Result<(), AllocError> {
+    let parser = subcommand_parser(alloc, row)?;
+    parsers.push(parser)?;
+    Ok(())
 }
 
-/// The parser with subcommands, one of which has to be named where there are any.
-fn with_subcommands<'a>(
+/// The parsers of subcommands.
+fn subcommand_parsers<'a>(
     alloc: Global,
-    parser: Parser<'a>,
     rows: &[Subcommand],
-) -> Result<Parser<'a>, AllocError> {
-    let mut parser = parser.subcommand_required(!rows.is_empty());
+) -> Result<Vec<Parser<'a>>, AllocError> {
+    let mut parsers = Vec::new(alloc);
     for row in rows {
-        parser = with_subcommand(alloc, parser, row)?;
+        put_subcommand(&mut parsers, alloc, row)?;
     }
-    Ok(parser)
+    Ok(parsers)
+}
+
+/// The parser of a command that takes nothing. One of its subcommands has to be named where there are any.
+fn bare_parser<'a>(alloc: Global, row: &Command) -> Result<Parser<'a>, AllocError> {
+    Parser::new(alloc, row.name)
+        .about(row.about)
+        .after_help(row.notes)
+        .subcommand_required(!row.subcommands.is_empty())
+        .bin_name(row.called)
+}
+
+/// The parser of a command with its arguments.
+fn plain_parser<'a>(alloc: Global, row: &Command) -> Result<Parser<'a>, AllocError> {
+    let args = args_of(alloc, row.arguments)?;
+    bare_parser(alloc, row)?.args(args)
 }
 
 /// The parser of a command.
 fn parser_of<'a>(alloc: Global, row: &Command) -> Result<Parser<'a>, AllocError> {
-    let parser = Parser::new(alloc, row.name)
-        .bin_name(row.called)?
-        .about(row.about)
-        .after_help(row.notes);
-    let parser = with_arguments(alloc, parser, row.arguments)?;
-    with_subcommands(alloc, parser, row.subcommands)
+    let subcommands = subcommand_parsers(alloc, row.subcommands)?;
+    plain_parser(alloc, row)?.subcommands(subcommands)
 }
 
 /// Puts a value behind the others.
-fn put_value(alloc: Global, values: &mut Vec<String>, value: &str) -> Result<(), AllocError> {
+pub(crate) fn put_value(
+    values: &mut Vec<String>,
+    alloc: Global,
+    value: &str,
+) -> Result<(), AllocError> {
     values.push(String::from_str(alloc, value)?)?;
     Ok(())
+}
+
+/// The values of an argument that has them.
+fn values_at(
+    alloc: Global,
+    matches: &ArgMatches<'_>,
+    name: &str,
+) -> Result<Vec<String>, AllocError> {
+    let mut values = Vec::new(alloc);
+    for value in matches.get_strs(name).unwrap_or(&[]) {
+        put_value(&mut values, alloc, value)?;
+    }
+    Ok(values)
+}
+
+/// The name of a flag where it is given.
+fn flag_at(alloc: Global, is_given: bool, name: &str) -> Result<Vec<String>, AllocError> {
+    let mut values = Vec::new(alloc);
+    if is_given {
+        put_value(&mut values, alloc, name)?;
+    }
+    Ok(values)
 }
 
 /// The values of an argument; of a flag that is given its name.
@@ -120,17 +150,11 @@ fn values_in(
     matches: &ArgMatches<'_>,
     row: &Argument,
 ) -> Result<Vec<String>, AllocError> {
-    let mut values = Vec::new(alloc);
     if row.kind == Kind::Flag {
-        if matches.get_flag(row.name) {
-            put_value(alloc, &mut values, row.name)?;
-        }
-        return Ok(values);
+        flag_at(alloc, matches.get_flag(row.name), row.name)
+    } else {
+        values_at(alloc, matches, row.name)
     }
-    for value in matches.get_strs(row.name).unwrap_or(&[]) {
-        put_value(alloc, &mut values, value)?;
-    }
-    Ok(values)
 }
 
 /// Puts what is given of an argument behind the others.
@@ -163,21 +187,32 @@ fn given_in(
 
 /// The arguments of the subcommand of this name.
 fn arguments_of(name: &str, rows: &[Subcommand]) -> &'static [Argument] {
-    match rows.iter().find(|row| row.name == name) {
-        Some(row) => row.arguments,
-        None => &[],
+    for row in rows {
+        if row.name == name {
+            return row.arguments;
+        }
     }
+    &[]
+}
+
+/// What is given of arguments, and the name of the subcommand that has them.
+fn given_words(
+    alloc: Global,
+    name: &str,
+    matches: &ArgMatches<'_>,
+    rows: &[Argument],
+) -> Result<Words, WordsFault> {
+    let given = given_in(alloc, matches, rows)?;
+    let subcommand = String::from_str(alloc, name)?;
+    Ok(Words { subcommand, given })
 }
 
 /// What the matches give of a command.
-fn words_in(alloc: Global, row: &Command, matches: &ArgMatches<'_>) -> Result<Words, AllocError> {
-    let (name, found, arguments) = match matches.subcommand() {
-        Some((name, inner)) => (name, inner, arguments_of(name, row.subcommands)),
-        None => ("", matches, row.arguments),
-    };
-    let given = given_in(alloc, found, arguments)?;
-    let subcommand = String::from_str(alloc, name)?;
-    Ok(Words { subcommand, given })
+fn words_in(alloc: Global, row: &Command, matches: &ArgMatches<'_>) -> Result<Words, WordsFault> {
+    match matches.subcommand() {
+        Some((name, inner)) => given_words(alloc, name, inner, arguments_of(name, row.subcommands)),
+        None => given_words(alloc, "", matches, row.arguments),
+    }
 }
 
 /// What the parser's own error says: help, wrong words, or want of memory.
@@ -209,11 +244,19 @@ fn matches_of<'a>(
     }
 }
 
+/// What the words mean by a command.
+fn matches_by<'a>(
+    alloc: Global,
+    command: &Command,
+    words: &'a [String],
+) -> Result<ArgMatches<'a>, WordsFault> {
+    let parser = parser_of(alloc, command)?;
+    matches_of(alloc, parser, words)
+}
+
 /// What a command line gives of a command, the command's name first: `Help` where it asks for help, `Usage` where words are
 /// missing or are none of the command.
 pub fn parse(alloc: Global, command: &Command, words: &[String]) -> Result<Words, WordsFault> {
-    let parser = parser_of(alloc, command)?;
-    let matches = matches_of(alloc, parser, words)?;
-    let given = words_in(alloc, command, &matches)?;
-    Ok(given)
+    let matches = matches_by(alloc, command, words)?;
+    words_in(alloc, command, &matches)
 }

@@ -1,7 +1,7 @@
 //! Tables of commands, as plain data.
 
 /// How an argument stands among the words of a command.
-#[derive(Clone, Copy, Debug, PartialEq, Eq)]
+#[derive(Clone, Copy, PartialEq, Eq)]
 pub enum Kind {
     /// A word at its place, which has to be there.
     Positional,
@@ -16,7 +16,7 @@ pub enum Kind {
 }
 
 /// One of the words that an argument chooses from.
-#[derive(Clone, Copy, Debug)]
+#[derive(Clone, Copy)]
 pub struct Choice {
     pub name: &'static str,
     /// Words that stand for it, too, which no text lists.
@@ -24,7 +24,7 @@ pub struct Choice {
 }
 
 /// What the value of an argument is.
-#[derive(Clone, Copy, Debug)]
+#[derive(Clone, Copy)]
 pub enum Value {
     /// Any text.
     Text,
@@ -37,7 +37,7 @@ pub enum Value {
 }
 
 /// An argument of a command.
-#[derive(Clone, Copy, Debug)]
+#[derive(Clone, Copy)]
 pub struct Argument {
     /// The name of its option without the dashes; of a positional argument what its value is found by.
     pub name: &'static str,
@@ -53,7 +53,7 @@ pub struct Argument {
 }
 
 /// A form of a command that has several, as `torus` of `generate`.
-#[derive(Clone, Copy, Debug)]
+#[derive(Clone, Copy)]
 pub struct Subcommand {
     pub name: &'static str,
     pub about: &'static str,
@@ -63,7 +63,7 @@ pub struct Subcommand {
 }
 
 /// A command: its own arguments, or subcommands that have them.
-#[derive(Clone, Copy, Debug)]
+#[derive(Clone, Copy)]
 pub struct Command {
     pub name: &'static str,
     /// Other names, which no text lists.
@@ -81,7 +81,7 @@ pub struct Command {
 impl Command {
     /// Whether a word is its name or one of its aliases.
     pub fn is_called(&self, word: &str) -> bool {
-        self.name == word || self.aliases.iter().any(|alias| *alias == word)
+        self.name == word || self.aliases.contains(&word)
     }
 }
 

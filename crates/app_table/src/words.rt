@@ -2,19 +2,21 @@
 ghost use Rattle.std.specs.Prelude.{◌≡◌, ◌≤◌, IfOk, IfSome};
 ghost use Rattle.app_table.specs.Values.{IsAllowed, IsAllowedOr};
 
+use crate::draft::Draft;
 use crate::fault::WordsFault;
+use crate::parser::put_value;
 use crate::table::{Argument, Choice, Kind, Value};
 use std::alloc::{AllocError, Global};
 
 /// The values of an argument, in their order; of a flag that is given its name.
-#[derive(Debug, Drop)]
+#[derive(Drop)]
 pub(crate) struct Given {
     pub(crate) name: &'static str,
     pub(crate) values: Vec<String>,
 }
 
 /// What a command line gives.
-#[derive(Debug, Drop)]
+#[derive(Drop)]
 pub struct Words {
     pub(crate) subcommand: String,
     pub(crate) given: Vec<Given>,
@@ -34,15 +36,21 @@ pub fn number(text: &str, least: u32, most: u32) -> Option<u32>
     Some(number)
 }
 
-/// How an argument is called where its value is refused: `--rounds`, or `N` for a positional one.
-fn label(alloc: Global, argument: &Argument) -> Result<String, AllocError> {
-    match argument.kind {
-        Kind::Positional => String::from_str(alloc, argument.value_name),
-        _ => {
-            let name = argument.name;
-            format!(in alloc; "--{name}")
-        }
+/// Adds how an argument is called where its value is refused: `--rounds`, or `N` for a positional one.
+fn put_label(draft: &mut Draft, argument: &Argument) {
+    if argument.kind == Kind::Positional {
+        draft.put(argument.value_name);
+    } else {
+        draft.put("--");
+        draft.put(argument.name);
     }
+}
+
+/// Adds the value that was found in the place of what was expected.
+fn put_found(draft: &mut Draft, found: &str) {
+    draft.put(", found `");
+    draft.put(found);
+    draft.put("`");
 }
 
 /// What is told of a value that is no number between the limits.
@@ -53,22 +61,33 @@ fn no_number(
     most: u32,
     found: &str,
 ) -> Result<String, AllocError> {
-    let label = label(alloc, argument)?;
-    let label = label.as_str();
-    format!(in alloc; "{label}: expected a whole number from {least} to {most}, found `{found}`")
+    let mut draft = Draft::new(alloc);
+    put_label(&mut draft, argument);
+    draft.put(": expected a whole number from ");
+    draft.put_count(least as u64);
+    draft.put(" to ");
+    draft.put_count(most as u64);
+    put_found(&mut draft, found);
+    draft.end()
 }
 
-/// The names of choices: `a, b or c`.
-fn listed(alloc: Global, choices: &[Choice]) -> Result<String, AllocError> {
-    let mut out = String::new(alloc);
-    for (place, choice) in choices.iter().enumerate() {
-        if place > 0 {
-            let last = place.saturating_add(1) == choices.len();
-            out.push_str(if last { " or " } else { ", " })?;
-        }
-        out.push_str(choice.name)?;
+/// What stands before the name of the choice at this place among so many.
+fn joint(place: usize, count: usize) -> &'static str {
+    if place == 0 {
+        ""
+    } else if place.saturating_add(1) == count {
+        " or "
+    } else {
+        ", "
     }
-    Ok(out)
+}
+
+/// Adds the names of choices: `a, b or c`.
+fn put_listed(draft: &mut Draft, choices: &[Choice]) {
+    for (place, choice) in choices.iter().enumerate() {
+        draft.put(joint(place, choices.len()));
+        draft.put(choice.name);
+    }
 }
 
 /// What is told of a value that is none of the choices.
@@ -78,18 +97,22 @@ fn no_choice(
     choices: &[Choice],
     found: &str,
 ) -> Result<String, AllocError> {
-    let label = label(alloc, argument)?;
-    let label = label.as_str();
-    let expected = listed(alloc, choices)?;
-    let expected = expected.as_str();
-    format!(in alloc; "{label}: expected {expected}, found `{found}`")
+    let mut draft = Draft::new(alloc);
+    put_label(&mut draft, argument);
+    draft.put(": expected ");
+    put_listed(&mut draft, choices);
+    put_found(&mut draft, found);
+    draft.end()
 }
 
 /// The choice that a word names, by its name or an alias.
 fn chosen(choices: &'static [Choice], word: &str) -> Option<&'static str> {
-    let choice = choices.iter().find(|choice| choice.name == word
-        || choice.aliases.iter().any(|alias| *alias == word))?;
-    Some(choice.name)
+    for choice in choices {
+        if choice.name == word || choice.aliases.contains(&word) {
+            return Some(choice.name);
+        }
+    }
+    None
 }
 
 impl Words {
@@ -109,7 +132,7 @@ impl Words {
     }
 
     /// The first value of an argument.
-    fn value(&self, argument: &Argument) -> Option<&str> {
+    pub fn first(&self, argument: &Argument) -> Option<&str> {
         Some(self.values(argument).first()?.as_str())
     }
 
@@ -120,7 +143,7 @@ impl Words {
 
     /// The first value of an argument, and `None` where it is not given.
     pub fn text(&self, alloc: Global, argument: &Argument) -> Result<Option<String>, AllocError> {
-        match self.value(argument) {
+        match self.first(argument) {
             Some(text) => Ok(Some(String::from_str(alloc, text)?)),
             None => Ok(None),
         }
@@ -128,14 +151,14 @@ impl Words {
 
     /// The value of an argument that has to be there; empty where it is not, which parsing refuses.
     pub fn needed_text(&self, alloc: Global, argument: &Argument) -> Result<String, AllocError> {
-        String::from_str(alloc, self.value(argument).unwrap_or(""))
+        String::from_str(alloc, self.first(argument).unwrap_or(""))
     }
 
     /// All values of an argument, in their order.
     pub fn texts(&self, alloc: Global, argument: &Argument) -> Result<Vec<String>, AllocError> {
         let mut texts = Vec::new(alloc);
         for value in self.values(argument) {
-            texts.push(String::from_str(alloc, value.as_str())?)?;
+            put_value(&mut texts, alloc, value.as_str())?;
         }
         Ok(texts)
     }
@@ -150,7 +173,7 @@ impl Words {
     ) -> Result<u32, WordsFault>
         ensures within { IfOk result (IsAllowedOr argument.now.value other) }
     {
-        let (Value::Number { least, most }, Some(found)) = (argument.value, self.value(argument))
+        let (Value::Number { least, most }, Some(found)) = (argument.value, self.first(argument))
         else {
             return Ok(other);
         };
@@ -167,7 +190,7 @@ impl Words {
         alloc: Global,
         argument: &Argument,
     ) -> Result<Option<&'static str>, WordsFault> {
-        let (Value::Choice(choices), Some(found)) = (argument.value, self.value(argument)) else {
+        let (Value::Choice(choices), Some(found)) = (argument.value, self.first(argument)) else {
             return Ok(None);
         };
         match chosen(choices, found) {

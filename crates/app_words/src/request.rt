@@ -3,10 +3,11 @@ ghost use Rattle.std.specs.Prelude.{◌≡◌};
 ghost use Rattle.app_words.specs.declared.request.UsageFault.TheVariants.{Memory};
 
 use app_jobs::Job;
+use app_table::WordsFault;
 use std::alloc::AllocError;
 
 /// A job and the paths of its files.
-#[derive(Debug, Drop)]
+#[derive(Drop)]
 pub struct Request {
     pub job: Job,
     pub program: String,
@@ -17,7 +18,7 @@ pub struct Request {
 }
 
 /// Why there is no request.
-#[derive(Debug, Drop)]
+#[derive(Drop)]
 pub enum UsageFault {
     /// Help was asked for; this is its text.
     Help { text: String },
@@ -32,5 +33,15 @@ impl From<AllocError> for UsageFault {
 
     fn from(_error: AllocError) -> UsageFault {
         UsageFault::Memory
+    }
+}
+
+impl From<WordsFault> for UsageFault {
+    fn from(fault: WordsFault) -> UsageFault {
+        match fault {
+            WordsFault::Help { text } => UsageFault::Help { text },
+            WordsFault::Usage { text } => UsageFault::Usage { text },
+            WordsFault::Memory => UsageFault::Memory,
+        }
     }
 }

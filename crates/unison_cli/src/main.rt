@@ -14,7 +14,7 @@ use std::thread::Threads;
 use std::{env, fs, io};
 
 /// Why the program ends with a status other than 0, or after help.
-#[derive(Debug, Drop)]
+#[derive(Drop)]
 enum Ending {
     Help(String),
     Usage(String),
@@ -82,7 +82,8 @@ fn words_of(rt: &HostRuntime) -> Result<Vec<String>, Ending> {
 /// The request of the command line.
 fn request_of(rt: &HostRuntime) -> Result<Request, Ending> {
     let words = words_of(rt)?;
-    Ok(job_of(rt.alloc(), words.as_slice())?)
+    let request = job_of(rt.alloc(), words.as_slice())?;
+    Ok(request)
 }
 
 /// The ending where a file refuses, or where memory does.
@@ -92,15 +93,19 @@ fn file_fault(error: &io::Error) -> Ending {
 
 /// The bytes of a file.
 fn file(rt: &HostRuntime, path: &str) -> Result<Vec<u8>, Ending> {
-    fs::read(rt, path).map_err(|error| file_fault(&error))
+    match fs::read(rt, path) {
+        Ok(bytes) => Ok(bytes),
+        Err(error) => Err(file_fault(&error)),
+    }
 }
 
 /// The bytes of a file, where there is a path.
 fn file_at(rt: &HostRuntime, path: &Option<String>) -> Result<Option<Vec<u8>>, Ending> {
-    match path {
-        Some(path) => Ok(Some(file(rt, path.as_str())?)),
-        None => Ok(None),
-    }
+    let Some(path) = path else {
+        return Ok(None);
+    };
+    let bytes = file(rt, path.as_str())?;
+    Ok(Some(bytes))
 }
 
 /// A file that is open for reading, or nothing to read.
@@ -119,47 +124,41 @@ impl Read for Input {
     }
 }
 
+/// The opened file.
+fn opened(rt: &HostRuntime, path: &str) -> Result<Input, Ending> {
+    match File::open(rt, path) {
+        Ok(file) => Ok(Input::Opened(file)),
+        Err(error) => Err(file_fault(&error)),
+    }
+}
+
 /// The opened file, where there is a path.
 fn input_at(rt: &HostRuntime, path: &Option<String>) -> Result<Input, Ending> {
     match path {
-        Some(path) => match File::open(rt, path.as_str()) {
-            Ok(file) => Ok(Input::Opened(file)),
-            Err(error) => Err(file_fault(&error)),
-        },
+        Some(path) => opened(rt, path.as_str()),
         None => Ok(Input::Nothing),
     }
 }
 
-/// A job, the bytes of its files, the schedule, and where the trace goes.
+/// The bytes of the files of a request.
 #[derive(Drop)]
-struct Task {
-    job: Job,
+struct Texts {
     program: Vec<u8>,
-    network: Vec<u8>,
+    /// Of a job without a network there are none.
+    network: Option<Vec<u8>>,
     /// The report to go on from.
     report: Option<Vec<u8>>,
-    schedule: Input,
-    /// The path of the trace.
-    trace: Option<String>,
 }
 
-/// The job that the command line asks for, its files read and its schedule opened.
-fn task_of(rt: &HostRuntime) -> Result<Task, Ending> {
-    let request = request_of(rt)?;
+/// The bytes of the files of a request.
+fn texts_of(rt: &HostRuntime, request: &Request) -> Result<Texts, Ending> {
     let program = file(rt, request.program.as_str())?;
-    let network = match file_at(rt, &request.network)? {
-        Some(bytes) => bytes,
-        None => Vec::new(rt.alloc()),
-    };
+    let network = file_at(rt, &request.network)?;
     let report = file_at(rt, &request.from)?;
-    let schedule = input_at(rt, &request.schedule)?;
-    Ok(Task {
-        job: request.job,
+    Ok(Texts {
         program,
         network,
         report,
-        schedule,
-        trace: request.trace,
     })
 }
 
@@ -186,28 +185,51 @@ fn end(rt: &HostRuntime, ending: &Ending) -> ExitCode {
     ExitCode::from(ending.status())
 }
 
-/// Does a task's job, and hands the buffer's last bytes to standard output.
+/// The bytes, where there are some.
+fn bytes_in(bytes: &Option<Vec<u8>>) -> Option<&[u8]> {
+    match bytes {
+        Some(bytes) => Some(bytes.as_slice()),
+        None => None,
+    }
+}
+
+/// Does a job by these texts, its answer going to an output.
+fn answer_to(
+    rt: &HostRuntime,
+    threads: &(impl Threads + Wait + Sync),
+    job: &Job,
+    texts: &Texts,
+    schedule: &mut Input,
+    output: &mut impl Write,
+) -> Result<Served, Ending> {
+    let mut schedule = Tally::new(schedule);
+    let mut out = Tally::new(output);
+    let served = serve(
+        threads,
+        rt.alloc(),
+        job,
+        &texts.program,
+        bytes_in(&texts.network).unwrap_or(&[]),
+        bytes_in(&texts.report),
+        &mut schedule,
+        &mut out,
+    )?;
+    Ok(served)
+}
+
+/// Does a job by these texts, and hands the buffer's last bytes to standard output.
 fn answer(
     rt: &HostRuntime,
     threads: &(impl Threads + Wait + Sync),
-    task: &mut Task,
+    job: &Job,
+    texts: &Texts,
+    schedule: &mut Input,
 ) -> Result<Served, Ending> {
-    let mut schedule = Tally::new(&mut task.schedule);
     let mut output = match BufWriter::new(rt.alloc(), io::writer(rt)) {
         Ok(output) => output,
         Err(error) => return Err(refused(&error, Ending::Output)),
     };
-    let mut out = Tally::new(&mut output);
-    let served = serve(
-        threads,
-        rt.alloc(),
-        &task.job,
-        &task.program,
-        &task.network,
-        task.report.as_ref().map(|bytes| bytes.as_slice()),
-        &mut schedule,
-        &mut out,
-    )?;
+    let served = answer_to(rt, threads, job, texts, schedule, &mut output)?;
     match output.flush() {
         Ok(()) => Ok(served),
         Err(_) => Err(Ending::Output),
@@ -220,20 +242,42 @@ fn keep_trace(
     path: &Option<String>,
     trace: &Option<Vec<u8>>,
 ) -> Result<(), Ending> {
-    match (path, trace) {
-        (Some(path), Some(trace)) => {
-            fs::write(rt, path.as_str(), trace.as_slice()).map_err(|error| file_fault(&error))
-        }
-        _ => Ok(()),
+    let (Some(path), Some(trace)) = (path, trace) else {
+        return Ok(());
+    };
+    match fs::write(rt, path.as_str(), trace.as_slice()) {
+        Ok(()) => Ok(()),
+        Err(error) => Err(file_fault(&error)),
     }
+}
+
+/// Does a request's job by these texts. The status with which the program ends.
+fn run_with(
+    rt: &HostRuntime,
+    threads: &(impl Threads + Wait + Sync),
+    request: &Request,
+    texts: &Texts,
+) -> Result<u8, Ending> {
+    let mut schedule = input_at(rt, &request.schedule)?;
+    let served = answer(rt, threads, &request.job, texts, &mut schedule)?;
+    keep_trace(rt, &request.trace, &served.trace)?;
+    Ok(served.status)
+}
+
+/// Does what a request asks for. The status with which the program ends.
+fn run_request(
+    rt: &HostRuntime,
+    threads: &(impl Threads + Wait + Sync),
+    request: &Request,
+) -> Result<u8, Ending> {
+    let texts = texts_of(rt, request)?;
+    run_with(rt, threads, request, &texts)
 }
 
 /// Does what the command line asks for. The status with which the program ends.
 fn run(rt: &HostRuntime, threads: &(impl Threads + Wait + Sync)) -> Result<u8, Ending> {
-    let mut task = task_of(rt)?;
-    let served = answer(rt, threads, &mut task)?;
-    keep_trace(rt, &task.trace, &served.trace)?;
-    Ok(served.status)
+    let request = request_of(rt)?;
+    run_request(rt, threads, &request)
 }
 
 /// Does what the command line asks for, and ends with its status.
