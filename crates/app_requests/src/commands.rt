@@ -82,7 +82,7 @@ pub struct Group {
 /// The commands of this program, in groups.
 pub const GROUPS: [Group; 4] = [
     Group {
-        title: "The way of a run",
+        title: "Runs",
         tasks: &[Task::Watch, Task::Settle, Task::Schedule, Task::Explain],
     },
     Group {

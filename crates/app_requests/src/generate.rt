@@ -1,4 +1,4 @@
-//! `generate`: a network of a shape, or by lot.
+//! `generate`: a network of a shape, or at random.
 ghost use Rattle.std.specs.Prelude.{◌≤◌, IfOk, IfSome};
 
 use crate::arguments::{FLAG, NUMBER};
@@ -313,7 +313,7 @@ static GENERATE: Command = Command {
     name: "generate",
     aliases: &["make"],
     called: "unison generate",
-    about: "Make a network of a shape (path, ring, grid, torus, tree and more), or by lot",
+    about: "Make a network of a shape (path, ring, grid, torus, tree and more), or a random one",
     notes: "Prints a network file; its nodes are numbered from 0, row by row in a grid.\nAn example: unison generate torus 16 16 --diagonals > torus.toml\nAnother one: unison generate random 100 --links 300 --seed 7 > random.toml\n",
     arguments: &[],
     subcommands: &SHAPES,

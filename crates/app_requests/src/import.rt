@@ -8,7 +8,7 @@ use std::alloc::Global;
 
 const TEXT: Argument = Argument {
     name: "file",
-    help: "The text that is taken in, or - for standard input",
+    help: "The text to import, or - for standard input",
     ..FILE
 };
 
@@ -125,7 +125,7 @@ static IMPORT: Command = Command {
     name: "import",
     aliases: &["take"],
     called: "unison import",
-    about: "Take in a network from a list of edges, a Matrix Market file or a graph of Graphviz",
+    about: "Import a network from a list of edges, a Matrix Market file or a graph of Graphviz",
     notes: "Prints a network file; nodes are numbered by the first appearance of their names.\nAn example: unison import edges friends.txt --names friends.names > friends.toml\nAnother one: unison import matrix-market road.mtx --undirected --parallel min > road.toml\n",
     arguments: &[],
     subcommands: &FORMATS,
@@ -136,7 +136,7 @@ pub(crate) fn import() -> &'static Command {
     &IMPORT
 }
 
-/// The format of a text that is taken in.
+/// The format of a text to import.
 #[derive(Clone, Copy, PartialEq, Eq)]
 pub enum Format {
     /// Lines of two names and a weight.
@@ -172,7 +172,7 @@ impl Format {
 pub struct ImportRequest {
     /// The format of the text.
     pub format: Format,
-    /// The path of the text that is taken in.
+    /// The path of the text to import.
     pub path: String,
     /// The path to which the names of the nodes are written, where they are.
     pub names: Option<String>,

@@ -1,4 +1,4 @@
-//! `init`: other opening values of a network.
+//! `init`: other initial values of a network.
 ghost use Rattle.std.specs.Prelude.{◌≤◌, IfOk, IfSome};
 
 use crate::arguments::{
@@ -17,7 +17,7 @@ const REPEATED: Argument = Argument {
 const SET: Argument = Argument {
     name: "set",
     value_name: "FIELD=NODE:VALUE",
-    help: "Give a field of a node, or of all nodes where NODE is *, its opening value; as often as wanted",
+    help: "Give a field of a node, or of all nodes where NODE is *, its initial value; as often as wanted",
     ..REPEATED
 };
 
@@ -27,7 +27,7 @@ static SET_ARGUMENT: Argument = SET;
 const SET_RANDOM: Argument = Argument {
     name: "set-random",
     value_name: "FIELD=VALUE:COUNT",
-    help: "Give a field of so many nodes, drawn by the seed, its opening value; as often as wanted",
+    help: "Give a field of so many nodes, drawn by the seed, its initial value; as often as wanted",
     needs: Some("seed"),
     ..REPEATED
 };
@@ -51,7 +51,7 @@ const CELLS: Argument = Argument {
     name: "cells",
     kind: Kind::Repeated,
     value_name: "FIELD=FILE@X,Y",
-    help: "Give a field the opening value 1 where a pattern of cells, RLE or plain text, has a live one; its top left corner stands at column X and row Y of the grid; as often as wanted",
+    help: "Give a field the initial value 1 where a pattern of cells, RLE or plain text, has a live one; its top left corner stands at column X and row Y of the grid; as often as wanted",
     needs: Some("width"),
     ..FILE_OPTION
 };
@@ -100,7 +100,7 @@ static INIT: Command = Command {
     name: "init",
     aliases: &["open"],
     called: "unison init",
-    about: "Give a network other opening values, by numbers, names, lot, or patterns of cells",
+    about: "Give a network other initial values, by numbers, names, at random, or by patterns of cells",
     notes: "Prints the network with other opening values; where several give one to the same field and node, the last one counts; --set counts over --cells, and that over --set-random.\nAn example: unison init examples/path.toml --set 'dist=*:9' --set dist=0:0 > opened.toml\n",
     arguments: &[
         NETWORK, SET, SET_RANDOM, SEED, CELLS, GRID_WIDTH, NAMES, PHASE,

@@ -94,7 +94,7 @@ const MANNERS: [Subcommand; 6] = [
     },
     Subcommand {
         name: "random",
-        about: "Any step that changes something, drawn by lot, until all stand at the stop",
+        about: "Any step that changes something, drawn at random, until all stand at the stop",
         notes: "",
         arguments: &OF_ALL,
     },
@@ -129,7 +129,7 @@ static SCHEDULE: Command = Command {
     name: "schedule",
     aliases: &["steps"],
     called: "unison schedule",
-    about: "Make a schedule: sweeps, by lot, one node starved or ahead, or from lines for people",
+    about: "Make a schedule: sweeps, at random, one node starved or ahead, or from lines for people",
     notes: "Prints a schedule, as replay, run and explain read it.\nAn example: unison schedule sweeps examples/distance.rules examples/path.toml --stop 2 > steps.txt\nThe words of one: unison schedule write --help\n",
     arguments: &[],
     subcommands: &MANNERS,

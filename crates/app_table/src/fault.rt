@@ -11,12 +11,12 @@ pub enum WordsFault {
     Help { text: String },
     /// The words are wrong, as the text says.
     Usage { text: String },
-    /// Want of memory.
+    /// Out of memory.
     Memory,
 }
 
 impl WordsFault {
-    /// Wrong words, as this text says; want of memory where it could not be made.
+    /// Wrong words, as this text says; running out of memory where it could not be made.
     pub fn told(text: Result<String, AllocError>) -> WordsFault {
         match text {
             Ok(text) => WordsFault::Usage { text },

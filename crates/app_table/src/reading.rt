@@ -44,7 +44,7 @@ impl Reading {
         }
     }
 
-    /// Notes wrong words, as this text says; want of memory where it could not be made.
+    /// Notes wrong words, as this text says; running out of memory where it could not be made.
     pub fn refuse_as(&mut self, text: Result<String, AllocError>) {
         self.refuse(WordsFault::told(text));
     }

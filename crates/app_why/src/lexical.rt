@@ -18,7 +18,7 @@ fn before(text: &[u8], at: usize) -> &[u8] {
 fn dot_hint(front: &[u8]) -> &'static str {
     match front.last() {
         Some(byte) if byte.is_ascii_digit() => "numbers are whole: scale them, 15 tenths for 1.5",
-        Some(b'n') => "a neighbour's field is written in one piece: n.NAME",
+        Some(b'n') => "a neighbour's field is one word: n.NAME",
         _ => "a `.` stands in a neighbour's field alone: n.NAME",
     }
 }

@@ -171,7 +171,7 @@ fn key_hint(alloc: Global, key: &str) -> Result<String, AllocError> {
         Some(near) => format!(in alloc; "did you mean `{near}`?"),
         None => String::from_str(
             alloc,
-            "the keys at the top are `nodes`, `links`, `phase` and `set`; opening values stand in `set`",
+            "the keys at the top are `nodes`, `links`, `phase` and `set`; initial values stand in `set`",
         ),
     }
 }
@@ -193,9 +193,9 @@ fn hint(cause: &NetCause) -> &'static str {
             "links are written [[0, 1], [1, 2]], or with weights [[0, 1, 5], [1, 2, 7]]; whole numbers without quotes",
         NetCause::PhaseShape | NetCause::BadPhase { .. } =>
             "the phase is 0, 1 or 2; it may be left out",
-        NetCause::SetShape => "opening values stand below [set], as in: dist = [[0, 0], [7, 0]]",
+        NetCause::SetShape => "initial values stand below [set], as in: dist = [[0, 0], [7, 0]]",
         NetCause::SetValueShape { .. } | NetCause::PairShape { .. } =>
-            "opening values are pairs [node, value], as in: dist = [[0, 0], [7, 0]]",
+            "initial values are pairs [node, value], as in: dist = [[0, 0], [7, 0]]",
         NetCause::NodeCount { .. } => "a network has from 1 to 65536 nodes",
         NetCause::BadLink { .. } => "nodes are numbered from 0 to one less than `nodes`",
         NetCause::SelfLink { .. } => "leave it out: a node always reads its own state",

@@ -14,7 +14,7 @@ IsWithinLimits (Run rounds workers traced) = (rounds ≤ most_rounds) × (1 ≤ 
 IsWithinLimits (Replay stop) = stop ≤ most_rounds
 IsWithinLimits (Compare rounds workers) = (rounds ≤ most_rounds) × (1 ≤ workers) × (workers ≤ 64)
 
--- wrong words, told by the name of the option or the argument; want of memory for that name may come in their place
+-- wrong words, told by the name of the option or the argument; running out of memory for that name may come in their place
 abbrev pub IsWrongWords : List ℕ → UsageFault → Type 0
 IsWrongWords name (fault.Help text) = ⊥
 IsWrongWords name (fault.Usage text) = string_bytes text ≡ name

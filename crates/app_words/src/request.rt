@@ -24,7 +24,7 @@ pub enum UsageFault {
     Help { text: String },
     /// The words are wrong, as the text says.
     Usage { text: String },
-    /// Want of memory.
+    /// Out of memory.
     Memory,
 }
 

@@ -59,7 +59,7 @@ impl From<AllocError> for Ending {
     }
 }
 
-/// Want of memory where that is the error, else this ending.
+/// Running out of memory where that is the error, else this ending.
 fn refused(error: &io::Error, ending: Ending) -> Ending {
     if error.kind() == ErrorKind::OutOfMemory {
         Ending::Serve(ServeFault::Memory)
