@@ -82,7 +82,7 @@ pub struct Group {
 /// The commands of this program, in groups.
 pub const GROUPS: [Group; 4] = [
     Group {
-        title: "Runs",
+        title: "Runs in detail",
         tasks: &[Task::Watch, Task::Settle, Task::Schedule, Task::Explain],
     },
     Group {

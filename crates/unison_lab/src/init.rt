@@ -181,7 +181,7 @@ fn text_for(rt: &HostRuntime, asked: &InitRequest) -> Result<Vec<u8>, Ending> {
     opened(rt.alloc(), &file, openings.as_slice(), asked.phase)
 }
 
-/// Prints the network with other opening values. The status with which the program ends.
+/// Prints the network with other initial values. The status with which the program ends.
 pub(crate) fn init_network(rt: &HostRuntime, words: &[String]) -> Result<u8, Ending> {
     let asked = InitRequest::parse(rt.alloc(), words)?;
     let text = text_for(rt, &asked)?;
