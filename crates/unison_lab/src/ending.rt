@@ -9,7 +9,7 @@ use unison_words::UsageFault;
 use word_table::WordsFault;
 
 /// Why the program ends with a status other than that of a job, or after help.
-#[derive(Debug, Drop)]
+#[derive(Drop)]
 pub(crate) enum Ending {
     Help(String),
     Usage(String),
@@ -29,6 +29,22 @@ pub(crate) enum Ending {
 }
 
 impl Ending {
+    /// Wrong words, as this text says; want of memory where it could not be made.
+    pub(crate) fn usage(text: Result<String, AllocError>) -> Ending {
+        match text {
+            Ok(text) => Ending::Usage(text),
+            Err(_) => Ending::Memory,
+        }
+    }
+
+    /// A refused text, as this one says; want of memory where it could not be made.
+    pub(crate) fn refused(text: Result<String, AllocError>) -> Ending {
+        match text {
+            Ok(text) => Ending::Refused(text),
+            Err(_) => Ending::Memory,
+        }
+    }
+
     /// The status with which the program ends.
     pub(crate) fn status(&self) -> u8 {
         match self {
