@@ -193,17 +193,20 @@ fn bytes_in(bytes: &Option<Vec<u8>>) -> Option<&[u8]> {
     }
 }
 
-/// Does a job by these texts, its answer going to an output.
-fn answer_to(
+/// Does a job by these texts, and hands the buffer's last bytes to standard output.
+fn answer(
     rt: &HostRuntime,
     threads: &(impl Threads + Wait + Sync),
     job: &Job,
     texts: &Texts,
     schedule: &mut Input,
-    output: &mut impl Write,
 ) -> Result<Served, Ending> {
     let mut schedule = Tally::new(schedule);
-    let mut out = Tally::new(output);
+    let mut output = match BufWriter::new(rt.alloc(), io::writer(rt)) {
+        Ok(output) => output,
+        Err(error) => return Err(refused(&error, Ending::Output)),
+    };
+    let mut out = Tally::new(&mut output);
     let served = serve(
         threads,
         rt.alloc(),
@@ -214,22 +217,6 @@ fn answer_to(
         &mut schedule,
         &mut out,
     )?;
-    Ok(served)
-}
-
-/// Does a job by these texts, and hands the buffer's last bytes to standard output.
-fn answer(
-    rt: &HostRuntime,
-    threads: &(impl Threads + Wait + Sync),
-    job: &Job,
-    texts: &Texts,
-    schedule: &mut Input,
-) -> Result<Served, Ending> {
-    let mut output = match BufWriter::new(rt.alloc(), io::writer(rt)) {
-        Ok(output) => output,
-        Err(error) => return Err(refused(&error, Ending::Output)),
-    };
-    let served = answer_to(rt, threads, job, texts, schedule, &mut output)?;
     match output.flush() {
         Ok(()) => Ok(served),
         Err(_) => Err(Ending::Output),

@@ -1,10 +1,9 @@
-//! `init .. --cells FIELD=FILE@X,Y --width W`: patterns of cells as opening values.
+//! `init .. --cells FIELD=FILE@X,Y --width W`: patterns of cells as initial values.
 
 use crate::ending::Ending;
-use crate::files::{Text, text_at};
+use crate::files::{bytes_at, name_at};
 use crate::init::put_opening;
 use app_requests::{CellsWord, InitRequest};
-use link_net::Name;
 use net_initial::{Chosen, Opening};
 use net_patterns::{Cell, Grid, PatternFault, PlaceFault, placed, read_pattern};
 use std::alloc::{AllocError, Global};
@@ -27,74 +26,80 @@ fn pattern_text(alloc: Global, name: &str, fault: PatternFault) -> Result<String
         PatternFault::TooLarge { line } => format!(in alloc;
             "pattern TooLarge {line}\n{name}:{line}: a live cell stands beyond column or row 65535, or is more than the 65536th"
         ),
-        PatternFault::Memory => format!(in alloc; "memory Memory"),
+        PatternFault::Memory => Err(AllocError),
     }
 }
 
-/// The ending where a text is no pattern.
-fn no_pattern(alloc: Global, name: &str, fault: PatternFault) -> Result<Ending, AllocError> {
-    if fault == PatternFault::Memory {
-        return Ok(Ending::Memory);
-    }
-    Ok(Ending::Refused(pattern_text(alloc, name, fault)?))
-}
-
-/// The live cells of a text.
-fn cells_of(alloc: Global, text: &Text) -> Result<Vec<Cell>, Ending> {
-    match read_pattern(alloc, text.bytes.as_slice()) {
+/// The live cells of the pattern at a path.
+fn cells_at(rt: &HostRuntime, path: &str) -> Result<Vec<Cell>, Ending> {
+    let bytes = bytes_at(rt, path)?;
+    match read_pattern(rt.alloc(), &bytes) {
         Ok(cells) => Ok(cells),
-        Err(fault) => Err(no_pattern(alloc, text.name.as_str(), fault)?),
+        Err(fault) => Err(Ending::refused(pattern_text(rt.alloc(), name_at(path), fault))),
     }
 }
 
 /// The ending where a pattern has no place on the grid.
-fn no_place(
-    alloc: Global,
-    grid: &Grid,
-    name: &str,
-    fault: PlaceFault,
-) -> Result<Ending, AllocError> {
+fn no_place(alloc: Global, grid: &Grid, name: &str, fault: PlaceFault) -> Ending {
     let PlaceFault::Outside { cell } = fault else {
-        return Ok(Ending::Memory);
+        return Ending::Memory;
     };
     let Cell { column, row } = cell;
     let Grid { width, nodes } = *grid;
     let rows = nodes.checked_div(width).unwrap_or(0);
-    let text = format!(in alloc;
+    Ending::usage(format!(in alloc;
         "--cells: {name}: the live cell at column {column} and row {row} of the pattern would stand outside the grid of {width} columns and {rows} rows"
-    )?;
-    Ok(Ending::Usage(text))
+    ))
 }
 
-/// The opening that a word of `--cells` asks for.
-fn cells_opening(rt: &HostRuntime, grid: &Grid, word: &CellsWord) -> Result<Opening, Ending> {
-    let text = text_at(rt, word.path.as_str())?;
-    let cells = cells_of(rt.alloc(), &text)?;
+/// The nodes that cells are, put where a word of `--cells` says.
+fn nodes_under(
+    alloc: Global,
+    grid: &Grid,
+    word: &CellsWord,
+    cells: &[Cell],
+) -> Result<Vec<u32>, Ending> {
     let corner = Cell {
         column: word.column,
         row: word.row,
     };
-    let nodes = match placed(rt.alloc(), cells.as_slice(), grid, &corner) {
-        Ok(nodes) => nodes,
-        Err(fault) => return Err(no_place(rt.alloc(), grid, text.name.as_str(), fault)?),
-    };
-    let field = Name::new(String::from_str(rt.alloc(), word.field.as_str())?);
-    Ok(Opening {
-        field,
-        nodes: Chosen::These(nodes),
-        value: 1,
-    })
+    match placed(alloc, cells, grid, &corner) {
+        Ok(nodes) => Ok(nodes),
+        Err(fault) => Err(no_place(alloc, grid, name_at(word.path.as_str()), fault)),
+    }
+}
+
+/// The nodes that a word of `--cells` names.
+fn nodes_for(rt: &HostRuntime, grid: &Grid, word: &CellsWord) -> Result<Vec<u32>, Ending> {
+    let cells = cells_at(rt, word.path.as_str())?;
+    nodes_under(rt.alloc(), grid, word, &cells)
 }
 
 /// The grid of so many nodes whose width the words name, where that makes whole rows of them.
 fn grid_of(alloc: Global, nodes: u32, width: u32) -> Result<Grid, Ending> {
     if width < 1 || nodes % width != 0 {
-        let text = format!(in alloc;
+        return Err(Ending::usage(format!(in alloc;
             "--width: the network's {nodes} nodes make no whole rows of {width}"
-        )?;
-        return Err(Ending::Usage(text));
+        )));
     }
     Ok(Grid { width, nodes })
+}
+
+/// Puts the opening that a word of `--cells` asks for.
+fn put_word(
+    openings: &mut Vec<Opening>,
+    rt: &HostRuntime,
+    grid: &Grid,
+    word: &CellsWord,
+) -> Result<(), Ending> {
+    let nodes = nodes_for(rt, grid, word)?;
+    put_opening(
+        openings,
+        rt.alloc(),
+        word.field.as_str(),
+        Chosen::These(nodes),
+        1,
+    )
 }
 
 /// Puts the openings that the words of `--cells` ask for.
@@ -106,7 +111,7 @@ pub(crate) fn put_cells(
 ) -> Result<(), Ending> {
     let grid = grid_of(rt.alloc(), nodes, asked.width)?;
     for word in &asked.cells {
-        put_opening(openings, cells_opening(rt, &grid, word)?)?;
+        put_word(openings, rt, &grid, word)?;
     }
     Ok(())
 }

@@ -9,7 +9,7 @@ use std::io;
 use std::io::ErrorKind;
 
 /// Why the program ends with a status other than that of a job, or after help.
-#[derive(Debug, Drop)]
+#[derive(Drop)]
 pub(crate) enum Ending {
     Help(String),
     Usage(String),
@@ -29,6 +29,22 @@ pub(crate) enum Ending {
 }
 
 impl Ending {
+    /// Wrong words, as this text says; running out of memory where it could not be made.
+    pub(crate) fn usage(text: Result<String, AllocError>) -> Ending {
+        match text {
+            Ok(text) => Ending::Usage(text),
+            Err(_) => Ending::Memory,
+        }
+    }
+
+    /// A refused text, as this one says; running out of memory where it could not be made.
+    pub(crate) fn refused(text: Result<String, AllocError>) -> Ending {
+        match text {
+            Ok(text) => Ending::Refused(text),
+            Err(_) => Ending::Memory,
+        }
+    }
+
     /// The status with which the program ends.
     pub(crate) fn status(&self) -> u8 {
         match self {
@@ -74,7 +90,7 @@ impl From<WordsFault> for Ending {
     }
 }
 
-/// Want of memory where that is the error, else this ending.
+/// Running out of memory where that is the error, else this ending.
 pub(crate) fn refused(error: &io::Error, ending: Ending) -> Ending {
     if error.kind() == ErrorKind::OutOfMemory {
         Ending::Memory

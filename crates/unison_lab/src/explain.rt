@@ -1,9 +1,9 @@
 //! `explain PROGRAM NETWORK SCHEDULE --stop T`: what each step of a schedule does.
 
 use crate::ending::Ending;
-use crate::files::{path_in, read_once, text_at};
-use crate::output::write_out;
-use crate::plan_texts::plan_at;
+use crate::files::{bytes_at, path_in, read_once};
+use crate::output::print_out;
+use crate::plan_texts::shared_plan;
 use app_jobs::ServeFault;
 use app_requests::ExplainRequest;
 use rounds_plan::Plan;
@@ -21,9 +21,10 @@ fn no_schedule(fault: ScheduleFault) -> Ending {
     }
 }
 
-/// The steps of a schedule's text.
-fn steps_in(alloc: Global, text: &[u8]) -> Result<Vec<Step>, Ending> {
-    match read_schedule(alloc, text) {
+/// The steps of the schedule at a path.
+pub(crate) fn steps_at(rt: &HostRuntime, path: &str) -> Result<Vec<Step>, Ending> {
+    let schedule = bytes_at(rt, path)?;
+    match read_schedule(rt.alloc(), &schedule) {
         Ok(steps) => Ok(steps),
         Err(fault) => Err(no_schedule(fault)),
     }
@@ -37,24 +38,29 @@ fn no_world(fault: OpenFault) -> Ending {
     }
 }
 
-/// The steps, told.
-fn text_of(
+/// The steps on a plan, told.
+fn told_on(
     alloc: Global,
-    plan: Plan,
+    plan: Arc<Plan>,
     steps: &[Step],
     asked: &ExplainRequest,
 ) -> Result<Vec<u8>, Ending> {
-    let plan = Arc::new(alloc, plan)?;
     match told(alloc, plan, asked.stop, steps, asked.counts) {
         Ok(text) => Ok(text),
         Err(fault) => Err(no_world(fault)),
     }
 }
 
-/// The steps of the schedule at a path.
-pub(crate) fn steps_at(rt: &HostRuntime, path: &str) -> Result<Vec<Step>, Ending> {
-    let schedule = text_at(rt, path)?;
-    steps_in(rt.alloc(), &schedule.bytes)
+/// What is told on a plan of the schedule that is asked for.
+fn text_on(rt: &HostRuntime, plan: Arc<Plan>, asked: &ExplainRequest) -> Result<Vec<u8>, Ending> {
+    let steps = steps_at(rt, asked.schedule.as_str())?;
+    told_on(rt.alloc(), plan, &steps, asked)
+}
+
+/// What is told of the schedule that is asked for.
+fn text_for(rt: &HostRuntime, asked: &ExplainRequest) -> Result<Vec<u8>, Ending> {
+    let plan = shared_plan(rt, &asked.plan)?;
+    text_on(rt, plan, asked)
 }
 
 /// Refuses standard input for more than one of the texts.
@@ -68,18 +74,15 @@ fn check_paths(alloc: Global, asked: &ExplainRequest) -> Result<(), Ending> {
     read_once(alloc, &paths)
 }
 
-/// What is told of the schedule that is asked for.
-fn text_for(rt: &HostRuntime, asked: &ExplainRequest) -> Result<Vec<u8>, Ending> {
+/// Prints what is told of the schedule that is asked for. The status with which the program ends.
+fn put_told(rt: &HostRuntime, asked: &ExplainRequest) -> Result<u8, Ending> {
     check_paths(rt.alloc(), asked)?;
-    let plan = plan_at(rt, &asked.plan)?;
-    let steps = steps_at(rt, asked.schedule.as_str())?;
-    text_of(rt.alloc(), plan, &steps, asked)
+    let text = text_for(rt, asked)?;
+    print_out(rt, &text)
 }
 
 /// Tells what each step of a schedule does. The status with which the program ends.
 pub(crate) fn explain_schedule(rt: &HostRuntime, words: &[String]) -> Result<u8, Ending> {
     let asked = ExplainRequest::parse(rt.alloc(), words)?;
-    let text = text_for(rt, &asked)?;
-    write_out(rt, &text)?;
-    Ok(0)
+    put_told(rt, &asked)
 }

@@ -1,6 +1,7 @@
 //! Fields of a program, by their names.
 
 use crate::ending::Ending;
+use app_table::Draft;
 use rule_check::Program;
 use std::alloc::{AllocError, Global};
 
@@ -14,44 +15,56 @@ pub(crate) fn all_fields(alloc: Global, program: &Program) -> Result<Vec<u32>, A
 }
 
 /// The names of all fields, with a comma and a blank between two.
-fn field_names(alloc: Global, program: &Program) -> Result<String, AllocError> {
-    let mut out = String::new(alloc);
+fn put_names(draft: &mut Draft, program: &Program) {
     for place in 0..program.field_count() {
         if place > 0 {
-            out.push_str(", ")?;
+            draft.put(", ");
         }
-        out.push_str(program.field_name(place).unwrap_or(""))?;
+        draft.put(program.field_name(place).unwrap_or(""));
     }
-    Ok(out)
 }
 
-/// The ending where a word behind an option names no field.
+/// What is told where a word behind an option names no field.
 fn no_field(
     alloc: Global,
     program: &Program,
     option: &str,
     word: &str,
-) -> Result<Ending, AllocError> {
-    let names = field_names(alloc, program)?;
-    Ok(Ending::Usage(format!(in alloc;
-        "{option}: the program has no field `{word}`; its fields are {names}"
-    )?))
+) -> Result<String, AllocError> {
+    let mut draft = Draft::new(alloc);
+    draft.put(option);
+    draft.put(": the program has no field `");
+    draft.put(word);
+    draft.put("`; its fields are ");
+    put_names(&mut draft, program);
+    draft.end()
 }
 
 /// The place of the field that a word behind an option names.
 fn place_of(alloc: Global, program: &Program, option: &str, word: &str) -> Result<u32, Ending> {
     match program.field_index(word) {
         Some(place) => Ok(place),
-        None => Err(no_field(alloc, program, option, word)?),
+        None => Err(Ending::usage(no_field(alloc, program, option, word))),
     }
+}
+
+/// Puts the place of the field of this name, which stands behind `--only`.
+fn put_place(
+    places: &mut Vec<u32>,
+    alloc: Global,
+    program: &Program,
+    word: &str,
+) -> Result<(), Ending> {
+    let place = place_of(alloc, program, "--only", word)?;
+    places.push(place)?;
+    Ok(())
 }
 
 /// The places of the fields of these names, which stand behind `--only`.
 fn named_fields(alloc: Global, program: &Program, words: &[String]) -> Result<Vec<u32>, Ending> {
     let mut places = Vec::new(alloc);
     for word in words {
-        let place = place_of(alloc, program, "--only", word.as_str())?;
-        places.push(place)?;
+        put_place(&mut places, alloc, program, word.as_str())?;
     }
     Ok(places)
 }
@@ -64,16 +77,19 @@ pub(crate) fn shown_fields(
 ) -> Result<Vec<u32>, Ending> {
     match only {
         Some(words) => named_fields(alloc, program, words),
-        None => Ok(all_fields(alloc, program)?),
+        None => match all_fields(alloc, program) {
+            Ok(places) => Ok(places),
+            Err(_) => Err(Ending::Memory),
+        },
     }
 }
 
-/// The ending where no field is named, and the program has several.
-fn many_fields(alloc: Global, program: &Program) -> Result<Ending, AllocError> {
-    let names = field_names(alloc, program)?;
-    Ok(Ending::Usage(format!(in alloc;
-        "--field FIELD is wanted: the program has the fields {names}"
-    )?))
+/// What is told where no field is named, and the program has several.
+fn many_fields(alloc: Global, program: &Program) -> Result<String, AllocError> {
+    let mut draft = Draft::new(alloc);
+    draft.put("--field FIELD is wanted: the program has the fields ");
+    put_names(&mut draft, program);
+    draft.end()
 }
 
 /// The place of the field by which is coloured: that of this name, or the only one.
@@ -82,11 +98,9 @@ pub(crate) fn coloured_field(
     program: &Program,
     word: &Option<String>,
 ) -> Result<u32, Ending> {
-    if let Some(word) = word {
-        return place_of(alloc, program, "--field", word.as_str());
+    match word {
+        Some(word) => place_of(alloc, program, "--field", word.as_str()),
+        None if program.field_count() == 1 => Ok(0),
+        None => Err(Ending::usage(many_fields(alloc, program))),
     }
-    if program.field_count() != 1 {
-        return Err(many_fields(alloc, program)?);
-    }
-    Ok(0)
 }

@@ -6,7 +6,7 @@ use std::io::{Input, Read};
 use std::{fs, io};
 
 /// The text of a file, with the name under which people know it.
-#[derive(Debug, Drop)]
+#[derive(Drop)]
 pub(crate) struct Text {
     pub(crate) name: String,
     pub(crate) bytes: Vec<u8>,
@@ -27,35 +27,71 @@ fn input_bytes(rt: &HostRuntime) -> io::Result<Vec<u8>> {
     Ok(bytes)
 }
 
+/// The bytes at a path; for `-` those of standard input.
+fn read_at(rt: &HostRuntime, path: &str) -> io::Result<Vec<u8>> {
+    if path == "-" {
+        input_bytes(rt)
+    } else {
+        fs::read(rt, path)
+    }
+}
+
+/// How people know the text at a path.
+pub(crate) fn name_at(path: &str) -> &str {
+    if path == "-" { "standard input" } else { path }
+}
+
+/// The bytes of the text at a path; for `-` those of standard input.
+pub(crate) fn bytes_at(rt: &HostRuntime, path: &str) -> Result<Vec<u8>, Ending> {
+    match read_at(rt, path) {
+        Ok(bytes) => Ok(bytes),
+        Err(error) => Err(unserved(rt, name_at(path), &error)),
+    }
+}
+
 /// The text at a path; for `-` that of standard input.
 pub(crate) fn text_at(rt: &HostRuntime, path: &str) -> Result<Text, Ending> {
-    let (name, read) = if path == "-" {
-        ("standard input", input_bytes(rt))
-    } else {
-        (path, fs::read(rt, path))
-    };
-    match read {
-        Ok(bytes) => Ok(Text {
-            name: String::from_str(rt.alloc(), name)?,
-            bytes,
-        }),
-        Err(error) => Err(unserved(rt, name, &error)),
-    }
+    let bytes = bytes_at(rt, path)?;
+    let name = String::from_str(rt.alloc(), name_at(path))?;
+    Ok(Text { name, bytes })
 }
 
 /// The text at a path, where there is a path.
 pub(crate) fn text_where(rt: &HostRuntime, path: &Option<String>) -> Result<Option<Text>, Ending> {
-    match path {
-        Some(path) => Ok(Some(text_at(rt, path.as_str())?)),
-        None => Ok(None),
-    }
+    let Some(path) = path else {
+        return Ok(None);
+    };
+    let text = text_at(rt, path.as_str())?;
+    Ok(Some(text))
+}
+
+/// The bytes of the text at a path, where there is a path.
+pub(crate) fn bytes_where(
+    rt: &HostRuntime,
+    path: &Option<String>,
+) -> Result<Option<Vec<u8>>, Ending> {
+    let Some(path) = path else {
+        return Ok(None);
+    };
+    let bytes = bytes_at(rt, path.as_str())?;
+    Ok(Some(bytes))
+}
+
+/// The ending where more than one of the paths is `-`.
+fn read_twice(alloc: Global) -> Ending {
+    Ending::usage(String::from_str(alloc, "standard input, -, can be read once"))
 }
 
 /// Refuses standard input, `-`, where more than one of the paths is it.
 pub(crate) fn read_once(alloc: Global, paths: &[&str]) -> Result<(), Ending> {
-    if paths.iter().filter(|path| **path == "-").count() > 1 {
-        let text = String::from_str(alloc, "standard input, -, can be read once")?;
-        return Err(Ending::Usage(text));
+    let mut is_read = false;
+    for path in paths {
+        if *path == "-" {
+            if is_read {
+                return Err(read_twice(alloc));
+            }
+            is_read = true;
+        }
     }
     Ok(())
 }

@@ -1,12 +1,12 @@
 //! `generate SHAPE NUMBERS..`: the network file of a shape, or of a lot.
 
 use crate::ending::Ending;
-use crate::output::write_out;
+use crate::output::print_out;
 use app_requests::{GenerateRequest, Topology, Weights};
 use net_random::{Lot, LotFault, WeightFault, drawn, drawn_text, weighted_text};
 use net_shapes::{Shape, ShapeFault, links_of, made_text};
 use net_text::LinkList;
-use std::alloc::{AllocError, Global};
+use std::alloc::Global;
 
 /// How many nodes a shape has.
 fn size_text(shape: &Shape) -> &'static str {
@@ -23,19 +23,19 @@ fn size_text(shape: &Shape) -> &'static str {
 }
 
 /// The ending where a shape has no network.
-fn no_network(alloc: Global, shape: &Shape, fault: ShapeFault) -> Result<Ending, AllocError> {
+fn no_network(alloc: Global, shape: &Shape, fault: ShapeFault) -> Ending {
     let text = match fault {
         ShapeFault::NodeCount => size_text(shape),
         ShapeFault::TooManyLinks => "a network has 262144 links at most, and this shape has more",
         ShapeFault::TooManyNeighbours =>
             "a node has 4096 neighbours at most, and a node of this shape has more",
-        ShapeFault::Memory => return Ok(Ending::Memory),
+        ShapeFault::Memory => return Ending::Memory,
     };
-    Ok(Ending::Usage(String::from_str(alloc, text)?))
+    Ending::usage(String::from_str(alloc, text))
 }
 
 /// The ending where a lot has no network.
-fn no_lot(alloc: Global, fault: LotFault) -> Result<Ending, AllocError> {
+fn no_lot(alloc: Global, fault: LotFault) -> Ending {
     let text = match fault {
         LotFault::NodeCount => "there are 1 to 65536 nodes",
         LotFault::TooManyLinks =>
@@ -45,19 +45,19 @@ fn no_lot(alloc: Global, fault: LotFault) -> Result<Ending, AllocError> {
         LotFault::OddEnds =>
             "--degree: an odd number of nodes cannot have an odd number of neighbours each: take one node or neighbour more",
         LotFault::Undrawn => "by this seed no such network came out: take another one",
-        LotFault::Memory => return Ok(Ending::Memory),
+        LotFault::Memory => return Ending::Memory,
     };
-    Ok(Ending::Usage(String::from_str(alloc, text)?))
+    Ending::usage(String::from_str(alloc, text))
 }
 
 /// The ending where links get no weights.
-fn no_weights(alloc: Global, fault: WeightFault) -> Result<Ending, AllocError> {
+fn no_weights(alloc: Global, fault: WeightFault) -> Ending {
     match fault {
-        WeightFault::NoWeight => Ok(Ending::Usage(String::from_str(
+        WeightFault::NoWeight => Ending::usage(String::from_str(
             alloc,
             "--weights: the first number is above the second one",
-        )?)),
-        WeightFault::Memory => Ok(Ending::Memory),
+        )),
+        WeightFault::Memory => Ending::Memory,
     }
 }
 
@@ -65,7 +65,7 @@ fn no_weights(alloc: Global, fault: WeightFault) -> Result<Ending, AllocError> {
 fn shape_links(alloc: Global, shape: &Shape) -> Result<LinkList, Ending> {
     match links_of(alloc, shape) {
         Ok(links) => Ok(links),
-        Err(fault) => Err(no_network(alloc, shape, fault)?),
+        Err(fault) => Err(no_network(alloc, shape, fault)),
     }
 }
 
@@ -73,7 +73,7 @@ fn shape_links(alloc: Global, shape: &Shape) -> Result<LinkList, Ending> {
 fn lot_links(alloc: Global, lot: &Lot, seed: u32) -> Result<LinkList, Ending> {
     match drawn(alloc, lot, seed as u64) {
         Ok(links) => Ok(links),
-        Err(fault) => Err(no_lot(alloc, fault)?),
+        Err(fault) => Err(no_lot(alloc, fault)),
     }
 }
 
@@ -96,7 +96,7 @@ fn weighted(
     let apart = seed as u64 + 4_294_967_296;
     match weighted_text(alloc, links, weights.low, weights.high, apart) {
         Ok(text) => Ok(text),
-        Err(fault) => Err(no_weights(alloc, fault)?),
+        Err(fault) => Err(no_weights(alloc, fault)),
     }
 }
 
@@ -104,7 +104,7 @@ fn weighted(
 fn shape_text(alloc: Global, shape: &Shape) -> Result<Vec<u8>, Ending> {
     match made_text(alloc, shape) {
         Ok(text) => Ok(text),
-        Err(fault) => Err(no_network(alloc, shape, fault)?),
+        Err(fault) => Err(no_network(alloc, shape, fault)),
     }
 }
 
@@ -112,16 +112,24 @@ fn shape_text(alloc: Global, shape: &Shape) -> Result<Vec<u8>, Ending> {
 fn lot_text(alloc: Global, lot: &Lot, seed: u32) -> Result<Vec<u8>, Ending> {
     match drawn_text(alloc, lot, seed as u64) {
         Ok(text) => Ok(text),
-        Err(fault) => Err(no_lot(alloc, fault)?),
+        Err(fault) => Err(no_lot(alloc, fault)),
     }
 }
 
-/// The network file that the words ask for.
-fn text_for(alloc: Global, words: &[String]) -> Result<Vec<u8>, Ending> {
-    let asked = GenerateRequest::parse(alloc, words)?;
+/// The network file with weights that are drawn.
+fn weighted_for(
+    alloc: Global,
+    asked: &GenerateRequest,
+    weights: &Weights,
+) -> Result<Vec<u8>, Ending> {
+    let links = links_for(alloc, asked)?;
+    weighted(alloc, &links, weights, asked.seed)
+}
+
+/// The network file that is asked for.
+fn text_for(alloc: Global, asked: &GenerateRequest) -> Result<Vec<u8>, Ending> {
     if let Some(weights) = &asked.weights {
-        let links = links_for(alloc, &asked)?;
-        return weighted(alloc, &links, weights, asked.seed);
+        return weighted_for(alloc, asked, weights);
     }
     match &asked.topology {
         Topology::Shape(shape) => shape_text(alloc, shape),
@@ -131,7 +139,7 @@ fn text_for(alloc: Global, words: &[String]) -> Result<Vec<u8>, Ending> {
 
 /// Prints the network file of a shape or a lot. The status with which the program ends.
 pub(crate) fn generate_network(rt: &HostRuntime, words: &[String]) -> Result<u8, Ending> {
-    let text = text_for(rt.alloc(), words)?;
-    write_out(rt, &text)?;
-    Ok(0)
+    let asked = GenerateRequest::parse(rt.alloc(), words)?;
+    let text = text_for(rt.alloc(), &asked)?;
+    print_out(rt, &text)
 }

@@ -1,10 +1,10 @@
 //! What the program tells of its commands: help, the completion of a shell, and the page of the manual.
 
 use crate::ending::Ending;
-use crate::output::write_out;
+use crate::output::print_out;
 use app_requests::{GROUPS, Group, check_completion, check_manual};
-use app_table::{completion, manual};
-use app_words::command;
+use app_table::{Draft, completion, manual};
+use app_words::five_commands;
 use std::alloc::{AllocError, Global};
 
 /// What the program is.
@@ -14,118 +14,127 @@ const ABOUT: &str = "Synchronous programs on networks whose nodes move at their 
 const FIVE: &str = "Rounds and runs";
 
 /// Adds a command and the line about it.
-fn put_command(out: &mut String, name: &str, about: &str) -> Result<(), AllocError> {
-    write!(out, "  {name:<12}{about}\n")
+fn put_command(draft: &mut Draft, name: &str, about: &str) {
+    draft.put("  ");
+    draft.put_column(name);
+    draft.put(about);
+    draft.put("\n");
 }
 
 /// Adds a group of commands.
-fn put_group(out: &mut String, group: &Group) -> Result<(), AllocError> {
-    let title = group.title;
-    write!(out, "\n{title}:\n")?;
+fn put_group(draft: &mut Draft, group: &Group) {
+    draft.put("\n");
+    draft.put(group.title);
+    draft.put(":\n");
     for task in group.tasks {
         let command = task.command();
-        put_command(out, command.name, command.about)?;
+        put_command(draft, command.name, command.about);
     }
-    Ok(())
 }
 
 /// Adds the five commands.
-fn put_five(alloc: Global, out: &mut String) -> Result<(), AllocError> {
-    write!(out, "{FIVE}:\n")?;
-    for known in command(alloc)?.get_subcommands() {
-        put_command(out, known.get_name(), known.get_about().unwrap_or(""))?;
+fn put_five(draft: &mut Draft) {
+    draft.put(FIVE);
+    draft.put(":\n");
+    for command in five_commands() {
+        put_command(draft, command.name, command.about);
     }
-    Ok(())
+}
+
+/// Adds all groups.
+fn put_groups(draft: &mut Draft) {
+    for group in &GROUPS {
+        put_group(draft, group);
+    }
 }
 
 /// The commands, in groups, a line each.
 pub(crate) fn help_text(alloc: Global) -> Result<String, AllocError> {
-    let mut out = format!(in alloc; "{ABOUT}\n\nUsage: unison COMMAND WORDS..\n\n")?;
-    put_five(alloc, &mut out)?;
-    for group in &GROUPS {
-        put_group(&mut out, group)?;
-    }
-    out.push_str(
+    let mut draft = Draft::new(alloc);
+    draft.put(ABOUT);
+    draft.put("\n\nUsage: unison COMMAND WORDS..\n\n");
+    put_five(&mut draft);
+    put_groups(&mut draft);
+    draft.put(
         "\nThe words of a command: unison COMMAND --help\nAn example: unison lockstep examples/distance.rules examples/path.toml --rounds 2\n",
-    )?;
-    Ok(out)
+    );
+    draft.end()
 }
 
 /// Adds the names of a group's commands to the script.
-fn put_names(out: &mut String, group: &Group) -> Result<(), AllocError> {
+fn put_names(draft: &mut Draft, group: &Group) {
     for task in group.tasks {
-        completion::put_word(out, task.command().name)?;
+        completion::put_word(draft, task.command().name);
     }
-    Ok(())
 }
 
 /// Adds the names of all groups' commands to the script.
-fn put_all_names(out: &mut String) -> Result<(), AllocError> {
+fn put_all_names(draft: &mut Draft) {
     for group in &GROUPS {
-        put_names(out, group)?;
+        put_names(draft, group);
     }
-    completion::put_names_end(out)
+    completion::put_names_end(draft);
 }
 
 /// Adds what a group's commands take to the script.
-fn put_words(out: &mut String, group: &Group) -> Result<(), AllocError> {
+fn put_words(draft: &mut Draft, group: &Group) {
     for task in group.tasks {
-        completion::put_command(out, task.command())?;
+        completion::put_command(draft, task.command());
     }
-    Ok(())
 }
 
 /// Adds what all groups' commands take to the script.
-fn put_all_words(out: &mut String) -> Result<(), AllocError> {
+fn put_all_words(draft: &mut Draft) {
     for group in &GROUPS {
-        put_words(out, group)?;
+        put_words(draft, group);
     }
-    completion::put_tail(out)
+    completion::put_tail(draft);
 }
 
 /// The script by which Bash completes the words.
 fn completion_text(alloc: Global) -> Result<String, AllocError> {
-    let five = command(alloc)?;
-    let mut out = String::new(alloc);
-    completion::put_head(&mut out, five.get_subcommands())?;
-    put_all_names(&mut out)?;
-    completion::put_parsers(&mut out, five.get_subcommands())?;
-    put_all_words(&mut out)?;
-    Ok(out)
+    let mut draft = Draft::new(alloc);
+    completion::put_head(&mut draft, five_commands());
+    put_all_names(&mut draft);
+    completion::put_plain_commands(&mut draft, five_commands());
+    put_all_words(&mut draft);
+    draft.end()
 }
 
 /// Prints the script by which Bash completes the words. The status with which the program ends.
 pub(crate) fn print_completion(rt: &HostRuntime, words: &[String]) -> Result<u8, Ending> {
     check_completion(rt.alloc(), words)?;
     let text = completion_text(rt.alloc())?;
-    write_out(rt, text.as_bytes())?;
-    Ok(0)
+    print_out(rt, text.as_bytes())
 }
 
 /// Adds a group's commands to the page of the manual.
-fn put_pages(out: &mut String, group: &Group) -> Result<(), AllocError> {
-    manual::put_title(out, group.title)?;
+fn put_pages(draft: &mut Draft, group: &Group) {
+    manual::put_title(draft, group.title);
     for task in group.tasks {
-        manual::put_command(out, task.command())?;
+        manual::put_command(draft, task.command());
     }
-    Ok(())
+}
+
+/// Adds all groups' commands to the page of the manual.
+fn put_all_pages(draft: &mut Draft) {
+    for group in &GROUPS {
+        put_pages(draft, group);
+    }
 }
 
 /// The page of the manual.
 fn manual_text(alloc: Global) -> Result<String, AllocError> {
-    let mut out = String::new(alloc);
-    manual::put_head(&mut out, ABOUT)?;
-    manual::put_parsers(&mut out, FIVE, command(alloc)?.get_subcommands())?;
-    for group in &GROUPS {
-        put_pages(&mut out, group)?;
-    }
-    Ok(out)
+    let mut draft = Draft::new(alloc);
+    manual::put_head(&mut draft, ABOUT);
+    manual::put_plain_commands(&mut draft, FIVE, five_commands());
+    put_all_pages(&mut draft);
+    draft.end()
 }
 
 /// Prints the page of the manual. The status with which the program ends.
 pub(crate) fn print_manual(rt: &HostRuntime, words: &[String]) -> Result<u8, Ending> {
     check_manual(rt.alloc(), words)?;
     let text = manual_text(rt.alloc())?;
-    write_out(rt, text.as_bytes())?;
-    Ok(0)
+    print_out(rt, text.as_bytes())
 }

@@ -1,10 +1,11 @@
 //! `import FORMAT FILE`: a network from another format, and the names of its nodes.
 
 use crate::ending::Ending;
-use crate::files::{Text, text_at};
+use crate::files::{bytes_at, name_at};
 use crate::output::{write_file, write_out};
 use crate::refusals::refusal;
 use app_requests::{Format, ImportRequest};
+use app_table::Draft;
 use import_network::{TakeFault, Taken, take_dot, take_edges, take_matrix, take_numbers};
 use std::alloc::{AllocError, Global};
 use std::io;
@@ -39,14 +40,6 @@ fn take_text(alloc: Global, text: &[u8], asked: &ImportRequest) -> Result<Taken,
     }
 }
 
-/// The network of a text, or what is told where it has none.
-fn taken_from(alloc: Global, text: &Text, asked: &ImportRequest) -> Result<Taken, Ending> {
-    match take_text(alloc, text.bytes.as_slice(), asked) {
-        Ok(taken) => Ok(taken),
-        Err(fault) => Err(refusal(alloc, asked.format, text.name.as_str(), fault)?),
-    }
-}
-
 /// Writes the names into their file, where there is one.
 fn keep_names(rt: &HostRuntime, asked: &ImportRequest, taken: &Taken) -> Result<(), Ending> {
     match &asked.names {
@@ -56,40 +49,38 @@ fn keep_names(rt: &HostRuntime, asked: &ImportRequest, taken: &Taken) -> Result<
 }
 
 /// Adds what was done to so many edges or weights, behind what was done to others: `merged 2 edges into an earlier one`.
-fn put_note(
-    out: &mut String,
-    done: &str,
-    count: usize,
-    thing: &str,
-    after: &str,
-) -> Result<(), AllocError> {
-    if count == 0 {
-        return Ok(());
+fn put_note(draft: &mut Draft, done: &str, count: usize, thing: &str, after: &str) {
+    if count > 0 {
+        draft.put(if draft.is_empty() { "" } else { ", " });
+        draft.put(done);
+        draft.put(" ");
+        draft.put_count(count as u64);
+        draft.put(" ");
+        draft.put(thing);
+        draft.put(if count == 1 { "" } else { "s" });
+        draft.put(after);
     }
-    let comma = if out.is_empty() { "" } else { ", " };
-    let plural = if count == 1 { "" } else { "s" };
-    write!(out, "{comma}{done} {count} {thing}{plural}{after}")
 }
 
 /// How many edges were dropped or merged, and how many weights rounded; nothing where none were.
 fn notes_text(alloc: Global, taken: &Taken) -> Result<String, AllocError> {
-    let mut out = String::new(alloc);
+    let mut draft = Draft::new(alloc);
     put_note(
-        &mut out,
+        &mut draft,
         "dropped",
         taken.dropped,
         "edge",
         " of a node with itself",
-    )?;
+    );
     put_note(
-        &mut out,
+        &mut draft,
         "merged",
         taken.merged,
         "edge",
         " into an earlier one",
-    )?;
-    put_note(&mut out, "rounded", taken.rounded, "weight", "")?;
-    Ok(out)
+    );
+    put_note(&mut draft, "rounded", taken.rounded, "weight", "");
+    draft.end()
 }
 
 /// Tells on standard error what was dropped, merged or rounded.
@@ -100,26 +91,42 @@ fn tell_notes(rt: &HostRuntime, notes: &str) -> io::Result<()> {
     Ok(())
 }
 
-/// The network of the text that is asked for.
+/// The network of the text that is asked for, or what is told where it has none.
 fn taken_for(rt: &HostRuntime, asked: &ImportRequest) -> Result<Taken, Ending> {
-    let text = text_at(rt, asked.path.as_str())?;
-    taken_from(rt.alloc(), &text, asked)
+    let text = bytes_at(rt, asked.path.as_str())?;
+    match take_text(rt.alloc(), &text, asked) {
+        Ok(taken) => Ok(taken),
+        Err(fault) => {
+            let name = name_at(asked.path.as_str());
+            Err(Ending::refused(refusal(rt.alloc(), asked.format, name, fault)))
+        }
+    }
 }
 
-/// Writes the names of the nodes, prints the network, and tells what was done to make it.
-fn put_taken(rt: &HostRuntime, asked: &ImportRequest, taken: &Taken) -> Result<(), Ending> {
-    let notes = notes_text(rt.alloc(), taken)?;
+/// Writes the names of the nodes, and prints the network.
+fn put_texts(rt: &HostRuntime, asked: &ImportRequest, taken: &Taken) -> Result<(), Ending> {
     keep_names(rt, asked, taken)?;
-    write_out(rt, taken.network.as_slice())?;
+    write_out(rt, taken.network.as_slice())
+}
+
+/// Writes the names of the nodes, prints the network, and tells what was done to make it. The status with which the program
+/// ends.
+fn put_taken(rt: &HostRuntime, asked: &ImportRequest, taken: &Taken) -> Result<u8, Ending> {
+    let notes = notes_text(rt.alloc(), taken)?;
+    put_texts(rt, asked, taken)?;
     let _ = tell_notes(rt, notes.as_str());
-    Ok(())
+    Ok(0)
+}
+
+/// Does what is asked for. The status with which the program ends.
+fn import(rt: &HostRuntime, asked: &ImportRequest) -> Result<u8, Ending> {
+    let taken = taken_for(rt, asked)?;
+    put_taken(rt, asked, &taken)
 }
 
 /// Prints the network of a text in another format, and writes the names of its nodes before. The status with which the
 /// program ends.
 pub(crate) fn import_network(rt: &HostRuntime, words: &[String]) -> Result<u8, Ending> {
     let asked = ImportRequest::parse(rt.alloc(), words)?;
-    let taken = taken_for(rt, &asked)?;
-    put_taken(rt, &asked, &taken)?;
-    Ok(0)
+    import(rt, &asked)
 }

@@ -1,30 +1,45 @@
 //! `info NETWORK`: what one wants to know of a network before a run.
 
 use crate::ending::Ending;
-use crate::files::text_at;
-use crate::output::write_out;
+use crate::files::bytes_at;
+use crate::output::print_out;
 use app_requests::InfoRequest;
-use link_net::{NetFault, read_network};
+use link_net::{NetFault, NetFile, read_network};
 use net_facts::{facts_of, facts_text};
-use std::alloc::Global;
+use std::alloc::{AllocError, Global};
 
-/// The lines about the network of these bytes.
-fn lines_of(alloc: Global, bytes: &[u8]) -> Result<String, Ending> {
-    match read_network(alloc, bytes) {
-        Ok(file) => {
-            let facts = facts_of(alloc, file.network())?;
-            Ok(facts_text(alloc, &facts)?)
-        }
-        Err(NetFault::Memory) => Err(Ending::Memory),
-        Err(fault) => Err(Ending::Network(fault)),
+/// The ending where bytes are no network.
+fn no_file(fault: NetFault) -> Ending {
+    match fault {
+        NetFault::Memory => Ending::Memory,
+        fault => Ending::Network(fault),
     }
+}
+
+/// What a network file describes.
+pub(crate) fn file_at(rt: &HostRuntime, path: &str) -> Result<NetFile, Ending> {
+    let bytes = bytes_at(rt, path)?;
+    match read_network(rt.alloc(), &bytes) {
+        Ok(file) => Ok(file),
+        Err(fault) => Err(no_file(fault)),
+    }
+}
+
+/// The lines about a network.
+fn lines_of(alloc: Global, file: &NetFile) -> Result<String, AllocError> {
+    let facts = facts_of(alloc, file.network())?;
+    facts_text(alloc, &facts)
+}
+
+/// Prints the lines about a network. The status with which the program ends.
+fn put_lines(rt: &HostRuntime, file: &NetFile) -> Result<u8, Ending> {
+    let lines = lines_of(rt.alloc(), file)?;
+    print_out(rt, lines.as_bytes())
 }
 
 /// Prints what one wants to know of a network. The status with which the program ends.
 pub(crate) fn show_info(rt: &HostRuntime, words: &[String]) -> Result<u8, Ending> {
     let asked = InfoRequest::parse(rt.alloc(), words)?;
-    let text = text_at(rt, asked.network.as_str())?;
-    let lines = lines_of(rt.alloc(), text.bytes.as_slice())?;
-    write_out(rt, lines.as_bytes())?;
-    Ok(0)
+    let file = file_at(rt, asked.network.as_str())?;
+    put_lines(rt, &file)
 }

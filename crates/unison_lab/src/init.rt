@@ -1,28 +1,59 @@
-//! `init NETWORK --set FIELD=NODE:VALUE ..`: the network with other opening values.
+//! `init NETWORK --set FIELD=NODE:VALUE ..`: the network with other initial values.
 
 use crate::cells::put_cells;
 use crate::ending::Ending;
-use crate::files::{path_in, read_once, text_at};
+use crate::files::{path_in, read_once};
+use crate::info::file_at;
 use crate::names::names_at;
-use crate::output::write_out;
+use crate::output::print_out;
 use app_requests::{InitRequest, LotWord, SetWord};
 use app_table::number;
-use link_net::{MOST_NODES, Name, NetFault, NetFile, read_network};
+use link_net::{MOST_NODES, Name, NetFile};
 use net_initial::{Chosen, DrawFault, OpenFault, Opening, drawn_nodes, opened_text};
 use net_names::NodeNames;
 use std::alloc::{AllocError, Global};
 
+/// The opening of a field.
+fn opening_of(
+    alloc: Global,
+    field: &str,
+    nodes: Chosen,
+    value: u32,
+) -> Result<Opening, AllocError> {
+    let field = Name::new(String::from_str(alloc, field)?);
+    Ok(Opening {
+        field,
+        nodes,
+        value,
+    })
+}
+
+/// Puts an opening behind the others.
+pub(crate) fn put_opening(
+    openings: &mut Vec<Opening>,
+    alloc: Global,
+    field: &str,
+    nodes: Chosen,
+    value: u32,
+) -> Result<(), Ending> {
+    let opening = opening_of(alloc, field, nodes, value)?;
+    openings.push(opening)?;
+    Ok(())
+}
+
+/// What a node is called by.
+fn kind_of(names: &Option<NodeNames>) -> &'static str {
+    match names {
+        Some(_) => "a name that stands in the file of names",
+        None => "a node's number",
+    }
+}
+
 /// The ending where a word names no node of the network.
-fn no_node(alloc: Global, word: &SetWord, named: bool) -> Result<Ending, AllocError> {
+fn no_node(alloc: Global, word: &SetWord, kind: &str) -> Ending {
     let found = word.node.as_str();
     let field = word.field.as_str();
-    let kind = if named {
-        "a name that stands in the file of names"
-    } else {
-        "a node's number"
-    };
-    let text = format!(in alloc; "--set: {field}: expected {kind}, or *, found `{found}`")?;
-    Ok(Ending::Usage(text))
+    Ending::usage(format!(in alloc; "--set: {field}: expected {kind}, or *, found `{found}`"))
 }
 
 /// The number of the node that a word names, where it names one.
@@ -33,32 +64,26 @@ fn node_in(names: &Option<NodeNames>, word: &str) -> Option<u32> {
     }
 }
 
-/// The nodes that a word of `--set` names.
-fn nodes_of(alloc: Global, names: &Option<NodeNames>, word: &SetWord) -> Result<Chosen, Ending> {
-    if word.node.as_str() == "*" {
-        return Ok(Chosen::Every);
+/// The nodes that a word of `--set` names, where it names some.
+fn nodes_in(names: &Option<NodeNames>, word: &str) -> Option<Chosen> {
+    if word == "*" {
+        return Some(Chosen::Every);
     }
-    match node_in(names, word.node.as_str()) {
-        Some(node) => Ok(Chosen::One(node)),
-        None => Err(no_node(alloc, word, names.is_some())?),
-    }
+    let node = node_in(names, word)?;
+    Some(Chosen::One(node))
 }
 
-/// The opening that a word of `--set` asks for.
-fn opening_of(alloc: Global, names: &Option<NodeNames>, word: &SetWord) -> Result<Opening, Ending> {
-    let nodes = nodes_of(alloc, names, word)?;
-    let field = Name::new(String::from_str(alloc, word.field.as_str())?);
-    Ok(Opening {
-        field,
-        nodes,
-        value: word.value,
-    })
-}
-
-/// Puts an opening behind the others.
-pub(crate) fn put_opening(openings: &mut Vec<Opening>, opening: Opening) -> Result<(), AllocError> {
-    openings.push(opening)?;
-    Ok(())
+/// Puts the opening that a word of `--set` asks for.
+fn put_set_word(
+    openings: &mut Vec<Opening>,
+    alloc: Global,
+    names: &Option<NodeNames>,
+    word: &SetWord,
+) -> Result<(), Ending> {
+    match nodes_in(names, word.node.as_str()) {
+        Some(nodes) => put_opening(openings, alloc, word.field.as_str(), nodes, word.value),
+        None => Err(no_node(alloc, word, kind_of(names))),
+    }
 }
 
 /// Puts the openings that the words of `--set` ask for.
@@ -69,35 +94,41 @@ fn put_set(
     words: &[SetWord],
 ) -> Result<(), Ending> {
     for word in words {
-        put_opening(openings, opening_of(alloc, names, word)?)?;
+        put_set_word(openings, alloc, names, word)?;
     }
     Ok(())
 }
 
 /// The ending where no nodes are drawn.
-fn no_draw(alloc: Global, fault: DrawFault) -> Result<Ending, AllocError> {
+fn no_draw(alloc: Global, fault: DrawFault) -> Ending {
     match fault {
-        DrawFault::TooManyNodes => Ok(Ending::Usage(String::from_str(
+        DrawFault::TooManyNodes => Ending::usage(String::from_str(
             alloc,
             "--set-random: more nodes are asked for than the network has",
-        )?)),
-        DrawFault::Memory => Ok(Ending::Memory),
+        )),
+        DrawFault::Memory => Ending::Memory,
     }
 }
 
-/// The opening that a word of `--set-random` asks for. The first word draws by the generator's seed that is 2 to the power
-/// of 32 greater than the one that is named, the next one by that which is so much greater again.
-fn drawn_opening(alloc: Global, nodes: u32, word: &LotWord, seed: u64) -> Result<Opening, Ending> {
-    let drawn = match drawn_nodes(alloc, nodes, word.count, seed) {
-        Ok(drawn) => drawn,
-        Err(fault) => return Err(no_draw(alloc, fault)?),
-    };
-    let field = Name::new(String::from_str(alloc, word.field.as_str())?);
-    Ok(Opening {
-        field,
-        nodes: Chosen::These(drawn),
-        value: word.value,
-    })
+/// Puts the opening that a word of `--set-random` asks for. The first word draws by the generator's seed that is 2 to the
+/// power of 32 greater than the one that is named, the next one by that which is so much greater again.
+fn put_drawn_word(
+    openings: &mut Vec<Opening>,
+    alloc: Global,
+    nodes: u32,
+    word: &LotWord,
+    seed: u64,
+) -> Result<(), Ending> {
+    match drawn_nodes(alloc, nodes, word.count, seed) {
+        Ok(drawn) => put_opening(
+            openings,
+            alloc,
+            word.field.as_str(),
+            Chosen::These(drawn),
+            word.value,
+        ),
+        Err(fault) => Err(no_draw(alloc, fault)),
+    }
 }
 
 /// Puts the openings that the words of `--set-random` ask for.
@@ -110,23 +141,13 @@ fn put_drawn(
     let mut seed = asked.seed as u64;
     for word in &asked.lots {
         seed = seed.wrapping_add(4_294_967_296);
-        put_opening(openings, drawn_opening(alloc, nodes, word, seed)?)?;
+        put_drawn_word(openings, alloc, nodes, word, seed)?;
     }
     Ok(())
 }
 
-/// What a network file describes.
-fn file_at(rt: &HostRuntime, path: &str) -> Result<NetFile, Ending> {
-    let text = text_at(rt, path)?;
-    match read_network(rt.alloc(), text.bytes.as_slice()) {
-        Ok(file) => Ok(file),
-        Err(NetFault::Memory) => Err(Ending::Memory),
-        Err(fault) => Err(Ending::Network(fault)),
-    }
-}
-
 /// The ending where openings make no network file.
-fn no_opening(alloc: Global, fault: OpenFault) -> Result<Ending, AllocError> {
+fn no_opening(alloc: Global, fault: OpenFault) -> Ending {
     let text = match fault {
         OpenFault::BadPhase => "--phase: expected 0, 1 or 2",
         OpenFault::BadName =>
@@ -134,29 +155,46 @@ fn no_opening(alloc: Global, fault: OpenFault) -> Result<Ending, AllocError> {
         OpenFault::NoNode => "--set: the network has no node of this number",
         OpenFault::BadSet =>
             "--set: what the file gives this field is no opening: a number that is no node, a value above 4294967295, or a node twice",
-        OpenFault::Memory => return Ok(Ending::Memory),
+        OpenFault::Memory => return Ending::Memory,
     };
-    Ok(Ending::Usage(String::from_str(alloc, text)?))
+    Ending::usage(String::from_str(alloc, text))
 }
 
-/// The paths of the files that the words name.
-fn paths_of<'a>(alloc: Global, asked: &'a InitRequest) -> Result<Vec<&'a str>, AllocError> {
-    let mut paths = Vec::new(alloc);
+/// Puts the paths of the files that the words name.
+fn put_paths<'a>(paths: &mut Vec<&'a str>, asked: &'a InitRequest) -> Result<(), AllocError> {
     paths.push(asked.network.as_str())?;
     paths.push(path_in(&asked.names))?;
     for word in &asked.cells {
         paths.push(word.path.as_str())?;
     }
-    Ok(paths)
+    Ok(())
+}
+
+/// Refuses standard input for more than one of the texts.
+fn check_paths(alloc: Global, asked: &InitRequest) -> Result<(), Ending> {
+    let mut paths = Vec::new(alloc);
+    put_paths(&mut paths, asked)?;
+    read_once(alloc, &paths)
+}
+
+/// Puts the openings that the words ask for of a network of so many nodes, in the order in which they count.
+fn put_openings(
+    openings: &mut Vec<Opening>,
+    rt: &HostRuntime,
+    asked: &InitRequest,
+    nodes: u32,
+    names: &Option<NodeNames>,
+) -> Result<(), Ending> {
+    put_drawn(openings, rt.alloc(), nodes, asked)?;
+    put_cells(openings, rt, nodes, asked)?;
+    put_set(openings, rt.alloc(), names, asked.sets.as_slice())
 }
 
 /// The openings that the words ask for of a network of so many nodes, in the order in which they count.
 fn openings_for(rt: &HostRuntime, asked: &InitRequest, nodes: u32) -> Result<Vec<Opening>, Ending> {
     let names = names_at(rt, &asked.names)?;
     let mut openings = Vec::new(rt.alloc());
-    put_drawn(&mut openings, rt.alloc(), nodes, asked)?;
-    put_cells(&mut openings, rt, nodes, asked)?;
-    put_set(&mut openings, rt.alloc(), &names, asked.sets.as_slice())?;
+    put_openings(&mut openings, rt, asked, nodes, &names)?;
     Ok(openings)
 }
 
@@ -169,22 +207,31 @@ fn opened(
 ) -> Result<Vec<u8>, Ending> {
     match opened_text(alloc, file, openings, phase) {
         Ok(text) => Ok(text),
-        Err(fault) => Err(no_opening(alloc, fault)?),
+        Err(fault) => Err(no_opening(alloc, fault)),
     }
+}
+
+/// The network file with the openings that the words ask for.
+fn opened_for(rt: &HostRuntime, asked: &InitRequest, file: &NetFile) -> Result<Vec<u8>, Ending> {
+    let openings = openings_for(rt, asked, file.network().nodes())?;
+    opened(rt.alloc(), file, openings.as_slice(), asked.phase)
 }
 
 /// The network file that the words ask for.
 fn text_for(rt: &HostRuntime, asked: &InitRequest) -> Result<Vec<u8>, Ending> {
-    read_once(rt.alloc(), paths_of(rt.alloc(), asked)?.as_slice())?;
     let file = file_at(rt, asked.network.as_str())?;
-    let openings = openings_for(rt, asked, file.network().nodes())?;
-    opened(rt.alloc(), &file, openings.as_slice(), asked.phase)
+    opened_for(rt, asked, &file)
+}
+
+/// Prints the network that is asked for. The status with which the program ends.
+fn put_network(rt: &HostRuntime, asked: &InitRequest) -> Result<u8, Ending> {
+    check_paths(rt.alloc(), asked)?;
+    let text = text_for(rt, asked)?;
+    print_out(rt, &text)
 }
 
 /// Prints the network with other initial values. The status with which the program ends.
 pub(crate) fn init_network(rt: &HostRuntime, words: &[String]) -> Result<u8, Ending> {
     let asked = InitRequest::parse(rt.alloc(), words)?;
-    let text = text_for(rt, &asked)?;
-    write_out(rt, &text)?;
-    Ok(0)
+    put_network(rt, &asked)
 }

@@ -1,6 +1,7 @@
 //! What stands for nodes in CSV and JSON: their names.
 
 use crate::ending::Ending;
+use crate::names::names_at;
 use csv::{ByteRecord, Writer};
 use net_names::NodeNames;
 use run_watch::Format;
@@ -43,11 +44,23 @@ fn label_of(alloc: Global, format: Format, name: &str) -> Result<String, AllocEr
     }
 }
 
+/// Puts what stands for a node of this name.
+fn put_label(
+    labels: &mut Vec<String>,
+    alloc: Global,
+    format: Format,
+    name: &str,
+) -> Result<(), AllocError> {
+    let label = label_of(alloc, format, name)?;
+    labels.push(label)?;
+    Ok(())
+}
+
 /// What stands for the nodes of these names, by rising number.
-fn labels_in(alloc: Global, format: Format, names: &NodeNames) -> Result<Vec<String>, AllocError> {
+fn labels_in(alloc: Global, format: Format, names: &NodeNames) -> Result<Vec<String>, Ending> {
     let mut labels = Vec::new(alloc);
     for node in 0..names.count() {
-        labels.push(label_of(alloc, format, names.name(node).unwrap_or(""))?)?;
+        put_label(&mut labels, alloc, format, names.name(node).unwrap_or(""))?;
     }
     Ok(labels)
 }
@@ -55,16 +68,16 @@ fn labels_in(alloc: Global, format: Format, names: &NodeNames) -> Result<Vec<Str
 /// Refuses another number of names than there are nodes.
 pub(crate) fn check_count(alloc: Global, names: &NodeNames, nodes: u32) -> Result<(), Ending> {
     let count = names.count();
-    if count != nodes {
-        return Err(Ending::Usage(format!(in alloc;
-            "--names: the file has {count} names, and the network {nodes} nodes"
-        )?));
+    if count == nodes {
+        return Ok(());
     }
-    Ok(())
+    Err(Ending::usage(format!(in alloc;
+        "--names: the file has {count} names, and the network {nodes} nodes"
+    )))
 }
 
 /// What stands for so many nodes, which have names or, where there are none, their numbers.
-pub(crate) fn labels_of(
+fn labels_of(
     alloc: Global,
     format: Format,
     names: &Option<NodeNames>,
@@ -74,5 +87,16 @@ pub(crate) fn labels_of(
         return Ok(Vec::new(alloc));
     };
     check_count(alloc, names, nodes)?;
-    Ok(labels_in(alloc, format, names)?)
+    labels_in(alloc, format, names)
+}
+
+/// What stands for so many nodes, whose names stand in the file at a path where there is one.
+pub(crate) fn labels_at(
+    rt: &HostRuntime,
+    format: Format,
+    path: &Option<String>,
+    nodes: u32,
+) -> Result<Vec<String>, Ending> {
+    let names = names_at(rt, path)?;
+    labels_of(rt.alloc(), format, &names, nodes)
 }

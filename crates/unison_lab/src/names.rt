@@ -1,20 +1,24 @@
 //! Files of the names of nodes.
 
 use crate::ending::Ending;
-use crate::files::{Text, text_where};
+use crate::files::{bytes_at, name_at};
 use net_names::{NamesFileFault, NodeNames, read_names};
 use std::alloc::Global;
 
-/// The names that a text has.
-pub(crate) fn names_in(alloc: Global, text: &Text) -> Result<NodeNames, Ending> {
-    match read_names(alloc, text.bytes.as_slice()) {
+/// The ending where a text has no names.
+fn no_names(alloc: Global, name: &str, fault: NamesFileFault) -> Ending {
+    if fault == NamesFileFault::Memory {
+        return Ending::Memory;
+    }
+    Ending::refused(format!(in alloc; "names\n{name}: {fault}"))
+}
+
+/// The names that the file at a path has.
+pub(crate) fn names_from(rt: &HostRuntime, path: &str) -> Result<NodeNames, Ending> {
+    let bytes = bytes_at(rt, path)?;
+    match read_names(rt.alloc(), &bytes) {
         Ok(names) => Ok(names),
-        Err(NamesFileFault::Memory) => Err(Ending::Memory),
-        Err(fault) => {
-            let name = text.name.as_str();
-            let told = format!(in alloc; "names\n{name}: {fault}")?;
-            Err(Ending::Refused(told))
-        }
+        Err(fault) => Err(no_names(rt.alloc(), name_at(path), fault)),
     }
 }
 
@@ -23,8 +27,9 @@ pub(crate) fn names_at(
     rt: &HostRuntime,
     path: &Option<String>,
 ) -> Result<Option<NodeNames>, Ending> {
-    match text_where(rt, path)? {
-        Some(text) => Ok(Some(names_in(rt.alloc(), &text)?)),
-        None => Ok(None),
-    }
+    let Some(path) = path else {
+        return Ok(None);
+    };
+    let names = names_from(rt, path.as_str())?;
+    Ok(Some(names))
 }

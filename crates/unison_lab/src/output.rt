@@ -25,7 +25,16 @@ pub(crate) fn write_out(rt: &HostRuntime, text: &[u8]) -> Result<(), Ending> {
         Ok(output) => output,
         Err(error) => return Err(refused(&error, Ending::Output)),
     };
-    put_whole(&mut output, text).map_err(|error| unwritten(&error))
+    match put_whole(&mut output, text) {
+        Ok(()) => Ok(()),
+        Err(error) => Err(unwritten(&error)),
+    }
+}
+
+/// Prints a text on standard output, whole. The status with which the program ends.
+pub(crate) fn print_out(rt: &HostRuntime, text: &[u8]) -> Result<u8, Ending> {
+    write_out(rt, text)?;
+    Ok(0)
 }
 
 /// Writes a file, whole.

@@ -3,10 +3,9 @@
 use crate::ending::Ending;
 use crate::explain::steps_at;
 use crate::fields::shown_fields;
-use crate::files::{Text, path_in, read_once, text_at};
-use crate::labels::labels_of;
-use crate::names::names_at;
-use crate::output::write_out;
+use crate::files::{bytes_at, name_at, path_in, read_once};
+use crate::labels::labels_at;
+use crate::output::print_out;
 use crate::page_size::{check_size, steps_too_many};
 use crate::plan_texts::plan_at;
 use crate::progress::Telling;
@@ -49,18 +48,16 @@ fn settling_of(alloc: Global, plan: &Plan, limit: u32) -> Result<Option<Settling
     }
 }
 
-/// The data of rounds.
-fn rounds_text(
+/// The data of rounds of which this is told.
+fn told_rounds(
     rt: &HostRuntime,
     threads: &(impl Threads + Sync),
     plan: &Plan,
     span: &Span,
     look: &Look<'_>,
+    settling: Option<Settling>,
 ) -> Result<Vec<u8>, Ending> {
-    let nodes = plan.network().nodes();
-    check_size(rt.alloc(), nodes, span, look.fields.len())?;
-    let settling = settling_of(rt.alloc(), plan, span.last())?;
-    let mut telling = Telling::new(rt, span, nodes);
+    let mut telling = Telling::new(rt, span, plan.network().nodes());
     match rounds_data(
         threads,
         rt.alloc(),
@@ -75,20 +72,46 @@ fn rounds_text(
     }
 }
 
-/// The data of steps.
-fn steps_text(
+/// The data of rounds.
+fn rounds_text(
+    rt: &HostRuntime,
+    threads: &(impl Threads + Sync),
+    plan: &Plan,
+    span: &Span,
+    look: &Look<'_>,
+) -> Result<Vec<u8>, Ending> {
+    check_size(rt.alloc(), plan.network().nodes(), span, look.fields.len())?;
+    let settling = settling_of(rt.alloc(), plan, span.last())?;
+    told_rounds(rt, threads, plan, span, look, settling)
+}
+
+/// The data of steps on a plan.
+fn steps_on(
     alloc: Global,
     threads: &(impl Threads + Sync),
-    plan: Plan,
+    plan: Arc<Plan>,
     steps: &[Step],
     stop: u32,
     look: &Look<'_>,
 ) -> Result<Vec<u8>, Ending> {
-    let plan = Arc::new(alloc, plan)?;
     match steps_data(threads, alloc, plan, stop, steps, look) {
         Ok(data) => Ok(data),
         Err(fault) => Err(no_data(alloc, fault)),
     }
+}
+
+/// The data of the steps of the schedule at a path.
+fn steps_text(
+    rt: &HostRuntime,
+    threads: &(impl Threads + Sync),
+    plan: Plan,
+    schedule: &str,
+    stop: u32,
+    look: &Look<'_>,
+) -> Result<Vec<u8>, Ending> {
+    let plan = Arc::new(rt.alloc(), plan)?;
+    let steps = steps_at(rt, schedule)?;
+    steps_on(rt.alloc(), threads, plan, &steps, stop, look)
 }
 
 /// The data of the run that is asked for, these fields and names being shown.
@@ -102,16 +125,9 @@ fn run_text(
     match run {
         PageRun::Rounds { span } => rounds_text(rt, threads, &plan, span, look),
         PageRun::Steps { schedule, stop } => {
-            let steps = steps_at(rt, schedule.as_str())?;
-            steps_text(rt.alloc(), threads, plan, &steps, *stop, look)
+            steps_text(rt, threads, plan, schedule.as_str(), *stop, look)
         }
     }
-}
-
-/// The names of the nodes that the words ask for.
-fn labels_for(rt: &HostRuntime, plan: &Plan, path: &Option<String>) -> Result<Vec<String>, Ending> {
-    let names = names_at(rt, path)?;
-    labels_of(rt.alloc(), Format::Report, &names, plan.network().nodes())
 }
 
 /// The grid that is asked for, 0 being none.
@@ -119,21 +135,45 @@ fn grid_of(width: u32) -> Option<u32> {
     if width > 0 { Some(width) } else { None }
 }
 
-/// The data of what is asked for.
+/// The data of what is asked for, these fields and names being shown.
+fn data_with(
+    rt: &HostRuntime,
+    threads: &(impl Threads + Sync),
+    plan: Plan,
+    asked: &PageRequest,
+    fields: &[u32],
+    labels: &[String],
+) -> Result<Vec<u8>, Ending> {
+    let look = Look {
+        fields,
+        labels,
+        grid: grid_of(asked.view.grid),
+    };
+    run_text(rt, threads, plan, &asked.run, &look)
+}
+
+/// The data of what is asked for, these fields being shown.
 fn data_of(
     rt: &HostRuntime,
     threads: &(impl Threads + Sync),
     plan: Plan,
     asked: &PageRequest,
+    fields: &[u32],
 ) -> Result<Vec<u8>, Ending> {
+    let nodes = plan.network().nodes();
+    let labels = labels_at(rt, Format::Report, &asked.view.names, nodes)?;
+    data_with(rt, threads, plan, asked, fields, &labels)
+}
+
+/// The data of what is asked for.
+fn data_for(
+    rt: &HostRuntime,
+    threads: &(impl Threads + Sync),
+    asked: &PageRequest,
+) -> Result<Vec<u8>, Ending> {
+    let plan = plan_at(rt, &asked.plan)?;
     let fields = shown_fields(rt.alloc(), plan.program(), &asked.view.only)?;
-    let labels = labels_for(rt, &plan, &asked.view.names)?;
-    let look = Look {
-        fields: &fields,
-        labels: &labels,
-        grid: grid_of(asked.view.grid),
-    };
-    run_text(rt, threads, plan, &asked.run, &look)
+    data_of(rt, threads, plan, asked, &fields)
 }
 
 /// The ending where a text is no viewer.
@@ -141,19 +181,17 @@ fn no_viewer(alloc: Global, name: &str, fault: EmbedFault) -> Ending {
     if fault == EmbedFault::Memory {
         return Ending::Memory;
     }
-    match format!(in alloc;
+    Ending::refused(format!(in alloc;
         "viewer {fault}\n{name}: a viewer has the mark @RUN@ once, where the run is put; viewer/page.html of the repository is one"
-    ) {
-        Ok(text) => Ending::Refused(text),
-        Err(_) => Ending::Memory,
-    }
+    ))
 }
 
-/// The page: the viewer with the data.
-fn page_of(alloc: Global, viewer: &Text, data: &[u8]) -> Result<Vec<u8>, Ending> {
-    match embedded(alloc, viewer.bytes.as_slice(), data) {
+/// The page: the viewer at a path with the data.
+fn page_of(rt: &HostRuntime, path: &str, data: &[u8]) -> Result<Vec<u8>, Ending> {
+    let viewer = bytes_at(rt, path)?;
+    match embedded(rt.alloc(), &viewer, data) {
         Ok(page) => Ok(page),
-        Err(fault) => Err(no_viewer(alloc, viewer.name.as_str(), fault)),
+        Err(fault) => Err(no_viewer(rt.alloc(), name_at(path), fault)),
     }
 }
 
@@ -184,11 +222,19 @@ fn text_for(
     threads: &(impl Threads + Sync),
     asked: &PageRequest,
 ) -> Result<Vec<u8>, Ending> {
+    let data = data_for(rt, threads, asked)?;
+    page_of(rt, asked.viewer.as_str(), &data)
+}
+
+/// Prints the page that is asked for. The status with which the program ends.
+fn put_page(
+    rt: &HostRuntime,
+    threads: &(impl Threads + Sync),
+    asked: &PageRequest,
+) -> Result<u8, Ending> {
     check_paths(rt.alloc(), asked)?;
-    let plan = plan_at(rt, &asked.plan)?;
-    let data = data_of(rt, threads, plan, asked)?;
-    let viewer = text_at(rt, asked.viewer.as_str())?;
-    page_of(rt.alloc(), &viewer, &data)
+    let text = text_for(rt, threads, asked)?;
+    print_out(rt, &text)
 }
 
 /// Prints a page of a run. The status with which the program ends.
@@ -198,7 +244,5 @@ pub(crate) fn make_page(
     words: &[String],
 ) -> Result<u8, Ending> {
     let asked = PageRequest::parse(rt.alloc(), words)?;
-    let text = text_for(rt, threads, &asked)?;
-    write_out(rt, &text)?;
-    Ok(0)
+    put_page(rt, threads, &asked)
 }

@@ -1,6 +1,7 @@
 //! How much of a run a page can hold.
 
 use crate::ending::Ending;
+use app_table::Draft;
 use run_page::MOST_VALUES;
 use run_watch::Span;
 use std::alloc::{AllocError, Global};
@@ -11,20 +12,26 @@ fn rounds_too_many(
     span: &Span,
     cells: u64,
     nodes: u64,
-) -> Result<Ending, AllocError> {
+) -> Result<String, AllocError> {
     let rounds = span.steps() as u64 + 1;
     let every = ((span.last() - span.first()) as u64) / (MOST_VALUES / cells.max(1)).max(1) + 1;
     let fields = MOST_VALUES / nodes.saturating_mul(rounds).max(1);
-    let mut text = format!(in alloc;
-        "page TooManyValues\n{rounds} rounds of {cells} values are more than the {MOST_VALUES} of a page; --every {every} fits"
-    )?;
+    let mut draft = Draft::new(alloc);
+    draft.put("page TooManyValues\n");
+    draft.put_count(rounds);
+    draft.put(" rounds of ");
+    draft.put_count(cells);
+    draft.put(" values are more than the ");
+    draft.put_count(MOST_VALUES);
+    draft.put(" of a page; --every ");
+    draft.put_count(every);
+    draft.put(" fits");
     if fields > 0 {
-        write!(
-            &mut text,
-            ", and so does --only with at most {fields} of the fields"
-        )?;
+        draft.put(", and so does --only with at most ");
+        draft.put_count(fields);
+        draft.put(" of the fields");
     }
-    Ok(Ending::Refused(text))
+    draft.end()
 }
 
 /// Refuses rounds whose nodes have together more values of the shown fields than a page holds.
@@ -38,17 +45,14 @@ pub(crate) fn check_size(
     let cells = nodes.saturating_mul(fields.max(1) as u64);
     let rounds = span.steps() as u64 + 1;
     if cells.saturating_mul(rounds) > MOST_VALUES {
-        return Err(rounds_too_many(alloc, span, cells, nodes)?);
+        return Err(Ending::refused(rounds_too_many(alloc, span, cells, nodes)));
     }
     Ok(())
 }
 
 /// The ending where steps and the rounds that they show have too many values.
 pub(crate) fn steps_too_many(alloc: Global) -> Ending {
-    match format!(in alloc;
+    Ending::refused(format!(in alloc;
         "page TooManyValues\nthe steps and the states that they show are more than the {MOST_VALUES} values of a page; take a schedule with fewer steps, a lower --stop, or --only with fewer fields"
-    ) {
-        Ok(text) => Ending::Refused(text),
-        Err(_) => Ending::Memory,
-    }
+    ))
 }

@@ -3,35 +3,33 @@
 use crate::ending::Ending;
 use crate::fields::coloured_field;
 use crate::files::{path_in, read_once};
-use crate::labels::labels_of;
-use crate::names::names_at;
-use crate::output::write_out;
+use crate::labels::labels_at;
+use crate::output::print_out;
 use crate::plan_texts::plan_at;
 use crate::progress::Telling;
 use crate::watch::no_rounds;
-use app_requests::{DotRequest, ImageRequest};
+use app_requests::{DotRequest, ImageRequest, PlanPaths};
 use rounds_plan::Plan;
 use run_picture::{MOST_CELLS, PictureFault, grid_picture, network_dot, time_picture};
 use run_watch::{Format, WatchFault};
-use std::alloc::{AllocError, Global};
+use std::alloc::Global;
 use std::thread::Threads;
 
 /// The ending where a picture has too many cells.
-fn too_many_cells(alloc: Global) -> Result<Ending, AllocError> {
-    let text = format!(in alloc;
+fn too_many_cells(alloc: Global) -> Ending {
+    Ending::refused(format!(in alloc;
         "image TooManyCells\na picture has at most {MOST_CELLS} cells, one for each node in each round; --every K shows fewer rounds"
-    )?;
-    Ok(Ending::Refused(text))
+    ))
 }
 
 /// The ending where there is no picture.
-fn no_picture(alloc: Global, fault: PictureFault) -> Result<Ending, AllocError> {
+fn no_picture(alloc: Global, fault: PictureFault) -> Ending {
     match fault {
-        PictureFault::TooManyRounds => Ok(no_rounds(WatchFault::TooManyRounds)),
-        PictureFault::RoundsBelowStart => Ok(no_rounds(WatchFault::RoundsBelowStart)),
+        PictureFault::TooManyRounds => no_rounds(WatchFault::TooManyRounds),
+        PictureFault::RoundsBelowStart => no_rounds(WatchFault::RoundsBelowStart),
         PictureFault::TooManyCells => too_many_cells(alloc),
         PictureFault::NoField { .. } | PictureFault::NoWidth | PictureFault::Memory => {
-            Ok(Ending::Memory)
+            Ending::Memory
         }
     }
 }
@@ -62,7 +60,7 @@ fn picture_of(
     let field = coloured_field(rt.alloc(), plan.program(), &asked.field)?;
     match drawn(rt, threads, plan, asked, field) {
         Ok(text) => Ok(text),
-        Err(fault) => Err(no_picture(rt.alloc(), fault)?),
+        Err(fault) => Err(no_picture(rt.alloc(), fault)),
     }
 }
 
@@ -72,14 +70,30 @@ fn picture_for(
     threads: &(impl Threads + Sync),
     asked: &ImageRequest,
 ) -> Result<Vec<u8>, Ending> {
-    let paths = [
-        asked.plan.program.as_str(),
-        asked.plan.network.as_str(),
-        path_in(&asked.plan.from),
-    ];
-    read_once(rt.alloc(), &paths)?;
     let plan = plan_at(rt, &asked.plan)?;
     picture_of(rt, threads, &plan, asked)
+}
+
+/// Refuses standard input for more than one of the texts.
+fn check_paths(alloc: Global, plan: &PlanPaths, names: &str) -> Result<(), Ending> {
+    let paths = [
+        plan.program.as_str(),
+        plan.network.as_str(),
+        path_in(&plan.from),
+        names,
+    ];
+    read_once(alloc, &paths)
+}
+
+/// Prints the picture that is asked for. The status with which the program ends.
+fn put_image(
+    rt: &HostRuntime,
+    threads: &(impl Threads + Sync),
+    asked: &ImageRequest,
+) -> Result<u8, Ending> {
+    check_paths(rt.alloc(), &asked.plan, "")?;
+    let text = picture_for(rt, threads, asked)?;
+    print_out(rt, &text)
 }
 
 /// Prints a picture of rounds. The status with which the program ends.
@@ -89,15 +103,22 @@ pub(crate) fn make_image(
     words: &[String],
 ) -> Result<u8, Ending> {
     let asked = ImageRequest::parse(rt.alloc(), words)?;
-    let text = picture_for(rt, threads, &asked)?;
-    write_out(rt, &text)?;
-    Ok(0)
+    put_image(rt, threads, &asked)
 }
 
-/// The names of the nodes that are asked for.
-fn labels_for(rt: &HostRuntime, plan: &Plan, asked: &DotRequest) -> Result<Vec<String>, Ending> {
-    let names = names_at(rt, &asked.names)?;
-    labels_of(rt.alloc(), Format::Report, &names, plan.network().nodes())
+/// The network of a plan in a round, for Graphviz, each node with its label.
+fn labelled(
+    rt: &HostRuntime,
+    threads: &(impl Threads + Sync),
+    plan: &Plan,
+    round: u32,
+    field: u32,
+    labels: &[String],
+) -> Result<Vec<u8>, Ending> {
+    match network_dot(threads, rt.alloc(), plan, round, field, labels) {
+        Ok(text) => Ok(text),
+        Err(fault) => Err(no_picture(rt.alloc(), fault)),
+    }
 }
 
 /// The network of a plan in a round, for Graphviz.
@@ -108,11 +129,8 @@ fn network_of(
     asked: &DotRequest,
 ) -> Result<Vec<u8>, Ending> {
     let field = coloured_field(rt.alloc(), plan.program(), &asked.field)?;
-    let labels = labels_for(rt, plan, asked)?;
-    match network_dot(threads, rt.alloc(), plan, asked.round, field, &labels) {
-        Ok(text) => Ok(text),
-        Err(fault) => Err(no_picture(rt.alloc(), fault)?),
-    }
+    let labels = labels_at(rt, Format::Report, &asked.names, plan.network().nodes())?;
+    labelled(rt, threads, plan, asked.round, field, &labels)
 }
 
 /// The network that is asked for.
@@ -121,15 +139,19 @@ fn network_for(
     threads: &(impl Threads + Sync),
     asked: &DotRequest,
 ) -> Result<Vec<u8>, Ending> {
-    let paths = [
-        asked.plan.program.as_str(),
-        asked.plan.network.as_str(),
-        path_in(&asked.plan.from),
-        path_in(&asked.names),
-    ];
-    read_once(rt.alloc(), &paths)?;
     let plan = plan_at(rt, &asked.plan)?;
     network_of(rt, threads, &plan, asked)
+}
+
+/// Prints the network that is asked for. The status with which the program ends.
+fn put_dot(
+    rt: &HostRuntime,
+    threads: &(impl Threads + Sync),
+    asked: &DotRequest,
+) -> Result<u8, Ending> {
+    check_paths(rt.alloc(), &asked.plan, path_in(&asked.names))?;
+    let text = network_for(rt, threads, asked)?;
+    print_out(rt, &text)
 }
 
 /// Prints a network in a round for Graphviz. The status with which the program ends.
@@ -139,7 +161,5 @@ pub(crate) fn make_dot(
     words: &[String],
 ) -> Result<u8, Ending> {
     let asked = DotRequest::parse(rt.alloc(), words)?;
-    let text = network_for(rt, threads, &asked)?;
-    write_out(rt, &text)?;
-    Ok(0)
+    put_dot(rt, threads, &asked)
 }

@@ -1,19 +1,46 @@
 //! Plans of the texts that the words name.
 
 use crate::ending::Ending;
-use crate::files::{text_at, text_where};
+use crate::files::{bytes_at, bytes_where};
 use app_jobs::plan_from;
 use app_requests::PlanPaths;
 use rounds_plan::Plan;
+use std::alloc::Global;
+use std::sync::Arc;
 
-/// The plan of the texts at these paths.
-pub(crate) fn plan_at(rt: &HostRuntime, paths: &PlanPaths) -> Result<Plan, Ending> {
-    let program = text_at(rt, paths.program.as_str())?;
-    let network = text_at(rt, paths.network.as_str())?;
-    let from = text_where(rt, &paths.from)?;
-    let report = from.as_ref().map(|text| text.bytes.as_slice());
-    match plan_from(rt.alloc(), &program.bytes, &network.bytes, report) {
+/// The plan of these texts.
+fn plan_of(
+    alloc: Global,
+    program: &[u8],
+    network: &[u8],
+    report: &Option<Vec<u8>>,
+) -> Result<Plan, Ending> {
+    let report = match report {
+        Some(bytes) => Some(bytes.as_slice()),
+        None => None,
+    };
+    match plan_from(alloc, program, network, report) {
         Ok(plan) => Ok(plan),
         Err(fault) => Err(Ending::Served(fault)),
     }
+}
+
+/// The plan of a program's text and of the network and the report at these paths.
+fn plan_with(rt: &HostRuntime, paths: &PlanPaths, program: &[u8]) -> Result<Plan, Ending> {
+    let network = bytes_at(rt, paths.network.as_str())?;
+    let report = bytes_where(rt, &paths.from)?;
+    plan_of(rt.alloc(), program, &network, &report)
+}
+
+/// The plan of the texts at these paths.
+pub(crate) fn plan_at(rt: &HostRuntime, paths: &PlanPaths) -> Result<Plan, Ending> {
+    let program = bytes_at(rt, paths.program.as_str())?;
+    plan_with(rt, paths, &program)
+}
+
+/// The plan of the texts at these paths, to be shared.
+pub(crate) fn shared_plan(rt: &HostRuntime, paths: &PlanPaths) -> Result<Arc<Plan>, Ending> {
+    let plan = plan_at(rt, paths)?;
+    let plan = Arc::new(rt.alloc(), plan)?;
+    Ok(plan)
 }

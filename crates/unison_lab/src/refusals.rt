@@ -1,7 +1,7 @@
 //! What is told of a text of another format that has no network.
 
-use crate::ending::Ending;
 use app_requests::Format;
+use app_table::Draft;
 use import_dot::{DotFault, DotLineFault, TokenKind};
 use import_edges::{EdgeFault, LineFault};
 use import_lines::{WeightFault, WordsFault};
@@ -357,45 +357,62 @@ fn token_text(kind: TokenKind) -> &'static str {
     }
 }
 
-/// What is told beside: the earlier edge of two, how many entries there are, and what was found.
-fn detail_of(alloc: Global, fault: TakeFault) -> Result<String, AllocError> {
+/// Adds what is told beside: the earlier edge of two, how many entries there are, and what was found.
+fn put_detail(draft: &mut Draft, fault: TakeFault) {
     match fault {
-        TakeFault::Settle(SettleFault::Double { first, .. }) => format!(in alloc;
-            "; it stands on line {first}"
-        ),
-        TakeFault::Matrix(MatrixFault::TooManyEntries { said, .. }) => format!(in alloc;
-            ": {said}"
-        ),
-        TakeFault::Matrix(MatrixFault::TooFewEntries { said, found }) => format!(in alloc;
-            ": {found}, and {said} were said"
-        ),
+        TakeFault::Settle(SettleFault::Double { first, .. }) => {
+            draft.put("; it stands on line ");
+            draft.put_count(first);
+        }
+        TakeFault::Matrix(MatrixFault::TooManyEntries { said, .. }) => {
+            draft.put(": ");
+            draft.put_count(said);
+        }
+        TakeFault::Matrix(MatrixFault::TooFewEntries { said, found }) => {
+            draft.put(": ");
+            draft.put_count(found);
+            draft.put(", and ");
+            draft.put_count(said);
+            draft.put(" were said");
+        }
         TakeFault::Dot(
             DotFault::BadLine {
                 fault: DotLineFault::Syntax { found },
                 ..
             },
-        ) => String::from_str(alloc, token_text(found)),
-        _ => Ok(String::new(alloc)),
+        ) => draft.put(token_text(found)),
+        _ => {}
     }
 }
 
-/// The ending where a text of this format has no network.
+/// Adds the name of a text, and the line where there is one.
+fn put_place(draft: &mut Draft, name: &str, line: Option<u64>) {
+    draft.put(name);
+    if let Some(line) = line {
+        draft.put(":");
+        draft.put_count(line);
+    }
+}
+
+/// What is told where a text of this format has no network.
 pub(crate) fn refusal(
     alloc: Global,
     format: Format,
     name: &str,
     fault: TakeFault,
-) -> Result<Ending, AllocError> {
+) -> Result<String, AllocError> {
     let (line, kind, why) = told_of(fault);
     if kind == "Memory" {
-        return Ok(Ending::Memory);
+        return Err(AllocError);
     }
-    let part = format.name();
-    let detail = detail_of(alloc, fault)?;
-    let detail = detail.as_str();
-    let text = match line {
-        Some(line) => format!(in alloc; "{part} {kind}\n{name}:{line}: {why}{detail}"),
-        None => format!(in alloc; "{part} {kind}\n{name}: {why}{detail}"),
-    }?;
-    Ok(Ending::Refused(text))
+    let mut draft = Draft::new(alloc);
+    draft.put(format.name());
+    draft.put(" ");
+    draft.put(kind);
+    draft.put("\n");
+    put_place(&mut draft, name, line);
+    draft.put(": ");
+    draft.put(why);
+    put_detail(&mut draft, fault);
+    draft.end()
 }

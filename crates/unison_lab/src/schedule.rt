@@ -1,13 +1,13 @@
 //! `schedule MANNER PROGRAM NETWORK`: schedules, made in a manner or from lines for people.
 
 use crate::ending::Ending;
-use crate::files::{Text, path_in, read_once, text_at};
+use crate::files::{bytes_at, name_at, path_in, read_once};
 use crate::labels::check_count;
 use crate::names::names_at;
-use crate::output::write_out;
+use crate::output::print_out;
 use crate::plan_texts::plan_at;
 use app_jobs::ServeFault;
-use app_requests::{Listing, PlanPaths, ScheduleRequest, StepsManner, Writing};
+use app_requests::{Limits, Listing, PlanPaths, ScheduleRequest, StepsManner, Writing};
 use app_table::number;
 use link_net::{MOST_NODES, Network};
 use net_names::NodeNames;
@@ -19,6 +19,14 @@ use std::sync::Arc;
 use unison_trace::{ReplayFault, write_schedule};
 use unison_world::{OpenFault, Step};
 
+/// Refuses names that are not as many as the network has nodes.
+fn check_names(alloc: Global, names: &Option<NodeNames>, nodes: u32) -> Result<(), Ending> {
+    match names {
+        Some(names) => check_count(alloc, names, nodes),
+        None => Ok(()),
+    }
+}
+
 /// The names by which nodes are called, as many as the network has nodes.
 fn names_for(
     rt: &HostRuntime,
@@ -26,22 +34,24 @@ fn names_for(
     nodes: u32,
 ) -> Result<Option<NodeNames>, Ending> {
     let names = names_at(rt, path)?;
-    if let Some(names) = &names {
-        check_count(rt.alloc(), names, nodes)?;
-    }
+    check_names(rt.alloc(), &names, nodes)?;
     Ok(names)
 }
 
 /// The ending where a word calls no node.
-fn no_node(alloc: Global, word: &str, named: bool, nodes: u32) -> Result<Ending, AllocError> {
-    let text = if named {
-        format!(in alloc; "NODE: no node has the name `{word}`")?
-    } else {
-        format!(in alloc;
-            "NODE: expected a number of a node, below {nodes}, found `{word}`; --names lets nodes be called by name"
-        )?
-    };
-    Ok(Ending::Usage(text))
+fn no_node(alloc: Global, word: &str, named: bool, nodes: u32) -> Ending {
+    if named {
+        return Ending::usage(format!(in alloc; "NODE: no node has the name `{word}`"));
+    }
+    Ending::usage(format!(in alloc;
+        "NODE: expected a number of a node, below {nodes}, found `{word}`; --names lets nodes be called by name"
+    ))
+}
+
+/// The node of so many that a number calls, where it calls one.
+fn numbered(word: &str, nodes: u32) -> Option<u32> {
+    let node = number(word, 0, MOST_NODES - 1)?;
+    if node < nodes { Some(node) } else { None }
 }
 
 /// The node that a word calls.
@@ -53,11 +63,11 @@ fn node_of(
 ) -> Result<u32, Ending> {
     let found = match names {
         Some(names) => names.number_of(word),
-        None => number(word, 0, MOST_NODES - 1).filter(|node| *node < nodes),
+        None => numbered(word, nodes),
     };
     match found {
         Some(node) => Ok(node),
-        None => Err(no_node(alloc, word, names.is_some(), nodes)?),
+        None => Err(no_node(alloc, word, names.is_some(), nodes)),
     }
 }
 
@@ -97,34 +107,59 @@ fn no_list(fault: ListFault) -> Ending {
     }
 }
 
-/// The steps of a manner, with refused ones mixed in where they are asked for.
-fn list_of(
+/// The steps of a manner, none of them refused.
+fn plain_steps(
     alloc: Global,
     plan: Arc<Plan>,
     manner: Manner,
-    asked: &Listing,
-) -> Result<Vec<Step>, ListFault> {
-    let count = Some(asked.limits.count);
-    let steps = listed(
-        alloc,
-        Arc::try_clone(&plan)?,
-        asked.limits.stop,
-        manner,
-        count,
-    )?;
-    if asked.limits.refused == 0 {
-        return Ok(steps);
+    limits: Limits,
+) -> Result<Vec<Step>, Ending> {
+    match listed(alloc, plan, limits.stop, manner, Some(limits.count)) {
+        Ok(steps) => Ok(steps),
+        Err(fault) => Err(no_list(fault)),
     }
-    let seed = asked.limits.seed as u64;
-    with_refused(
-        alloc,
-        plan,
-        asked.limits.stop,
-        &steps,
-        seed,
-        asked.limits.refused,
-        count,
-    )
+}
+
+/// The steps with refused ones mixed in.
+fn mixed_steps(
+    alloc: Global,
+    plan: Arc<Plan>,
+    steps: &[Step],
+    limits: Limits,
+) -> Result<Vec<Step>, Ending> {
+    let seed = limits.seed as u64;
+    let count = Some(limits.count);
+    match with_refused(alloc, plan, limits.stop, steps, seed, limits.refused, count) {
+        Ok(steps) => Ok(steps),
+        Err(fault) => Err(no_list(fault)),
+    }
+}
+
+/// The steps of a manner, with refused ones mixed in.
+fn steps_with_refused(
+    alloc: Global,
+    plan: Arc<Plan>,
+    manner: Manner,
+    limits: Limits,
+) -> Result<Vec<Step>, Ending> {
+    let shared = Arc::try_clone(&plan)?;
+    let steps = plain_steps(alloc, shared, manner, limits)?;
+    mixed_steps(alloc, plan, &steps, limits)
+}
+
+/// The steps of a manner on a plan, with refused ones mixed in where they are asked for.
+fn steps_by(
+    alloc: Global,
+    plan: Plan,
+    manner: Manner,
+    limits: Limits,
+) -> Result<Vec<Step>, Ending> {
+    let plan = Arc::new(alloc, plan)?;
+    if limits.refused == 0 {
+        plain_steps(alloc, plan, manner, limits)
+    } else {
+        steps_with_refused(alloc, plan, manner, limits)
+    }
 }
 
 /// The manner that is asked for, on a network of so many nodes.
@@ -133,25 +168,11 @@ fn manner_for(rt: &HostRuntime, asked: &Listing, nodes: u32) -> Result<Manner, E
     manner_of(rt.alloc(), &names, asked, nodes)
 }
 
-/// The steps of a manner on a plan.
-fn steps_by(
-    alloc: Global,
-    plan: Plan,
-    manner: Manner,
-    asked: &Listing,
-) -> Result<Vec<Step>, Ending> {
-    let plan = Arc::new(alloc, plan)?;
-    match list_of(alloc, plan, manner, asked) {
-        Ok(steps) => Ok(steps),
-        Err(fault) => Err(no_list(fault)),
-    }
-}
-
 /// The steps that are asked for in a manner.
 fn steps_in_manner(rt: &HostRuntime, asked: &Listing) -> Result<Vec<Step>, Ending> {
     let plan = plan_at(rt, &asked.plan)?;
     let manner = manner_for(rt, asked, plan.network().nodes())?;
-    steps_by(rt.alloc(), plan, manner, asked)
+    steps_by(rt.alloc(), plan, manner, asked.limits)
 }
 
 /// The line of which a fault tells.
@@ -179,35 +200,46 @@ fn line_at(text: &[u8], line: u64) -> &str {
     str::from_utf8(bytes).unwrap_or("")
 }
 
-/// The ending where lines say no steps: the file, the place, what was expected, and what stands there.
-fn no_steps(alloc: Global, text: &Text, fault: StepTextFault) -> Result<Ending, AllocError> {
+/// What is told where lines say no steps: the file, the place, what was expected, and what stands there.
+fn steps_fault_text(
+    alloc: Global,
+    name: &str,
+    text: &[u8],
+    fault: StepTextFault,
+) -> Result<String, AllocError> {
     if fault == StepTextFault::Memory {
-        return Ok(Ending::Memory);
+        return Err(AllocError);
     }
-    let name = text.name.as_str();
-    let found = line_at(&text.bytes, line_in(fault));
-    Ok(Ending::Refused(format!(in alloc; "steps\n{name}: {fault}, found `{found}`")?))
+    let found = line_at(text, line_in(fault));
+    format!(in alloc; "steps\n{name}: {fault}, found `{found}`")
 }
 
-/// The steps that lines say on a network.
+/// The steps that the lines at a path say on a network.
 fn steps_said(
     rt: &HostRuntime,
     network: &Network,
     names: &Option<NodeNames>,
     path: &str,
 ) -> Result<Vec<Step>, Ending> {
-    let lines = text_at(rt, path)?;
-    match written(rt.alloc(), network, names.as_ref(), &lines.bytes) {
+    let lines = bytes_at(rt, path)?;
+    match written(rt.alloc(), network, names.as_ref(), &lines) {
         Ok(steps) => Ok(steps),
-        Err(fault) => Err(no_steps(rt.alloc(), &lines, fault)?),
+        Err(fault) => {
+            Err(Ending::refused(steps_fault_text(rt.alloc(), name_at(path), &lines, fault)))
+        }
     }
+}
+
+/// The steps that the lines say on a network.
+fn steps_on(rt: &HostRuntime, asked: &Writing, network: &Network) -> Result<Vec<Step>, Ending> {
+    let names = names_for(rt, &asked.names, network.nodes())?;
+    steps_said(rt, network, &names, asked.lines.as_str())
 }
 
 /// The steps that the lines say.
 fn steps_of_lines(rt: &HostRuntime, asked: &Writing) -> Result<Vec<Step>, Ending> {
     let plan = plan_at(rt, &asked.plan)?;
-    let names = names_for(rt, &asked.names, plan.network().nodes())?;
-    steps_said(rt, plan.network(), &names, asked.lines.as_str())
+    steps_on(rt, asked, plan.network())
 }
 
 /// Refuses standard input for more than one of the texts.
@@ -227,17 +259,29 @@ fn check_paths(
     read_once(alloc, &paths)
 }
 
+/// Prints steps as a schedule. The status with which the program ends.
+fn put_steps(rt: &HostRuntime, steps: &[Step]) -> Result<u8, Ending> {
+    let text = write_schedule(rt.alloc(), steps)?;
+    print_out(rt, &text)
+}
+
+/// The steps that are asked for in a manner, standard input being one of the texts at most.
+fn listed_for(rt: &HostRuntime, asked: &Listing) -> Result<Vec<Step>, Ending> {
+    check_paths(rt.alloc(), &asked.plan, &asked.names, "")?;
+    steps_in_manner(rt, asked)
+}
+
+/// The steps that the lines say, standard input being one of the texts at most.
+fn written_for(rt: &HostRuntime, asked: &Writing) -> Result<Vec<Step>, Ending> {
+    check_paths(rt.alloc(), &asked.plan, &asked.names, asked.lines.as_str())?;
+    steps_of_lines(rt, asked)
+}
+
 /// The steps that are asked for.
 fn steps_for(rt: &HostRuntime, asked: &ScheduleRequest) -> Result<Vec<Step>, Ending> {
     match asked {
-        ScheduleRequest::Listing(asked) => {
-            check_paths(rt.alloc(), &asked.plan, &asked.names, "")?;
-            steps_in_manner(rt, asked)
-        }
-        ScheduleRequest::Writing(asked) => {
-            check_paths(rt.alloc(), &asked.plan, &asked.names, asked.lines.as_str())?;
-            steps_of_lines(rt, asked)
-        }
+        ScheduleRequest::Listing(asked) => listed_for(rt, asked),
+        ScheduleRequest::Writing(asked) => written_for(rt, asked),
     }
 }
 
@@ -245,6 +289,5 @@ fn steps_for(rt: &HostRuntime, asked: &ScheduleRequest) -> Result<Vec<Step>, End
 pub(crate) fn make_schedule(rt: &HostRuntime, words: &[String]) -> Result<u8, Ending> {
     let asked = ScheduleRequest::parse(rt.alloc(), words)?;
     let steps = steps_for(rt, &asked)?;
-    write_out(rt, &write_schedule(rt.alloc(), &steps)?)?;
-    Ok(0)
+    put_steps(rt, &steps)
 }

@@ -3,7 +3,7 @@
 use crate::ending::Ending;
 use crate::fields::all_fields;
 use crate::files::{path_in, read_once};
-use crate::output::write_out;
+use crate::output::print_out;
 use crate::plan_texts::plan_at;
 use crate::progress::Silent;
 use crate::watch::no_rounds;
@@ -15,24 +15,24 @@ use std::alloc::{AllocError, Global};
 use std::thread::Threads;
 
 /// The ending where it is not told.
-fn not_told(alloc: Global, fault: SettleFault) -> Result<Ending, AllocError> {
-    Ok(match fault {
-        SettleFault::ReadsRound => Ending::Refused(String::from_str(
+fn not_told(alloc: Global, fault: SettleFault) -> Ending {
+    match fault {
+        SettleFault::ReadsRound => Ending::refused(String::from_str(
             alloc,
             "program ReadsRound\nthe program reads `round`, so equal states need not be followed by equal ones, and no round tells that it settles; run it with lockstep or watch",
-        )?),
+        )),
         SettleFault::LimitBelowStart => no_rounds(WatchFault::RoundsBelowStart),
         SettleFault::LimitTooLarge => no_rounds(WatchFault::TooManyRounds),
         SettleFault::Memory => Ending::Memory,
-    })
+    }
 }
 
 /// What was found, as a line.
-fn put_line(out: &mut String, found: Settling) -> Result<(), AllocError> {
+fn line_of(alloc: Global, found: Settling) -> Result<String, AllocError> {
     match found {
-        Settling::Settles { round } => write!(out, "settles {round}\n"),
-        Settling::Repeats { round, period } => write!(out, "repeats {round} {period}\n"),
-        Settling::Open { limit } => write!(out, "open {limit}\n"),
+        Settling::Settles { round } => format!(in alloc; "settles {round}\n"),
+        Settling::Repeats { round, period } => format!(in alloc; "repeats {round} {period}\n"),
+        Settling::Open { limit } => format!(in alloc; "open {limit}\n"),
     }
 }
 
@@ -42,6 +42,26 @@ fn round_of(found: Settling) -> Option<u32> {
         Settling::Settles { round } => Some(round),
         Settling::Repeats { round, .. } => Some(round),
         Settling::Open { .. } => None,
+    }
+}
+
+/// The report of rounds of which these fields are shown.
+fn report_with(
+    alloc: Global,
+    threads: &(impl Threads + Sync),
+    plan: &Plan,
+    span: &Span,
+    fields: &[u32],
+) -> Result<Vec<u8>, Ending> {
+    let show = Show {
+        format: Format::Report,
+        fields,
+        labels: &[],
+        changes: false,
+    };
+    match watched(threads, alloc, plan, span, &show, &mut Silent) {
+        Ok(text) => Ok(text),
+        Err(fault) => Err(no_rounds(fault)),
     }
 }
 
@@ -56,16 +76,28 @@ fn report_of(
         return Ok(Vec::new(alloc));
     };
     let fields = all_fields(alloc, plan.program())?;
-    let show = Show {
-        format: Format::Report,
-        fields: &fields,
-        labels: &[],
-        changes: false,
-    };
-    match watched(threads, alloc, plan, &span, &show, &mut Silent) {
-        Ok(text) => Ok(text),
-        Err(fault) => Err(no_rounds(fault)),
+    report_with(alloc, threads, plan, &span, &fields)
+}
+
+/// The report of the round that was found, where it is asked for.
+fn found_report(
+    alloc: Global,
+    threads: &(impl Threads + Sync),
+    plan: &Plan,
+    asked: &SettleRequest,
+    found: Settling,
+) -> Result<Vec<u8>, Ending> {
+    match round_of(found) {
+        Some(round) if asked.report => report_of(alloc, threads, plan, round),
+        _ => Ok(Vec::new(alloc)),
     }
+}
+
+/// What was found, as a line, with a report behind it.
+fn text_with(alloc: Global, found: Settling, report: &[u8]) -> Result<Vec<u8>, AllocError> {
+    let mut text = line_of(alloc, found)?.into_bytes();
+    text.extend_from_slice(report)?;
+    Ok(text)
 }
 
 /// What was found, and the report of its round where it is asked for.
@@ -76,12 +108,8 @@ fn text_of(
     asked: &SettleRequest,
     found: Settling,
 ) -> Result<Vec<u8>, Ending> {
-    let mut out = String::new(alloc);
-    put_line(&mut out, found)?;
-    let mut text = out.into_bytes();
-    if let (true, Some(round)) = (asked.report, round_of(found)) {
-        text.extend_from_slice(&report_of(alloc, threads, plan, round)?)?;
-    }
+    let report = found_report(alloc, threads, plan, asked, found)?;
+    let text = text_with(alloc, found, &report)?;
     Ok(text)
 }
 
@@ -89,8 +117,19 @@ fn text_of(
 fn found_for(alloc: Global, plan: &Plan, limit: u32) -> Result<Settling, Ending> {
     match settle(alloc, plan, limit) {
         Ok(found) => Ok(found),
-        Err(fault) => Err(not_told(alloc, fault)?),
+        Err(fault) => Err(not_told(alloc, fault)),
     }
+}
+
+/// What is told of a plan.
+fn told_of(
+    alloc: Global,
+    threads: &(impl Threads + Sync),
+    plan: &Plan,
+    asked: &SettleRequest,
+) -> Result<Vec<u8>, Ending> {
+    let found = found_for(alloc, plan, asked.limit)?;
+    text_of(alloc, threads, plan, asked, found)
 }
 
 /// What is told of the plan that is asked for.
@@ -99,15 +138,29 @@ fn text_for(
     threads: &(impl Threads + Sync),
     asked: &SettleRequest,
 ) -> Result<Vec<u8>, Ending> {
+    let plan = plan_at(rt, &asked.plan)?;
+    told_of(rt.alloc(), threads, &plan, asked)
+}
+
+/// Refuses standard input for more than one of the texts.
+fn check_paths(alloc: Global, asked: &SettleRequest) -> Result<(), Ending> {
     let paths = [
         asked.plan.program.as_str(),
         asked.plan.network.as_str(),
         path_in(&asked.plan.from),
     ];
-    read_once(rt.alloc(), &paths)?;
-    let plan = plan_at(rt, &asked.plan)?;
-    let found = found_for(rt.alloc(), &plan, asked.limit)?;
-    text_of(rt.alloc(), threads, &plan, asked, found)
+    read_once(alloc, &paths)
+}
+
+/// Prints what is told of the plan that is asked for. The status with which the program ends.
+fn put_told(
+    rt: &HostRuntime,
+    threads: &(impl Threads + Sync),
+    asked: &SettleRequest,
+) -> Result<u8, Ending> {
+    check_paths(rt.alloc(), asked)?;
+    let text = text_for(rt, threads, asked)?;
+    print_out(rt, &text)
 }
 
 /// Tells from which round on nothing changes, or all states come again. The status with which the program ends.
@@ -117,7 +170,5 @@ pub(crate) fn settle_rounds(
     words: &[String],
 ) -> Result<u8, Ending> {
     let asked = SettleRequest::parse(rt.alloc(), words)?;
-    let text = text_for(rt, threads, &asked)?;
-    write_out(rt, &text)?;
-    Ok(0)
+    put_told(rt, threads, &asked)
 }

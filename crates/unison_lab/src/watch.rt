@@ -3,18 +3,27 @@
 use crate::ending::Ending;
 use crate::fields::shown_fields;
 use crate::files::{path_in, read_once};
-use crate::labels::labels_of;
-use crate::names::names_at;
-use crate::output::write_out;
+use crate::labels::labels_at;
+use crate::output::print_out;
 use crate::plan_texts::plan_at;
 use crate::progress::Telling;
 use app_jobs::ServeFault;
-use app_requests::{View, WatchRequest};
+use app_requests::WatchRequest;
 use rounds_plan::{Plan, RoundFault};
 use rule_check::Program;
-use run_watch::{Format, Show, WatchFault, watched};
+use run_watch::{Format, Show, Span, WatchFault, watched};
 use std::alloc::Global;
 use std::thread::Threads;
+
+/// Whether a field at one of these places is called as what stands before the fields.
+fn has_node(program: &Program, places: &[u32]) -> bool {
+    for place in places {
+        if program.field_name(*place) == Some("node") {
+            return true;
+        }
+    }
+    false
+}
 
 /// Refuses CSV and JSON in which a field is called as what stands before the fields.
 fn check_headings(
@@ -23,14 +32,13 @@ fn check_headings(
     format: Format,
     places: &[u32],
 ) -> Result<(), Ending> {
-    let is_node = |place: &u32| program.field_name(*place) == Some("node");
-    if format != Format::Report && places.iter().any(is_node) {
-        return Err(Ending::Usage(String::from_str(
-            alloc,
-            "--format: the program has a field `node`, which is what the column of the nodes is called; leave it out by --only, or take reports",
-        )?));
+    if format == Format::Report || !has_node(program, places) {
+        return Ok(());
     }
-    Ok(())
+    Err(Ending::usage(String::from_str(
+        alloc,
+        "--format: the program has a field `node`, which is what the column of the nodes is called; leave it out by --only, or take reports",
+    )))
 }
 
 /// The ending where rounds are not watched.
@@ -44,10 +52,19 @@ pub(crate) fn no_rounds(fault: WatchFault) -> Ending {
     }
 }
 
-/// What stands for the nodes.
-fn labels_for(rt: &HostRuntime, plan: &Plan, view: &View) -> Result<Vec<String>, Ending> {
-    let names = names_at(rt, &view.names)?;
-    labels_of(rt.alloc(), view.format, &names, plan.network().nodes())
+/// The text of the rounds, shown so.
+fn watched_text(
+    rt: &HostRuntime,
+    threads: &(impl Threads + Sync),
+    plan: &Plan,
+    span: &Span,
+    show: &Show<'_>,
+) -> Result<Vec<u8>, Ending> {
+    let mut telling = Telling::new(rt, span, plan.network().nodes());
+    match watched(threads, rt.alloc(), plan, span, show, &mut telling) {
+        Ok(text) => Ok(text),
+        Err(fault) => Err(no_rounds(fault)),
+    }
 }
 
 /// The text of the rounds, these fields being shown.
@@ -58,18 +75,15 @@ fn shown_text(
     asked: &WatchRequest,
     fields: &[u32],
 ) -> Result<Vec<u8>, Ending> {
-    let labels = labels_for(rt, plan, &asked.view)?;
+    let nodes = plan.network().nodes();
+    let labels = labels_at(rt, asked.view.format, &asked.view.names, nodes)?;
     let show = Show {
         format: asked.view.format,
         fields,
         labels: &labels,
         changes: asked.view.changes,
     };
-    let mut telling = Telling::new(rt, &asked.span, plan.network().nodes());
-    match watched(threads, rt.alloc(), plan, &asked.span, &show, &mut telling) {
-        Ok(text) => Ok(text),
-        Err(fault) => Err(no_rounds(fault)),
-    }
+    watched_text(rt, threads, plan, &asked.span, &show)
 }
 
 /// The text of the rounds of a plan.
@@ -101,9 +115,19 @@ fn text_for(
     threads: &(impl Threads + Sync),
     asked: &WatchRequest,
 ) -> Result<Vec<u8>, Ending> {
-    check_paths(rt.alloc(), asked)?;
     let plan = plan_at(rt, &asked.plan)?;
     text_of(rt, threads, &plan, asked)
+}
+
+/// Prints the rounds that are asked for. The status with which the program ends.
+fn put_rounds(
+    rt: &HostRuntime,
+    threads: &(impl Threads + Sync),
+    asked: &WatchRequest,
+) -> Result<u8, Ending> {
+    check_paths(rt.alloc(), asked)?;
+    let text = text_for(rt, threads, asked)?;
+    print_out(rt, &text)
 }
 
 /// Prints rounds of a plan. The status with which the program ends.
@@ -113,7 +137,5 @@ pub(crate) fn watch_rounds(
     words: &[String],
 ) -> Result<u8, Ending> {
     let asked = WatchRequest::parse(rt.alloc(), words)?;
-    let text = text_for(rt, threads, &asked)?;
-    write_out(rt, &text)?;
-    Ok(0)
+    put_rounds(rt, threads, &asked)
 }

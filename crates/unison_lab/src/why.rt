@@ -51,25 +51,15 @@ fn usage_text(alloc: Global, words: &[String], text: String) -> Result<String, A
 /// The request that the words make.
 fn request_of(alloc: Global, words: &[String]) -> Result<Request, Ending> {
     let command = command_as(
-        alloc,
         "unison why",
         "Tell why a command refuses its texts",
-    )?.after_help(EXAMPLE);
-    match job_by(alloc, command, words) {
+        EXAMPLE,
+    );
+    match job_by(alloc, &command, words) {
         Ok(request) => Ok(request),
-        Err(UsageFault::Help { text }) => Err(Ending::Help(text)),
-        Err(UsageFault::Usage { text }) => Err(Ending::Usage(usage_text(alloc, words, text)?)),
-        Err(UsageFault::Memory) => Err(Ending::Memory),
+        Err(UsageFault::Usage { text }) => Err(Ending::usage(usage_text(alloc, words, text))),
+        Err(fault) => Err(Ending::from(fault)),
     }
-}
-
-/// The texts of a request, read in the order in which its command reads them.
-#[derive(Debug, Drop)]
-struct Given {
-    program: Text,
-    network: Option<Text>,
-    report: Option<Text>,
-    schedule: Option<Text>,
 }
 
 /// Refuses standard input, `-`, for more than one of the texts of a request.
@@ -84,12 +74,32 @@ fn check_paths(alloc: Global, request: &Request) -> Result<(), Ending> {
 }
 
 /// The texts of a request.
-fn read(rt: &HostRuntime, request: &Request) -> Result<Given, Ending> {
-    check_paths(rt.alloc(), request)?;
-    let program = text_at(rt, request.program.as_str())?;
-    let network = text_where(rt, &request.network)?;
+#[derive(Drop)]
+struct Given {
+    program: Text,
+    network: Option<Text>,
+    report: Option<Text>,
+    schedule: Option<Text>,
+}
+
+/// The texts of a request beside the program and the network, read in the order in which its command reads them.
+fn read_rest(rt: &HostRuntime, request: &Request) -> Result<(Option<Text>, Option<Text>), Ending> {
     let report = text_where(rt, &request.from)?;
     let schedule = text_where(rt, &request.schedule)?;
+    Ok((report, schedule))
+}
+
+/// The program and the network of a request.
+fn read_first(rt: &HostRuntime, request: &Request) -> Result<(Text, Option<Text>), Ending> {
+    let program = text_at(rt, request.program.as_str())?;
+    let network = text_where(rt, &request.network)?;
+    Ok((program, network))
+}
+
+/// The texts of a request, read in the order in which its command reads them.
+fn read(rt: &HostRuntime, request: &Request) -> Result<Given, Ending> {
+    let (program, network) = read_first(rt, request)?;
+    let (report, schedule) = read_rest(rt, request)?;
     Ok(Given {
         program,
         network,
@@ -106,13 +116,21 @@ fn named(text: &Text) -> Named<'_> {
     }
 }
 
+/// A text as it is looked at, where there is one.
+fn named_where(text: &Option<Text>) -> Option<Named<'_>> {
+    match text {
+        Some(text) => Some(named(text)),
+        None => None,
+    }
+}
+
 /// What is found in the texts.
 fn finding_of(alloc: Global, request: &Request, read: &Given) -> Result<Finding, AllocError> {
     let texts = Texts {
         program: named(&read.program),
-        network: read.network.as_ref().map(named),
-        report: read.report.as_ref().map(named),
-        schedule: read.schedule.as_ref().map(named),
+        network: named_where(&read.network),
+        report: named_where(&read.report),
+        schedule: named_where(&read.schedule),
     };
     why(alloc, &request.job, &texts)
 }
@@ -126,22 +144,34 @@ pub(crate) fn print_fault(rt: &HostRuntime, fault: &ServeFault) -> io::Result<()
     }
 }
 
+/// What is found in the texts of a request.
+fn finding_in(rt: &HostRuntime, request: &Request) -> Result<Finding, Ending> {
+    check_paths(rt.alloc(), request)?;
+    let given = read(rt, request)?;
+    let finding = finding_of(rt.alloc(), request, &given)?;
+    Ok(finding)
+}
+
 /// What is found in the texts that the words name.
 fn finding_for(rt: &HostRuntime, words: &[String]) -> Result<Finding, Ending> {
     let request = request_of(rt.alloc(), words)?;
-    let given = read(rt, &request)?;
-    Ok(finding_of(rt.alloc(), &request, &given)?)
+    finding_in(rt, &request)
+}
+
+/// The status with which a command would end that has this fault, which is printed, or none.
+fn status_of(rt: &HostRuntime, fault: &Option<ServeFault>) -> u8 {
+    match fault {
+        Some(fault) => {
+            let _ = print_fault(rt, fault);
+            fault.status()
+        }
+        None => 0,
+    }
 }
 
 /// Tells why a command refuses its texts. The status with which that command would end.
 pub(crate) fn why_command(rt: &HostRuntime, words: &[String]) -> Result<u8, Ending> {
     let finding = finding_for(rt, words)?;
     write_out(rt, finding.text.as_bytes())?;
-    match finding.fault {
-        Some(fault) => {
-            let _ = print_fault(rt, &fault);
-            Ok(fault.status())
-        }
-        None => Ok(0),
-    }
+    Ok(status_of(rt, &finding.fault))
 }
