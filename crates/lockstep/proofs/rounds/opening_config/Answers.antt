@@ -8,5 +8,5 @@ returns c =
     let p = c.args.plan.now in
     record {
       config = config_is p c.start.result p.start c.in_ok-states.states.items c.of.result c.of.ensures.parts c.start.ensures.start
-          (c.in_ok-states.ensures.items_if_clones_equal (λ x y e. e) ∙ c.openings.ensures ∙ states_start p (length p.network) c.phase-phase.ensures.whole.opening);
+          (c.in_ok-states.ensures.items_if_clones_equal (λ x y e. e) ∙ c.openings.ensures.openings ∙ states_start p (length p.network) c.phase-phase.ensures.whole.opening);
     }
