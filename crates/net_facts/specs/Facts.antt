@@ -17,3 +17,7 @@ IsRangeOf numbers (Some range) = IsRange numbers range
 -- the weights of a network's links, from both ends of each
 abbrev pub weights_of : Neighbours → List ℕ
 weights_of network = flat_map (λ row. map (λ a. a.1) row) network
+
+-- the most nodes of a network whose diameter is told
+abbrev pub most_walks : ℕ
+most_walks = 2048

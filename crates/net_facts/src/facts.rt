@@ -1,10 +1,12 @@
 //! What one wants to know of a network.
-ghost use Rattle.std.specs.Prelude.{◌≡◌, ◌<◌, ◌*◌, ◌++◌, ◌∷◌, ℕ, List, [], length, map, IfOk};
+ghost use Rattle.std.specs.Prelude.{◌≡◌, ◌↔◌, ◌≤◌, ◌*◌, ◌++◌, ◌∷◌, ℕ, List, [], length, map, IfOk, IsSome};
 ghost use Rattle.std.specs.List.{sum_by};
 ghost use Rattle.link_net.specs.Neighbours.{degree, row};
-ghost use Rattle.net_facts.specs.Facts.{IsRange, IsRangeOf, weights_of};
+ghost use Rattle.net_facts.specs.Facts.{IsRange, IsRangeOf, most_walks, weights_of};
+ghost use Rattle.net_facts.specs.Parts.{HasParts};
 
-use crate::walks::{components, diameter};
+use crate::parts::components;
+use crate::walks::diameter;
 use link_net::Network;
 use std::alloc::{AllocError, Global};
 
@@ -105,7 +107,9 @@ fn weights(network: &Network) -> Option<Range>
 }
 
 /// The diameter, where the network is small.
-fn small_diameter(alloc: Global, network: &Network) -> Result<Option<u32>, AllocError> {
+fn small_diameter(alloc: Global, network: &Network) -> Result<Option<u32>, AllocError>
+    ensures small { IfOk result (λ d. IsSome d ↔ (length network.now ≤ most_walks)) }
+{
     if network.nodes() > MOST_WALKS {
         return Ok(None);
     }
@@ -117,6 +121,8 @@ pub fn facts_of(alloc: Global, network: &Network) -> Result<Facts, AllocError>
     ensures nodes { IfOk result (λ f. f.nodes ≡ length network.now) }
     ensures links { IfOk result (λ f. 2 * f.links ≡ sum_by length network.now) }
     ensures degrees { IfOk result (λ f. IsRange (map length network.now) f.degrees) }
+    ensures components { IfOk result (λ f. HasParts network.now f.components) }
+    ensures diameter { IfOk result (λ f. IsSome f.diameter ↔ (length network.now ≤ most_walks)) }
     ensures weights { IfOk result (λ f. IsRangeOf (weights_of network.now) f.weights) }
 {
     Ok(Facts {

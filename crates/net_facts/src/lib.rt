@@ -2,6 +2,7 @@
 #![tactic(auto)]
 
 mod facts;
+mod parts;
 mod text;
 mod walks;
 

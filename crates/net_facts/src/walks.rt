@@ -67,18 +67,6 @@ pub(crate) fn walk_from(
     }
 }
 
-/// How many parts the network has that no links join.
-pub(crate) fn components(alloc: Global, network: &Network) -> Result<u32, AllocError> {
-    let mut walk = new_walk(alloc, network)?;
-    let mut count = 0u32;
-    for node in 0..network.nodes() {
-        if walk_from(&mut walk, network, node)?.is_some() {
-            count = count.saturating_add(1);
-        }
-    }
-    Ok(count)
-}
-
 /// The greatest distance of a node from this one, of those that can be reached.
 fn eccentricity(alloc: Global, network: &Network, node: u32) -> Result<u32, AllocError> {
     let mut walk = new_walk(alloc, network)?;

@@ -20,5 +20,6 @@ returns-in_err-plan g c =
       trace = rw p.1 tt;
       agrees = rw p.1 tt;
       refused = rw (p.1, p.2) (refused_texts c.args.job.now c.args.program.now c.args.network.now (given c.args.from) _ (needs_network c.args.job.now c.in_default.not-Check) c.in_err-plan.ensures.refused);
+      long = rw (p.1, p.2) c.in_err-plan.ensures.long;
       unwritten = rw (p.1, p.2) c.in_err-plan.ensures.unwritten;
     }
