@@ -1,5 +1,6 @@
 -- Why the calls write nothing: the first fault on the way. Memory may run out anywhere.
 use Rattle.std.specs.Prelude.{ℕ, ◌≡◌, ◌≢◌, ◌*◌, ◌<◌, ◌⊎◌, Bool, true, false, ◌||◌, ◌==◌, List, length, None, Some, Ok, Err}
+use Rattle.rule_lang.specs.declared.fault.LangFault.TheVariants as lang
 use Rattle.rule_lang.specs.Tree.{ItemTree}
 use Rattle.rule_lang.specs.Canonical.{program_text}
 use Rattle.rounds_plan.specs.declared.fault.RoundFault.TheVariants as round
@@ -8,6 +9,7 @@ use Rattle.rounds_plan.specs.Lockstep.{rounds_of}
 use Rattle.rounds_plan.specs.Plans.{PlanView}
 use Rattle.run_settle.specs.Outcomes.{IsFaultOf}
 use Rattle.unison_trace.specs.ReplayFaults.{IsRefusedText}
+use Rattle.app_jobs.specs.declared.fault.ServeFault.TheVariants as serve
 use Rattle.app_jobs.specs.Served.{HasResumed, IsAccepted, RefusesProgram, RefusesTexts}
 use Rattle.app_calls.specs.declared.fault.Fault.{Fault}
 use Rattle.app_calls.specs.declared.fault.Fault.TheVariants.{Texts, Round, Replay, Settle, NotRising, NoJob, Room, Memory}
@@ -18,6 +20,10 @@ use Rattle.app_calls.specs.Words.{list_fault}
 abbrev pub IsRefusedPlan : List ℕ → List ℕ → List ℕ → (PlanView → Fault → Type 0) → Fault → Type 0
 IsRefusedPlan program network from P (Texts f) = RefusesTexts program network (report_in from) f
 IsRefusedPlan program network from P f = (p : PlanView) × HasResumed program network (report_in from) p × P p f
+
+-- a program's text that is too long is told as that, whatever memory and room there are
+abbrev pub IsLongFault : List ℕ → Fault → Type 0
+IsLongFault program f = 65536 < length program → f ≡ Texts (serve.Lang lang.TooLong)
 
 -- how many words the nodes of a plan have
 abbrev pub word_count : PlanView → ℕ

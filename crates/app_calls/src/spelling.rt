@@ -3,9 +3,9 @@ ghost use Rattle.std.specs.Prelude.{◌≡◌, ◌≢◌, ◌<◌, List, length,
 ghost use Rattle.rule_lang.specs.Canonical.{program_text};
 ghost use Rattle.rule_lang.specs.Tree.{ItemTree};
 ghost use Rattle.app_calls.specs.Answers.{IsSpelled};
-ghost use Rattle.app_calls.specs.Refusals.{IsUnspelled};
+ghost use Rattle.app_calls.specs.Refusals.{IsLongFault, IsUnspelled};
 ghost use Rattle.app_calls.specs.Words.{with_front};
-ghost use Rattle.app_jobs.specs.Served.{IsAccepted, RefusesProgram};
+ghost use Rattle.app_jobs.specs.Served.{IsAccepted, IsLongFirst, RefusesProgram};
 
 use crate::fault::Fault;
 use crate::words::put_bytes;
@@ -18,6 +18,7 @@ use std::alloc::Global;
 fn canonical(alloc: Global, program: &[u8]) -> Result<Vec<u8>, ServeFault>
     ensures spelled { IfOk result (λ v. (items : List ItemTree) × IsAccepted program.now items × (v.items ≡ program_text items)) }
     ensures refused { IfErr result (RefusesProgram program.now) }
+    ensures long { IfErr result (IsLongFirst program.now) }
 {
     let source = read_program(alloc, program)?;
     let _program = check(alloc, &source)?;
@@ -50,6 +51,7 @@ pub fn write_spelling(
     ensures kept { OnErr result (text.new ≡ text.old) }
     ensures sized { IfErr result (λ fault. fault ≢ Fault.Room → len.new ≡ len.old) }
     ensures refused { IfErr result (IsUnspelled program.now (length text.old) len.new) }
+    ensures long { IfErr result (IsLongFault program.now) }
 {
     let spelling = canonical(alloc, program)?;
     put_text(&spelling, text, len)

@@ -2,7 +2,7 @@
 //! done, else the number of the first fault on the way (`app_calls`). `library/unison.h` declares them.
 #![tactic(auto)]
 
-ghost use Rattle.std.specs.Prelude.{◌≡◌, ◌≢◌, ◌≤◌, length, true};
+ghost use Rattle.std.specs.Prelude.{◌≡◌, ◌≢◌, ◌≤◌, ◌<◌, length, true};
 ghost use Rattle.app_first_fault.specs.FirstFault.{IsUnrefused};
 ghost use Rattle.app_calls.specs.Answers.{HasPlanWith, HasReplay, HasRoundWords, HasSettling, HaveRoundWords, IsSpelled, IsText, report_in, told_by};
 ghost use Rattle.app_calls.specs.Jobs.{HasJobWith, IsFirstNumber};
@@ -18,7 +18,7 @@ use std::alloc::Global;
 const ROOM: u32 = 2;
 
 /// Writes the canonical spelling of a program to the front of the text, and how long it is; where there is too little room,
-/// how long it is alone.
+/// how long it is alone. A program of more than 65,536 bytes takes no memory.
 #[unsafe(no_mangle)]
 pub extern "C" fn unison_check(
     alloc: Global,
@@ -30,6 +30,7 @@ pub extern "C" fn unison_check(
     ensures kept { result ≢ 0 → text.new ≡ text.old }
     ensures sized { result ≢ 0 → result ≢ ROOM → text_len.new ≡ text_len.old }
     ensures refused { result ≢ 0 → IsNumberOf (IsUnspelled program.now (length text.old) text_len.new) result }
+    ensures long { 65536 < length program.now → result ≡ 16 }
 {
     match write_spelling(alloc, program, text, text_len) {
         Ok(()) => 0,
