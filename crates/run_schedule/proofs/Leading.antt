@@ -1,5 +1,5 @@
 -- Turns that wait, and what their steps change.
-use Rattle.std.proofs.Common.{◌≡◌, ◌≢◌, ◌⊎◌, ℕ, zero, suc, ◌+◌, ◌-◌, ◌<◌, ◌≤◌, ◌==◌, Bool, true, false, min, max, List, [], ◌∷◌, ◌++◌, length, length-append, take, get_or, set, Option, Some, None, slice_get, sym, refl, ap, subst, ◌∙◌, inl, inr, ⊎_elim, arith}
+use Rattle.std.proofs.Common.{◌≡◌, ◌≢◌, ℕ, zero, suc, ◌+◌, ◌<◌, ◌≤◌, ◌==◌, Bool, true, false, List, [], ◌∷◌, ◌++◌, length, length-append, take, set, Option, Some, None, slice_get, sym, refl, ap, subst, ◌∙◌, inl, inr, ⊎_elim, arith}
 use Rattle.std.proofs.lemmas.List.{get_or-set_same, get_or-set_other, get_or_past, take_all, take-append-le}
 use Rattle.std.proofs.lemmas.Option.{slice_get_within, slice_get-get_or, slice_get_past}
 use Rattle.std.proofs.lemmas.Bool.{cases_eq, cases_lt, false≢true}
@@ -132,13 +132,13 @@ turns-read w node turns turn next sound is h same more =
           let s = ap (λ (y : Turn). y.slot) f.1 ∙ more in
           rw (f.0, n)
           (record {
-              there = t.there;
-              slots = omega arith;
-              way = t.way;
-              down = t.down;
-              read = λ k l.
-                  ⊎_elim (λ b. marked-keeps c u j u k inside (t.read k b)) (λ b. (let z : k ≡ j = omega arith in rw z (marked-there c u j inside (omega arith)))) (cases_lt k j);
-            }))
+            there = t.there;
+            slots = omega arith;
+            way = t.way;
+            down = t.down;
+            read = λ k l.
+                ⊎_elim (λ b. marked-keeps c u j u k inside (t.read k b)) (λ b. (let z : k ≡ j = omega arith in rw z (marked-there c u j inside (omega arith)))) (cases_lt k j);
+          }))
           (slice_get-push turns next x i e);
       only = λ a b e.
           ⊎_elim
@@ -248,12 +248,12 @@ turns-wait w node turns turn next v sound is waits same none =
           let m = ap (moves_of w.counts) n in
           rw (f.0, k)
           (record {
-              there = rw n (net.within u j waits.slot);
-              slots = omega arith;
-              way = rw n (back.0, back.1, rw back.2 t.way);
-              down = omega arith;
-              read = λ a l. absurd (omega arith);
-            }))
+            there = rw n (net.within u j waits.slot);
+            slots = omega arith;
+            way = rw n (back.0, back.1, rw back.2 t.way);
+            down = omega arith;
+            read = λ a l. absurd (omega arith);
+          }))
           (slice_get-push (turns ++ turn ∷ []) next x i e);
       only = λ a b e. (let o = is.only a b e in (o.0, o.1, slice_get-front (turns ++ turn ∷ []) next o.1 o.0 o.2, o.3, o.4));
       below = λ _. is.below (going turns turn);

@@ -1,5 +1,5 @@
 -- Lists of steps that lead one node ahead of the others.
-use Rattle.std.specs.Prelude.{◌≡◌, ℕ, ◌+◌, ◌-◌, ◌<◌, ◌≤◌, ◌⊎◌, ◌++◌, ◌∷◌, [], true, min, max, List, length, take, Option, Some, slice_get}
+use Rattle.std.specs.Prelude.{◌≡◌, ℕ, ◌+◌, ◌-◌, ◌<◌, ◌≤◌, ◌⊎◌, ◌++◌, ◌∷◌, [], true, min, max, List, length, take, Some, slice_get}
 use Rattle.link_net.specs.Neighbours.{degree, neighbour}
 use Rattle.rounds_plan.specs.Plans.{PlanView}
 use Rattle.unison_world.specs.declared.step.Step.{Step}

@@ -1,7 +1,6 @@
-use Rattle.std.proofs.Common.{◌≡◌, ◌<◌, ◌++◌, ◌∷◌, [], length, length-append, List, ap, sym, subst, ◌∙◌, ⊎_elim, arith}
+use Rattle.std.proofs.Common.{◌<◌, ◌++◌, ◌∷◌, [], length, length-append, List, ap, sym, subst, ⊎_elim, arith}
 use Rattle.unison_world.specs.Counting.{moves_of}
 use Rattle.unison_world.specs.View.{WorldView}
-use Rattle.rounds_plan.specs.Plans.{PlanView}
 use Rattle.run_schedule.specs.declared.ahead.Turn.{Turn}
 use Rattle.run_schedule.specs.Leading.{AreTurns}
 use Rattle.run_schedule.proofs.Leading.{stays-none, stays-step, turns-begin, turns-led, turns-none, test-equal, test-unequal}

@@ -1,4 +1,4 @@
-use Rattle.std.proofs.Common.{◌≡◌, ◌∙◌, ◌+◌, ◌<◌, ◌++◌, ◌∷◌, [], length, take, get_or, length-append, append_assoc, ◌≤◌, sym, subst, ap, refl, arith}
+use Rattle.std.proofs.Common.{◌≡◌, ◌∙◌, ◌+◌, ◌++◌, ◌∷◌, [], length, take, get_or, length-append, append_assoc, ◌≤◌, sym, subst, ap, arith}
 use Rattle.std.proofs.lemmas.List.{take_more, take_all}
 use Rattle.unison_world.specs.declared.step.Step.TheVariants.{Read}
 use Rattle.unison_world.specs.Counting.{Counts, at_start}
