@@ -18,11 +18,12 @@ use Rattle.unison_world.proofs.Steps.{moves-at_start}
 use Rattle.unison_trace.specs.Histories.{is_change, run_of}
 use Rattle.unison_trace.proofs.Leading.{late}
 use Rattle.run_schedule.specs.Lists.{IsStepList, GoesToStop, node_of}
-use Rattle.run_schedule.specs.Manners.{LeadsNode}
+use Rattle.run_schedule.specs.Leading.{HasLed, LeadsNode, StaysAhead}
 use Rattle.run_schedule.specs.Starving.{StarvesNode}
 use Rattle.run_schedule.specs.Walks.{WalkView, IsWalk, IsSound, AtRest, IsFull, is_other}
 use Rattle.run_schedule.proofs.Distances.{held-back}
-use Rattle.run_schedule.proofs.Resting.{Rests, goes-to_stop, rests-at_stop, waits-behind}
+use Rattle.run_schedule.proofs.Leading.{led-back}
+use Rattle.run_schedule.proofs.Resting.{Rests, goes-to_stop, waits-behind}
 
 -- without a still node the open steps are those that change something
 rests-all : (w : WalkView) → w.still ≡ None → AtRest w → Rests w.world.plan.network w.world.stop w.world.counts
@@ -36,22 +37,16 @@ walk-to_stop w is sound none ends =
     goes-to_stop w.world.plan w.world.stop w.limit w.world.counts w.steps sound.plan (late w.world sound.plan sound.in_step sound.started) sound.shape sound.in_step is.leads is.few
     (⊎_elim (λ r. inl (rests-all w none r)) (λ f. inr (full-changes w none f)) ends)
 
--- at rest every node stands at the stop
-pub rest-at_stop : (w : WalkView) (node : ℕ) → IsSound w.world → w.still ≡ None → AtRest w → node < length w.world.plan.network → moves_of w.world.counts node ≡ w.world.stop
-rest-at_stop w node sound none rest h = rests-at_stop w.world.plan.network w.world.stop w.world.counts sound.plan.network sound.shape sound.in_step (rests-all w none rest) node h
-
 walk-list : (w : WalkView) → IsWalk w → IsStepList w.world.plan w.world.stop w.limit w.steps
 walk-list w is = record { leads = record { arrive = refl; each_changes = is.leads.each_changes }; few = is.few }
 
-pub walk-leads : (w : WalkView) (node : ℕ) → IsWalk w → (moves_of w.world.counts node ≡ w.world.stop) ⊎ IsFull w → LeadsNode w.world.plan w.world.stop node w.limit w.steps
-walk-leads w node is ends =
+pub walk-leads : (w : WalkView) (node : ℕ) → IsWalk w → IsSound w.world → StaysAhead w.world.plan w.world.stop node w.steps → HasLed w.world node ⊎ IsFull w → LeadsNode w.world.plan w.world.stop node w.limit w.steps
+walk-leads w node is sound stays ends =
     record {
       list = walk-list w is;
-      ahead = λ less.
-          ⊎_elim
-          (λ e. ap (λ (c : Counts). moves_of c node) is.leads.arrive ∙ e)
-          (λ f. (let n = f.full in absurd (omega arith)))
-          ends;
+      stays = stays;
+      ahead = λ less. ⊎_elim (λ l. ap (λ (c : Counts). moves_of c node) is.leads.arrive ∙ l.stop) (λ f. (let n = f.full in absurd (omega arith))) ends;
+      rest = λ less u h. ⊎_elim (λ l. rw is.leads.arrive (led-back w.world node sound l u h)) (λ f. (let n = f.full in absurd (omega arith))) ends;
     }
 
 other-node : (node : ℕ) (step : Step) → is_other (Some node) step ≡ true → node_of step ≢ node
@@ -110,9 +105,6 @@ walk-starves w node is sound still here ends =
 
 pub some-there : (n : ℕ) (b : Bool) → b ≡ (n == 0) → b ≡ false → 0 < n
 some-there n b e f = grind (arith, nat_tests)
-
-pub none-there : (n : ℕ) (b : Bool) → b ≡ (n == 0) → b ≡ true → n ≡ 0
-none-there n b e f = grind (arith, nat_tests)
 
 -- a world that is opened is the one before any step
 pub opened-is : (plan : PlanView) (stop : ℕ) (r : Result WorldView OpenFault) (w : WorldView) → r ≡ Ok w → r ≡ Ok (opened plan stop) → w ≡ opened plan stop

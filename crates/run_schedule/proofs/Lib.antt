@@ -6,3 +6,4 @@ pub mod Walking
 pub mod Finding
 pub mod Ending
 pub mod Mixing
+pub mod Leading

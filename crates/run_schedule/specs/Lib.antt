@@ -3,5 +3,6 @@ pub mod Sweeps
 pub mod Ways
 pub mod Starving
 pub mod Walks
+pub mod Leading
 pub mod Manners
 pub mod Mixing

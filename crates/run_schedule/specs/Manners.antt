@@ -1,16 +1,15 @@
 -- What a list of each manner is, and which lists there are not.
-use Rattle.std.specs.Prelude.{◌≡◌, ℕ, ◌<◌, List, take, length, nat_lt, nat_le, Option, Some, None, if◌then◌else◌}
+use Rattle.std.specs.Prelude.{◌≡◌, ℕ, List, take, length, nat_lt, nat_le, Option, Some, None, if◌then◌else◌}
 use Rattle.link_net.specs.Neighbours.{Neighbours}
 use Rattle.rounds_plan.specs.Configs.{most_rounds}
 use Rattle.rounds_plan.specs.Plans.{PlanView}
 use Rattle.unison_world.specs.declared.step.Step.{Step}
-use Rattle.unison_world.specs.Counting.{moves_of}
-use Rattle.unison_trace.specs.Histories.{run_of}
 use Rattle.run_schedule.specs.declared.fault.ListFault.{ListFault}
 use Rattle.run_schedule.specs.declared.fault.ListFault.TheVariants.{StopTooLarge, StopBelowStart, NoNode, Memory}
 use Rattle.run_schedule.specs.declared.manner.Manner.{Manner}
 use Rattle.run_schedule.specs.declared.manner.Manner.TheVariants.{Sweeps, Random, Starve, Ahead, SlowLinks}
-use Rattle.run_schedule.specs.Lists.{IsStepList, GoesToStop}
+use Rattle.run_schedule.specs.Leading.{LeadsNode}
+use Rattle.run_schedule.specs.Lists.{GoesToStop}
 use Rattle.run_schedule.specs.Sweeps.{sweeps_of}
 use Rattle.run_schedule.specs.Starving.{StarvesNode}
 
@@ -19,12 +18,7 @@ pub record IsSwept (plan : PlanView) (stop limit : ℕ) (steps : List Step) : Ty
   pub exact : steps ≡ take limit (sweeps_of plan stop)
   pub goes : GoesToStop plan stop limit steps
 
--- the list goes on to the limit, or until the node stands at the stop
-pub record LeadsNode (plan : PlanView) (stop node limit : ℕ) (steps : List Step) : Type 0 where
-  pub list : IsStepList plan stop limit steps
-  pub ahead : length steps < limit → moves_of (run_of plan stop steps) node ≡ stop
-
--- what a list of each manner is
+-- what a list of each manner is; by which lot the steps of two of them are drawn is not said, so that any list that goes on to the stop is one of those
 abbrev pub HasManner : PlanView → ℕ → Manner → ℕ → List Step → Type 0
 HasManner plan stop Sweeps limit steps = IsSwept plan stop limit steps
 HasManner plan stop (Random seed) limit steps = GoesToStop plan stop limit steps

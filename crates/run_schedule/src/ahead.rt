@@ -1,97 +1,114 @@
 //! Walks that lead one node ahead of the others.
-ghost use Rattle.std.specs.Prelude.{◌≡◌, ◌<◌, None, length, OnOk, IfErr};
-ghost use Rattle.unison_world.specs.Counting.{moves_of};
+ghost use Rattle.std.specs.Prelude.{◌≡◌, ◌<◌, ◌≤◌, ◌⊎◌, ◌++◌, ◌∷◌, [], None, length, IfOk, IfNone, IfSome, IfErr, OnOk};
+ghost use Rattle.unison_world.specs.View.{opened};
+ghost use Rattle.run_schedule.specs.Leading.{AreTurns, HasLed, IsReady, StaysAhead, TakesStep, WaitsFor};
 ghost use Rattle.run_schedule.specs.Walks.{GoesOn, IsFull};
 
 use crate::fault::Halt;
-use crate::open_steps::open_steps;
+use crate::links::degree;
 use crate::walk::Walk;
-use std::alloc::Global;
+use std::alloc::{AllocError, Global};
 use unison_world::Step;
 
 /// A node that is to move, and the slot that it reads next.
 #[derive(Clone, Copy)]
-struct Turn {
+pub(crate) struct Turn {
     node: u32,
     slot: u32,
 }
 
-/// Takes one step of a turn: it ends with the node's write; where the neighbour at the slot is behind, that one's turn comes
-/// first; else the slot is read.
-fn take_step(walk: &mut Walk, turns: &mut Vec<Turn>, turn: Turn) -> Result<(), Halt>
-    ensures goes { GoesOn walk.old walk.new }
-    ensures full { IfErr result (λ halt. halt ≡ Halt.Full → IsFull walk.new) }
+/// The neighbour for which a turn waits: the one that is read next, where it is behind.
+fn waited_for(walk: &Walk, turn: Turn) -> Option<u32>
+    requires node { turn.node < length walk.now.world.plan.network }
+    ensures behind { IfSome result (WaitsFor walk.now.world turn) }
+    ensures ready { IfNone result (IsReady walk.now.world turn) }
 {
-    let Turn { node, slot } = turn;
-    let Some(neighbour) = walk.network().neighbour(node, slot) else {
-        walk.make(Step::Write { node })?;
-        return Ok(());
-    };
-    if walk.is_behind(neighbour, node) {
-        turns.push(turn)?;
-        turns.push(Turn {
+    let neighbour = walk.network().neighbour(turn.node, turn.slot)?;
+    if walk.is_behind(neighbour, turn.node) {
+        return Some(neighbour);
+    }
+    None
+}
+
+/// The turn that is next: the last of those that wait, or where none does, one of the node that leads.
+fn next_turn(turns: &mut Vec<Turn>, node: u32) -> Turn
+    ensures next { (turns.old.items ≡ turns.new.items ++ result ∷ []) ⊎ ((turns.old.items ≡ []) × (turns.new.items ≡ []) × (result ≡ record { node = node; slot = 0 })) }
+{
+    match turns.pop() {
+        Some(turn) => turn,
+        None => Turn { node, slot: 0 },
+    }
+}
+
+/// Where a turn waits for a neighbour, that one's turn comes first, and so on. The turn that waits for none; the others are put
+/// at the end of those that wait.
+fn first_turn(walk: &Walk, turns: &mut Vec<Turn>, turn: Turn, node: u32) -> Result<Turn, AllocError>
+    requires turns { AreTurns walk.now.world node (turns.old.items ++ turn ∷ []) }
+    ensures turns { IfOk result (λ first. AreTurns walk.now.world node (turns.new.items ++ first ∷ [])) }
+    ensures ready { IfOk result (IsReady walk.now.world) }
+{
+    let mut first = turn;
+    'waits: while let Some(neighbour) = waited_for(walk, first) {
+        // For the proof alone: the call tells what holds of every world.
+        let _network = walk.network();
+        turns.push(first)?;
+        first = Turn {
             node: neighbour,
             slot: 0,
-        })?;
+        };
+    }
+    Ok(first)
+}
+
+/// Takes one step of a turn that waits for no neighbour: it reads its slot, or where it has read all, it moves and ends.
+fn take_step(walk: &mut Walk, turns: &mut Vec<Turn>, turn: Turn, node: u32) -> Result<(), Halt>
+    requires none { walk.old.still ≡ None }
+    requires turns { AreTurns walk.old.world node (turns.old.items ++ turn ∷ []) }
+    requires ready { IsReady walk.old.world turn }
+    ensures goes { GoesOn walk.old walk.new }
+    ensures few { length walk.new.steps ≤ walk.new.limit }
+    ensures takes { OnOk result (TakesStep walk.old walk.new) }
+    ensures turns { OnOk result (AreTurns walk.new.world node turns.new.items) }
+    ensures full { IfErr result (λ halt. halt ≡ Halt.Full → (walk.new ≡ walk.old) × IsFull walk.new) }
+{
+    let slots = degree(walk.network(), turn.node);
+    if turn.slot >= slots {
+        walk.make(Step::Write { node: turn.node })?;
         return Ok(());
     }
-    walk.make(Step::Read { node, slot })?;
+    walk.make(Step::Read {
+        node: turn.node,
+        slot: turn.slot,
+    })?;
     turns.push(Turn {
-        node,
-        slot: slot.saturating_add(1),
+        node: turn.node,
+        slot: turn.slot + 1,
     })?;
     Ok(())
 }
 
-/// A turn of a node, and before it those of others that it waits for.
-fn take_turn(alloc: Global, walk: &mut Walk, node: u32) -> Result<(), Halt>
-    ensures goes { GoesOn walk.old walk.new }
-    ensures full { IfErr result (λ halt. halt ≡ Halt.Full → IsFull walk.new) }
-{
-    let mut turns = Vec::new(alloc);
-    turns.push(Turn { node, slot: 0 })?;
-    for _ in 0..u64::MAX {
-        let Some(turn) = turns.pop() else {
-            return Ok(());
-        };
-        take_step(walk, &mut turns, turn)?;
-    }
-    Ok(())
-}
-
-/// Turns of a node up to the stop.
-fn climb(alloc: Global, walk: &mut Walk, node: u32) -> Result<(), Halt>
-    ensures goes { GoesOn walk.old walk.new }
-    ensures full { IfErr result (λ halt. halt ≡ Halt.Full → IsFull walk.new) }
-{
-    for _ in 0..walk.stop() {
-        if walk.is_at_stop(node) {
-            return Ok(());
-        }
-        take_turn(alloc, walk, node)?;
-    }
-    Ok(())
-}
-
-/// Leads a node to the stop.
+/// Leads a node to the stop, from the world before any step on.
 pub(crate) fn lead(alloc: Global, walk: &mut Walk, node: u32) -> Result<(), Halt>
     requires node { node < length walk.old.world.plan.network }
     requires none { walk.old.still ≡ None }
+    requires opened { walk.old.world ≡ opened walk.old.world.plan walk.old.world.stop }
+    requires begun { walk.old.steps ≡ [] }
     ensures goes { GoesOn walk.old walk.new }
-    ensures ahead { OnOk result (moves_of walk.new.world.counts node ≡ walk.new.world.stop) }
-    ensures full { IfErr result (λ halt. halt ≡ Halt.Full → IsFull walk.new) }
+    ensures led { OnOk result (HasLed walk.new.world node) }
+    ensures ahead { OnOk result (StaysAhead walk.new.world.plan walk.new.world.stop node walk.new.steps) }
+    ensures full { IfErr result (λ halt. halt ≡ Halt.Full → IsFull walk.new × StaysAhead walk.new.world.plan walk.new.world.stop node walk.new.steps) }
 {
-    'passes: loop {
-        climb(alloc, walk, node)?;
+    // For the proof alone, as the two below: the call tells what holds of every world.
+    let _first = walk.network();
+    let mut turns = Vec::new(alloc);
+    'steps: loop {
+        let _network = walk.network();
         if walk.is_at_stop(node) {
             return Ok(());
         }
-        // For the proof alone: the node stands at the stop by now.
-        let found = open_steps(alloc, walk)?;
-        if found.is_empty() {
-            let _network = walk.network();
-            return Ok(());
-        }
-        walk.make(found[0])?;
+        let next = next_turn(&mut turns, node);
+        let turn = first_turn(walk, &mut turns, next, node)?;
+        take_step(walk, &mut turns, turn, node)?;
+        let _after = walk.network();
     }
 }

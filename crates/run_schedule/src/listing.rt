@@ -1,12 +1,12 @@
 //! Lists of steps in a manner that is asked for.
-ghost use Rattle.std.specs.Prelude.{◌≡◌, ◌<◌, ◌⊎◌, None, Some, Ok, length, IfOk, IfErr};
+ghost use Rattle.std.specs.Prelude.{◌≡◌, ◌<◌, ◌⊎◌, None, Some, Ok, [], length, IfOk, IfErr};
 ghost use Rattle.std.specs.Arc.{arc_value};
 ghost use Rattle.link_net.specs.Neighbours.{Neighbours};
-ghost use Rattle.unison_world.specs.Counting.{moves_of};
 ghost use Rattle.unison_world.specs.Opening.{opening_of};
 ghost use Rattle.unison_world.specs.View.{opened};
+ghost use Rattle.run_schedule.specs.Leading.{HasLed, LeadsNode, StaysAhead};
 ghost use Rattle.run_schedule.specs.Lists.{GoesToStop, IsStepList, limit_of};
-ghost use Rattle.run_schedule.specs.Manners.{HasManner, IsFaultOf, IsSwept, LeadsNode, node_fault, node_in, refusal_of};
+ghost use Rattle.run_schedule.specs.Manners.{HasManner, IsFaultOf, IsSwept, node_fault, node_in, refusal_of};
 ghost use Rattle.run_schedule.specs.Starving.{StarvesNode};
 ghost use Rattle.run_schedule.specs.Walks.{AtRest, IsFull};
 
@@ -126,13 +126,16 @@ fn starved(
     Ok(ended.into_steps())
 }
 
-/// A walk whose node stands at the stop, or that made as many steps as it may.
+/// A walk whose node was led to the stop, or that made as many steps as it may.
 fn led(alloc: Global, mut walk: Walk, node: u32) -> Result<Walk, ListFault>
     requires node { node < length walk.world.plan.network }
     requires none { walk.still ≡ None }
+    requires opened { walk.world ≡ opened walk.world.plan walk.world.stop }
+    requires begun { walk.steps ≡ [] }
     ensures plan { IfOk result (λ w. (w.world.plan ≡ walk.world.plan) × (w.world.stop ≡ walk.world.stop)) }
     ensures limit { IfOk result (λ w. w.limit ≡ walk.limit) }
-    ensures ends { IfOk result (λ w. (moves_of w.world.counts node ≡ w.world.stop) ⊎ IsFull w) }
+    ensures ahead { IfOk result (λ w. StaysAhead w.world.plan w.world.stop node w.steps) }
+    ensures ends { IfOk result (λ w. HasLed w.world node ⊎ IsFull w) }
     ensures memory { IfErr result (λ fault. fault ≡ ListFault.Memory) }
 {
     match lead(alloc, &mut walk, node) {

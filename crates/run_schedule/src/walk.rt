@@ -1,5 +1,5 @@
 //! Walks: steps that are made on a world, each of which changes something.
-ghost use Rattle.std.specs.Prelude.{◌≡◌, ◌≤◌, true, [], length, Ok, IfOk, IfErr, IfSome, IsTrue, OnErr};
+ghost use Rattle.std.specs.Prelude.{◌≡◌, ◌<◌, ◌≤◌, ◌==◌, nat_lt, true, [], length, Ok, IfOk, IfErr, IfSome, OnErr};
 ghost use Rattle.std.specs.Arc.{arc_value};
 ghost use Rattle.unison_world.specs.Counting.{moves_of};
 ghost use Rattle.unison_world.specs.Opening.{opening_of};
@@ -126,13 +126,6 @@ impl Walk {
         self.world.plan().network()
     }
 
-    /// The stop.
-    pub(crate) fn stop(&self) -> u32
-        ensures { result ≡ self.now.world.stop }
-    {
-        self.world.stop()
-    }
-
     /// How often a node has moved; none where there is no such node.
     pub(crate) fn moves(&self, node: u32) -> Option<u32>
         ensures { IfSome result (λ moves. moves ≡ moves_of self.now.world.counts node) }
@@ -142,7 +135,8 @@ impl Walk {
 
     /// Whether a node stands at the stop.
     pub(crate) fn is_at_stop(&self, node: u32) -> bool
-        ensures { IsTrue result → moves_of self.now.world.counts node ≡ self.now.world.stop }
+        requires { node < length self.now.world.plan.network }
+        ensures { result ≡ (moves_of self.now.world.counts node == self.now.world.stop) }
     {
         match self.world.moves(node) {
             Some(moves) => moves == self.world.stop(),
@@ -151,11 +145,15 @@ impl Walk {
     }
 
     /// Whether a node has moved less often than another.
-    pub(crate) fn is_behind(&self, node: u32, other: u32) -> bool {
-        let (Some(moves), Some(others)) = (self.world.moves(node), self.world.moves(other)) else {
-            return false;
-        };
-        moves < others
+    pub(crate) fn is_behind(&self, node: u32, other: u32) -> bool
+        requires node { node < length self.now.world.plan.network }
+        requires other { other < length self.now.world.plan.network }
+        ensures { result ≡ nat_lt (moves_of self.now.world.counts node) (moves_of self.now.world.counts other) }
+    {
+        match (self.world.moves(node), self.world.moves(other)) {
+            (Some(moves), Some(others)) => moves < others,
+            _ => false,
+        }
     }
 
     /// The steps that were made, in order.

@@ -1,5 +1,0 @@
-use Rattle.run_schedule.specs.Walks.{GoesOn}
-use Rattle.run_schedule.proofs.ahead.take_turn.Given as goal
-
-abbrev pub invariant-loop : goal.invariant-loop
-invariant-loop l = GoesOn l.initial.walk l.walk
