@@ -18,7 +18,7 @@ pub record IsSwept (plan : PlanView) (stop limit : ℕ) (steps : List Step) : Ty
   pub exact : steps ≡ take limit (sweeps_of plan stop)
   pub goes : GoesToStop plan stop limit steps
 
--- what a list of each manner is; by which lot the steps of two of them are drawn is not said, so that any list that goes on to the stop is one of those
+-- what a list of each manner is; how the steps of two of them are drawn is not said, so that any list that goes on to the stop is one of those
 abbrev pub HasManner : PlanView → ℕ → Manner → ℕ → List Step → Type 0
 HasManner plan stop Sweeps limit steps = IsSwept plan stop limit steps
 HasManner plan stop (Random seed) limit steps = GoesToStop plan stop limit steps
@@ -44,7 +44,7 @@ refusal_of plan stop manner =
     else if nat_lt stop plan.start then Some StopBelowStart
     else node_fault plan.network (node_in manner)
 
--- the fault is that of the plan, the stop and the manner; want of memory comes only where these have none
+-- the fault is that of the plan, the stop and the manner; running out of memory comes only where these have none
 abbrev pub IsFaultOf : PlanView → ℕ → Manner → ListFault → Type 0
 IsFaultOf plan stop manner Memory = refusal_of plan stop manner ≡ None
 IsFaultOf plan stop manner fault = refusal_of plan stop manner ≡ Some fault

@@ -18,7 +18,7 @@ pub enum ListFault {
     /// The network has no node of this number.
     #[error("there is no node {node}")]
     NoNode { node: u32 },
-    /// Want of memory.
+    /// Out of memory.
     #[error("not enough memory")]
     Memory,
 }
@@ -36,7 +36,7 @@ impl From<AllocError> for ListFault {
 pub(crate) enum Halt {
     /// There are as many steps as there may be.
     Full,
-    /// Want of memory.
+    /// Out of memory.
     Memory,
 }
 

@@ -1,4 +1,5 @@
-//! Lists of single steps that each change something, made in a manner that is asked for: sweeps, by lot, without one node.
+//! Lists of single steps that each change something, made in a manner that is asked for: sweeps, at random, without one
+//! node.
 #![tactic(auto)]
 
 mod ahead;

@@ -89,7 +89,7 @@ fn walked(alloc: Global, mut walk: Walk, order: Order, slow: Option<u64>) -> Res
     }
 }
 
-/// Steps by lot until every node stands at the stop. A second seed makes some links slow.
+/// Steps at random until every node stands at the stop. A second seed makes some links slow.
 fn to_stop(
     alloc: Global,
     plan: Arc<Plan>,
@@ -196,11 +196,11 @@ fn made(
     }
 }
 
-/// The list of steps of a manner on a plan, up to a stop, from all nodes at the plan's start on. It has no more steps than are
-/// asked for, and no more than 1,000,000 where none or more are.
+/// The list of steps of a manner on a plan, up to a stop, from all nodes at the plan's start on. It has no more steps
+/// than are asked for, and no more than 1,000,000 where none or more are.
 ///
-/// `StopTooLarge` comes above 1,000,000,000, else `StopBelowStart` below the plan's start, and else `NoNode` where the manner
-/// names a node that is none of the network's; want of memory only where none of them does.
+/// `StopTooLarge` comes above 1,000,000,000, else `StopBelowStart` below the plan's start, and else `NoNode` where the
+/// manner names a node that is none of the network's; `Memory` only where none of them does.
 pub fn listed(
     alloc: Global,
     plan: Arc<Plan>,

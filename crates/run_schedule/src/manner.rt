@@ -5,8 +5,8 @@
 pub enum Manner {
     /// Whole sweeps: each node by rising number reads all its slots and then moves, until every node stands at the stop.
     Sweeps,
-    /// At each step one of those that would change something, drawn by lot, until every node stands at the stop. The same
-    /// seed gives the same list.
+    /// At each step one of those that would change something, drawn at random, until every node stands at the stop. The
+    /// same seed gives the same list.
     Random { seed: u64 },
     /// This node makes no step, and the others make theirs as long as they can. They come to rest at counts that are their
     /// distance from it after the start, or at the stop.

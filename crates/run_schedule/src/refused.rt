@@ -29,7 +29,7 @@ const MOST_REFUSED: u32 = 1_000;
 /// How many steps are drawn for a refused one, at most.
 const MOST_DRAWS: u32 = 8;
 
-/// A step of the network, drawn by lot: a node, and then one of its reads or its write.
+/// A step of the network, drawn at random: a node, and then one of its reads or its write.
 fn drawn_step(rng: &mut Pcg64, network: &Network) -> Step
     ensures there { IsStepOf network.now result }
 {
@@ -43,7 +43,7 @@ fn drawn_step(rng: &mut Pcg64, network: &Network) -> Step
     }
 }
 
-/// The first refused step of some that are drawn by lot, where there is one among them.
+/// The first refused step of some that are drawn at random, where there is one among them.
 fn refused_by_lot(world: &World, rng: &mut Pcg64) -> Option<Step>
     ensures { IfSome result (IsRefused world.now.plan.network world.now.stop world.now.counts) }
 {
@@ -90,7 +90,8 @@ fn linked_nodes(alloc: Global, network: &Network) -> Result<Vec<u32>, AllocError
     Ok(linked)
 }
 
-/// A refused step, drawn by lot. Where those that are drawn would all change something, one of a node that has a neighbour.
+/// A refused step, drawn at random. Where those that are drawn would all change something, one of a node that has a
+/// neighbour.
 fn refused_step(world: &World, rng: &mut Pcg64, linked: &[u32]) -> Option<Step>
     requires linked { All (IsLinked world.now.plan.network) linked.now }
     ensures refused { IfSome result (IsRefused world.now.plan.network world.now.stop world.now.counts) }
@@ -125,7 +126,7 @@ fn put_refused(
     Ok(())
 }
 
-/// Puts refused steps, drawn by lot, at the end, up to the limit: another one so many times in a hundred.
+/// Puts refused steps, drawn at random, at the end, up to the limit: another one so many times in a hundred.
 fn put_some_refused(
     world: &World,
     steps: &mut Vec<Step>,
@@ -180,13 +181,14 @@ fn mix(
     Ok(mixed)
 }
 
-/// A list of steps with refused ones mixed in, which change nothing: so many of a hundred, on the average. Before each step
-/// another one is put so many times in a hundred, at most 1,000 times, and after the last step none. It is drawn by lot among
-/// the steps of the network's nodes that would be refused there; in a network with no link there may be none. The same seed
-/// gives the same list. It has no more steps than are asked for, and no more than 1,000,000 where none or more are.
+/// A list of steps with refused ones mixed in, which change nothing: so many of a hundred, on the average. Before each
+/// step another one is put so many times in a hundred, at most 1,000 times, and after the last step none. It is drawn
+/// at random among the steps of the network's nodes that would be refused there; in a network with no link there may be
+/// none. The same seed gives the same list. It has no more steps than are asked for, and no more than 1,000,000 where
+/// none or more are.
 ///
-/// `StopTooLarge` comes above 1,000,000,000, and else `StopBelowStart` below the plan's start; want of memory only where neither
-/// does.
+/// `StopTooLarge` comes above 1,000,000,000, and else `StopBelowStart` below the plan's start; `Memory` only where
+/// neither does.
 pub fn with_refused(
     alloc: Global,
     plan: Arc<Plan>,
