@@ -164,7 +164,7 @@ fn refuse_span(reading: &mut Reading, found: &str) {
     ));
 }
 
-/// The rounds that `--rounds` and `--every` name. Where that are none wrong words are noted.
+/// The rounds that `--rounds` and `--every` name. Where they name none, invalid arguments are noted.
 pub(crate) fn span_in(reading: &mut Reading) -> Option<Span> {
     let every = reading.number_or(&EVERY_ARGUMENT, 1);
     let found = reading.needed_text(&ROUNDS_ARGUMENT);

@@ -100,7 +100,7 @@ pub const GROUPS: [Group; 4] = [
         ],
     },
     Group {
-        title: "For people at work",
+        title: "Help",
         tasks: &[Task::Why, Task::Completion, Task::Manual],
     },
 ];

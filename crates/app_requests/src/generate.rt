@@ -3,7 +3,7 @@ ghost use Rattle.std.specs.Prelude.{◌≤◌, IfOk, IfSome};
 
 use crate::arguments::{FLAG, NUMBER};
 use app_table::{Argument, Command, Kind, OPTION, Reading, Subcommand, Value, WordsFault, number};
-use net_random::Lot;
+use net_random::RandomNetwork;
 use net_shapes::Shape;
 use std::alloc::Global;
 
@@ -214,7 +214,7 @@ const SHAPE_SEED: Argument = Argument {
     ..SEED
 };
 
-/// Shapes and lots.
+/// Shapes and random networks.
 const SHAPES: [Subcommand; 14] = [
     Subcommand {
         name: "path",
@@ -328,7 +328,7 @@ pub(crate) fn generate() -> &'static Command {
 #[derive(Clone, Copy, PartialEq, Eq)]
 pub enum Topology {
     Shape(Shape),
-    Lot(Lot),
+    RandomNetwork(RandomNetwork),
 }
 
 /// Weights that are to be drawn, from a least to a greatest one, both included.
@@ -411,34 +411,34 @@ fn shape_in(reading: &mut Reading) -> Shape {
 }
 
 /// A small world of so many nodes.
-fn small_world_in(reading: &mut Reading, nodes: u32) -> Lot {
+fn small_world_in(reading: &mut Reading, nodes: u32) -> RandomNetwork {
     let near = size(reading, &NEAR_ARGUMENT);
     let rewire = size(reading, &REWIRE_ARGUMENT);
-    Lot::SmallWorld {
+    RandomNetwork::SmallWorld {
         nodes,
         near,
         rewire,
     }
 }
 
-/// The lot that is named, with its numbers.
-fn lot_in(reading: &mut Reading) -> Lot {
+/// The random network that is named, with its numbers.
+fn random_network_in(reading: &mut Reading) -> RandomNetwork {
     let nodes = size(reading, &NODES_ARGUMENT);
     match reading.subcommand() {
         "random" => {
             let links = size(reading, &LINKS_ARGUMENT);
-            Lot::Random { nodes, links }
+            RandomNetwork::Random { nodes, links }
         }
         "preferential" => {
             let each = size(reading, &LINKS_EACH_ARGUMENT);
-            Lot::Preferential { nodes, each }
+            RandomNetwork::Preferential { nodes, each }
         }
         "regular" => {
             let degree = size(reading, &DEGREE_ARGUMENT);
-            Lot::Regular { nodes, degree }
+            RandomNetwork::Regular { nodes, degree }
         }
         "small-world" => small_world_in(reading, nodes),
-        _ => Lot::Tree { nodes },
+        _ => RandomNetwork::Tree { nodes },
     }
 }
 
@@ -446,8 +446,8 @@ fn lot_in(reading: &mut Reading) -> Lot {
 fn topology_in(reading: &mut Reading) -> Topology {
     match reading.subcommand() {
         "random" | "random-tree" | "preferential" | "regular" | "small-world" => {
-            let lot = lot_in(reading);
-            Topology::Lot(lot)
+            let random = random_network_in(reading);
+            Topology::RandomNetwork(random)
         }
         _ => {
             let shape = shape_in(reading);
@@ -473,7 +473,7 @@ fn refuse_weights(reading: &mut Reading, found: &str) {
     ));
 }
 
-/// The weights that the words ask for, where they ask for some. A text that names none is noted as wrong words.
+/// The weights that the words ask for, where they ask for some. A text that names none is noted as an invalid argument.
 fn weights_in(reading: &mut Reading) -> Option<Weights>
     ensures ordered { IfSome result (λ w. w.low ≤ w.high) }
 {

@@ -3,7 +3,7 @@ ghost use Rattle.std.specs.Prelude.{◌≤◌, IfOk, IfSome};
 
 use crate::arguments::{FILE, FILE_OPTION, FLAG};
 use app_table::{Argument, Choice, Command, OPTION, Reading, Subcommand, Value, WordsFault};
-use import_links::{Doubles, Kept, Loops, Mending};
+use import_links::{Kept, Mending, ParallelLinks, SelfLoops};
 use std::alloc::Global;
 
 const TEXT: Argument = Argument {
@@ -184,7 +184,7 @@ pub struct ImportRequest {
     pub undirected: bool,
     /// What weights are multiplied by, where they are.
     pub factor: Option<u32>,
-    /// What becomes of loops and doubles.
+    /// What becomes of self-loops and parallel edges.
     pub mending: Mending,
 }
 
@@ -197,21 +197,21 @@ fn factor_in(reading: &mut Reading) -> Option<u32>
 }
 
 /// What becomes of edges between the same two nodes.
-fn doubles_in(reading: &mut Reading) -> Doubles {
+fn parallel_in(reading: &mut Reading) -> ParallelLinks {
     match reading.choice(&PARALLEL_ARGUMENT) {
-        None => Doubles::Refused,
-        Some("min") => Doubles::Merged(Kept::Least),
-        Some("max") => Doubles::Merged(Kept::Most),
-        Some(_) => Doubles::Merged(Kept::First),
+        None => ParallelLinks::Refused,
+        Some("min") => ParallelLinks::Merged(Kept::Least),
+        Some("max") => ParallelLinks::Merged(Kept::Most),
+        Some(_) => ParallelLinks::Merged(Kept::First),
     }
 }
 
 /// What becomes of loops.
-fn loops_in(reading: &Reading) -> Loops {
+fn self_loops_in(reading: &Reading) -> SelfLoops {
     if reading.has(&DROP_LOOPS_ARGUMENT) {
-        Loops::Dropped
+        SelfLoops::Dropped
     } else {
-        Loops::Refused
+        SelfLoops::Refused
     }
 }
 
@@ -230,7 +230,7 @@ fn request_in(reading: &mut Reading) -> ImportRequest
 {
     check_names(reading);
     let factor = factor_in(reading);
-    let doubles = doubles_in(reading);
+    let parallel = parallel_in(reading);
     let names = reading.text(&NAMES_ARGUMENT);
     let path = reading.needed_text(&TEXT_ARGUMENT);
     ImportRequest {
@@ -242,8 +242,8 @@ fn request_in(reading: &mut Reading) -> ImportRequest
         undirected: reading.has(&UNDIRECTED_ARGUMENT),
         factor,
         mending: Mending {
-            loops: loops_in(reading),
-            doubles,
+            self_loops: self_loops_in(reading),
+            parallel,
         },
     }
 }

@@ -124,7 +124,7 @@ pub struct SetWord {
 
 /// A word of `--set-random FIELD=VALUE:COUNT`.
 #[derive(Drop)]
-pub struct LotWord {
+pub struct RandomWord {
     pub field: String,
     pub value: u32,
     /// How many nodes are drawn.
@@ -151,7 +151,7 @@ pub struct InitRequest {
     /// The path of the names by which nodes are called, where they are.
     pub names: Option<String>,
     pub sets: Vec<SetWord>,
-    pub lots: Vec<LotWord>,
+    pub random: Vec<RandomWord>,
     pub cells: Vec<CellsWord>,
     /// How many columns the grid has in which patterns are put; where there are none, 1.
     pub width: u32,
@@ -208,7 +208,7 @@ fn sets_in(reading: &mut Reading) -> Vec<SetWord> {
 }
 
 /// The parts of a word of `--set-random`.
-fn lot_parts(word: &str) -> Option<(&str, u32, u32)> {
+fn random_parts(word: &str) -> Option<(&str, u32, u32)> {
     let (field, rest) = word.split_once('=')?;
     let (value, count) = rest.split_once(':')?;
     let value = number(value, 0, 4_294_967_295)?;
@@ -217,17 +217,17 @@ fn lot_parts(word: &str) -> Option<(&str, u32, u32)> {
 }
 
 /// Notes that a word of `--set-random` has not its parts.
-fn refuse_lot(reading: &mut Reading, word: &str) {
+fn refuse_random(reading: &mut Reading, word: &str) {
     reading.refuse_as(format!(in reading.alloc();
         "--set-random: expected FIELD=VALUE:COUNT, two whole numbers from 0 to 4294967295 behind the first =, found `{word}`"
     ));
 }
 
 /// The word of `--set-random`, where it has its parts.
-fn lot_word(reading: &mut Reading, word: &str) -> Option<LotWord> {
-    let (field, value, count) = lot_parts(word)?;
+fn random_word(reading: &mut Reading, word: &str) -> Option<RandomWord> {
+    let (field, value, count) = random_parts(word)?;
     let field = reading.copied(field);
-    Some(LotWord {
+    Some(RandomWord {
         field,
         value,
         count,
@@ -235,25 +235,25 @@ fn lot_word(reading: &mut Reading, word: &str) -> Option<LotWord> {
 }
 
 /// Puts a word behind the others.
-fn put_lot(lots: &mut Vec<LotWord>, reading: &mut Reading, word: &str) {
-    match lot_word(reading, word) {
-        Some(lot) => {
-            if lots.push(lot).is_err() {
+fn put_random(random: &mut Vec<RandomWord>, reading: &mut Reading, word: &str) {
+    match random_word(reading, word) {
+        Some(found) => {
+            if random.push(found).is_err() {
                 reading.refuse(WordsFault::Memory);
             }
         }
-        None => refuse_lot(reading, word),
+        None => refuse_random(reading, word),
     }
 }
 
 /// The words of `--set-random`, in their order.
-fn lots_in(reading: &mut Reading) -> Vec<LotWord> {
+fn random_in(reading: &mut Reading) -> Vec<RandomWord> {
     let words = reading.texts(&SET_RANDOM_ARGUMENT);
-    let mut lots = Vec::new(reading.alloc());
+    let mut random = Vec::new(reading.alloc());
     for word in &words {
-        put_lot(&mut lots, reading, word.as_str());
+        put_random(&mut random, reading, word.as_str());
     }
-    lots
+    random
 }
 
 /// The parts of a word of `--cells`: what stands before the first `=`, what follows up to the last `@`, and the two numbers
@@ -328,7 +328,7 @@ fn request_in(reading: &mut Reading) -> InitRequest
     let phase = phase_in(reading);
     let seed = reading.number_or(&SEED_ARGUMENT, 0);
     let width = reading.number_or(&GRID_WIDTH_ARGUMENT, 1);
-    let lots = lots_in(reading);
+    let random = random_in(reading);
     let cells = cells_in(reading);
     let sets = sets_in(reading);
     let names = reading.text(&NAMES_ARGUMENT);
@@ -337,7 +337,7 @@ fn request_in(reading: &mut Reading) -> InitRequest
         network,
         names,
         sets,
-        lots,
+        random,
         cells,
         width,
         seed,

@@ -23,7 +23,7 @@ pub use explain::ExplainRequest;
 pub use generate::{GenerateRequest, Topology, Weights};
 pub use import::{Format, ImportRequest};
 pub use info::InfoRequest;
-pub use init::{CellsWord, InitRequest, LotWord, SetWord};
+pub use init::{CellsWord, InitRequest, RandomWord, SetWord};
 pub use page::{PageRequest, PageRun, PageView};
 pub use schedule::{Limits, Listing, ScheduleRequest, StepsManner, Writing};
 pub use settle::SettleRequest;

@@ -1,4 +1,4 @@
-//! `schedule`: single steps, made in a manner or from lines for people.
+//! `schedule`: single steps, made in a manner or from a script.
 ghost use Rattle.std.specs.Prelude.{◌≤◌, IfOk};
 ghost use Rattle.app_requests.specs.Requests.{AreWithin, IsScheduleWithin};
 
@@ -118,7 +118,7 @@ const MANNERS: [Subcommand; 6] = [
     },
     Subcommand {
         name: "write",
-        about: "A schedule from lines for people",
+        about: "A schedule from a script, a line such as `4 reads 7` for each step",
         notes: "The lines: `4 reads 7`, `4 reads all`, `4 moves`, `4 turn` (reads all and moves), `sweep` (a turn of each node), and `repeat 3 {` and `}` around others; what stands behind # is a comment.\nAn example: printf 'sweep\\n0 turn\\n' | unison schedule write - examples/distance.rules examples/path.toml\n",
         arguments: &[LINES, PROGRAM, NETWORK, NAMES, FROM],
     },
@@ -129,7 +129,7 @@ static SCHEDULE: Command = Command {
     name: "schedule",
     aliases: &["steps"],
     called: "unison schedule",
-    about: "Make a schedule: sweeps, at random, one node starved or ahead, or from lines for people",
+    about: "Make a schedule: sweeps, at random, one node starved or ahead, or from a script",
     notes: "Prints a schedule, as replay, run and explain read it.\nAn example: unison schedule sweeps examples/distance.rules examples/path.toml --stop 2 > steps.txt\nThe words of one: unison schedule write --help\n",
     arguments: &[],
     subcommands: &MANNERS,
@@ -178,7 +178,7 @@ pub struct Listing {
     pub names: Option<String>,
 }
 
-/// Steps from lines for people.
+/// Steps from a script.
 #[derive(Drop)]
 pub struct Writing {
     pub plan: PlanPaths,

@@ -16,7 +16,7 @@ pub enum WordsFault {
 }
 
 impl WordsFault {
-    /// Wrong words, as this text says; running out of memory where it could not be made.
+    /// Invalid arguments, as this text says; running out of memory where it could not be made.
     pub fn told(text: Result<String, AllocError>) -> WordsFault {
         match text {
             Ok(text) => WordsFault::Usage { text },

@@ -215,7 +215,7 @@ fn words_in(alloc: Global, row: &Command, matches: &ArgMatches<'_>) -> Result<Wo
     }
 }
 
-/// What the parser's own error says: help, wrong words, or running out of memory.
+/// What the parser's own error says: help, invalid arguments, or running out of memory.
 fn fault_of(alloc: Global, error: &clap::Error) -> WordsFault {
     if error.kind() == ErrorKind::OutOfMemory {
         return WordsFault::Memory;

@@ -44,12 +44,12 @@ impl Reading {
         }
     }
 
-    /// Notes wrong words, as this text says; running out of memory where it could not be made.
+    /// Notes invalid arguments, as this text says; running out of memory where it could not be made.
     pub fn refuse_as(&mut self, text: Result<String, AllocError>) {
         self.refuse(WordsFault::told(text));
     }
 
-    /// Notes wrong words, as this text says.
+    /// Notes invalid arguments, as this text says.
     pub fn refuse_words(&mut self, text: &str) {
         self.refuse_as(String::from_str(self.alloc, text));
     }
@@ -109,7 +109,7 @@ impl Reading {
     }
 
     /// The number that an argument has, which lies within the table's limits, and `other` where it is not given or is no such
-    /// number, which is noted as wrong words.
+    /// number, which is noted as an invalid argument.
     pub fn number_or(&mut self, argument: &Argument, other: u32) -> u32
         ensures within { IsAllowedOr argument.now.value other result }
     {

@@ -94,7 +94,7 @@ fn value_text(alloc: Global, source: &Source, name: &str) -> Result<String, Allo
     }
 }
 
-/// Where the other item of a double stands.
+/// Where the other item of two parallel edges stands.
 fn other_hint(
     alloc: Global,
     text: &[u8],

@@ -187,7 +187,7 @@ pub fn number(text: &str, least: u32, most: u32) -> Option<u32>
     Some(number)
 }
 
-/// Wrong words, told by the name of the option or the argument.
+/// Invalid arguments, told by the name of the option or the argument.
 pub fn wrong_words(alloc: Global, name: &str) -> UsageFault
     ensures named { IsWrongWords name.now result }
 {
@@ -281,7 +281,7 @@ fn job_in(alloc: Global, words: &Words) -> Result<Job, UsageFault>
     }
 }
 
-/// The path that an argument has; where it has none, wrong words are noted.
+/// The path that an argument has; where it has none, invalid arguments are noted.
 fn path_in(reading: &mut Reading, argument: &Argument) -> String {
     if !reading.has(argument) {
         reading.refuse_words(argument.name);

@@ -9,9 +9,9 @@ use Rattle.std.specs.Map.{lookup, values_of}
 use Rattle.indexmap.specs.IndexMap.{insert_entry}
 use Rattle.net_text.specs.Listing.{Link}
 use Rattle.import_links.specs.declared.kept.Kept.{Kept}
-use Rattle.import_links.specs.Merging.{kept_of, are_double, with_kept, merged}
+use Rattle.import_links.specs.Merging.{kept_of, are_parallel, with_kept, merged}
 use Rattle.import_links.specs.Puts.{ends, are_same, put}
-use Rattle.import_links.proofs.Twins.{double_same, others_merged}
+use Rattle.import_links.proofs.Twins.{parallel_same, others_merged}
 
 -- the links of the entries with what is kept of later links, and behind them what the others of those make
 abbrev pub absorbed : Kept → List ((ℕ × ℕ) × Link) → List Link → List Link
@@ -38,8 +38,8 @@ filter_like p q h (x ∷ xs) = rw (h x, filter_like p q h xs) refl
 
 pub one_more : (k : Kept) (l : Link) (es : List ((ℕ × ℕ) × Link)) (ls : List Link) → absorbed k es (l ∷ ls) ≡ absorbed k (put k l es) ls
 one_more k l [] ls =
-    let own = filter_like (are_double l) (λ m. are_same (ends m) (ends l)) (double_same l) ls in
-    let rest = filter_like (λ m. not (are_double l m)) (λ m. not (are_same (ends m) (ends l))) (λ m. ap not (double_same l m)) ls in
+    let own = filter_like (are_parallel l) (λ m. are_same (ends m) (ends l)) (parallel_same l) ls in
+    let rest = filter_like (λ m. not (are_parallel l m)) (λ m. not (are_same (ends m) (ends l))) (λ m. ap not (parallel_same l m)) ls in
     rw (sym own, sym rest, others_merged k l ls) refl
 one_more k l (e ∷ es) ls =
     elim (cases_Bool (are_same (ends l) e.0)) [

@@ -7,7 +7,7 @@ use Rattle.std.specs.Cmp.{nat_eq_equiv}
 use Rattle.std.specs.List.{filter}
 use Rattle.net_text.specs.Listing.{Link}
 use Rattle.import_links.specs.declared.kept.Kept.{Kept}
-use Rattle.import_links.specs.Merging.{are_double, doubles_of, others_than, with_kept, merged}
+use Rattle.import_links.specs.Merging.{are_parallel, parallel_to, others_than, with_kept, merged}
 use Rattle.import_links.specs.Puts.{ends, are_same}
 
 same_numbers : (a b c d : ℕ) → ((a == c && b == d) || (a == d && b == c)) ≡ true → (min c d == min a b && max c d == max a b) ≡ true
@@ -16,9 +16,9 @@ same_numbers a b c d h = grind (arith, nat_tests)
 other_numbers : (a b c d : ℕ) → ((a == c && b == d) || (a == d && b == c)) ≡ false → (min c d == min a b && max c d == max a b) ≡ false
 other_numbers a b c d h = grind (arith, nat_tests)
 
-pub double_same : (l m : Link) → are_double l m ≡ are_same (ends m) (ends l)
-double_same l m =
-    elim (cases_Bool (are_double l m)) [
+pub parallel_same : (l m : Link) → are_parallel l m ≡ are_same (ends m) (ends l)
+parallel_same l m =
+    elim (cases_Bool (are_parallel l m)) [
       | inl near ↦ near ∙ sym (same_numbers l.0 l.1 m.0 m.1 near)
       | inr far ↦ far ∙ sym (other_numbers l.0 l.1 m.0 m.1 far)
     ]
@@ -35,14 +35,14 @@ same_pair p q h = let parts = and_parts (p.0 == q.0) (p.1 == q.1) h in same_part
 same_turned : (p q : ℕ × ℕ) → are_same p q ≡ are_same q p
 same_turned p q = rw (nat_eq_equiv.symm p.0 q.0, nat_eq_equiv.symm p.1 q.1) refl
 
-double_turned : (l m : Link) → are_double l m ≡ are_double m l
-double_turned l m = double_same l m ∙ same_turned (ends m) (ends l) ∙ sym (double_same m l)
+parallel_turned : (l m : Link) → are_parallel l m ≡ are_parallel m l
+parallel_turned l m = parallel_same l m ∙ same_turned (ends m) (ends l) ∙ sym (parallel_same m l)
 
--- what is double to one of two doubles is to the other
-double_like : (l x y : Link) → are_double l x ≡ true → are_double l y ≡ are_double x y
-double_like l x y h =
-    let same : ends x ≡ ends l = same_pair (ends x) (ends l) (sym (double_same l x) ∙ h) in
-    double_same l y ∙ ap (λ p. are_same (ends y) p) (sym same) ∙ sym (double_same x y)
+-- what is parallel to one of two parallel links is parallel to the other
+parallel_like : (l x y : Link) → are_parallel l x ≡ true → are_parallel l y ≡ are_parallel x y
+parallel_like l x y h =
+    let same : ends x ≡ ends l = same_pair (ends x) (ends l) (sym (parallel_same l x) ∙ h) in
+    parallel_same l y ∙ ap (λ p. are_same (ends y) p) (sym same) ∙ sym (parallel_same x y)
 
 -- a test behind a weaker one
 filter_weaker : {X : Type 0} (p q : X → Bool) → ((x : X) → p x ≡ true → q x ≡ true) → (xs : List X) → filter p (filter q xs) ≡ filter p xs
@@ -70,29 +70,29 @@ filter_swap p q (x ∷ xs) =
       ]
     ]
 
-not_double : (l x y : Link) → are_double l x ≡ false → are_double x y ≡ true → not (are_double l y) ≡ true
-not_double l x y apart h =
-    elim (cases_Bool (are_double l y)) [
+not_parallel : (l x y : Link) → are_parallel l x ≡ false → are_parallel x y ≡ true → not (are_parallel l y) ≡ true
+not_parallel l x y apart h =
+    elim (cases_Bool (are_parallel l y)) [
       | inl near ↦
-          let back : are_double l x ≡ true = double_like l y x near ∙ double_turned y x ∙ h in
+          let back : are_parallel l x ≡ true = parallel_like l y x near ∙ parallel_turned y x ∙ h in
           cc
       | inr far ↦ rw far refl
     ]
 
-others_like : (l x : Link) → are_double l x ≡ true → (y : Link) → not (are_double l y) ≡ true → not (are_double x y) ≡ true
-others_like l x h y far = rw (sym (double_like l x y h)) far
+others_like : (l x : Link) → are_parallel l x ≡ true → (y : Link) → not (are_parallel l y) ≡ true → not (are_parallel x y) ≡ true
+others_like l x h y far = rw (sym (parallel_like l x y h)) far
 
 -- the others of merged links are the others, merged
 pub others_merged : (k : Kept) (l : Link) (ls : List Link) → others_than l (merged k ls) ≡ merged k (others_than l ls)
 others_merged k l [] = refl
 others_merged k l (x ∷ xs) =
-    elim (cases_Bool (are_double l x)) [
+    elim (cases_Bool (are_parallel l x)) [
       | inl near ↦
-          let less = filter_weaker (λ y. not (are_double l y)) (λ y. not (are_double x y)) (others_like l x near) (merged k xs) in
+          let less = filter_weaker (λ y. not (are_parallel l y)) (λ y. not (are_parallel x y)) (others_like l x near) (merged k xs) in
           rw near (less ∙ others_merged k l xs)
       | inr far ↦
-          let own = filter_weaker (are_double x) (λ y. not (are_double l y)) (λ y h. not_double l x y far h) xs in
-          let turned = filter_swap (λ y. not (are_double l y)) (λ y. not (are_double x y)) (merged k xs) in
+          let own = filter_weaker (are_parallel x) (λ y. not (are_parallel l y)) (λ y h. not_parallel l x y far h) xs in
+          let turned = filter_swap (λ y. not (are_parallel l y)) (λ y. not (are_parallel x y)) (merged k xs) in
           let rest = turned ∙ ap (others_than x) (others_merged k l xs) in
-          rw (far, own) (ap (λ r. with_kept k x (doubles_of x xs) ∷ r) rest)
+          rw (far, own) (ap (λ r. with_kept k x (parallel_to x xs) ∷ r) rest)
     ]

@@ -12,16 +12,16 @@ kept_of Most earlier later = max earlier later
 kept_of First earlier later = earlier
 
 -- both links join the same two nodes, either way round
-abbrev pub are_double : Link → Link → Bool
-are_double l m = joins l.0 l.1 m
+abbrev pub are_parallel : Link → Link → Bool
+are_parallel l m = joins l.0 l.1 m
 
 -- the links that join the same two nodes as l
-abbrev pub doubles_of : Link → List Link → List Link
-doubles_of l ls = filter (are_double l) ls
+abbrev pub parallel_to : Link → List Link → List Link
+parallel_to l ls = filter (are_parallel l) ls
 
 -- the links that do not
 abbrev pub others_than : Link → List Link → List Link
-others_than l ls = filter (λ m. not (are_double l m)) ls
+others_than l ls = filter (λ m. not (are_parallel l m)) ls
 
 -- l, with the weight that is kept of its own and of those of later links
 abbrev pub with_kept : Kept → Link → List Link → Link
@@ -30,4 +30,4 @@ with_kept k l ls = (l.0, l.1, fold (kept_of k) l.2 (map (λ m. m.2) ls))
 -- one link for each two nodes that links join: the first one, with the weight that is kept of all that join them
 abbrev pub merged : Kept → List Link → List Link
 merged k [] = []
-merged k (l ∷ ls) = with_kept k l (doubles_of l ls) ∷ others_than l (merged k ls)
+merged k (l ∷ ls) = with_kept k l (parallel_to l ls) ∷ others_than l (merged k ls)

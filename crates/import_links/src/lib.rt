@@ -1,7 +1,6 @@
 //! The nodes and links that edges of a text make, and links made into those of a network.
 #![tactic(auto)]
 
-mod doubles;
 mod ends;
 mod join_fault;
 mod kept;
@@ -9,6 +8,7 @@ mod mending;
 mod mentions;
 mod merging;
 mod numbers;
+mod parallel;
 mod placed;
 mod settle_fault;
 mod settling;
@@ -17,7 +17,7 @@ mod straight;
 pub use ends::{Joined, join};
 pub use join_fault::JoinFault;
 pub use kept::Kept;
-pub use mending::{Doubles, Loops, Mending};
+pub use mending::{Mending, ParallelLinks, SelfLoops};
 pub use mentions::mentioned;
 pub use merging::merged;
 pub use numbers::{NumberFault, Numbered, join_numbers};

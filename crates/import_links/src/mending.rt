@@ -3,7 +3,7 @@ use crate::kept::Kept;
 
 /// What becomes of links of a node with itself.
 #[derive(Clone, Copy, Debug, PartialEq, Eq)]
-pub enum Loops {
+pub enum SelfLoops {
     /// They are refused.
     Refused,
     /// They are dropped.
@@ -12,7 +12,7 @@ pub enum Loops {
 
 /// What becomes of links that join the same two nodes.
 #[derive(Clone, Copy, Debug, PartialEq, Eq)]
-pub enum Doubles {
+pub enum ParallelLinks {
     /// They are refused.
     Refused,
     /// One link stands in their place.
@@ -22,6 +22,6 @@ pub enum Doubles {
 /// What becomes of links that no network has.
 #[derive(Clone, Copy, Debug, PartialEq, Eq)]
 pub struct Mending {
-    pub loops: Loops,
-    pub doubles: Doubles,
+    pub self_loops: SelfLoops,
+    pub parallel: ParallelLinks,
 }

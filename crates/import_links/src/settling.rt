@@ -2,10 +2,10 @@
 ghost use Rattle.std.specs.Prelude.{◌≡◌, ◌≢◌, ◌+◌, length, IfOk, IfErr, IfSome, Ok, Err};
 ghost use Rattle.net_text.specs.Listing.{listing_of};
 ghost use Rattle.import_links.specs.declared.settle_fault.SettleFault.TheVariants.{SelfLoop, Memory};
-ghost use Rattle.import_links.specs.Settling.{left_by, refused_loop, as_settled, settled};
+ghost use Rattle.import_links.specs.Settling.{left_by, refused_self_loop, as_settled, settled};
 
-use crate::doubles::single;
 use crate::mending::Mending;
+use crate::parallel::single;
 use crate::placed::PlacedLink;
 use crate::settle_fault::SettleFault;
 use crate::straight::unlooped;
@@ -46,13 +46,13 @@ pub fn settle(
     mending: Mending,
 ) -> Result<Settled, SettleFault>
     ensures links { IfOk result (λ s. settled nodes mending links.now ≡ Ok s.list) }
-    ensures dropped { IfOk result (λ s. s.dropped + length (left_by mending.loops links.now) ≡ length links.now) }
-    ensures merged { IfOk result (λ s. s.merged + length s.list.links ≡ length (left_by mending.loops links.now)) }
+    ensures dropped { IfOk result (λ s. s.dropped + length (left_by mending.self_loops links.now) ≡ length links.now) }
+    ensures merged { IfOk result (λ s. s.merged + length s.list.links ≡ length (left_by mending.self_loops links.now)) }
     ensures fault { IfErr result (λ fault. fault ≢ Memory → settled nodes mending links.now ≡ Err fault) }
-    ensures at_once { IfSome (refused_loop mending.loops links.now) (λ line. result ≡ Err (SelfLoop line)) }
+    ensures at_once { IfSome (refused_self_loop mending.self_loops links.now) (λ line. result ≡ Err (SelfLoop line)) }
 {
-    let straight = unlooped(alloc, links, mending.loops)?;
-    let single = single(alloc, straight.as_slice(), mending.doubles)?;
+    let straight = unlooped(alloc, links, mending.self_loops)?;
+    let single = single(alloc, straight.as_slice(), mending.parallel)?;
     let dropped = links.len() - straight.len();
     let merged = straight.len() - single.len();
     let list = listed(alloc, nodes, single)?;

@@ -2,26 +2,26 @@
 ghost use Rattle.std.specs.Prelude.{◌≡◌, ◌≢◌, ◌≤◌, length, OnOk, IfOk, IfErr, Ok, Err};
 ghost use Rattle.link_net.specs.Links.{is_self_link};
 ghost use Rattle.import_links.specs.declared.settle_fault.SettleFault.TheVariants.{Memory};
-ghost use Rattle.import_links.specs.Settling.{is_loop, first_loop, left_by, straight, unlooped};
+ghost use Rattle.import_links.specs.Settling.{is_self_loop, first_self_loop, left_by, straight, unlooped};
 
-use crate::mending::Loops;
+use crate::mending::SelfLoops;
 use crate::placed::PlacedLink;
 use crate::settle_fault::SettleFault;
 use std::alloc::{AllocError, Global};
 
 /// Whether a link joins a node with itself.
-fn is_loop(placed: &PlacedLink) -> bool
-    ensures { result ≡ is_loop placed.now }
+fn is_self_loop(placed: &PlacedLink) -> bool
+    ensures { result ≡ is_self_loop placed.now }
 {
     placed.link.0 == placed.link.1
 }
 
 /// The line of the first link of a node with itself.
-fn first_loop(links: &[PlacedLink]) -> Option<u64>
-    ensures { result ≡ first_loop links.now }
+fn first_self_loop(links: &[PlacedLink]) -> Option<u64>
+    ensures { result ≡ first_self_loop links.now }
 {
     for placed in links {
-        if is_loop(placed) {
+        if is_self_loop(placed) {
             return Some(placed.line);
         }
     }
@@ -34,7 +34,7 @@ fn straight(alloc: Global, links: &[PlacedLink]) -> Result<Vec<PlacedLink>, Allo
 {
     let mut left = Vec::new(alloc);
     for placed in links {
-        if !is_loop(placed) {
+        if !is_self_loop(placed) {
             left.push(*placed)?;
         }
     }
@@ -45,17 +45,17 @@ fn straight(alloc: Global, links: &[PlacedLink]) -> Result<Vec<PlacedLink>, Allo
 pub(crate) fn unlooped(
     alloc: Global,
     links: &[PlacedLink],
-    loops: Loops,
+    self_loops: SelfLoops,
 ) -> Result<Vec<PlacedLink>, SettleFault>
-    ensures left { IfOk result (λ v. v.items ≡ left_by loops links.now) }
+    ensures left { IfOk result (λ v. v.items ≡ left_by self_loops links.now) }
     ensures few { IfOk result (λ v. length v.items ≤ length links.now) }
-    ensures unlooped { IfOk result (λ v. unlooped loops links.now ≡ Ok v.items) }
-    ensures fault { IfErr result (λ fault. fault ≢ Memory → unlooped loops links.now ≡ Err fault) }
-    ensures refused { IfErr (unlooped loops links.now) (λ fault. result ≡ Err fault) }
+    ensures unlooped { IfOk result (λ v. unlooped self_loops links.now ≡ Ok v.items) }
+    ensures fault { IfErr result (λ fault. fault ≢ Memory → unlooped self_loops links.now ≡ Err fault) }
+    ensures refused { IfErr (unlooped self_loops links.now) (λ fault. result ≡ Err fault) }
 {
-    match loops {
-        Loops::Dropped => Ok(straight(alloc, links)?),
-        Loops::Refused => match first_loop(links) {
+    match self_loops {
+        SelfLoops::Dropped => Ok(straight(alloc, links)?),
+        SelfLoops::Refused => match first_self_loop(links) {
             Some(line) => Err(SettleFault::SelfLoop { line }),
             None => Ok(Vec::from_slice(alloc, links)?),
         },

@@ -70,8 +70,8 @@ pub record IsMadeOf (mending : Mending) (draft : Draft) (taken : Taken) : Type 0
   pub listing : Listing
   pub is_settled : settled draft.nodes mending draft.links ≡ Ok listing
   pub network : reading_of taken.network.items ≡ Ok (described listing 0 [])
-  pub dropped : taken.dropped + length (left_by mending.loops draft.links) ≡ length draft.links
-  pub merged : taken.merged + length listing.links ≡ length (left_by mending.loops draft.links)
+  pub dropped : taken.dropped + length (left_by mending.self_loops draft.links) ≡ length draft.links
+  pub merged : taken.merged + length listing.links ≡ length (left_by mending.self_loops draft.links)
   pub rounded : taken.rounded ≡ count_by is_rounded draft.links
 
 -- a text says something, and this was made of it

@@ -26,7 +26,7 @@ pub(crate) trait Step {
         ensures unread { result ≡ false → reads_round walk.old.rules ≡ false };
 }
 
-/// In one piece.
+/// Sequentially.
 #[derive(Drop)]
 pub(crate) struct InTurn;
 

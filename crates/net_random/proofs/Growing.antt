@@ -8,8 +8,8 @@ use Rattle.std.proofs.lemmas.List.Folds.{list_any-append}
 use Rattle.std.proofs.lemmas.List.Sums.{sum_by-append, sum_by-cons}
 use Rattle.link_net.specs.Links.{AllWithin, is_self_link, has_link_twice, joins, are_linked, linked_with}
 use Rattle.net_text.specs.Listing.{Link}
-use Rattle.net_random.specs.declared.lot.Lot.{Lot}
-use Rattle.net_random.specs.Lots.{grown_count, AreSimpleLinks, AreLinkedBack, HasLot}
+use Rattle.net_random.specs.declared.random_network.RandomNetwork.{RandomNetwork}
+use Rattle.net_random.specs.RandomNetworks.{grown_count, AreSimpleLinks, AreLinkedBack, IsOutcome}
 use Rattle.net_random.specs.Growth.{IsGrown, link_to, has, has_twice, IsChoice}
 use Rattle.net_random.proofs.Counting.{filter_same, count_in}
 use Rattle.net_random.proofs.Walks.{all_reach}
@@ -153,8 +153,8 @@ tree_count (suc n) some =
     let rest = ones 1 n (omega arith) in
     omega arith
 
-pub tree_has : (n : ℕ) (links : List Link) → 1 ≤ n → IsGrown 1 n links → HasLot (Lot.Tree n) links
+pub tree_has : (n : ℕ) (links : List Link) → 1 ≤ n → IsGrown 1 n links → IsOutcome (RandomNetwork.Tree n) links
 tree_has n links some grown = record { count = grown.count ∙ tree_count n some; simple = grown.simple; back = grown.back; degrees = λ u h. tt; connected = all_reach 1 n links (omega arith) grown.back }
 
-pub preferential_has : (n each : ℕ) (links : List Link) → IsGrown each n links → HasLot (Lot.Preferential n each) links
+pub preferential_has : (n each : ℕ) (links : List Link) → IsGrown each n links → IsOutcome (RandomNetwork.Preferential n each) links
 preferential_has n each links grown = record { count = grown.count; simple = grown.simple; back = grown.back; degrees = λ u h. tt; connected = λ some. all_reach each n links some grown.back }

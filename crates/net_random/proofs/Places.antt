@@ -8,7 +8,7 @@ use Rattle.std.proofs.Math.Nat.{div-add-mod, div-lt_iff_lt-mul, mod-lt}
 use Rattle.link_net.specs.Links.{AllWithin, is_self_link, has_link_twice, joins}
 use Rattle.rand.specs.Sample.{IsSampleOf}
 use Rattle.net_text.specs.Listing.{Link}
-use Rattle.net_random.specs.Lots.{pair_count, AreSimpleLinks}
+use Rattle.net_random.specs.RandomNetworks.{pair_count, AreSimpleLinks}
 use Rattle.net_random.specs.Pairs.{row_width, place_count, link_in_row, link_at}
 
 module _ (n : ℕ) (some : 1 ≤ n) where

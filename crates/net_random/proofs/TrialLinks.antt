@@ -10,8 +10,8 @@ use Rattle.net_text.specs.Listing.{Link, Listing, IsListing}
 use Rattle.std.proofs.lemmas.List.FromFn.{length-map-range_with_len}
 use Rattle.link_net.specs.Links.{network_of, neighbours_of}
 use Rattle.link_net.specs.Neighbours.{Neighbours, degree}
-use Rattle.net_random.specs.declared.lot.Lot.{Lot}
-use Rattle.net_random.specs.Lots.{node_count, link_count, is_by_trial, AreSimpleLinks, IsDegree, HasDegrees, HasLot}
+use Rattle.net_random.specs.declared.random_network.RandomNetwork.{RandomNetwork}
+use Rattle.net_random.specs.RandomNetworks.{node_count, link_count, is_by_trial, AreSimpleLinks, IsDegree, HasDegrees, IsOutcome}
 
 -- of four tests the first two fail, where none passes
 first_two : (a b c d : Bool) (ls : List Link)
@@ -26,22 +26,22 @@ simple n ls all is weights =
     let p = first_two (list_any is_self_link ls) (has_link_twice ls) (nat_lt most_links (length ls)) (is_crowded n ls) ls is in
     record { weights = weights; within = all; apart = p.0; once = p.1 }
 
--- links that a network may have, each of weight 1, and of so many at each node, are those of a lot that draws by trial
-pub trial_has : (lot : Lot) (list : Listing) → IsListing list → list.nodes ≡ node_count lot → length list.links ≡ link_count lot
-    → AllByRecursion (λ l. l.2 ≡ 1) list.links → HasDegrees lot list.links → is_by_trial lot ≡ true → HasLot lot list.links
-trial_has (Lot.Random n k) list is nodes count weights degrees trial = cc
-trial_has (Lot.Tree n) list is nodes count weights degrees trial = cc
-trial_has (Lot.Preferential n e) list is nodes count weights degrees trial = cc
-trial_has (Lot.Regular n d) list is nodes count weights degrees trial =
+-- links that a network may have, each of weight 1, and of so many at each node, make a random network that is drawn by trial
+pub trial_has : (wanted : RandomNetwork) (list : Listing) → IsListing list → list.nodes ≡ node_count wanted → length list.links ≡ link_count wanted
+    → AllByRecursion (λ l. l.2 ≡ 1) list.links → HasDegrees wanted list.links → is_by_trial wanted ≡ true → IsOutcome wanted list.links
+trial_has (RandomNetwork.Random n k) list is nodes count weights degrees trial = cc
+trial_has (RandomNetwork.Tree n) list is nodes count weights degrees trial = cc
+trial_has (RandomNetwork.Preferential n e) list is nodes count weights degrees trial = cc
+trial_has (RandomNetwork.Regular n d) list is nodes count weights degrees trial =
     record { count = count; simple = simple n list.links (rw nodes at is.within) (rw nodes at is.is_sound) weights; back = tt; degrees = degrees; connected = tt }
-trial_has (Lot.SmallWorld n k p) list is nodes count weights degrees trial =
+trial_has (RandomNetwork.SmallWorld n k p) list is nodes count weights degrees trial =
     record { count = count; simple = simple n list.links (rw nodes at is.within) (rw nodes at is.is_sound) weights; back = tt; degrees = degrees; connected = tt }
 
 -- the same, where the network that the links make has those numbers of neighbours
-pub trial_network_has : (lot : Lot) (list : Listing) → IsListing list → list.nodes ≡ node_count lot → length list.links ≡ link_count lot
+pub trial_network_has : (wanted : RandomNetwork) (list : Listing) → IsListing list → list.nodes ≡ node_count wanted → length list.links ≡ link_count wanted
     → AllByRecursion (λ l. l.2 ≡ 1) list.links
-    → ((u : ℕ) → u < length (network_of list.nodes list.links) → IsDegree lot (degree (network_of list.nodes list.links) u))
-    → is_by_trial lot ≡ true → HasLot lot list.links
-trial_network_has lot list is nodes count weights degrees =
+    → ((u : ℕ) → u < length (network_of list.nodes list.links) → IsDegree wanted (degree (network_of list.nodes list.links) u))
+    → is_by_trial wanted ≡ true → IsOutcome wanted list.links
+trial_network_has wanted list is nodes count weights degrees =
     let long = length-map-range_with_len (neighbours_of list.nodes list.links) 0 list.nodes in
-    trial_has lot list is nodes count weights (λ u low. rw (sym nodes) (degrees u (rw (long, nodes) low)))
+    trial_has wanted list is nodes count weights (λ u low. rw (sym nodes) (degrees u (rw (long, nodes) low)))

@@ -5,7 +5,7 @@ use Rattle.std.proofs.lemmas.Bool.{cases_Bool}
 use Rattle.std.proofs.lemmas.Bool.Decides.{nat_tests}
 use Rattle.link_net.specs.Links.{are_linked}
 use Rattle.net_text.specs.Listing.{Link}
-use Rattle.net_random.specs.Lots.{AreLinkedBack, is_walk, AllReach}
+use Rattle.net_random.specs.RandomNetworks.{AreLinkedBack, is_walk, AllReach}
 
 -- a number of a row that passes a test, where some does
 some_in : (p : ℕ → Bool) (a k : ℕ) → 1 ≤ length (filter p (range_with_len a k)) → (w : ℕ) × (w < a + k) × (p w ≡ true)

@@ -2,7 +2,7 @@
 use Rattle.std.specs.Prelude.{◌≡◌, ◌<◌, ◌==◌, ℕ, Bool, false, ◌||◌, List, [], ◌∷◌, ◌++◌, length, if◌then◌else◌}
 use Rattle.std.specs.List.{list_any, AllByRecursion}
 use Rattle.net_text.specs.Listing.{Link}
-use Rattle.net_random.specs.Lots.{grown_count, AreSimpleLinks, AreLinkedBack}
+use Rattle.net_random.specs.RandomNetworks.{grown_count, AreSimpleLinks, AreLinkedBack}
 
 -- the links that n nodes have so far
 pub record IsGrown (each n : ℕ) (links : List Link) : Type 0 where

@@ -1,5 +1,5 @@
 pub mod Drawn
-pub mod Lots
+pub mod RandomNetworks
 pub mod Sizes
 pub mod Pairs
 pub mod Growth

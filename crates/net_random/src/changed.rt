@@ -58,7 +58,7 @@ impl Changed {
         Ok(())
     }
 
-    /// Leads a link's second end to another node, where that makes no loop and no double. Whether it did.
+    /// Leads a link's second end to another node, where that makes no self-loop and no parallel edge. Whether it did.
     pub(crate) fn lead(&mut self, place: usize, node: u32) -> Result<bool, AllocError> {
         let Some(here) = self.links.get(place) else {
             return Ok(false);
@@ -72,7 +72,7 @@ impl Changed {
     }
 
     /// Exchanges the second ends of two links, the other one turned round first where that is said, where that makes no loop
-    /// and no double.
+    /// and no parallel edge.
     pub(crate) fn exchange(
         &mut self,
         place: usize,

@@ -1,13 +1,13 @@
-//! Why a lot has no network.
+//! Why a random network is not drawn.
 ghost use Rattle.std.specs.Prelude.{◌≡◌};
-ghost use Rattle.net_random.specs.declared.fault.LotFault.TheVariants.{Memory};
+ghost use Rattle.net_random.specs.declared.fault.RandomFault.TheVariants.{Memory};
 
 use std::alloc::AllocError;
 use thiserror::Error;
 
-/// Why a lot has no network. Where several hold, the first in this order.
+/// Why a random network is not drawn. Where several hold, the first in this order.
 #[derive(Clone, Copy, Debug, PartialEq, Eq, Error)]
-pub enum LotFault {
+pub enum RandomFault {
     /// The number of nodes is not from 1 to 65,536.
     #[error("NodeCount")]
     NodeCount,
@@ -20,7 +20,7 @@ pub enum LotFault {
     /// A node of the links that were drawn has more than 4,096 neighbours.
     #[error("TooManyNeighbours")]
     TooManyNeighbours,
-    /// Links that were drawn by trial are not the lot's; another seed may draw such ones.
+    /// Links that were drawn by trial make no such network; another seed may draw such ones.
     #[error("Undrawn")]
     Undrawn,
     /// Memory ran out.
@@ -28,10 +28,10 @@ pub enum LotFault {
     Memory,
 }
 
-impl From<AllocError> for LotFault {
+impl From<AllocError> for RandomFault {
     ghost from_gives = { λ _ e. e ≡ Memory };
 
-    fn from(_error: AllocError) -> LotFault {
-        LotFault::Memory
+    fn from(_error: AllocError) -> RandomFault {
+        RandomFault::Memory
     }
 }

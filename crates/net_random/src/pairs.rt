@@ -1,7 +1,7 @@
 //! Links at places among all pairs of nodes.
 ghost use Rattle.std.specs.Prelude.{◌≡◌, ◌≤◌, ◌<◌, All, length, map, IfOk};
 ghost use Rattle.link_net.specs.Limits.{most_nodes};
-ghost use Rattle.net_random.specs.Lots.{pair_count, AreSimpleLinks};
+ghost use Rattle.net_random.specs.RandomNetworks.{pair_count, AreSimpleLinks};
 ghost use Rattle.net_random.specs.Pairs.{row_width, place_count, link_at};
 
 use link_net::Link;

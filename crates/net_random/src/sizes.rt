@@ -1,10 +1,10 @@
-//! How large lots are.
+//! How large random networks are.
 ghost use Rattle.std.specs.Prelude.{◌≡◌, ◌≤◌};
 ghost use Rattle.link_net.specs.Limits.{most_nodes};
-ghost use Rattle.net_random.specs.Lots.{node_count, pair_count, grown_count, link_count, has_odd_ends, is_by_trial};
+ghost use Rattle.net_random.specs.RandomNetworks.{node_count, pair_count, grown_count, link_count, has_odd_ends, is_by_trial};
 ghost use Rattle.net_random.specs.Sizes.{refusal_of};
 
-use crate::{Lot, LotFault};
+use crate::{RandomFault, RandomNetwork};
 use link_net::{MOST_LINKS, MOST_NODES};
 
 /// How many pairs of nodes there are.
@@ -16,16 +16,16 @@ fn pair_count(nodes: u32) -> u64
     nodes as u64 * (nodes as u64 - 1) / 2
 }
 
-/// How many nodes the lot has.
-pub(crate) fn node_count(lot: &Lot) -> u32
-    ensures { result ≡ node_count lot.now }
+/// How many nodes the random network has.
+pub(crate) fn node_count(wanted: &RandomNetwork) -> u32
+    ensures { result ≡ node_count wanted.now }
 {
-    match *lot {
-        Lot::Random { nodes, .. } => nodes,
-        Lot::Tree { nodes } => nodes,
-        Lot::Preferential { nodes, .. } => nodes,
-        Lot::Regular { nodes, .. } => nodes,
-        Lot::SmallWorld { nodes, .. } => nodes,
+    match *wanted {
+        RandomNetwork::Random { nodes, .. } => nodes,
+        RandomNetwork::Tree { nodes } => nodes,
+        RandomNetwork::Preferential { nodes, .. } => nodes,
+        RandomNetwork::Regular { nodes, .. } => nodes,
+        RandomNetwork::SmallWorld { nodes, .. } => nodes,
     }
 }
 
@@ -41,52 +41,55 @@ pub(crate) fn grown_count(nodes: u32, each: u32) -> u64
     links
 }
 
-/// How many links the lot has.
-pub(crate) fn link_count(lot: &Lot) -> u64
-    requires some { 1 ≤ node_count lot.now }
-    requires small { node_count lot.now ≤ most_nodes }
-    ensures { result ≡ link_count lot.now }
+/// How many links the random network has.
+pub(crate) fn link_count(wanted: &RandomNetwork) -> u64
+    requires some { 1 ≤ node_count wanted.now }
+    requires small { node_count wanted.now ≤ most_nodes }
+    ensures { result ≡ link_count wanted.now }
 {
-    match *lot {
-        Lot::Random { links, .. } => links as u64,
-        Lot::Tree { nodes } => nodes as u64 - 1,
-        Lot::Preferential { nodes, each } => grown_count(nodes, each),
-        Lot::Regular { nodes, degree } => nodes as u64 * degree as u64 / 2,
-        Lot::SmallWorld { nodes, near, .. } => nodes as u64 * near as u64,
+    match *wanted {
+        RandomNetwork::Random { links, .. } => links as u64,
+        RandomNetwork::Tree { nodes } => nodes as u64 - 1,
+        RandomNetwork::Preferential { nodes, each } => grown_count(nodes, each),
+        RandomNetwork::Regular { nodes, degree } => nodes as u64 * degree as u64 / 2,
+        RandomNetwork::SmallWorld { nodes, near, .. } => nodes as u64 * near as u64,
     }
 }
 
-/// Whether the lot's links are drawn by trial.
-pub(crate) fn is_by_trial(lot: &Lot) -> bool
-    ensures { result ≡ is_by_trial lot.now }
+/// Whether the random network's links are drawn by trial.
+pub(crate) fn is_by_trial(wanted: &RandomNetwork) -> bool
+    ensures { result ≡ is_by_trial wanted.now }
 {
-    matches!(*lot, Lot::Regular { .. } | Lot::SmallWorld { .. })
+    matches!(
+        *wanted,
+        RandomNetwork::Regular { .. } | RandomNetwork::SmallWorld { .. }
+    )
 }
 
-/// Whether the lot asks for an odd number of ends of links.
-fn has_odd_ends(lot: &Lot) -> bool
-    ensures { result ≡ has_odd_ends lot.now }
+/// Whether the random network has an odd number of ends of links.
+fn has_odd_ends(wanted: &RandomNetwork) -> bool
+    ensures { result ≡ has_odd_ends wanted.now }
 {
-    match *lot {
-        Lot::Regular { nodes, degree } => nodes % 2 == 1 && degree % 2 == 1,
+    match *wanted {
+        RandomNetwork::Regular { nodes, degree } => nodes % 2 == 1 && degree % 2 == 1,
         _ => false,
     }
 }
 
-/// Why the lot has no network, whatever is drawn.
-pub(crate) fn refusal(lot: &Lot) -> Option<LotFault>
-    ensures { result ≡ refusal_of lot.now }
+/// Why the random network cannot be drawn, whatever the seed.
+pub(crate) fn refusal(wanted: &RandomNetwork) -> Option<RandomFault>
+    ensures { result ≡ refusal_of wanted.now }
 {
-    let nodes = node_count(lot);
+    let nodes = node_count(wanted);
     if nodes < 1 || nodes > MOST_NODES {
-        return Some(LotFault::NodeCount);
+        return Some(RandomFault::NodeCount);
     }
-    let links = link_count(lot);
+    let links = link_count(wanted);
     if links > MOST_LINKS as u64 || links > pair_count(nodes) {
-        return Some(LotFault::TooManyLinks);
+        return Some(RandomFault::TooManyLinks);
     }
-    if has_odd_ends(lot) {
-        return Some(LotFault::OddEnds);
+    if has_odd_ends(wanted) {
+        return Some(RandomFault::OddEnds);
     }
     None
 }

@@ -1,4 +1,4 @@
-//! Schedules that are written from lines for people.
+//! Schedules that are written as scripts: a line such as `4 reads 7` for each step.
 #![tactic(auto)]
 
 mod action;

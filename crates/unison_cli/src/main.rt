@@ -68,7 +68,7 @@ fn refused(error: &io::Error, ending: Ending) -> Ending {
     }
 }
 
-/// The words of the command line. One that is no UTF-8 is a wrong word.
+/// The words of the command line. One that is no UTF-8 is an invalid argument.
 fn words_of(rt: &HostRuntime) -> Result<Vec<String>, Ending> {
     match env::args(rt) {
         Ok(words) => Ok(words.collect(rt.alloc())?),

@@ -29,7 +29,7 @@ pub(crate) enum Ending {
 }
 
 impl Ending {
-    /// Wrong words, as this text says; running out of memory where it could not be made.
+    /// Invalid arguments, as this text says; running out of memory where it could not be made.
     pub(crate) fn usage(text: Result<String, AllocError>) -> Ending {
         match text {
             Ok(text) => Ending::Usage(text),

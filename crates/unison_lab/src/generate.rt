@@ -1,9 +1,9 @@
-//! `generate SHAPE NUMBERS..`: the network file of a shape, or of a lot.
+//! `generate SHAPE NUMBERS..`: the network file of a shape, or of a random network.
 
 use crate::ending::Ending;
 use crate::output::print_out;
 use app_requests::{GenerateRequest, Topology, Weights};
-use net_random::{Lot, LotFault, WeightFault, drawn, drawn_text, weighted_text};
+use net_random::{RandomFault, RandomNetwork, WeightFault, drawn, drawn_text, weighted_text};
 use net_shapes::{Shape, ShapeFault, links_of, made_text};
 use net_text::LinkList;
 use std::alloc::Global;
@@ -34,18 +34,18 @@ fn no_network(alloc: Global, shape: &Shape, fault: ShapeFault) -> Ending {
     Ending::usage(String::from_str(alloc, text))
 }
 
-/// The ending where a lot has no network.
-fn no_lot(alloc: Global, fault: LotFault) -> Ending {
+/// The ending where a random network cannot be drawn.
+fn no_random(alloc: Global, fault: RandomFault) -> Ending {
     let text = match fault {
-        LotFault::NodeCount => "there are 1 to 65536 nodes",
-        LotFault::TooManyLinks =>
+        RandomFault::NodeCount => "there are 1 to 65536 nodes",
+        RandomFault::TooManyLinks =>
             "a network has 262144 links at most, and no more than there are pairs of nodes",
-        LotFault::TooManyNeighbours =>
+        RandomFault::TooManyNeighbours =>
             "a node came out with more than 4096 neighbours: take another seed, or fewer links",
-        LotFault::OddEnds =>
+        RandomFault::OddEnds =>
             "--degree: an odd number of nodes cannot have an odd number of neighbours each: take one node or neighbour more",
-        LotFault::Undrawn => "by this seed no such network came out: take another one",
-        LotFault::Memory => return Ending::Memory,
+        RandomFault::Undrawn => "by this seed no such network came out: take another one",
+        RandomFault::Memory => return Ending::Memory,
     };
     Ending::usage(String::from_str(alloc, text))
 }
@@ -69,11 +69,11 @@ fn shape_links(alloc: Global, shape: &Shape) -> Result<LinkList, Ending> {
     }
 }
 
-/// The links of a lot.
-fn lot_links(alloc: Global, lot: &Lot, seed: u32) -> Result<LinkList, Ending> {
-    match drawn(alloc, lot, seed as u64) {
+/// The links of a random network.
+fn random_links(alloc: Global, random: &RandomNetwork, seed: u32) -> Result<LinkList, Ending> {
+    match drawn(alloc, random, seed as u64) {
         Ok(links) => Ok(links),
-        Err(fault) => Err(no_lot(alloc, fault)),
+        Err(fault) => Err(no_random(alloc, fault)),
     }
 }
 
@@ -81,7 +81,7 @@ fn lot_links(alloc: Global, lot: &Lot, seed: u32) -> Result<LinkList, Ending> {
 fn links_for(alloc: Global, asked: &GenerateRequest) -> Result<LinkList, Ending> {
     match &asked.topology {
         Topology::Shape(shape) => shape_links(alloc, shape),
-        Topology::Lot(lot) => lot_links(alloc, lot, asked.seed),
+        Topology::RandomNetwork(random) => random_links(alloc, random, asked.seed),
     }
 }
 
@@ -108,11 +108,11 @@ fn shape_text(alloc: Global, shape: &Shape) -> Result<Vec<u8>, Ending> {
     }
 }
 
-/// The network file of a lot, all of whose links have weight 1.
-fn lot_text(alloc: Global, lot: &Lot, seed: u32) -> Result<Vec<u8>, Ending> {
-    match drawn_text(alloc, lot, seed as u64) {
+/// The network file of a random network, all of whose links have weight 1.
+fn random_text(alloc: Global, random: &RandomNetwork, seed: u32) -> Result<Vec<u8>, Ending> {
+    match drawn_text(alloc, random, seed as u64) {
         Ok(text) => Ok(text),
-        Err(fault) => Err(no_lot(alloc, fault)),
+        Err(fault) => Err(no_random(alloc, fault)),
     }
 }
 
@@ -133,11 +133,11 @@ fn text_for(alloc: Global, asked: &GenerateRequest) -> Result<Vec<u8>, Ending> {
     }
     match &asked.topology {
         Topology::Shape(shape) => shape_text(alloc, shape),
-        Topology::Lot(lot) => lot_text(alloc, lot, asked.seed),
+        Topology::RandomNetwork(random) => random_text(alloc, random, asked.seed),
     }
 }
 
-/// Prints the network file of a shape or a lot. The status with which the program ends.
+/// Prints the network file of a shape or a random network. The status with which the program ends.
 pub(crate) fn generate_network(rt: &HostRuntime, words: &[String]) -> Result<u8, Ending> {
     let asked = GenerateRequest::parse(rt.alloc(), words)?;
     let text = text_for(rt.alloc(), &asked)?;

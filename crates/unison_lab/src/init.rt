@@ -6,7 +6,7 @@ use crate::files::{path_in, read_once};
 use crate::info::file_at;
 use crate::names::names_at;
 use crate::output::print_out;
-use app_requests::{InitRequest, LotWord, SetWord};
+use app_requests::{InitRequest, RandomWord, SetWord};
 use app_table::number;
 use link_net::{MOST_NODES, Name, NetFile};
 use net_initial::{Chosen, DrawFault, OpenFault, Opening, drawn_nodes, opened_text};
@@ -116,7 +116,7 @@ fn put_drawn_word(
     openings: &mut Vec<Opening>,
     alloc: Global,
     nodes: u32,
-    word: &LotWord,
+    word: &RandomWord,
     seed: u64,
 ) -> Result<(), Ending> {
     match drawn_nodes(alloc, nodes, word.count, seed) {
@@ -139,7 +139,7 @@ fn put_drawn(
     asked: &InitRequest,
 ) -> Result<(), Ending> {
     let mut seed = asked.seed as u64;
-    for word in &asked.lots {
+    for word in &asked.random {
         seed = seed.wrapping_add(4_294_967_296);
         put_drawn_word(openings, alloc, nodes, word, seed)?;
     }

@@ -1,4 +1,4 @@
-//! Unison for people at work: what the five commands have beside them.
+//! Unison's other commands, beside the five of `unison_cli`.
 #![tactic(auto)]
 
 mod cells;
@@ -48,7 +48,7 @@ use std::process::ExitCode;
 use std::thread::Threads;
 use std::{env, io};
 
-/// The words of the command line. One that is no UTF-8 is a wrong word.
+/// The words of the command line. One that is no UTF-8 is an invalid argument.
 fn words_of(rt: &HostRuntime) -> Result<Vec<String>, Ending> {
     match env::args(rt) {
         Ok(words) => Ok(words.collect(rt.alloc())?),
@@ -139,7 +139,7 @@ fn print_served(rt: &HostRuntime, fault: &ServeFault) -> io::Result<()> {
     }
 }
 
-/// Prints the line of wrong words, and what is told of them.
+/// Prints the line of invalid arguments, and what is told of them.
 fn print_usage(rt: &HostRuntime, text: &str) -> io::Result<()> {
     match around_advice(text) {
         Some((front, back)) => eprintln!(rt; "fault: usage\n{front}\n\n{back}"),

@@ -300,7 +300,7 @@ fn net_told(fault: NetFault) -> Told {
     }
 }
 
-/// What is wrong with loops, doubles and links.
+/// What is wrong with self-loops, parallel edges and links.
 fn settle_told(fault: SettleFault) -> Told {
     match fault {
         SettleFault::SelfLoop { line } => (
@@ -308,9 +308,9 @@ fn settle_told(fault: SettleFault) -> Told {
             "SelfLoop",
             "a node is joined with itself (--drop-loops drops such edges)",
         ),
-        SettleFault::Double { line, .. } => (
+        SettleFault::Parallel { line, .. } => (
             Some(line),
-            "Double",
+            "Parallel",
             "an earlier edge joins these two nodes (--parallel min, max or first keeps one)",
         ),
         SettleFault::Net(fault) => net_told(fault),
@@ -360,7 +360,7 @@ fn token_text(kind: TokenKind) -> &'static str {
 /// Adds what is told beside: the earlier edge of two, how many entries there are, and what was found.
 fn put_detail(draft: &mut Draft, fault: TakeFault) {
     match fault {
-        TakeFault::Settle(SettleFault::Double { first, .. }) => {
+        TakeFault::Settle(SettleFault::Parallel { first, .. }) => {
             draft.put("; it stands on line ");
             draft.put_count(first);
         }

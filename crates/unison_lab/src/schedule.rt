@@ -1,4 +1,4 @@
-//! `schedule MANNER PROGRAM NETWORK`: schedules, made in a manner or from lines for people.
+//! `schedule MANNER PROGRAM NETWORK`: schedules, made in a manner or from a script.
 
 use crate::ending::Ending;
 use crate::files::{bytes_at, name_at, path_in, read_once};

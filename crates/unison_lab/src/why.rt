@@ -36,7 +36,7 @@ pub(crate) fn value_of<'w>(words: &'w [String], option: &str) -> Option<&'w str>
     None
 }
 
-/// What is told of wrong words: for a number outside its limits the option, what was given, and what is allowed.
+/// What is told of invalid arguments: for a number outside its limits the option, what was given, and what is allowed.
 fn usage_text(alloc: Global, words: &[String], text: String) -> Result<String, AllocError> {
     match value_of(words, text.as_str()) {
         Some(value) => {

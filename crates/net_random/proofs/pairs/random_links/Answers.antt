@@ -1,6 +1,6 @@
 use Rattle.std.proofs.Common.{map, ap, sym, subst, ◌∙◌}
 use Rattle.std.proofs.lemmas.Result.{IfOk-weaker}
-use Rattle.net_random.specs.Lots.{AreSimpleLinks}
+use Rattle.net_random.specs.RandomNetworks.{AreSimpleLinks}
 use Rattle.net_random.specs.Pairs.{link_at}
 use Rattle.net_random.proofs.Places.{places_are_pairs, simple_at}
 use Rattle.net_random.proofs.pairs.random_links.Goals as goal

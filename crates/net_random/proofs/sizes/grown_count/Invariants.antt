@@ -1,6 +1,6 @@
 use Rattle.std.proofs.Common.{◌≡◌, ◌≤◌, ◌*◌}
 use Rattle.link_net.specs.Limits.{most_nodes}
-use Rattle.net_random.specs.Lots.{grown_count}
+use Rattle.net_random.specs.RandomNetworks.{grown_count}
 use Rattle.net_random.proofs.sizes.grown_count.Given as goal
 
 abbrev pub invariant-loop-node : goal.invariant-loop-node

@@ -1,9 +1,9 @@
 //! Links that join the same two nodes.
 ghost use Rattle.std.specs.Prelude.{◌≡◌, ◌≢◌, ◌≤◌, length, OnOk, IfOk, IfErr, Ok, Err};
 ghost use Rattle.import_links.specs.declared.settle_fault.SettleFault.TheVariants.{Memory};
-ghost use Rattle.import_links.specs.Settling.{first_double, links_of, single};
+ghost use Rattle.import_links.specs.Settling.{first_parallel, links_of, single};
 
-use crate::mending::Doubles;
+use crate::mending::ParallelLinks;
 use crate::merging::{ends, merged};
 use crate::placed::PlacedLink;
 use crate::settle_fault::SettleFault;
@@ -23,8 +23,8 @@ fn plain(alloc: Global, links: &[PlacedLink]) -> Result<Vec<Link>, AllocError>
 }
 
 /// The lines of the first link that joins the same two nodes as an earlier one, and of the first of those.
-fn first_double(alloc: Global, links: &[PlacedLink]) -> Result<Option<(u64, u64)>, AllocError>
-    ensures { IfOk result (λ lines. lines ≡ first_double links.now) }
+fn first_parallel(alloc: Global, links: &[PlacedLink]) -> Result<Option<(u64, u64)>, AllocError>
+    ensures { IfOk result (λ lines. lines ≡ first_parallel links.now) }
 {
     let mut lines = IndexMap::new(alloc);
     for placed in links {
@@ -41,17 +41,17 @@ fn first_double(alloc: Global, links: &[PlacedLink]) -> Result<Option<(u64, u64)
 pub(crate) fn single(
     alloc: Global,
     links: &[PlacedLink],
-    doubles: Doubles,
+    parallel: ParallelLinks,
 ) -> Result<Vec<Link>, SettleFault>
-    ensures single { IfOk result (λ v. single doubles links.now ≡ Ok v.items) }
+    ensures single { IfOk result (λ v. single parallel links.now ≡ Ok v.items) }
     ensures few { IfOk result (λ v. length v.items ≤ length links.now) }
-    ensures fault { IfErr result (λ fault. fault ≢ Memory → single doubles links.now ≡ Err fault) }
+    ensures fault { IfErr result (λ fault. fault ≢ Memory → single parallel links.now ≡ Err fault) }
 {
     let plain = plain(alloc, links)?;
-    match doubles {
-        Doubles::Merged(kept) => Ok(merged(alloc, plain.as_slice(), kept)?),
-        Doubles::Refused => match first_double(alloc, links)? {
-            Some((line, first)) => Err(SettleFault::Double { line, first }),
+    match parallel {
+        ParallelLinks::Merged(kept) => Ok(merged(alloc, plain.as_slice(), kept)?),
+        ParallelLinks::Refused => match first_parallel(alloc, links)? {
+            Some((line, first)) => Err(SettleFault::Parallel { line, first }),
             None => Ok(plain),
         },
     }

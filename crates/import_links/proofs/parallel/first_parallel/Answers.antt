@@ -1,7 +1,7 @@
 use Rattle.std.proofs.Common.{◌∙◌, refl, sym, ap, false}
 use Rattle.std.specs.Option.{option_copied}
 use Rattle.import_links.proofs.Firsts.{is_first, is_new, notes_next}
-use Rattle.import_links.proofs.doubles.first_double.Goals as goal
+use Rattle.import_links.proofs.parallel.first_parallel.Goals as goal
 
 pub returns-in-Some : goal.returns-in-Some
 returns-in-Some c =

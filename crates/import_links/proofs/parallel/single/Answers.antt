@@ -1,6 +1,6 @@
 use Rattle.std.proofs.Common.{◌∙◌}
 use Rattle.import_links.proofs.Fewer.{fewer_merged}
-use Rattle.import_links.proofs.doubles.single.Goals as goal
+use Rattle.import_links.proofs.parallel.single.Goals as goal
 
 pub returns-in_ok-merged-in-Merged-clause-few : goal.returns-in_ok-merged-in-Merged-clause-few
 returns-in_ok-merged-in-Merged-clause-few c =

@@ -1,6 +1,0 @@
-use Rattle.std.proofs.Common.{◌≡◌, drop}
-use Rattle.import_links.specs.Settling.{first_loop}
-use Rattle.import_links.proofs.straight.first_loop.Given as goal
-
-abbrev pub invariant-loop-placed : goal.invariant-loop-placed
-invariant-loop-placed l = first_loop (drop l.placed-index l.links) ≡ first_loop l.links
