@@ -1,4 +1,4 @@
--- Which numbers a command line may ask for, and how wrong words are told.
+-- Which numbers a command line may ask for, and how invalid arguments are told.
 use Rattle.std.specs.Prelude.{◌≡◌, ◌≤◌, ℕ, List, string_bytes}
 use Rattle.rounds_plan.specs.Configs.{most_rounds}
 use Rattle.app_jobs.specs.declared.job.Job.{Job}
@@ -14,8 +14,8 @@ IsWithinLimits (Run rounds workers traced) = (rounds ≤ most_rounds) × (1 ≤ 
 IsWithinLimits (Replay stop) = stop ≤ most_rounds
 IsWithinLimits (Compare rounds workers) = (rounds ≤ most_rounds) × (1 ≤ workers) × (workers ≤ 64)
 
--- wrong words, told by the name of the option or the argument; running out of memory for that name may come in their place
-abbrev pub IsWrongWords : List ℕ → UsageFault → Type 0
-IsWrongWords name (fault.Help text) = ⊥
-IsWrongWords name (fault.Usage text) = string_bytes text ≡ name
-IsWrongWords name fault.Memory = Unit {0}
+-- an invalid argument, told by the name of the option or the argument; running out of memory for that name may come in their place
+abbrev pub IsInvalidArgument : List ℕ → UsageFault → Type 0
+IsInvalidArgument name (fault.Help text) = ⊥
+IsInvalidArgument name (fault.Usage text) = string_bytes text ≡ name
+IsInvalidArgument name fault.Memory = Unit {0}

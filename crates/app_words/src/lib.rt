@@ -5,6 +5,4 @@ mod request;
 mod words;
 
 pub use request::{Request, UsageFault};
-pub use words::{
-    command, command_as, five_commands, job_by, job_of, number, number_in, wrong_words,
-};
+pub use words::{command, command_as, five_commands, invalid_argument, job_by, job_of, number_in};

@@ -1,11 +1,11 @@
 //! The command line: which job the words ask for.
-ghost use Rattle.std.specs.Prelude.{◌≡◌, ◌≤◌, IfOk, IfSome};
+ghost use Rattle.std.specs.Prelude.{◌≡◌, ◌≤◌, IfOk};
 ghost use Rattle.rounds_plan.specs.Configs.{most_rounds};
-ghost use Rattle.app_words.specs.Requests.{IsWithinLimits, IsWrongWords};
+ghost use Rattle.app_words.specs.Requests.{IsWithinLimits, IsInvalidArgument};
 
 use crate::request::{Request, UsageFault};
 use app_jobs::Job;
-use app_table::{Argument, Command, Kind, OPTION, Reading, Subcommand, Value, Words};
+use app_table::{Argument, Command, Kind, OPTION, Reading, Subcommand, Value, Words, number};
 use rounds_plan::MOST_ROUNDS;
 use std::alloc::{AllocError, Global};
 use unison_pool::MOST_WORKERS;
@@ -173,23 +173,9 @@ pub fn command() -> Command {
     )
 }
 
-/// The number that decimal digits write, where it lies between the bounds.
-pub fn number(text: &str, least: u32, most: u32) -> Option<u32>
-    ensures within { IfSome result (λ n. (least ≤ n) × (n ≤ most)) }
-{
-    if !text.bytes().all(|byte| byte.is_ascii_digit()) {
-        return None;
-    }
-    let number = text.parse::<u32>().ok()?;
-    if number < least || number > most {
-        return None;
-    }
-    Some(number)
-}
-
 /// Invalid arguments, told by the name of the option or the argument.
-pub fn wrong_words(alloc: Global, name: &str) -> UsageFault
-    ensures named { IsWrongWords name.now result }
+pub fn invalid_argument(alloc: Global, name: &str) -> UsageFault
+    ensures named { IsInvalidArgument name.now result }
 {
     match String::from_str(alloc, name) {
         Ok(text) => UsageFault::Usage { text },
@@ -210,7 +196,7 @@ pub fn number_in(
     let text = words.first(argument).unwrap_or("");
     match number(text, least, most) {
         Some(number) => Ok(number),
-        None => Err(wrong_words(alloc, argument.name)),
+        None => Err(invalid_argument(alloc, argument.name)),
     }
 }
 
@@ -277,7 +263,7 @@ fn job_in(alloc: Global, words: &Words) -> Result<Job, UsageFault>
         "replay" => replay_in(alloc, words),
         "compare" => compare_in(alloc, words),
         "check" => Ok(Job::Check),
-        _ => Err(wrong_words(alloc, "command")),
+        _ => Err(invalid_argument(alloc, "command")),
     }
 }
 
