@@ -33,7 +33,7 @@ use unison_trace::{ReplayFault, ScheduleFault};
 use unison_world::OpenFault;
 
 /// The first fault of a job, where it has one, and what people are told.
-#[derive(Debug, Drop)]
+#[derive(Drop)]
 pub struct Finding {
     /// The fault with which the job ends; none where nothing refuses it.
     pub fault: Option<ServeFault>,

@@ -1,14 +1,14 @@
 //! What is told of a fault.
 
 /// A text, with the name under which people know it: the path of its file.
-#[derive(Clone, Copy, Debug)]
+#[derive(Clone, Copy)]
 pub struct Named<'a> {
     pub name: &'a str,
     pub text: &'a [u8],
 }
 
 /// The texts of a job; one that the job does not read is not there.
-#[derive(Clone, Copy, Debug)]
+#[derive(Clone, Copy)]
 pub struct Texts<'a> {
     pub program: Named<'a>,
     pub network: Option<Named<'a>>,
@@ -18,7 +18,7 @@ pub struct Texts<'a> {
 }
 
 /// One of the texts of a job.
-#[derive(Clone, Copy, Debug, PartialEq, Eq)]
+#[derive(Clone, Copy, PartialEq, Eq)]
 pub(crate) enum Part {
     Program,
     Network,
@@ -27,7 +27,7 @@ pub(crate) enum Part {
 }
 
 /// What is told of a fault: in which text it lies and at which byte, what is wrong, and what to do.
-#[derive(Debug, Drop)]
+#[derive(Drop)]
 pub(crate) struct Told {
     /// The text; none where the fault lies in no text.
     pub(crate) part: Option<Part>,

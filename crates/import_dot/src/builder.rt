@@ -8,7 +8,7 @@ use import_lines::{Edge, Mention, Weight};
 use std::alloc::{AllocError, Global};
 
 /// What a text says.
-#[derive(Debug, Drop)]
+#[derive(Drop)]
 pub struct Graph<'a> {
     /// Each node that the text names, as often as it does and in its order.
     pub nodes: Vec<Mention<'a>>,

@@ -5,7 +5,7 @@ use crate::Weight;
 use std::marker::Model;
 
 /// An edge of a text: the names of its two ends, its weight, and the line where it stands, counted from 1.
-#[derive(Debug, Drop)]
+#[derive(Drop)]
 pub struct Edge<'a> {
     first: &'a str,
     second: &'a str,

@@ -33,7 +33,7 @@ fn has_control(bytes: &[u8]) -> bool
 }
 
 /// The words of a line that has two or three.
-#[derive(Clone, Copy, Debug)]
+#[derive(Clone, Copy)]
 pub struct Parts<'a> {
     /// The first word.
     pub first: &'a str,

@@ -9,7 +9,7 @@ use import_lines::{Weight, line_parts, line_text, read_weight};
 use import_links::PlacedLink;
 
 /// What the entries of a text are like.
-#[derive(Clone, Copy, Debug)]
+#[derive(Clone, Copy)]
 pub(crate) struct EntryForm {
     /// How many rows there are, and as many columns.
     pub(crate) nodes: u32,

@@ -2,7 +2,7 @@
 use import_links::PlacedLink;
 
 /// How a text is read.
-#[derive(Clone, Copy, Debug, Default, PartialEq, Eq)]
+#[derive(Clone, Copy, Default, PartialEq, Eq)]
 pub struct Reading {
     /// What values are multiplied by. Without it a value is a whole number.
     pub factor: Option<u32>,
@@ -11,7 +11,7 @@ pub struct Reading {
 }
 
 /// A network of a text.
-#[derive(Debug, Drop)]
+#[derive(Drop)]
 pub struct Matrix {
     /// How many nodes there are.
     pub nodes: u32,

@@ -9,7 +9,7 @@ use import_lines::{line_parts, line_text};
 use link_net::MOST_NODES;
 
 /// How many nodes and entries a text says that it has.
-#[derive(Clone, Copy, Debug)]
+#[derive(Clone, Copy)]
 pub(crate) struct Size {
     pub(crate) nodes: u32,
     pub(crate) entries: u64,

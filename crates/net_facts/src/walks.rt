@@ -7,7 +7,7 @@ use std::alloc::{AllocError, Global};
 const UNREACHED: u32 = 4_294_967_295;
 
 /// Distances from where walks began, and the nodes in the order in which they were reached.
-#[derive(Debug, Drop)]
+#[derive(Drop)]
 pub(crate) struct Walk {
     distances: Vec<u32>,
     reached: Vec<u32>,

@@ -2,7 +2,7 @@
 use link_net::Name;
 
 /// Which nodes an opening names.
-#[derive(Debug, Drop)]
+#[derive(Drop)]
 pub enum Chosen {
     /// All nodes of the network.
     Every,
@@ -13,7 +13,7 @@ pub enum Chosen {
 }
 
 /// A value that a field gets at some nodes, from 0 to 4,294,967,295.
-#[derive(Debug, Drop)]
+#[derive(Drop)]
 pub struct Opening {
     pub field: Name,
     pub nodes: Chosen,

@@ -10,7 +10,7 @@ use std::marker::Model;
 
 /// Links between so many nodes that a network may have: 1 to 65,536 nodes, no link of a node with itself, no two links
 /// between the same two nodes, at most 262,144 links and at most 4,096 neighbours of a node.
-#[derive(Debug, Drop)]
+#[derive(Drop)]
 pub struct LinkList {
     nodes: u32,
     links: Vec<Link>,

@@ -12,7 +12,7 @@ pub(crate) const NO_VALUE: u32 = 4_294_967_295;
 const MOST_KEPT: usize = 9;
 
 /// What the colours of cells follow from. A contract sees the values, the greatest, and whether a cell has none.
-#[derive(Debug, Drop)]
+#[derive(Drop)]
 pub(crate) struct Key {
     values: Vec<u32>,
     greatest: u32,

@@ -1,7 +1,7 @@
 //! How rounds are shown.
 
 /// The form of the text.
-#[derive(Clone, Copy, Debug, PartialEq, Eq)]
+#[derive(Clone, Copy, PartialEq, Eq)]
 pub enum Format {
     /// Reports, one behind the other.
     Report,

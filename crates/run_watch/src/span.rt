@@ -5,7 +5,7 @@ ghost use Rattle.run_watch.specs.Spans.{count_of, round_at};
 use std::marker::Model;
 
 /// Rounds from a first one on, every so many, up to a last one, counted from round 0.
-#[derive(Debug, Drop)]
+#[derive(Drop)]
 pub struct Span {
     first: u32,
     last: u32,
