@@ -53,7 +53,7 @@ static MANUAL: Command = Command {
 };
 
 /// What a command does.
-#[derive(Clone, Copy, PartialEq, Eq)]
+#[derive(Clone, Copy)]
 pub enum Task {
     Completion,
     Csv,

@@ -325,21 +325,21 @@ pub(crate) fn generate() -> &'static Command {
 }
 
 /// Of which network the file is.
-#[derive(Clone, Copy, PartialEq, Eq)]
+#[derive(Clone, Copy)]
 pub enum Topology {
     Shape(Shape),
     RandomNetwork(RandomNetwork),
 }
 
 /// Weights that are to be drawn, from a least to a greatest one, both included.
-#[derive(Clone, Copy, PartialEq, Eq)]
+#[derive(Clone, Copy)]
 pub struct Weights {
     pub low: u32,
     pub high: u32,
 }
 
 /// What `generate` is asked for.
-#[derive(Clone, Copy, PartialEq, Eq)]
+#[derive(Clone, Copy)]
 pub struct GenerateRequest {
     pub topology: Topology,
     /// The weights of the links, where they are to be drawn.

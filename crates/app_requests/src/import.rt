@@ -137,7 +137,7 @@ pub(crate) fn import() -> &'static Command {
 }
 
 /// The format of a text to import.
-#[derive(Clone, Copy, PartialEq, Eq)]
+#[derive(Clone, Copy)]
 pub enum Format {
     /// Lines of two names and a weight.
     Edges,

@@ -156,7 +156,7 @@ pub enum StepsManner {
 }
 
 /// Up to where steps go, and by what they are drawn.
-#[derive(Clone, Copy, PartialEq, Eq)]
+#[derive(Clone, Copy)]
 pub struct Limits {
     /// The round at which nodes stop, counted from round 0.
     pub stop: u32,

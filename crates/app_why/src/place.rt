@@ -6,7 +6,7 @@ use memchr::memrchr;
 use std::str;
 
 /// The place of a byte in a text.
-#[derive(Clone, Copy, PartialEq, Eq)]
+#[derive(Clone, Copy)]
 pub struct Place {
     /// The number of its line, counted from 1; a line more begins behind each LF.
     pub line: usize,

@@ -18,7 +18,7 @@ pub struct Texts<'a> {
 }
 
 /// One of the texts of a job.
-#[derive(Clone, Copy, PartialEq, Eq)]
+#[derive(Clone, Copy)]
 pub(crate) enum Part {
     Program,
     Network,

@@ -14,7 +14,7 @@ use crate::tokens::Tokens;
 use std::alloc::Global;
 
 /// How a text is read.
-#[derive(Clone, Copy, Default, PartialEq, Eq)]
+#[derive(Clone, Copy, Default)]
 pub struct Reading {
     /// What weights are multiplied by; none for whole weights alone.
     pub factor: Option<u32>,

@@ -1,7 +1,7 @@
 //! Where a reader stands in a graph.
 
 /// What stands before the next token.
-#[derive(Clone, Copy, PartialEq, Eq)]
+#[derive(Clone, Copy)]
 pub(crate) enum Place {
     /// Nothing.
     Start,
@@ -56,7 +56,7 @@ pub(crate) enum Place {
 }
 
 /// Whose attributes stand in brackets.
-#[derive(Clone, Copy, PartialEq, Eq)]
+#[derive(Clone, Copy)]
 pub(crate) enum Owner {
     /// A node's.
     Node,
@@ -69,7 +69,7 @@ pub(crate) enum Owner {
 }
 
 /// What a token does.
-#[derive(Clone, Copy, PartialEq, Eq)]
+#[derive(Clone, Copy)]
 pub(crate) enum Act {
     /// Nothing.
     Pass,
@@ -82,7 +82,7 @@ pub(crate) enum Act {
 }
 
 /// Where a reader stands in a graph.
-#[derive(Clone, Copy, PartialEq, Eq)]
+#[derive(Clone, Copy)]
 pub(crate) struct State {
     /// What stands before the next token.
     pub(crate) place: Place,

@@ -12,7 +12,7 @@ use import_lines::{Edge, Lines};
 use std::alloc::Global;
 
 /// How a text is read.
-#[derive(Clone, Copy, Default, PartialEq, Eq)]
+#[derive(Clone, Copy, Default)]
 pub struct Reading {
     /// Whether the first line that says something is a header. A header is passed over, whatever stands in it.
     pub header: bool,

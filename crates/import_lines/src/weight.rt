@@ -20,7 +20,7 @@ fn bad_weight(word: &[u8]) -> WeightFault
 }
 
 /// A weight, and whether it is the number that was said, times the factor, or the nearest whole number to that.
-#[derive(Clone, Copy, PartialEq, Eq)]
+#[derive(Clone, Copy)]
 pub struct Weight {
     pub value: u32,
     pub exact: bool,

@@ -3,7 +3,7 @@ ghost use Rattle.std.specs.Prelude.{◌≡◌};
 ghost use Rattle.import_links.specs.Merging.{kept_of};
 
 /// Which weight is kept where several links join the same two nodes.
-#[derive(Clone, Copy, PartialEq, Eq)]
+#[derive(Clone, Copy)]
 pub enum Kept {
     /// The least.
     Least,

@@ -2,7 +2,7 @@
 use crate::kept::Kept;
 
 /// What becomes of links of a node with itself.
-#[derive(Clone, Copy, PartialEq, Eq)]
+#[derive(Clone, Copy)]
 pub enum SelfLoops {
     /// They are refused.
     Refused,
@@ -11,7 +11,7 @@ pub enum SelfLoops {
 }
 
 /// What becomes of links that join the same two nodes.
-#[derive(Clone, Copy, PartialEq, Eq)]
+#[derive(Clone, Copy)]
 pub enum ParallelLinks {
     /// They are refused.
     Refused,
@@ -20,7 +20,7 @@ pub enum ParallelLinks {
 }
 
 /// What becomes of links that no network has.
-#[derive(Clone, Copy, PartialEq, Eq)]
+#[derive(Clone, Copy)]
 pub struct Mending {
     pub self_loops: SelfLoops,
     pub parallel: ParallelLinks,

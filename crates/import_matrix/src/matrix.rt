@@ -2,7 +2,7 @@
 use import_links::PlacedLink;
 
 /// How a text is read.
-#[derive(Clone, Copy, Default, PartialEq, Eq)]
+#[derive(Clone, Copy, Default)]
 pub struct Reading {
     /// What values are multiplied by. Without it a value is a whole number.
     pub factor: Option<u32>,

@@ -14,14 +14,14 @@ use std::alloc::{AllocError, Global};
 const MOST_WALKS: u32 = 2_048;
 
 /// A least and a greatest number.
-#[derive(Clone, Copy, PartialEq, Eq)]
+#[derive(Clone, Copy)]
 pub struct Range {
     pub least: u32,
     pub greatest: u32,
 }
 
 /// What one wants to know of a network before a run.
-#[derive(Clone, Copy, PartialEq, Eq)]
+#[derive(Clone, Copy)]
 pub struct Facts {
     /// How many nodes there are.
     pub nodes: u32,

@@ -9,7 +9,7 @@ use std::alloc::{AllocError, Global};
 use thiserror::Error;
 
 /// A grid or torus of so many columns, and so many nodes in all: node `width * row + column` stands at each column and row.
-#[derive(Clone, Copy, PartialEq, Eq)]
+#[derive(Clone, Copy)]
 pub struct Grid {
     pub width: u32,
     pub nodes: u32,

@@ -1,7 +1,7 @@
 //! Ways to draw a network at random.
 
 /// A way to draw a network at random, with its size.
-#[derive(Clone, Copy, PartialEq, Eq)]
+#[derive(Clone, Copy)]
 pub enum RandomNetwork {
     /// So many different links among all pairs of nodes. All sets of so many links are alike.
     Random { nodes: u32, links: u32 },

@@ -1,7 +1,7 @@
 //! Shapes of networks.
 
 /// A shape of a network, with its size.
-#[derive(Clone, Copy, PartialEq, Eq)]
+#[derive(Clone, Copy)]
 pub enum Shape {
     /// Each node is linked with the next one.
     Path {

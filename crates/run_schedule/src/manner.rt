@@ -1,7 +1,7 @@
 //! Manners in which steps follow each other.
 
 /// Which steps a list has. Nodes, slots and the stop are as in a schedule.
-#[derive(Clone, Copy, PartialEq, Eq)]
+#[derive(Clone, Copy)]
 pub enum Manner {
     /// Whole sweeps: each node by rising number reads all its slots and then moves, until every node stands at the stop.
     Sweeps,

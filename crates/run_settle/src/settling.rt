@@ -1,7 +1,7 @@
 //! What becomes of the rounds of a plan.
 
 /// What becomes of the rounds of a plan up to a limit. Rounds are counted from round 0.
-#[derive(Clone, Copy, PartialEq, Eq)]
+#[derive(Clone, Copy)]
 pub enum Settling {
     /// From this round on no state changes, and before it each round changed one.
     Settles { round: u32 },

@@ -1,7 +1,7 @@
 //! How rounds are shown.
 
 /// The form of the text.
-#[derive(Clone, Copy, PartialEq, Eq)]
+#[derive(Clone, Copy)]
 pub enum Format {
     /// Reports, one behind the other.
     Report,
