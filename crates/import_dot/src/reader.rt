@@ -4,6 +4,7 @@ ghost use Rattle.std.specs.Option.{unwrap_or};
 ghost use Rattle.std.specs.Result.{result_err};
 ghost use Rattle.import_dot.specs.declared.fault.DotFault.TheVariants.{Memory};
 ghost use Rattle.import_dot.specs.Graphs.{AreNamed, IsAnswer, graph_of, start};
+ghost use Rattle.import_dot.specs.Syntax.{DotTree, Spells, meaning};
 ghost use Rattle.import_dot.specs.View.{graph_view};
 
 use crate::builder::{Builder, Graph};
@@ -98,6 +99,7 @@ pub fn read_dot<'a>(alloc: Global, text: &'a [u8], reading: &Reading) -> Result<
     ensures answer { IsAnswer graph_view (graph_of reading.now.undirected reading.now.factor text.now) result }
     ensures refused { IfErr (graph_of reading.now.undirected reading.now.factor text.now) (λ fault. result ≡ Err fault) }
     ensures ends { IfOk result (λ g. AreNamed (graph_view g)) }
+    ensures grammar { (tree : DotTree) → Spells reading.now.undirected reading.now.factor text.now tree → IsAnswer graph_view (Ok (meaning reading.now.factor tree)) result }
 {
     match collect(alloc, text, *reading) {
         Ok(graph) => Ok(graph),

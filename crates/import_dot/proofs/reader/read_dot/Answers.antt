@@ -1,8 +1,20 @@
+use Rattle.std.proofs.Common.{sym, ap, ◌∙◌}
+use Rattle.std.specs.Option.{unwrap_or}
+use Rattle.std.specs.Result.{result_err}
+use Rattle.import_dot.specs.declared.fault.DotFault.TheVariants.{Memory}
 use Rattle.import_dot.specs.Graphs.{events_from, start}
 use Rattle.import_dot.specs.Tokens.{tokens_of}
 use Rattle.import_dot.specs.View.{graph_view}
 use Rattle.import_dot.proofs.EndsNamed.{graph_named}
+use Rattle.import_dot.proofs.TreesRead.{tree_read}
 use Rattle.import_dot.proofs.reader.read_dot.Goals as goal
 
 pub returns-in-Ok-clause-ends : goal.returns-in-Ok-clause-ends
 returns-in-Ok-clause-ends c = graph_named c.args.reading.now.factor (events_from c.args.reading.now.undirected c.args.reading.now.factor start (tokens_of c.args.text.now)) (graph_view c.in-Ok.graph) c.in-Ok.ensures
+
+pub returns-in-Ok-clause-grammar : goal.returns-in-Ok-clause-grammar
+returns-in-Ok-clause-grammar c tree is = sym (tree_read c.args.reading.now.undirected c.args.reading.now.factor c.args.text.now tree is) ∙ c.in-Ok.ensures
+
+pub returns-in-Err-clause-grammar : goal.returns-in-Err-clause-grammar
+returns-in-Err-clause-grammar c tree is other =
+    absurd (other (c.first_fault.ensures ∙ ap (λ r. unwrap_or (result_err r) Memory) (tree_read c.args.reading.now.undirected c.args.reading.now.factor c.args.text.now tree is)))
