@@ -5,4 +5,5 @@ mod EventSteps
 mod Marked
 mod TextedPieces
 mod TokenSteps
+mod TreesFound
 mod TreesRead

@@ -247,7 +247,7 @@ joined_read u f b n d directed w (x ∷ nodes) ms result are goes =
 -- ---- attributes
 
 -- of whose attributes which weights may be said
-abbrev Takes : Option ℕ → Owner → List (List ℕ) → Type 0
+abbrev pub Takes : Option ℕ → Owner → List (List ℕ) → Type 0
 Takes f whose.Edge words = AreWeights f words
 Takes f whose.EdgeDefault words = words ≡ []
 Takes f whose.Node words = Unit {0}
@@ -287,11 +287,11 @@ weight_append f whose.Node w x y = refl
 weight_append f whose.Other w x y = refl
 
 -- the weight that one attribute says
-abbrev one_weight : Bool → List ℕ → List (List ℕ)
+abbrev pub one_weight : Bool → List ℕ → List (List ℕ)
 one_weight true text = text ∷ []
 one_weight false text = []
 
-list_more : (weighs : Bool) (a : Attribute) (others : List Attribute) → map (λ (x : Attribute). x.value.text) (cond weighs (a ∷ others) others) ≡ one_weight weighs a.value.text ++ map (λ (x : Attribute). x.value.text) others
+pub list_more : (weighs : Bool) (a : Attribute) (others : List Attribute) → map (λ (x : Attribute). x.value.text) (cond weighs (a ∷ others) others) ≡ one_weight weighs a.value.text ++ map (λ (x : Attribute). x.value.text) others
 list_more true a others = refl
 list_more false a others = refl
 

@@ -100,6 +100,8 @@ pub fn read_dot<'a>(alloc: Global, text: &'a [u8], reading: &Reading) -> Result<
     ensures refused { IfErr (graph_of reading.now.undirected reading.now.factor text.now) (λ fault. result ≡ Err fault) }
     ensures ends { IfOk result (λ g. AreNamed (graph_view g)) }
     ensures grammar { (tree : DotTree) → Spells reading.now.undirected reading.now.factor text.now tree → IsAnswer graph_view (Ok (meaning reading.now.factor tree)) result }
+    ensures tree { IfOk result (λ g. (tree : DotTree) × Spells reading.now.undirected reading.now.factor text.now tree × (graph_view g ≡ meaning reading.now.factor tree)) }
+    ensures memory { IfErr result (λ fault. fault ≡ Memory → (tree : DotTree) × Spells reading.now.undirected reading.now.factor text.now tree) }
 {
     match collect(alloc, text, *reading) {
         Ok(graph) => Ok(graph),

@@ -6,6 +6,7 @@ use Rattle.import_dot.specs.Graphs.{events_from, start}
 use Rattle.import_dot.specs.Tokens.{tokens_of}
 use Rattle.import_dot.specs.View.{graph_view}
 use Rattle.import_dot.proofs.EndsNamed.{graph_named}
+use Rattle.import_dot.proofs.TreesFound.{tree_found, tree_faultless}
 use Rattle.import_dot.proofs.TreesRead.{tree_read}
 use Rattle.import_dot.proofs.reader.read_dot.Goals as goal
 
@@ -18,3 +19,9 @@ returns-in-Ok-clause-grammar c tree is = sym (tree_read c.args.reading.now.undir
 pub returns-in-Err-clause-grammar : goal.returns-in-Err-clause-grammar
 returns-in-Err-clause-grammar c tree is other =
     absurd (other (c.first_fault.ensures ∙ ap (λ r. unwrap_or (result_err r) Memory) (tree_read c.args.reading.now.undirected c.args.reading.now.factor c.args.text.now tree is)))
+
+pub returns-in-Ok-clause-tree : goal.returns-in-Ok-clause-tree
+returns-in-Ok-clause-tree c = tree_found c.args.reading.now.undirected c.args.reading.now.factor c.args.text.now (graph_view c.in-Ok.graph) c.in-Ok.ensures
+
+pub returns-in-Err-clause-memory : goal.returns-in-Err-clause-memory
+returns-in-Err-clause-memory c is = tree_faultless c.args.reading.now.undirected c.args.reading.now.factor c.args.text.now (sym c.first_fault.ensures ∙ is)
