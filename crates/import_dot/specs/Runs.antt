@@ -35,8 +35,8 @@ abbrev pub quote_place : Bool → List ℕ → ℕ
 quote_place escaped [] = 0
 quote_place escaped (b ∷ bs) = if b == 34 && not escaped then 0 else 1 + quote_place (b == 92 && not escaped) bs
 
--- how many bytes stand before the > that closes the innermost string, where so many < stand open in it. All, where there
--- is none
+-- how many bytes stand before the > that closes the innermost string, where so many < stand open in it. All, where
+-- there is none
 abbrev pub bracket_place : ℕ → List ℕ → ℕ
 bracket_place depth [] = 0
 bracket_place depth (b ∷ bs) =

@@ -4,7 +4,8 @@ ghost use Rattle.std.specs.Option.{unwrap_or};
 ghost use Rattle.std.specs.Result.{result_err};
 ghost use Rattle.import_dot.specs.declared.fault.DotFault.TheVariants.{Memory};
 ghost use Rattle.import_dot.specs.Graphs.{AreNamed, IsAnswer, graph_of, start};
-ghost use Rattle.import_dot.specs.Syntax.{DotTree, Spells, meaning};
+ghost use Rattle.import_dot.specs.Meaning.{Spells, meaning};
+ghost use Rattle.import_dot.specs.Syntax.{DotTree};
 ghost use Rattle.import_dot.specs.View.{graph_view};
 
 use crate::builder::{Builder, Graph};
@@ -68,8 +69,8 @@ fn first_fault(text: &[u8], reading: Reading) -> DotFault
 
 /// The graph of a text in Graphviz's DOT language.
 ///
-/// The text is `strict` or not, `graph` or `digraph`, a name or none, and statements in braces, with nothing behind them.
-/// Keywords are taken in any case. A statement, which a semicolon may follow, is one of these:
+/// The text is `strict` or not, `graph` or `digraph`, a name or none, and statements in braces, with nothing behind
+/// them. Keywords are taken in any case. A statement, which a semicolon may follow, is one of these:
 ///
 /// - a node, as `a`, or nodes with `--` between them, as `a -- b -- c`; with attributes or without;
 /// - `graph`, `node` or `edge` with attributes, or a value, as `rankdir = LR`, which are passed over;
@@ -78,23 +79,27 @@ fn first_fault(text: &[u8], reading: Reading) -> DotFault
 ///
 /// A name is a word of letters, digits, `_` and characters beyond ASCII; a numeral; or a string in double quotes, of
 /// which the bytes between the quotes count. Ports behind a name, as `a:b:c`, are passed over. Attributes stand in
-/// brackets, as `[weight=2, color=red]`. Of an edge statement the last `weight` counts, which is read by `read_weight` with
-/// the factor; it is the weight of each of the statement's edges. Without one it is 1, or the factor where there is one.
-/// Other attributes are passed over, and may have strings in angle brackets as values.
+/// brackets, as `[weight=2, color=red]`. Of an edge statement the last `weight` counts, which is read by `read_weight`
+/// with the factor; it is the weight of each of the statement's edges. Without one it is 1, or the factor where there
+/// is one. Other attributes are passed over, and may have strings in angle brackets as values.
 ///
-/// Comments run from `//` to the line's end or from `/*` to `*/`; a line whose first byte is `#` is one too. A line ends at
-/// LF, and a CR is a blank. Comments may hold any bytes; words and strings are UTF-8.
+/// Comments run from `//` to the line's end or from `/*` to `*/`; a line whose first byte is `#` is one too. A line
+/// ends at LF, and a CR is a blank. Comments may hold any bytes; words and strings are UTF-8.
 ///
-/// `nodes` has each name of a node that stands in the text, also those of edges, as often as it does; `edges` has the edges
-/// as they stand, each with the line of its first end, and join nodes of `nodes`. Edges that stand twice are kept, also in a
-/// `strict` graph.
+/// `nodes` has each name of a node that stands in the text, also those of edges, as often as it does; `edges` has the
+/// edges as they stand, each with the line of its first end, and join nodes of `nodes`. Edges that stand twice are
+/// kept, also in a `strict` graph.
+///
+/// A text is read exactly where it spells a tree of this grammar, and then it has the nodes and the edges that the tree
+/// means.
 ///
 /// Refused are also, each by a fault of its own: a directed graph, unless `undirected` is set, which reads `a -> b` as
-/// `a -- b`; a subgraph as an end of an edge; a weight for all edges, as `edge [weight=2]`; an attribute without a value; a
-/// backslash, a control character or a string in angle brackets in a node's name; more than 64 subgraphs in one another.
+/// `a -- b`; a subgraph as an end of an edge; a weight for all edges, as `edge [weight=2]`; an attribute without a
+/// value; a backslash, a control character or a string in angle brackets in a node's name; more than 64 subgraphs in
+/// one another.
 ///
-/// `BadLine` names the first fault of the text, also where memory runs out before it. `Memory` comes only where it
-/// runs out.
+/// `BadLine` names the first fault of the text, also where memory runs out before it. `Memory` comes only where it runs
+/// out.
 pub fn read_dot<'a>(alloc: Global, text: &'a [u8], reading: &Reading) -> Result<Graph<'a>, DotFault>
     ensures answer { IsAnswer graph_view (graph_of reading.now.undirected reading.now.factor text.now) result }
     ensures refused { IfErr (graph_of reading.now.undirected reading.now.factor text.now) (λ fault. result ≡ Err fault) }

@@ -1,0 +1,140 @@
+-- Nodes, ports and chains are read.
+use Rattle.std.proofs.Common.{◌≡◌, ℕ, Bool, true, false, List, [], ◌∷◌, refl, ap, ◌∙◌, Option, Result}
+use Rattle.std.proofs.lemmas.Bool.{true≢false}
+use Rattle.std.specs.List.{AllByRecursion}
+use Rattle.import_lines.specs.declared.weight.Weight.{Weight}
+use Rattle.import_dot.specs.declared.token_kind.TokenKind.TheVariants.{Name, Node, Edge, Subgraph, Colon}
+use Rattle.import_dot.specs.declared.state.Place.{Place}
+use Rattle.import_dot.specs.declared.state.Place.TheVariants as stands
+use Rattle.import_dot.specs.declared.state.State.{State}
+use Rattle.import_dot.specs.declared.token_kind.TokenKind.TheVariants as kind
+use Rattle.import_dot.specs.declared.fault.DotFault.{DotFault}
+use Rattle.import_dot.specs.declared.state.Owner.{Owner}
+use Rattle.import_dot.specs.declared.state.Owner.TheVariants as whose
+use Rattle.import_dot.specs.Tokens.{DotToken}
+use Rattle.import_dot.specs.Grammar.{assigns, at_statement, named}
+use Rattle.import_dot.specs.Graphs.{DotGraph, unsaid_weight, DotMention, BeginsEvent, JoinsEvent}
+use Rattle.import_dot.specs.Meaning.{IsNodeName, node_of}
+use Rattle.import_dot.specs.Syntax.{Mark, IdMark, SignMark, DotId, Port, NoPort, OnePort, TwoPorts, NodeId, port_marks, node_marks, edge_sign, joined_marks}
+use Rattle.import_dot.proofs.Building.{Built, built_with}
+use Rattle.import_dot.proofs.Marked.{id_kind, marked_tokens}
+use Rattle.import_dot.proofs.Starts.{AtNode, AtPorted, AtSided, Behind, IsFirst, Ready, at, behind, behind_place, go, ready_place, ready_turn}
+
+-- ---- IDs
+
+pub any_port : (u : Bool) (f : Option ℕ) (b : Built) (d : ℕ) (directed : Bool) (o : Owner) (w : Bool) (text : List ℕ) (html : Bool) (line : ℕ) (ms : List Mark)
+    → go u f b (at stands.Port d directed o w) (IdMark (record { text = text; is_html = html; line = line }) ∷ ms) ≡ go u f b (at stands.Ported d directed o w) ms
+any_port u f b d directed o w text true line ms = refl
+any_port u f b d directed o w text false line ms = refl
+
+pub any_side : (u : Bool) (f : Option ℕ) (b : Built) (d : ℕ) (directed : Bool) (o : Owner) (w : Bool) (text : List ℕ) (html : Bool) (line : ℕ) (ms : List Mark)
+    → go u f b (at stands.Side d directed o w) (IdMark (record { text = text; is_html = html; line = line }) ∷ ms) ≡ go u f b (at stands.Sided d directed o w) ms
+any_side u f b d directed o w text true line ms = refl
+any_side u f b d directed o w text false line ms = refl
+
+pub any_setting : (u : Bool) (f : Option ℕ) (b : Built) (d : ℕ) (directed : Bool) (o : Owner) (w : Bool) (text : List ℕ) (html : Bool) (line : ℕ) (ms : List Mark)
+    → go u f b (at stands.Setting d directed o w) (IdMark (record { text = text; is_html = html; line = line }) ∷ ms) ≡ go u f b (at stands.Done d directed o w) ms
+any_setting u f b d directed o w text true line ms = refl
+any_setting u f b d directed o w text false line ms = refl
+
+pub any_subgraph : (u : Bool) (f : Option ℕ) (b : Built) (d : ℕ) (directed : Bool) (o : Owner) (w : Bool) (text : List ℕ) (html : Bool) (line : ℕ) (ms : List Mark)
+    → go u f b (at stands.Subgraph d directed o w) (IdMark (record { text = text; is_html = html; line = line }) ∷ ms) ≡ go u f b (at stands.SubgraphTitled d directed o w) ms
+any_subgraph u f b d directed o w text true line ms = refl
+any_subgraph u f b d directed o w text false line ms = refl
+
+pub any_title : (u : Bool) (f : Option ℕ) (b : Built) (d : ℕ) (directed : Bool) (o : Owner) (w : Bool) (text : List ℕ) (html : Bool) (line : ℕ) (ms : List Mark)
+    → go u f b (at stands.Title d directed o w) (IdMark (record { text = text; is_html = html; line = line }) ∷ ms) ≡ go u f b (at stands.Titled d directed o w) ms
+any_title u f b d directed o w text true line ms = refl
+any_title u f b d directed o w text false line ms = refl
+
+-- ---- nodes
+
+abbrev pub mention_at : DotId → DotMention
+mention_at id = record { name = id.text; line = id.line }
+
+pub first_named : (html : Bool) → IsFirst (id_kind html)
+first_named true = tt
+first_named false = tt
+
+-- a name at the beginning of a statement
+pub name_turn : (s : State) (a : List DotToken) (html : Bool) → at_statement s a (id_kind html) ≡ named s a
+name_turn s a true = refl
+name_turn s a false = refl
+
+pub name_begins : (u : Bool) (f : Option ℕ) (b : Built) (r : Ready) (d : ℕ) (directed : Bool) (o : Owner) (w : Bool) (text : List ℕ) (html : Bool) (line : ℕ) (ms : List Mark)
+    → IsNodeName (record { text = text; is_html = html; line = line }) → assigns (marked_tokens ms) ≡ false
+    → go u f b (at (ready_place r) d directed o w) (IdMark (record { text = text; is_html = html; line = line }) ∷ ms)
+    ≡ go u f (built_with (unsaid_weight f) b (BeginsEvent (record { name = text; line = line }))) (at stands.Node d directed whose.Node w) ms
+name_begins u f b r d directed o w text true line ms is not_set = absurd (true≢false is.0)
+name_begins u f b r d directed o w text false line ms is not_set =
+    ap (behind u f b kind.Name text line ms) (ready_turn r u d directed o w kind.Name text (marked_tokens ms) tt) ∙ rw (not_set, is.1, is.2) refl
+
+pub name_joins : (u : Bool) (f : Option ℕ) (b : Built) (d : ℕ) (directed : Bool) (o : Owner) (w : Bool) (text : List ℕ) (html : Bool) (line : ℕ) (ms : List Mark)
+    → IsNodeName (record { text = text; is_html = html; line = line })
+    → go u f b (at stands.EdgeEnd d directed o w) (IdMark (record { text = text; is_html = html; line = line }) ∷ ms)
+    ≡ go u f (built_with (unsaid_weight f) b (JoinsEvent (record { name = text; line = line }))) (at stands.Node d directed whose.Edge w) ms
+name_joins u f b d directed o w text true line ms is = absurd (true≢false is.0)
+name_joins u f b d directed o w text false line ms is = rw (is.1, is.2) refl
+
+-- behind a node's ports
+pub data NodePlace : Type 0 where
+  Bare : NodePlace
+  Once : NodePlace
+  Twice : NodePlace
+
+abbrev pub node_behind : NodePlace → Behind
+node_behind Bare = AtNode
+node_behind Once = AtPorted
+node_behind Twice = AtSided
+
+abbrev pub node_place : NodePlace → Place
+node_place n = behind_place (node_behind n)
+
+abbrev pub port_place : Port → NodePlace
+port_place NoPort = Bare
+port_place (OnePort port) = Once
+port_place (TwoPorts port side) = Twice
+
+pub port_read : (u : Bool) (f : Option ℕ) (b : Built) (d : ℕ) (directed : Bool) (o : Owner) (w : Bool) (port : Port) (ms : List Mark)
+    → go u f b (at stands.Node d directed o w) (port_marks port ms) ≡ go u f b (at (node_place (port_place port)) d directed o w) ms
+port_read u f b d directed o w NoPort ms = refl
+port_read u f b d directed o w (OnePort p) ms = any_port u f b d directed o w p.text p.is_html p.line ms
+port_read u f b d directed o w (TwoPorts p q) ms =
+    any_port u f b d directed o w p.text p.is_html p.line (SignMark kind.Colon ∷ IdMark q ∷ ms) ∙ any_side u f b d directed o w q.text q.is_html q.line ms
+
+-- ---- chains
+
+-- an edge's sign behind a node
+pub sign_read : (u : Bool) (f : Option ℕ) (b : Built) (n : NodePlace) (d : ℕ) (directed : Bool) (o : Owner) (w : Bool) (ms : List Mark)
+    → go u f b (at (node_place n) d directed o w) (SignMark (edge_sign directed) ∷ ms) ≡ go u f b (at stands.EdgeEnd d directed o w) ms
+sign_read u f b Bare d true o w ms = refl
+sign_read u f b Bare d false o w ms = refl
+sign_read u f b Once d true o w ms = refl
+sign_read u f b Once d false o w ms = refl
+sign_read u f b Twice d true o w ms = refl
+sign_read u f b Twice d false o w ms = refl
+
+abbrev pub joined_with : Weight → Built → NodeId → Built
+joined_with unsaid b n = built_with unsaid b (JoinsEvent (node_of n))
+
+pub join_read : (u : Bool) (f : Option ℕ) (b : Built) (n : NodePlace) (d : ℕ) (directed : Bool) (o : Owner) (w : Bool) (node : NodeId) (ms : List Mark) → IsNodeName node.name
+    → go u f b (at (node_place n) d directed o w) (SignMark (edge_sign directed) ∷ node_marks node ms)
+    ≡ go u f (joined_with (unsaid_weight f) b node) (at (node_place (port_place node.port)) d directed whose.Edge w) ms
+join_read u f b n d directed o w node ms is =
+    sign_read u f b n d directed o w (node_marks node ms)
+    ∙ name_joins u f b d directed o w node.name.text node.name.is_html node.name.line (port_marks node.port ms) is
+    ∙ port_read u f (joined_with (unsaid_weight f) b node) d directed whose.Edge w node.port ms
+
+-- what is built with the nodes of a chain
+abbrev pub all_joined : Weight → Built → List NodeId → Built
+all_joined unsaid b [] = b
+all_joined unsaid b (n ∷ nodes) = all_joined unsaid (joined_with unsaid b n) nodes
+
+pub joined_read : (u : Bool) (f : Option ℕ) (b : Built) (n : NodePlace) (d : ℕ) (directed : Bool) (w : Bool) (nodes : List NodeId) (ms : List Mark) (result : Result DotGraph DotFault)
+    → AllByRecursion (λ (x : NodeId). IsNodeName x.name) nodes
+    → ((m : NodePlace) → go u f (all_joined (unsaid_weight f) b nodes) (at (node_place m) d directed whose.Edge w) ms ≡ result)
+    → go u f b (at (node_place n) d directed whose.Edge w) (joined_marks directed nodes ms) ≡ result
+joined_read u f b n d directed w [] ms result are goes = goes n
+joined_read u f b n d directed w (x ∷ nodes) ms result are goes =
+    join_read u f b n d directed whose.Edge w x (joined_marks directed nodes ms) are.0
+    ∙ joined_read u f (joined_with (unsaid_weight f) b x) (port_place x.port) d directed w nodes ms result are.1 goes
