@@ -1,4 +1,9 @@
 mod BoardSteps
+mod FirstLines
 mod LineSteps
 mod LongNumbers
+mod MarkSteps
+mod PlainTexts
+mod RoundTrip
 mod RowCells
+mod RunTexts

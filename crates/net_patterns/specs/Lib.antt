@@ -3,3 +3,4 @@ pub mod Placing
 pub mod Rle
 pub mod Steps
 pub mod Texts
+pub mod Written

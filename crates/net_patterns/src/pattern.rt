@@ -1,7 +1,9 @@
 //! Patterns that are read.
-ghost use Rattle.std.specs.Prelude.{◌≡◌};
+ghost use Rattle.std.specs.Prelude.{◌≡◌, ℕ, List, Ok};
+ghost use Rattle.std.specs.List.{AllByRecursion};
 ghost use Rattle.net_patterns.specs.Cells.{IsAnswer};
 ghost use Rattle.net_patterns.specs.Texts.{pattern_in};
+ghost use Rattle.net_patterns.specs.Written.{Span, AreInOrder, IsLine, cells_in, written_as_plain, written_as_runs};
 
 use crate::board::Cell;
 use crate::fault::PatternFault;
@@ -9,6 +11,20 @@ use crate::lines::first_told;
 use crate::plain::read_plain;
 use crate::runs::read_runs;
 use std::alloc::Global;
+
+/// The live cells of a text of either kind.
+fn read_either(alloc: Global, bytes: &[u8]) -> Result<Vec<Cell>, PatternFault>
+    ensures { IsAnswer (λ v. v.items) (pattern_in bytes.now) result }
+{
+    let Some(opening) = first_told(bytes) else {
+        return Err(PatternFault::NoPattern);
+    };
+    if let Some(b'x') = opening.text.first() {
+        read_runs(alloc, opening.line + 1, opening.rest)
+    } else {
+        read_plain(alloc, bytes)
+    }
+}
 
 /// The live cells of a pattern, row by row from the top, and in each row from the left.
 ///
@@ -27,15 +43,13 @@ use std::alloc::Global;
 /// no meaning there; `BadCount` at a number that is no count, or that no tag follows at once; `NoEnd` where runs end
 /// without `!`; `TooLarge` at a live cell whose column or row is 65,536 or more or that follows 65,536 others. `Memory`
 /// comes only where memory runs out.
+///
+/// What is written is read back: live cells in reading order, 65,536 at most, that are written as runs behind a header
+/// or as plain text behind a comment are the cells that come out.
 pub fn read_pattern(alloc: Global, bytes: &[u8]) -> Result<Vec<Cell>, PatternFault>
     ensures answer { IsAnswer (λ v. v.items) (pattern_in bytes.now) result }
+    ensures reads_runs { (comments : List (List ℕ)) (header : List ℕ) (spans : List Span) (behind : List ℕ) → AllByRecursion (IsLine 35) comments → IsLine 120 header → AreInOrder spans → bytes.now ≡ written_as_runs comments header spans behind → IsAnswer (λ v. v.items) (Ok (cells_in spans)) result }
+    ensures reads_plain { (comment : List ℕ) (spans : List Span) → IsLine 33 comment → AreInOrder spans → bytes.now ≡ written_as_plain comment spans → IsAnswer (λ v. v.items) (Ok (cells_in spans)) result }
 {
-    let Some(opening) = first_told(bytes) else {
-        return Err(PatternFault::NoPattern);
-    };
-    if let Some(b'x') = opening.text.first() {
-        read_runs(alloc, opening.line + 1, opening.rest)
-    } else {
-        read_plain(alloc, bytes)
-    }
+    read_either(alloc, bytes)
 }

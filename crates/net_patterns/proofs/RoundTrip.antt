@@ -1,0 +1,58 @@
+-- Patterns that are written are read back.
+use Rattle.std.proofs.Common.{◌≡◌, ℕ, zero, suc, ◌+◌, ◌-◌, ◌≤◌, false, List, [], ◌∷◌, ◌++◌, length, refl, sym, ap, ◌∙◌, arith, None, Ok, append_assoc, length-append}
+use Rattle.std.specs.List.{AllByRecursion}
+use Rattle.net_patterns.specs.declared.board.Cell.{Cell}
+use Rattle.net_patterns.specs.Cells.{pattern_of}
+use Rattle.net_patterns.specs.Rle.{pieces_from}
+use Rattle.net_patterns.specs.Steps.{comes}
+use Rattle.net_patterns.specs.Texts.{plain_pieces, pattern_in}
+use Rattle.net_patterns.specs.Written.{Span, cells_beside, cells_in, AreAhead, AreInOrder, IsLine, written_from, written_as_runs, written_as_plain, as_runs, as_plain}
+use Rattle.net_patterns.proofs.FirstLines.{runs_behind, rows_behind}
+use Rattle.net_patterns.proofs.PlainTexts.{no_comments, span_of_rows}
+use Rattle.net_patterns.proofs.RowCells.{comes-begin}
+use Rattle.net_patterns.proofs.RunTexts.{span_of_runs}
+
+length_beside : (n row column : ℕ) → length (cells_beside row column n) ≡ n
+length_beside zero row column = refl
+length_beside (suc n) row column = ap suc (length_beside n row (column + 1))
+
+runs_read : (spans : List Span) (behind : List ℕ) (front : List Cell) (column row line : ℕ) → AreAhead column row spans → length front + length (cells_in spans) ≤ 65536
+    → comes front column row (pieces_from line None (written_from (as_runs behind) column row spans)) ≡ Ok (front ++ cells_in spans)
+runs_read [] behind front column row line ahead few = refl
+runs_read (s ∷ spans) behind front column row line ahead few =
+    let own = cells_beside s.row s.column s.count in
+    let size = length-append own (cells_in spans) in
+    let own_size = length_beside s.count s.row s.column in
+    let more = length-append front own in
+    span_of_runs s front column row line (written_from (as_runs behind) (s.column + s.count) s.row spans) ahead.0 (omega arith)
+    ∙ runs_read spans behind (front ++ own) (s.column + s.count) s.row line ahead.1 (omega arith)
+    ∙ ap Ok (append_assoc front own (cells_in spans))
+
+pub reads_runs : (comments : List (List ℕ)) (header : List ℕ) (spans : List Span) (behind : List ℕ) → AllByRecursion (IsLine 35) comments → IsLine 120 header → AreInOrder spans
+    → pattern_in (written_as_runs comments header spans behind) ≡ Ok (cells_in spans)
+reads_runs comments header spans behind remarks is order =
+    let runs = written_from (as_runs behind) 0 0 spans in
+    let line = 1 + length comments + 1 in
+    runs_behind comments header runs remarks is
+    ∙ sym (comes-begin (pieces_from line None runs))
+    ∙ runs_read spans behind [] 0 0 line order.0 (omega (arith, order.1))
+
+rows_read : (spans : List Span) (front : List Cell) (column row line : ℕ) → AreAhead column row spans → length front + length (cells_in spans) ≤ 65536
+    → comes front column row (plain_pieces line false (written_from as_plain column row spans)) ≡ Ok (front ++ cells_in spans)
+rows_read [] front column row line ahead few = refl
+rows_read (s ∷ spans) front column row line ahead few =
+    let own = cells_beside s.row s.column s.count in
+    let size = length-append own (cells_in spans) in
+    let own_size = length_beside s.count s.row s.column in
+    let more = length-append front own in
+    span_of_rows s front column row line (written_from as_plain (s.column + s.count) s.row spans) ahead.0 (omega arith) (no_comments spans (s.column + s.count) s.row)
+    ∙ rows_read spans (front ++ own) (s.column + s.count) s.row (line + (s.row - row)) ahead.1 (omega arith)
+    ∙ ap Ok (append_assoc front own (cells_in spans))
+
+pub reads_plain : (comment : List ℕ) (spans : List Span) → IsLine 33 comment → AreInOrder spans → pattern_in (written_as_plain comment spans) ≡ Ok (cells_in spans)
+reads_plain comment spans is order =
+    let rows = written_from as_plain 0 0 spans in
+    rows_behind comment rows is
+    ∙ ap (λ none. pattern_of (plain_pieces 2 none rows)) (no_comments spans 0 0)
+    ∙ sym (comes-begin (plain_pieces 2 false rows))
+    ∙ rows_read spans [] 0 0 2 order.0 (omega (arith, order.1))

@@ -1,0 +1,14 @@
+use Rattle.std.proofs.Common.{ap, ◌∙◌}
+use Rattle.net_patterns.specs.Texts.{pattern_in}
+use Rattle.net_patterns.proofs.RoundTrip.{reads_plain, reads_runs}
+use Rattle.net_patterns.proofs.pattern.read_pattern.Goals as goal
+
+pub returns-clause-reads_runs : goal.returns-clause-reads_runs
+returns-clause-reads_runs c =
+    λ comments header spans behind remarks is order same.
+    rw (ap pattern_in same ∙ reads_runs comments header spans behind remarks is order) at c.read_either.ensures
+
+pub returns-clause-reads_plain : goal.returns-clause-reads_plain
+returns-clause-reads_plain c =
+    λ comment spans is order same.
+    rw (ap pattern_in same ∙ reads_plain comment spans is order) at c.read_either.ensures

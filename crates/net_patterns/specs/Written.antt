@@ -1,0 +1,84 @@
+-- Patterns as they are written: live cells are given in reading order, and the two kinds of text say them.
+use Rattle.std.specs.Prelude.{◌≡◌, ◌≤◌, ◌<◌, ℕ, zero, suc, ◌+◌, ◌-◌, ◌==◌, false, List, [], ◌∷◌, ◌++◌, length, slice_index, flat_map, replicate, codes, if◌then◌else◌}
+use Rattle.std.specs.Fmt.{decimal}
+use Rattle.std.specs.List.{list_any}
+use Rattle.net_patterns.specs.declared.board.Cell.{Cell}
+use Rattle.net_patterns.specs.Cells.{limit}
+use Rattle.net_patterns.specs.Texts.{is_line_feed}
+
+-- live cells side by side in a row: so many, the first of them in this column
+pub record Span : Type 0 where
+  pub row : ℕ
+  pub column : ℕ
+  pub count : ℕ
+
+-- so many cells side by side, from this column of this row on
+abbrev pub cells_beside : ℕ → ℕ → ℕ → List Cell
+cells_beside row column zero = []
+cells_beside row column (suc n) = record { column = column; row = row } ∷ cells_beside row (column + 1) n
+
+-- the cells of spans, one span after another, each from the left
+abbrev pub cells_in : List Span → List Cell
+cells_in spans = flat_map (λ s. cells_beside s.row s.column s.count) spans
+
+-- the column where a text that stands in this column and row begins in a span's row: in the same row this one, in a
+-- later row column 0
+abbrev pub column_at : ℕ → ℕ → Span → ℕ
+column_at column row s = if s.row == row then column else 0
+
+-- a span stands ahead of this column and row, in the same row or a later one, and its cells stand below the limit
+pub record IsAhead (column row : ℕ) (s : Span) : Type 0 where
+  pub down : row ≤ s.row
+  pub right : column_at column row s ≤ s.column
+  pub low : s.row < limit
+  pub near : s.column + s.count ≤ limit
+
+-- spans in reading order, row by row from the top and in each row from the left, the first ahead of this column and
+-- row: each is ahead of the place behind the one before
+abbrev pub AreAhead : ℕ → ℕ → List Span → Type 0
+AreAhead column row [] = Unit {0}
+AreAhead column row (s ∷ spans) = IsAhead column row s × AreAhead (s.column + s.count) s.row spans
+
+-- spans in reading order whose cells are as many as the limit at most
+abbrev pub AreInOrder : List Span → Type 0
+AreInOrder spans = AreAhead 0 0 spans × (length (cells_in spans) ≤ limit)
+
+-- how a kind of text writes so many ends of rows, so many dead cells and so many live ones, and what it writes at the end
+pub record Spelling : Type 0 where
+  pub row_ends : ℕ → List ℕ
+  pub dead : ℕ → List ℕ
+  pub alive : ℕ → List ℕ
+  pub ending : List ℕ
+
+-- spans, written from this column and row on: ends of rows down to the row of a span, dead cells up to its column,
+-- and its live cells
+abbrev pub written_from : Spelling → ℕ → ℕ → List Span → List ℕ
+written_from kind column row [] = kind.ending
+written_from kind column row (s ∷ spans) =
+    kind.row_ends (s.row - row)
+    ++ (kind.dead (s.column - column_at column row s) ++ (kind.alive s.count ++ written_from kind (s.column + s.count) s.row spans))
+
+-- a run: its count in decimal digits, which is left out where it is 1, and its tag; nothing where the count is 0
+abbrev pub run_text : List ℕ → ℕ → List ℕ
+run_text tag n = if n == 0 then [] else if n == 1 then tag else decimal n ++ tag
+
+-- runs: $ ends rows, b is a dead cell, o a live one, and ! the end, whatever stands behind it
+abbrev pub as_runs : List ℕ → Spelling
+as_runs behind = record { row_ends = run_text (codes "$"); dead = run_text (codes "b"); alive = run_text (codes "o"); ending = codes "!" ++ behind }
+
+-- plain text: LF (10) ends a row, . (46) is a dead cell, O (79) a live one, and LF stands at the end
+abbrev pub as_plain : Spelling
+as_plain = record { row_ends = λ n. replicate n 10; dead = λ n. replicate n 46; alive = λ n. replicate n 79; ending = 10 ∷ [] }
+
+-- a line, without its LF, that begins with this byte
+abbrev pub IsLine : ℕ → List ℕ → Type 0
+IsLine first line = (slice_index line 0 ≡ first) × (list_any is_line_feed line ≡ false)
+
+-- spans, written as runs: comments that begin with # (35), a header that begins with x (120), the runs, and what
+-- stands behind them
+abbrev pub written_as_runs : List (List ℕ) → List ℕ → List Span → List ℕ → List ℕ
+written_as_runs comments header spans behind = flat_map (λ c. c ++ 10 ∷ []) comments ++ (header ++ 10 ∷ written_from (as_runs behind) 0 0 spans)
+
+-- spans, written as plain text: a comment that begins with ! (33), and the rows
+abbrev pub written_as_plain : List ℕ → List Span → List ℕ
+written_as_plain comment spans = comment ++ 10 ∷ written_from as_plain 0 0 spans
