@@ -101,7 +101,7 @@ module _ (marks : List Bool) (nodes : List ℕ) (are : AreReached marks nodes) w
 
 -- ---- ways
 
-way_on : (network : Neighbours) (u v w : ℕ) (way : List ℕ) → IsWay network u way v → IsNeighbour network v w → IsWay network u (way ++ w ∷ []) w
+pub way_on : (network : Neighbours) (u v w : ℕ) (way : List ℕ) → IsWay network u way v → IsNeighbour network v w → IsWay network u (way ++ w ∷ []) w
 way_on network u v w [] is next = (subst (λ x. IsNeighbour network x w) (sym is) next, refl)
 way_on network u v w (x ∷ way) is next = (is.0, way_on network x v w way is.1 next)
 
@@ -112,7 +112,7 @@ pub joined_self : (network : Neighbours) (u v : ℕ) → v ≡ u → AreJoined n
 joined_self network u v same = ([], sym same)
 
 -- ways do not lead out of closed nodes
-stays_in : (network : Neighbours) (nodes : List ℕ) → IsClosed network nodes → (u w : ℕ) (way : List ℕ) → IsWay network u way w → Contains nodes u → Contains nodes w
+pub stays_in : (network : Neighbours) (nodes : List ℕ) → IsClosed network nodes → (u w : ℕ) (way : List ℕ) → IsWay network u way w → Contains nodes u → Contains nodes w
 stays_in network nodes closed u w [] is has = subst (Contains nodes) is has
 stays_in network nodes closed u w (v ∷ way) is has =
     let same : get_or nodes has.0 0 ≡ u = get_or_default nodes has.0 0 u has.1 ∙ has.2 in

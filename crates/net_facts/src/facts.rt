@@ -1,7 +1,8 @@
 //! What one wants to know of a network.
-ghost use Rattle.std.specs.Prelude.{◌≡◌, ◌↔◌, ◌≤◌, ◌*◌, ◌++◌, ◌∷◌, ℕ, List, [], length, map, IfOk, IsSome};
+ghost use Rattle.std.specs.Prelude.{◌≡◌, ◌↔◌, ◌≤◌, ◌*◌, ◌++◌, ◌∷◌, ℕ, List, [], length, map, IfOk, IfSome, IsSome};
 ghost use Rattle.std.specs.List.{sum_by};
 ghost use Rattle.link_net.specs.Neighbours.{degree, row};
+ghost use Rattle.net_facts.specs.Distances.{IsDiameter};
 ghost use Rattle.net_facts.specs.Facts.{IsRange, IsRangeOf, most_walks, weights_of};
 ghost use Rattle.net_facts.specs.Parts.{HasParts};
 
@@ -109,6 +110,7 @@ fn weights(network: &Network) -> Option<Range>
 /// The diameter, where the network is small.
 fn small_diameter(alloc: Global, network: &Network) -> Result<Option<u32>, AllocError>
     ensures small { IfOk result (λ d. IsSome d ↔ (length network.now ≤ most_walks)) }
+    ensures distance { IfOk result (λ d. IfSome d (IsDiameter network.now)) }
 {
     if network.nodes() > MOST_WALKS {
         return Ok(None);
@@ -123,6 +125,7 @@ pub fn facts_of(alloc: Global, network: &Network) -> Result<Facts, AllocError>
     ensures degrees { IfOk result (λ f. IsRange (map length network.now) f.degrees) }
     ensures components { IfOk result (λ f. HasParts network.now f.components) }
     ensures diameter { IfOk result (λ f. IsSome f.diameter ↔ (length network.now ≤ most_walks)) }
+    ensures distance { IfOk result (λ f. IfSome f.diameter (IsDiameter network.now)) }
     ensures weights { IfOk result (λ f. IsRangeOf (weights_of network.now) f.weights) }
 {
     Ok(Facts {

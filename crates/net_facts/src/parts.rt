@@ -9,13 +9,13 @@ use std::alloc::{AllocError, Global};
 
 /// The nodes that were reached, in the order in which they were, and which these are.
 #[derive(Debug, Drop)]
-struct Reached {
-    marks: Vec<bool>,
-    nodes: Vec<u32>,
+pub(crate) struct Reached {
+    pub(crate) marks: Vec<bool>,
+    pub(crate) nodes: Vec<u32>,
 }
 
 /// No nodes, of so many.
-fn none_reached(alloc: Global, count: usize) -> Result<Reached, AllocError>
+pub(crate) fn none_reached(alloc: Global, count: usize) -> Result<Reached, AllocError>
     ensures whole { IfOk result (λ r. AreReached r.marks.items r.nodes.items) }
     ensures size { IfOk result (λ r. length r.marks.items ≡ count) }
     ensures none { IfOk result (λ r. r.nodes.items ≡ []) }
@@ -27,13 +27,14 @@ fn none_reached(alloc: Global, count: usize) -> Result<Reached, AllocError>
 }
 
 /// Reaches a node, where it was not reached before.
-fn reach(reached: &mut Reached, node: u32) -> Result<(), AllocError>
+pub(crate) fn reach(reached: &mut Reached, node: u32) -> Result<(), AllocError>
     requires whole { AreReached reached.old.marks.items reached.old.nodes.items }
     requires within { node < length reached.old.marks.items }
     ensures whole { OnOk result (AreReached reached.new.marks.items reached.new.nodes.items) }
     ensures size { OnOk result (length reached.new.marks.items ≡ length reached.old.marks.items) }
     ensures node { OnOk result (Contains reached.new.nodes.items node) }
     ensures grows { OnOk result (Grows (λ v. v ≡ node) reached.old.nodes.items reached.new.nodes.items) }
+    ensures fresh { OnOk result (Grows (λ v. Contains reached.old.nodes.items v → ⊥) reached.old.nodes.items reached.new.nodes.items) }
 {
     if reached.marks[node as usize] {
         return Ok(());
@@ -54,12 +55,17 @@ fn neighbours_at(network: &Network, node: u32) -> &[u32]
 }
 
 /// Reaches the neighbours of a node.
-fn reach_neighbours(reached: &mut Reached, network: &Network, node: u32) -> Result<(), AllocError>
+pub(crate) fn reach_neighbours(
+    reached: &mut Reached,
+    network: &Network,
+    node: u32,
+) -> Result<(), AllocError>
     requires whole { AreReached reached.old.marks.items reached.old.nodes.items }
     requires size { length reached.old.marks.items ≡ length network.now }
     ensures whole { OnOk result (AreReached reached.new.marks.items reached.new.nodes.items) }
     ensures size { OnOk result (length reached.new.marks.items ≡ length network.now) }
     ensures grows { OnOk result (Grows (IsNeighbour network.now node) reached.old.nodes.items reached.new.nodes.items) }
+    ensures fresh { OnOk result (Grows (λ v. Contains reached.old.nodes.items v → ⊥) reached.old.nodes.items reached.new.nodes.items) }
     ensures all { OnOk result ((v : ℕ) → IsNeighbour network.now node v → Contains reached.new.nodes.items v) }
 {
     // For the proof: each neighbour is a node.

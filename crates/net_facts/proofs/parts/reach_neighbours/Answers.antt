@@ -27,6 +27,7 @@ loop-neighbour-preserved c =
       whole = c.in_ok-reach.ensures.whole;
       size = c.in_ok-reach.ensures.size ∙ c.loop-neighbour.invariant.size;
       grows = grow_on (IsNeighbour network node) (λ v. v ≡ x) old here later (λ v same. subst (IsNeighbour network node) (sym same) next) c.loop-neighbour.invariant.grows grows;
+      fresh = grow_on (λ v. Contains old v → ⊥) (λ v. Contains here v → ⊥) old here later (λ v new has. new (still_in (IsNeighbour network node) old here v c.loop-neighbour.invariant.grows has)) c.loop-neighbour.invariant.fresh c.in_ok-reach.ensures.fresh;
       all = all_more later list k (λ j below. still_in (λ v. v ≡ x) here later (get_or list j 0) grows (c.loop-neighbour.invariant.all j below)) c.in_ok-reach.ensures.node;
     }
 

@@ -9,5 +9,6 @@ invariant-loop-neighbour l = record {
   whole : AreReached l.reached.marks.items l.reached.nodes.items;
   size : length l.reached.marks.items ≡ length l.network;
   grows : Grows (IsNeighbour l.network l.node) l.fn.reached.nodes.items l.reached.nodes.items;
+  fresh : Grows (λ v. Contains l.fn.reached.nodes.items v → ⊥) l.fn.reached.nodes.items l.reached.nodes.items;
   all : (k : ℕ) → k < l.neighbour-index → Contains l.reached.nodes.items (get_or l.neighbours k 0);
 }
