@@ -41,8 +41,8 @@ fn put_weights(out: &mut String, weights: Option<Range>) -> Result<(), AllocErro
     }
 }
 
-/// The facts, a line each: `nodes`, `links`, `degrees`, `components`, `diameter` where it was found, and `weights` where
-/// there are links.
+/// The facts, a line each: `nodes`, `links`, `degrees`, `components`, `diameter` where it was found, and `weights`
+/// where there are links.
 pub fn facts_text(alloc: Global, facts: &Facts) -> Result<String, AllocError>
     ensures lines { IfOk result (λ s. string_bytes s ≡ facts_lines facts.now) }
 {

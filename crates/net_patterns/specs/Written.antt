@@ -43,7 +43,7 @@ AreAhead column row (s ∷ spans) = IsAhead column row s × AreAhead (s.column +
 abbrev pub AreInOrder : List Span → Type 0
 AreInOrder spans = AreAhead 0 0 spans × (length (cells_in spans) ≤ limit)
 
--- how a kind of text writes so many ends of rows, so many dead cells and so many live ones, and what it writes at the end
+-- how a kind of text writes so many ends of rows, so many dead cells and so many live ones, and the end of the text
 pub record Spelling : Type 0 where
   pub row_ends : ℕ → List ℕ
   pub dead : ℕ → List ℕ
