@@ -70,7 +70,7 @@ fn first_fault(text: &[u8], reading: Reading) -> DotFault
 /// The graph of a text in Graphviz's DOT language.
 ///
 /// The text is `strict` or not, `graph` or `digraph`, a name or none, and statements in braces, with nothing behind
-/// them. Keywords are taken in any case. A statement, which a semicolon may follow, is one of these:
+/// them. Keywords are read in any case. A statement, which a semicolon may follow, is one of these:
 ///
 /// - a node, as `a`, or nodes with `--` between them, as `a -- b -- c`; with attributes or without;
 /// - `graph`, `node` or `edge` with attributes, or a value, as `rankdir = LR`, which are passed over;

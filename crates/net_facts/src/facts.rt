@@ -38,7 +38,7 @@ pub struct Facts {
     pub weights: Option<Range>,
 }
 
-/// The range with a number taken in.
+/// The range of one number more.
 fn with(range: Option<Range>, number: u32) -> Option<Range>
     ensures range { (numbers : List ℕ) → IsRangeOf numbers range → IsRangeOf (numbers ++ number ∷ []) result }
 {
@@ -85,7 +85,7 @@ fn weights_at(network: &Network, node: u32) -> &[u32]
     }
 }
 
-/// The range with the weights of a node's links taken in.
+/// The range of the weights of a node's links more.
 fn with_weights(range: Option<Range>, weights: &[u32]) -> Option<Range>
     ensures range { (numbers : List ℕ) → IsRangeOf numbers range → IsRangeOf (numbers ++ weights.now) result }
 {
