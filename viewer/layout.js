@@ -256,7 +256,7 @@ function roundTree(run, tree, spots) {
   return layoutOf("tree", ...places(run, (node) => [radius(node) * Math.cos(angle(node)), radius(node) * Math.sin(angle(node))]));
 }
 
-/** The shapes that are recognised, by turns. */
+/** The shapes that are recognised, the first one that fits. */
 const SHAPES = [starLayout, completeLayout, chainLayout, gridLayout, torusLayout, treeLayout, bipartiteLayout, hypercubeLayout];
 
 /**

@@ -119,7 +119,7 @@ static ONLY_ARGUMENT: Argument = ONLY;
 pub(crate) const FIELD: Argument = Argument {
     name: "field",
     value_name: "FIELD",
-    help: "The field by whose values is coloured; may be left out where the program has one alone",
+    help: "The field whose values give the colours; may be left out where the program has one alone",
     ..OPTION
 };
 

@@ -278,7 +278,7 @@ const SHAPES: [Subcommand; 14] = [
     },
     Subcommand {
         name: "random",
-        about: "M links, all sets of so many links alike",
+        about: "M links, all sets of so many links equally likely",
         notes: "",
         arguments: &[NODES, LINKS, SEED, WEIGHTS],
     },

@@ -88,7 +88,7 @@ const PHASE: Argument = Argument {
         },
     ]),
     value_name: "P",
-    help: "The phase in which all nodes open: 0, 1 or 2",
+    help: "The phase in which all nodes begin: 0, 1 or 2",
     ..OPTION
 };
 
@@ -101,7 +101,7 @@ static INIT: Command = Command {
     aliases: &["open"],
     called: "unison init",
     about: "Give a network other initial values, by numbers, names, at random, or by patterns of cells",
-    notes: "Prints the network with other initial values; where several give one to the same field and node, the last one counts; --set counts over --cells, and that over --set-random.\nAn example: unison init examples/path.toml --set 'dist=*:9' --set dist=0:0 > opened.toml\n",
+    notes: "Prints the network with other initial values; where several give one to the same field and node, the last one counts; --set counts over --cells, and that over --set-random.\nAn example: unison init examples/path.toml --set 'dist=*:9' --set dist=0:0 > start.toml\n",
     arguments: &[
         NETWORK, SET, SET_RANDOM, SEED, CELLS, GRID_WIDTH, NAMES, PHASE,
     ],

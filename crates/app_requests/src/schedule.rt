@@ -130,7 +130,7 @@ static SCHEDULE: Command = Command {
     aliases: &["steps"],
     called: "unison schedule",
     about: "Make a schedule: sweeps, at random, one node starved or ahead, or from a script",
-    notes: "Prints a schedule, as replay, run and explain read it.\nAn example: unison schedule sweeps examples/distance.rules examples/path.toml --stop 2 > steps.txt\nThe words of one: unison schedule write --help\n",
+    notes: "Prints a schedule, as replay and explain read it and run --trace writes it.\nAn example: unison schedule sweeps examples/distance.rules examples/path.toml --stop 2 > steps.txt\nThe words of one: unison schedule write --help\n",
     arguments: &[],
     subcommands: &MANNERS,
 };

@@ -25,7 +25,7 @@ const FORMAT: Argument = Argument {
         },
     ]),
     value_name: "FORMAT",
-    help: "report, which is what stands where nothing is asked, csv or json",
+    help: "report (the default), csv or json",
     ..OPTION
 };
 

@@ -5,11 +5,11 @@ use rule_lang::{Sign, Token};
 
 /// Of two tests, both.
 const BOTH: &str =
-    "for two tests write (A min B), which is not 0 where both are not; (A & B) goes bit by bit";
+    "for two tests write (A min B), which is 0 where one of them is 0; (A & B) goes bit by bit";
 
 /// Of two tests, one.
 const EITHER: &str =
-    "for two tests write (A max B), which is not 0 where one is not; (A | B) goes bit by bit";
+    "for two tests write (A max B), which is 0 only where both are 0; (A | B) goes bit by bit";
 
 /// The lesser of two, and the least of many.
 const LEAST: &str =

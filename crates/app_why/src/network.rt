@@ -202,7 +202,7 @@ fn hint(cause: &NetCause) -> &'static str {
         NetCause::LinkTwice { .. } => "a link goes both ways: leave one of the two out",
         NetCause::TooManyLinks { .. } => "a network has 262144 links at most",
         NetCause::TooManyNeighbours { .. } => "a node has 4096 neighbours at most",
-        NetCause::BadWeight { .. } => "weights are whole numbers: scale them",
+        NetCause::BadWeight { .. } => "a weight is a whole number from 0 to 4294967295",
         _ => "",
     }
 }

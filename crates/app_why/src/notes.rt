@@ -186,7 +186,7 @@ fn put_alike(out: &mut String, items: &[Item]) -> Result<(), AllocError> {
     let other = if value == 0 { 1 } else { 0 };
     write!(
         out,
-        "note: all nodes open alike and the program never tells them apart: set a field in the network, as in [set] and {name} = [[0, {other}]]\n"
+        "note: all nodes have the same initial values and the program never tells them apart: set a field in the network, as in [set] and {name} = [[0, {other}]]\n"
     )
 }
 

@@ -67,6 +67,12 @@ const ROUNDS: Argument = Argument {
 /// `ROUNDS`, as it is read.
 static ROUNDS_ARGUMENT: Argument = ROUNDS;
 
+/// `--rounds T` of a comparison.
+const COMPARED: Argument = Argument {
+    help: "The round at which both are compared, counted from round 0: 0 to 1000000000",
+    ..ROUNDS
+};
+
 /// `--stop T`, which has to be there.
 const STOP: Argument = Argument {
     name: "stop",
@@ -141,7 +147,7 @@ static FIVE: [Subcommand; 5] = [
         name: "compare",
         about: "Compare a run by threads with the lockstep rounds and print `same`, or the first difference",
         notes: "",
-        arguments: &[PROGRAM, NETWORK, ROUNDS, WORKERS, FROM],
+        arguments: &[PROGRAM, NETWORK, COMPARED, WORKERS, FROM],
     },
 ];
 

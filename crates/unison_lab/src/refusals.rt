@@ -185,11 +185,11 @@ fn bytes_told(fault: DotLineFault) -> (&'static str, &'static str) {
     match fault {
         DotLineFault::BadByte { .. } => (
             "BadByte",
-            "no part of a graph begins with this byte; a name with such bytes stands in quotes",
+            "no part of a graph begins with this byte; a name with such bytes stands in quotes, and a comment line has # as its first character, and a comment line has # as its first character",
         ),
         DotLineFault::BadNumeral => (
             "BadNumeral",
-            "this begins as a number and is none; a name like this stands in quotes",
+            "this begins as a number and is none; a name or a number like this stands in quotes",
         ),
         DotLineFault::NotUtf8 => ("NotUtf8", "a name or a string is not UTF-8"),
         DotLineFault::UnclosedString => (
