@@ -28,43 +28,43 @@ use Rattle.import_dot.proofs.NodesRead.{Bare, NodePlace, Once, Twice, node_behin
 
 -- of whose attributes which weights may be said
 abbrev pub Takes : Option ℕ → Owner → List (List ℕ) → Type 0
-Takes f whose.Edge words = AreWeights f words
-Takes f whose.EdgeDefault words = words ≡ []
-Takes f whose.Node words = Unit {0}
-Takes f whose.Other words = Unit {0}
+Takes factor whose.Edge words = AreWeights factor words
+Takes factor whose.EdgeDefault words = words ≡ []
+Takes factor whose.Node words = Unit {0}
+Takes factor whose.Other words = Unit {0}
 
 abbrev pub weight_behind : Option ℕ → Owner → Weight → List (List ℕ) → Weight
-weight_behind f whose.Edge w words = last_weight f w words
-weight_behind f whose.EdgeDefault w words = w
-weight_behind f whose.Node w words = w
-weight_behind f whose.Other w words = w
+weight_behind factor whose.Edge w words = last_weight factor w words
+weight_behind factor whose.EdgeDefault w words = w
+weight_behind factor whose.Node w words = w
+weight_behind factor whose.Other w words = w
 
 abbrev pub reweighed : Built → Weight → Built
 reweighed b w = record { nodes = b.nodes; edges = b.edges; ends = b.ends; weight = w }
 
-pub are_append : (f : Option ℕ) (x y : List (List ℕ)) → AreWeights f (x ++ y) → AreWeights f x × AreWeights f y
-are_append f [] y h = (tt, h)
-are_append f (word ∷ x) y h = (let more = are_append f x y h.1 in ((h.0, more.0), more.1))
+pub are_append : (factor : Option ℕ) (x y : List (List ℕ)) → AreWeights factor (x ++ y) → AreWeights factor x × AreWeights factor y
+are_append factor [] y h = (tt, h)
+are_append factor (word ∷ x) y h = (let more = are_append factor x y h.1 in ((h.0, more.0), more.1))
 
 pub none_append : (x y : List (List ℕ)) → x ++ y ≡ [] → (x ≡ []) × (y ≡ [])
 none_append [] y h = (refl, h)
 none_append (word ∷ x) y h = cc
 
-pub takes_append : (f : Option ℕ) (o : Owner) (x y : List (List ℕ)) → Takes f o (x ++ y) → Takes f o x × Takes f o y
-takes_append f whose.Edge x y h = are_append f x y h
-takes_append f whose.EdgeDefault x y h = none_append x y h
-takes_append f whose.Node x y h = (tt, tt)
-takes_append f whose.Other x y h = (tt, tt)
+pub takes_append : (factor : Option ℕ) (owner : Owner) (x y : List (List ℕ)) → Takes factor owner (x ++ y) → Takes factor owner x × Takes factor owner y
+takes_append factor whose.Edge x y h = are_append factor x y h
+takes_append factor whose.EdgeDefault x y h = none_append x y h
+takes_append factor whose.Node x y h = (tt, tt)
+takes_append factor whose.Other x y h = (tt, tt)
 
-pub last_append : (f : Option ℕ) (w : Weight) (x y : List (List ℕ)) → last_weight f w (x ++ y) ≡ last_weight f (last_weight f w x) y
-last_append f w [] y = refl
-last_append f w (word ∷ x) y = last_append f (weight_or w (weight_of f word)) x y
+pub last_append : (factor : Option ℕ) (w : Weight) (x y : List (List ℕ)) → last_weight factor w (x ++ y) ≡ last_weight factor (last_weight factor w x) y
+last_append factor w [] y = refl
+last_append factor w (word ∷ x) y = last_append factor (weight_or w (weight_of factor word)) x y
 
-pub weight_append : (f : Option ℕ) (o : Owner) (w : Weight) (x y : List (List ℕ)) → weight_behind f o w (x ++ y) ≡ weight_behind f o (weight_behind f o w x) y
-weight_append f whose.Edge w x y = last_append f w x y
-weight_append f whose.EdgeDefault w x y = refl
-weight_append f whose.Node w x y = refl
-weight_append f whose.Other w x y = refl
+pub weight_append : (factor : Option ℕ) (owner : Owner) (w : Weight) (x y : List (List ℕ)) → weight_behind factor owner w (x ++ y) ≡ weight_behind factor owner (weight_behind factor owner w x) y
+weight_append factor whose.Edge w x y = last_append factor w x y
+weight_append factor whose.EdgeDefault w x y = refl
+weight_append factor whose.Node w x y = refl
+weight_append factor whose.Other w x y = refl
 
 -- the weight that one attribute says
 abbrev pub one_weight : Bool → List ℕ → List (List ℕ)
@@ -75,11 +75,11 @@ pub list_more : (weighs : Bool) (a : Attribute) (others : List Attribute) → ma
 list_more true a others = refl
 list_more false a others = refl
 
-pub weight_nil : (f : Option ℕ) (o : Owner) (w : Weight) → weight_behind f o w [] ≡ w
-weight_nil f whose.Edge w = refl
-weight_nil f whose.EdgeDefault w = refl
-weight_nil f whose.Node w = refl
-weight_nil f whose.Other w = refl
+pub weight_nil : (factor : Option ℕ) (owner : Owner) (w : Weight) → weight_behind factor owner w [] ≡ w
+weight_nil factor whose.Edge w = refl
+weight_nil factor whose.EdgeDefault w = refl
+weight_nil factor whose.Node w = refl
+weight_nil factor whose.Other w = refl
 
 pub weigh_ok : (sofar : Weight) (r : Result Weight WeightFault) → IsOk r → r ≡ Ok (weight_or sofar r)
 weigh_ok sofar (Ok w) is = refl
@@ -90,115 +90,115 @@ abbrev pub in_list : Bool → Place
 in_list true = stands.Valued
 in_list false = stands.List
 
-pub key_turn : (v : Bool) (u : Bool) (d : ℕ) (directed : Bool) (o : Owner) (w : Bool) (text : List ℕ) (html : Bool) (a : List DotToken)
-    → turn_at (in_list v) u (at (in_list v) d directed o w) (id_kind html) text a ≡ keyed (at (in_list v) d directed o w) (names_weight (record { text = text; is_html = html; line = 0 }))
-key_turn true u d directed o w text true a = refl
-key_turn true u d directed o w text false a = refl
-key_turn false u d directed o w text true a = refl
-key_turn false u d directed o w text false a = refl
+pub key_turn : (v : Bool) (undirected : Bool) (depth : ℕ) (directed : Bool) (owner : Owner) (w : Bool) (text : List ℕ) (html : Bool) (a : List DotToken)
+    → turn_at (in_list v) undirected (at (in_list v) depth directed owner w) (id_kind html) text a ≡ keyed (at (in_list v) depth directed owner w) (names_weight (record { text = text; is_html = html; line = 0 }))
+key_turn true undirected depth directed owner w text true a = refl
+key_turn true undirected depth directed owner w text false a = refl
+key_turn false undirected depth directed owner w text true a = refl
+key_turn false undirected depth directed owner w text false a = refl
 
-pub keyed_free : (v : Bool) (d : ℕ) (directed : Bool) (o : Owner) (w c : Bool) → (c && is_default o) ≡ false → keyed (at (in_list v) d directed o w) c ≡ Ok (at stands.ListKey d directed o c, does.Pass)
-keyed_free v d directed o w c free = rw free refl
+pub keyed_free : (v : Bool) (depth : ℕ) (directed : Bool) (owner : Owner) (w c : Bool) → (c && is_default owner) ≡ false → keyed (at (in_list v) depth directed owner w) c ≡ Ok (at stands.ListKey depth directed owner c, does.Pass)
+keyed_free v depth directed owner w c free = rw free refl
 
-pub key_read : (u : Bool) (f : Option ℕ) (b : Built) (v : Bool) (d : ℕ) (directed : Bool) (o : Owner) (w : Bool) (name : DotId) (ms : List Mark) (c : Bool)
-    → names_weight name ≡ c → (c && is_default o) ≡ false
-    → go u f b (at (in_list v) d directed o w) (IdMark name ∷ SignMark kind.Assign ∷ ms) ≡ go u f b (at stands.Value d directed o c) ms
-key_read u f b v d directed o w name ms c is free =
-    ap (behind u f b (id_kind name.is_html) name.text name.line (SignMark kind.Assign ∷ ms))
-    (key_turn v u d directed o w name.text name.is_html (marked_tokens (SignMark kind.Assign ∷ ms)) ∙ ap (keyed (at (in_list v) d directed o w)) is ∙ keyed_free v d directed o w c free)
+pub key_read : (undirected : Bool) (factor : Option ℕ) (b : Built) (v : Bool) (depth : ℕ) (directed : Bool) (owner : Owner) (w : Bool) (name : DotId) (ms : List Mark) (c : Bool)
+    → names_weight name ≡ c → (c && is_default owner) ≡ false
+    → go undirected factor b (at (in_list v) depth directed owner w) (IdMark name ∷ SignMark kind.Assign ∷ ms) ≡ go undirected factor b (at stands.Value depth directed owner c) ms
+key_read undirected factor b v depth directed owner w name ms c is free =
+    ap (behind undirected factor b (id_kind name.is_html) name.text name.line (SignMark kind.Assign ∷ ms))
+    (key_turn v undirected depth directed owner w name.text name.is_html (marked_tokens (SignMark kind.Assign ∷ ms)) ∙ ap (keyed (at (in_list v) depth directed owner w)) is ∙ keyed_free v depth directed owner w c free)
 
-pub value_turn : (u : Bool) (s : State) (text : List ℕ) (html : Bool) (a : List DotToken) → turn_at stands.Value u s (id_kind html) text a ≡ valued s
-value_turn u s text true a = refl
-value_turn u s text false a = refl
+pub value_turn : (undirected : Bool) (s : State) (text : List ℕ) (html : Bool) (a : List DotToken) → turn_at stands.Value undirected s (id_kind html) text a ≡ valued s
+value_turn undirected s text true a = refl
+value_turn undirected s text false a = refl
 
-pub valued_free : (d : ℕ) (directed : Bool) (o : Owner) (c : Bool) → (c && is_edge o) ≡ false → valued (at stands.Value d directed o c) ≡ Ok (at stands.Valued d directed o c, does.Pass)
-valued_free d directed o c free = rw free refl
+pub valued_free : (depth : ℕ) (directed : Bool) (owner : Owner) (c : Bool) → (c && is_edge owner) ≡ false → valued (at stands.Value depth directed owner c) ≡ Ok (at stands.Valued depth directed owner c, does.Pass)
+valued_free depth directed owner c free = rw free refl
 
-pub value_read : (u : Bool) (f : Option ℕ) (b : Built) (d : ℕ) (directed : Bool) (o : Owner) (c : Bool) (value : DotId) (ms : List Mark) → (c && is_edge o) ≡ false
-    → go u f b (at stands.Value d directed o c) (IdMark value ∷ ms) ≡ go u f b (at stands.Valued d directed o c) ms
-value_read u f b d directed o c value ms free =
-    ap (behind u f b (id_kind value.is_html) value.text value.line ms) (value_turn u (at stands.Value d directed o c) value.text value.is_html (marked_tokens ms) ∙ valued_free d directed o c free)
+pub value_read : (undirected : Bool) (factor : Option ℕ) (b : Built) (depth : ℕ) (directed : Bool) (owner : Owner) (c : Bool) (value : DotId) (ms : List Mark) → (c && is_edge owner) ≡ false
+    → go undirected factor b (at stands.Value depth directed owner c) (IdMark value ∷ ms) ≡ go undirected factor b (at stands.Valued depth directed owner c) ms
+value_read undirected factor b depth directed owner c value ms free =
+    ap (behind undirected factor b (id_kind value.is_html) value.text value.line ms) (value_turn undirected (at stands.Value depth directed owner c) value.text value.is_html (marked_tokens ms) ∙ valued_free depth directed owner c free)
 
 abbrev pub valued_with : ℕ → Bool → DotEvent → Result (State × DotEvent) DotLineFault
-valued_with d directed e = Ok (at stands.Valued d directed whose.Edge true, e)
+valued_with depth directed e = Ok (at stands.Valued depth directed whose.Edge true, e)
 
 -- what is built behind an attribute that says this weight
 abbrev pub weighed_behind : Bool → Option ℕ → Built → ℕ → Bool → ℕ → List Mark → Result Weight WeightFault → Result DotGraph DotFault
-weighed_behind u f b d directed line ms r =
-    and_then (at_line line (and_then (weighed r) (λ (e : DotEvent). valued_with d directed e))) (λ n. build u f (built_with (unsaid_weight f) b n.1) n.0 (marked_tokens ms))
+weighed_behind undirected factor b depth directed line ms r =
+    and_then (at_line line (and_then (weighed r) (λ (e : DotEvent). valued_with depth directed e))) (λ n. build undirected factor (built_with (unsaid_weight factor) b n.1) n.0 (marked_tokens ms))
 
-pub weight_read : (u : Bool) (f : Option ℕ) (b : Built) (d : ℕ) (directed : Bool) (value : DotId) (ms : List Mark) → IsOk (weight_of f value.text)
-    → go u f b (at stands.Value d directed whose.Edge true) (IdMark value ∷ ms) ≡ go u f (reweighed b (weight_or b.weight (weight_of f value.text))) (at stands.Valued d directed whose.Edge true) ms
-weight_read u f b d directed value ms is =
-    ap (behind u f b (id_kind value.is_html) value.text value.line ms) (value_turn u (at stands.Value d directed whose.Edge true) value.text value.is_html (marked_tokens ms))
-    ∙ ap (weighed_behind u f b d directed value.line ms) (weigh_ok b.weight (weight_of f value.text) is)
+pub weight_read : (undirected : Bool) (factor : Option ℕ) (b : Built) (depth : ℕ) (directed : Bool) (value : DotId) (ms : List Mark) → IsOk (weight_of factor value.text)
+    → go undirected factor b (at stands.Value depth directed whose.Edge true) (IdMark value ∷ ms) ≡ go undirected factor (reweighed b (weight_or b.weight (weight_of factor value.text))) (at stands.Valued depth directed whose.Edge true) ms
+weight_read undirected factor b depth directed value ms is =
+    ap (behind undirected factor b (id_kind value.is_html) value.text value.line ms) (value_turn undirected (at stands.Value depth directed whose.Edge true) value.text value.is_html (marked_tokens ms))
+    ∙ ap (weighed_behind undirected factor b depth directed value.line ms) (weigh_ok b.weight (weight_of factor value.text) is)
 
-pub attribute_read : (u : Bool) (f : Option ℕ) (b : Built) (v : Bool) (d : ℕ) (directed : Bool) (o : Owner) (w : Bool) (name value : DotId) (ms : List Mark) (c : Bool)
-    → names_weight name ≡ c → Takes f o (one_weight c value.text)
-    → go u f b (at (in_list v) d directed o w) (IdMark name ∷ SignMark kind.Assign ∷ IdMark value ∷ ms)
-    ≡ go u f (reweighed b (weight_behind f o b.weight (one_weight c value.text))) (at stands.Valued d directed o c) ms
-attribute_read u f b v d directed whose.Edge w name value ms true is takes =
-    key_read u f b v d directed whose.Edge w name (IdMark value ∷ ms) true is refl ∙ weight_read u f b d directed value ms takes.0
-attribute_read u f b v d directed whose.Edge w name value ms false is takes =
-    key_read u f b v d directed whose.Edge w name (IdMark value ∷ ms) false is refl ∙ value_read u f b d directed whose.Edge false value ms refl
-attribute_read u f b v d directed whose.EdgeDefault w name value ms true is takes = cc
-attribute_read u f b v d directed whose.EdgeDefault w name value ms false is takes =
-    key_read u f b v d directed whose.EdgeDefault w name (IdMark value ∷ ms) false is refl ∙ value_read u f b d directed whose.EdgeDefault false value ms refl
-attribute_read u f b v d directed whose.Node w name value ms true is takes =
-    key_read u f b v d directed whose.Node w name (IdMark value ∷ ms) true is refl ∙ value_read u f b d directed whose.Node true value ms refl
-attribute_read u f b v d directed whose.Node w name value ms false is takes =
-    key_read u f b v d directed whose.Node w name (IdMark value ∷ ms) false is refl ∙ value_read u f b d directed whose.Node false value ms refl
-attribute_read u f b v d directed whose.Other w name value ms true is takes =
-    key_read u f b v d directed whose.Other w name (IdMark value ∷ ms) true is refl ∙ value_read u f b d directed whose.Other true value ms refl
-attribute_read u f b v d directed whose.Other w name value ms false is takes =
-    key_read u f b v d directed whose.Other w name (IdMark value ∷ ms) false is refl ∙ value_read u f b d directed whose.Other false value ms refl
+pub attribute_read : (undirected : Bool) (factor : Option ℕ) (b : Built) (v : Bool) (depth : ℕ) (directed : Bool) (owner : Owner) (w : Bool) (name value : DotId) (ms : List Mark) (c : Bool)
+    → names_weight name ≡ c → Takes factor owner (one_weight c value.text)
+    → go undirected factor b (at (in_list v) depth directed owner w) (IdMark name ∷ SignMark kind.Assign ∷ IdMark value ∷ ms)
+    ≡ go undirected factor (reweighed b (weight_behind factor owner b.weight (one_weight c value.text))) (at stands.Valued depth directed owner c) ms
+attribute_read undirected factor b v depth directed whose.Edge w name value ms true is takes =
+    key_read undirected factor b v depth directed whose.Edge w name (IdMark value ∷ ms) true is refl ∙ weight_read undirected factor b depth directed value ms takes.0
+attribute_read undirected factor b v depth directed whose.Edge w name value ms false is takes =
+    key_read undirected factor b v depth directed whose.Edge w name (IdMark value ∷ ms) false is refl ∙ value_read undirected factor b depth directed whose.Edge false value ms refl
+attribute_read undirected factor b v depth directed whose.EdgeDefault w name value ms true is takes = cc
+attribute_read undirected factor b v depth directed whose.EdgeDefault w name value ms false is takes =
+    key_read undirected factor b v depth directed whose.EdgeDefault w name (IdMark value ∷ ms) false is refl ∙ value_read undirected factor b depth directed whose.EdgeDefault false value ms refl
+attribute_read undirected factor b v depth directed whose.Node w name value ms true is takes =
+    key_read undirected factor b v depth directed whose.Node w name (IdMark value ∷ ms) true is refl ∙ value_read undirected factor b depth directed whose.Node true value ms refl
+attribute_read undirected factor b v depth directed whose.Node w name value ms false is takes =
+    key_read undirected factor b v depth directed whose.Node w name (IdMark value ∷ ms) false is refl ∙ value_read undirected factor b depth directed whose.Node false value ms refl
+attribute_read undirected factor b v depth directed whose.Other w name value ms true is takes =
+    key_read undirected factor b v depth directed whose.Other w name (IdMark value ∷ ms) true is refl ∙ value_read undirected factor b depth directed whose.Other true value ms refl
+attribute_read undirected factor b v depth directed whose.Other w name value ms false is takes =
+    key_read undirected factor b v depth directed whose.Other w name (IdMark value ∷ ms) false is refl ∙ value_read undirected factor b depth directed whose.Other false value ms refl
 
-pub separator_read : (u : Bool) (f : Option ℕ) (b : Built) (d : ℕ) (directed : Bool) (o : Owner) (w : Bool) (separator : Separator) (ms : List Mark) (result : Result DotGraph DotFault)
-    → ((v : Bool) → go u f b (at (in_list v) d directed o w) ms ≡ result) → go u f b (at stands.Valued d directed o w) (separator_marks separator ms) ≡ result
-separator_read u f b d directed o w NoSeparator ms result goes = goes true
-separator_read u f b d directed o w SemicolonSeparator ms result goes = goes false
-separator_read u f b d directed o w CommaSeparator ms result goes = goes false
+pub separator_read : (undirected : Bool) (factor : Option ℕ) (b : Built) (depth : ℕ) (directed : Bool) (owner : Owner) (w : Bool) (separator : Separator) (ms : List Mark) (result : Result DotGraph DotFault)
+    → ((v : Bool) → go undirected factor b (at (in_list v) depth directed owner w) ms ≡ result) → go undirected factor b (at stands.Valued depth directed owner w) (separator_marks separator ms) ≡ result
+separator_read undirected factor b depth directed owner w NoSeparator ms result goes = goes true
+separator_read undirected factor b depth directed owner w SemicolonSeparator ms result goes = goes false
+separator_read undirected factor b depth directed owner w CommaSeparator ms result goes = goes false
 
-pub bracket_read : (u : Bool) (f : Option ℕ) (b : Built) (v : Bool) (d : ℕ) (directed : Bool) (o : Owner) (w : Bool) (ms : List Mark)
-    → go u f b (at (in_list v) d directed o w) (SignMark kind.BracketClose ∷ ms) ≡ go u f b (at stands.Listed d directed o w) ms
-bracket_read u f b true d directed o w ms = refl
-bracket_read u f b false d directed o w ms = refl
+pub bracket_read : (undirected : Bool) (factor : Option ℕ) (b : Built) (v : Bool) (depth : ℕ) (directed : Bool) (owner : Owner) (w : Bool) (ms : List Mark)
+    → go undirected factor b (at (in_list v) depth directed owner w) (SignMark kind.BracketClose ∷ ms) ≡ go undirected factor b (at stands.Listed depth directed owner w) ms
+bracket_read undirected factor b true depth directed owner w ms = refl
+bracket_read undirected factor b false depth directed owner w ms = refl
 
-pub attributes_read : (u : Bool) (f : Option ℕ) (b : Built) (v : Bool) (d : ℕ) (directed : Bool) (o : Owner) (w : Bool) (attributes : List Attribute) (ms : List Mark) (result : Result DotGraph DotFault)
-    → Takes f o (list_weights attributes)
-    → ((later : Bool) → go u f (reweighed b (weight_behind f o b.weight (list_weights attributes))) (at stands.Listed d directed o later) ms ≡ result)
-    → go u f b (at (in_list v) d directed o w) (attribute_marks attributes ms) ≡ result
-attributes_read u f b v d directed o w [] ms result takes goes =
-    bracket_read u f b v d directed o w ms ∙ ap (λ x. go u f (reweighed b x) (at stands.Listed d directed o w) ms) (sym (weight_nil f o b.weight)) ∙ goes w
-attributes_read u f b v d directed o w (a ∷ attributes) ms result takes goes =
+pub attributes_read : (undirected : Bool) (factor : Option ℕ) (b : Built) (v : Bool) (depth : ℕ) (directed : Bool) (owner : Owner) (w : Bool) (attributes : List Attribute) (ms : List Mark) (result : Result DotGraph DotFault)
+    → Takes factor owner (list_weights attributes)
+    → ((later : Bool) → go undirected factor (reweighed b (weight_behind factor owner b.weight (list_weights attributes))) (at stands.Listed depth directed owner later) ms ≡ result)
+    → go undirected factor b (at (in_list v) depth directed owner w) (attribute_marks attributes ms) ≡ result
+attributes_read undirected factor b v depth directed owner w [] ms result takes goes =
+    bracket_read undirected factor b v depth directed owner w ms ∙ ap (λ x. go undirected factor (reweighed b x) (at stands.Listed depth directed owner w) ms) (sym (weight_nil factor owner b.weight)) ∙ goes w
+attributes_read undirected factor b v depth directed owner w (a ∷ attributes) ms result takes goes =
     (let c = names_weight a.name in
     let words = one_weight c a.value.text in
     let more : list_weights (a ∷ attributes) ≡ words ++ list_weights attributes = list_more c a (filter (λ (x : Attribute). names_weight x.name) attributes) in
-    let both = takes_append f o words (list_weights attributes) (subst (Takes f o) more takes) in
-    let next = reweighed b (weight_behind f o b.weight words) in
-    attribute_read u f b v d directed o w a.name a.value (separator_marks a.separator (attribute_marks attributes ms)) c refl both.0
-    ∙ separator_read u f next d directed o c a.separator (attribute_marks attributes ms) result (λ v'. attributes_read u f next v' d directed o c attributes ms result both.1
-    (λ later. ap (λ x. go u f (reweighed b x) (at stands.Listed d directed o later) ms) (sym (weight_append f o b.weight words (list_weights attributes)) ∙ ap (weight_behind f o b.weight) (sym more)) ∙ goes later)))
+    let both = takes_append factor owner words (list_weights attributes) (subst (Takes factor owner) more takes) in
+    let next = reweighed b (weight_behind factor owner b.weight words) in
+    attribute_read undirected factor b v depth directed owner w a.name a.value (separator_marks a.separator (attribute_marks attributes ms)) c refl both.0
+    ∙ separator_read undirected factor next depth directed owner c a.separator (attribute_marks attributes ms) result (λ v'. attributes_read undirected factor next v' depth directed owner c attributes ms result both.1
+    (λ later. ap (λ x. go undirected factor (reweighed b x) (at stands.Listed depth directed owner later) ms) (sym (weight_append factor owner b.weight words (list_weights attributes)) ∙ ap (weight_behind factor owner b.weight) (sym more)) ∙ goes later)))
 
-pub lists_read : (u : Bool) (f : Option ℕ) (b : Built) (d : ℕ) (directed : Bool) (o : Owner) (w : Bool) (lists : List (List Attribute)) (ms : List Mark) (result : Result DotGraph DotFault)
-    → Takes f o (weights_said lists)
-    → ((later : Bool) → go u f (reweighed b (weight_behind f o b.weight (weights_said lists))) (at stands.Listed d directed o later) ms ≡ result)
-    → go u f b (at stands.Listed d directed o w) (list_marks lists ms) ≡ result
-lists_read u f b d directed o w [] ms result takes goes =
-    ap (λ x. go u f (reweighed b x) (at stands.Listed d directed o w) ms) (sym (weight_nil f o b.weight)) ∙ goes w
-lists_read u f b d directed o w (attributes ∷ lists) ms result takes goes =
+pub lists_read : (undirected : Bool) (factor : Option ℕ) (b : Built) (depth : ℕ) (directed : Bool) (owner : Owner) (w : Bool) (lists : List (List Attribute)) (ms : List Mark) (result : Result DotGraph DotFault)
+    → Takes factor owner (weights_said lists)
+    → ((later : Bool) → go undirected factor (reweighed b (weight_behind factor owner b.weight (weights_said lists))) (at stands.Listed depth directed owner later) ms ≡ result)
+    → go undirected factor b (at stands.Listed depth directed owner w) (list_marks lists ms) ≡ result
+lists_read undirected factor b depth directed owner w [] ms result takes goes =
+    ap (λ x. go undirected factor (reweighed b x) (at stands.Listed depth directed owner w) ms) (sym (weight_nil factor owner b.weight)) ∙ goes w
+lists_read undirected factor b depth directed owner w (attributes ∷ lists) ms result takes goes =
     (let words = list_weights attributes in
-    let both = takes_append f o words (weights_said lists) takes in
-    attributes_read u f b false d directed o w attributes (list_marks lists ms) result both.0 (λ w'. lists_read u f (reweighed b (weight_behind f o b.weight words)) d directed o w' lists ms result both.1
-    (λ later. ap (λ x. go u f (reweighed b x) (at stands.Listed d directed o later) ms) (sym (weight_append f o b.weight words (weights_said lists))) ∙ goes later)))
+    let both = takes_append factor owner words (weights_said lists) takes in
+    attributes_read undirected factor b false depth directed owner w attributes (list_marks lists ms) result both.0 (λ w'. lists_read undirected factor (reweighed b (weight_behind factor owner b.weight words)) depth directed owner w' lists ms result both.1
+    (λ later. ap (λ x. go undirected factor (reweighed b x) (at stands.Listed depth directed owner later) ms) (sym (weight_append factor owner b.weight words (weights_said lists))) ∙ goes later)))
 
 -- lists behind a node
-pub node_lists_read : (u : Bool) (f : Option ℕ) (b : Built) (n : NodePlace) (d : ℕ) (directed : Bool) (o : Owner) (w : Bool) (lists : List (List Attribute)) (ms : List Mark) (result : Result DotGraph DotFault)
-    → Takes f o (weights_said lists)
-    → ((x : Behind) (later : Bool) → go u f (reweighed b (weight_behind f o b.weight (weights_said lists))) (at (behind_place x) d directed o later) ms ≡ result)
-    → go u f b (at (node_place n) d directed o w) (list_marks lists ms) ≡ result
-node_lists_read u f b n d directed o w [] ms result takes goes =
-    ap (λ x. go u f (reweighed b x) (at (node_place n) d directed o w) ms) (sym (weight_nil f o b.weight)) ∙ goes (node_behind n) w
-node_lists_read u f b Bare d directed o w (attributes ∷ lists) ms result takes goes = lists_read u f b d directed o w (attributes ∷ lists) ms result takes (goes AtListed)
-node_lists_read u f b Once d directed o w (attributes ∷ lists) ms result takes goes = lists_read u f b d directed o w (attributes ∷ lists) ms result takes (goes AtListed)
-node_lists_read u f b Twice d directed o w (attributes ∷ lists) ms result takes goes = lists_read u f b d directed o w (attributes ∷ lists) ms result takes (goes AtListed)
+pub node_lists_read : (undirected : Bool) (factor : Option ℕ) (b : Built) (n : NodePlace) (depth : ℕ) (directed : Bool) (owner : Owner) (w : Bool) (lists : List (List Attribute)) (ms : List Mark) (result : Result DotGraph DotFault)
+    → Takes factor owner (weights_said lists)
+    → ((x : Behind) (later : Bool) → go undirected factor (reweighed b (weight_behind factor owner b.weight (weights_said lists))) (at (behind_place x) depth directed owner later) ms ≡ result)
+    → go undirected factor b (at (node_place n) depth directed owner w) (list_marks lists ms) ≡ result
+node_lists_read undirected factor b n depth directed owner w [] ms result takes goes =
+    ap (λ x. go undirected factor (reweighed b x) (at (node_place n) depth directed owner w) ms) (sym (weight_nil factor owner b.weight)) ∙ goes (node_behind n) w
+node_lists_read undirected factor b Bare depth directed owner w (attributes ∷ lists) ms result takes goes = lists_read undirected factor b depth directed owner w (attributes ∷ lists) ms result takes (goes AtListed)
+node_lists_read undirected factor b Once depth directed owner w (attributes ∷ lists) ms result takes goes = lists_read undirected factor b depth directed owner w (attributes ∷ lists) ms result takes (goes AtListed)
+node_lists_read undirected factor b Twice depth directed owner w (attributes ∷ lists) ms result takes goes = lists_read undirected factor b depth directed owner w (attributes ∷ lists) ms result takes (goes AtListed)

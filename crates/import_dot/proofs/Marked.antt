@@ -45,17 +45,17 @@ pub line_ok : {A : Type 0} (line : ℕ) (r : Result A DotLineFault) (x : A) → 
 line_ok line (Ok y) x h = cc
 line_ok line (Err bad) x h = absurd (no_ok (BadLine line bad) x h)
 
-pub quoted_turn : (p : Place) (u : Bool) (s : State) (text : List ℕ) (a : List DotToken) (n : State × Act) → turn_at p u s Name text a ≡ Ok n → turn_at p u s Quoted text a ≡ Ok n
-quoted_turn stands.Start u s text a n h = absurd (no_ok _ n h)
-quoted_turn stands.Strict u s text a n h = absurd (no_ok _ n h)
-quoted_turn stands.Titled u s text a n h = absurd (no_ok _ n h)
-quoted_turn stands.SubgraphTitled u s text a n h = absurd (no_ok _ n h)
-quoted_turn stands.Key u s text a n h = absurd (no_ok _ n h)
-quoted_turn stands.Brackets u s text a n h = absurd (no_ok _ n h)
-quoted_turn stands.ListKey u s text a n h = absurd (no_ok _ n h)
-quoted_turn stands.Over u s text a n h = absurd (no_ok _ n h)
-quoted_turn stands.Finish u s text a n h = absurd (no_ok _ n h)
-quoted_turn p u s text a n h = h
+pub quoted_turn : (p : Place) (undirected : Bool) (s : State) (text : List ℕ) (a : List DotToken) (n : State × Act) → turn_at p undirected s Name text a ≡ Ok n → turn_at p undirected s Quoted text a ≡ Ok n
+quoted_turn stands.Start undirected s text a n h = absurd (no_ok _ n h)
+quoted_turn stands.Strict undirected s text a n h = absurd (no_ok _ n h)
+quoted_turn stands.Titled undirected s text a n h = absurd (no_ok _ n h)
+quoted_turn stands.SubgraphTitled undirected s text a n h = absurd (no_ok _ n h)
+quoted_turn stands.Key undirected s text a n h = absurd (no_ok _ n h)
+quoted_turn stands.Brackets undirected s text a n h = absurd (no_ok _ n h)
+quoted_turn stands.ListKey undirected s text a n h = absurd (no_ok _ n h)
+quoted_turn stands.Over undirected s text a n h = absurd (no_ok _ n h)
+quoted_turn stands.Finish undirected s text a n h = absurd (no_ok _ n h)
+quoted_turn p undirected s text a n h = h
 
 pub quoted_said : (factor : Option ℕ) (act : Act) (text : List ℕ) (line : ℕ) → said factor act Name text line ≡ said factor act Quoted text line
 quoted_said factor does.Pass text line = refl
@@ -63,22 +63,22 @@ quoted_said factor does.Begin text line = refl
 quoted_said factor does.More text line = refl
 quoted_said factor does.Weigh text line = refl
 
-pub quoted_told : (p : Place) (u : Bool) (factor : Option ℕ) (s : State) (text : List ℕ) (line : ℕ) (a : List DotToken) (x : State × DotEvent) → told factor Name text line (turn_at p u s Name text a) ≡ Ok x → told factor Quoted text line (turn_at p u s Quoted text a) ≡ Ok x
-quoted_told p u factor s text line a x h =
-    (let found = bind_ok (turn_at p u s Name text a) (λ n. and_then (said factor n.1 Name text line) (λ e. Ok (n.0, e))) x h in
-    rw (quoted_turn p u s text a found.0 found.1) (rw (← quoted_said factor found.0.1 text line) found.2))
+pub quoted_told : (p : Place) (undirected : Bool) (factor : Option ℕ) (s : State) (text : List ℕ) (line : ℕ) (a : List DotToken) (x : State × DotEvent) → told factor Name text line (turn_at p undirected s Name text a) ≡ Ok x → told factor Quoted text line (turn_at p undirected s Quoted text a) ≡ Ok x
+quoted_told p undirected factor s text line a x h =
+    (let found = bind_ok (turn_at p undirected s Name text a) (λ n. and_then (said factor n.1 Name text line) (λ e. Ok (n.0, e))) x h in
+    rw (quoted_turn p undirected s text a found.0 found.1) (rw (← quoted_said factor found.0.1 text line) found.2))
 
 -- tokens that are alike to the grammar
-pub token_marked : (u : Bool) (factor : Option ℕ) (s : State) (a b : List DotToken) (line : ℕ) (k : Result TokenKind DotLineFault) (text : List ℕ) (x : State × DotEvent) → Same a b
-    → token_turn u factor s (marked_token (mark_in line k text)) a ≡ Ok x → token_turn u factor s (record { line = line; kind = k; text = text }) b ≡ Ok x
-token_marked u factor s a b line (Ok Name) text x e h = sym (ap (told factor Name text line) (turn_ahead s.place u s Name text a b e)) ∙ h
-token_marked u factor s a b line (Ok Html) text x e h = sym (ap (told factor Html text line) (turn_ahead s.place u s Html text a b e)) ∙ h
-token_marked u factor s a b line (Ok Quoted) text x e h =
-    quoted_told s.place u factor s text line b x (sym (ap (told factor Name text line) (turn_ahead s.place u s Name text a b e)) ∙ h)
-token_marked u factor s a b line (Ok k) text x e h =
-    sym (sign_told factor k [] text 0 line (turn_at s.place u s k [] a) (turn_at s.place u s k text b)
-    (turn_ahead s.place u s k [] a b e ∙ turn_text s.place u s k [] text b tt) (quiet_turn s.place u s k text b tt)) ∙ h
-token_marked u factor s a b line (Err bad) text x e h = absurd (no_ok _ x h)
+pub token_marked : (undirected : Bool) (factor : Option ℕ) (s : State) (a b : List DotToken) (line : ℕ) (k : Result TokenKind DotLineFault) (text : List ℕ) (x : State × DotEvent) → Same a b
+    → token_turn undirected factor s (marked_token (mark_in line k text)) a ≡ Ok x → token_turn undirected factor s (record { line = line; kind = k; text = text }) b ≡ Ok x
+token_marked undirected factor s a b line (Ok Name) text x e h = sym (ap (told factor Name text line) (turn_ahead s.place undirected s Name text a b e)) ∙ h
+token_marked undirected factor s a b line (Ok Html) text x e h = sym (ap (told factor Html text line) (turn_ahead s.place undirected s Html text a b e)) ∙ h
+token_marked undirected factor s a b line (Ok Quoted) text x e h =
+    quoted_told s.place undirected factor s text line b x (sym (ap (told factor Name text line) (turn_ahead s.place undirected s Name text a b e)) ∙ h)
+token_marked undirected factor s a b line (Ok k) text x e h =
+    sym (sign_told factor k [] text 0 line (turn_at s.place undirected s k [] a) (turn_at s.place undirected s k text b)
+    (turn_ahead s.place undirected s k [] a b e ∙ turn_text s.place undirected s k [] text b tt) (quiet_turn s.place undirected s k text b tt)) ∙ h
+token_marked undirected factor s a b line (Err bad) text x e h = absurd (no_ok _ x h)
 
 pub marked_assign : (line : ℕ) (k : Result TokenKind DotLineFault) (text : List ℕ) → is_assign (marked_token (mark_in line k text)).kind ≡ is_assign k
 marked_assign line (Ok Name) text = refl
@@ -92,10 +92,10 @@ marked_ahead [] = refl
 marked_ahead (t ∷ ts) = marked_assign t.line t.kind t.text
 
 -- what is built from tokens of the same marks
-pub build_marked : (u : Bool) (factor : Option ℕ) (ts : List DotToken) (b : Built) (s : State) (g : DotGraph) → build u factor b s (marked_tokens (map mark_of ts)) ≡ Ok g → build u factor b s ts ≡ Ok g
-build_marked u factor [] b s g h = h
-build_marked u factor (t ∷ ts) b s g h =
-    (let found = bind_ok _ (λ n. build u factor (built_with (unsaid_weight factor) b n.1) n.0 (marked_tokens (map mark_of ts))) g h in
+pub build_marked : (undirected : Bool) (factor : Option ℕ) (ts : List DotToken) (b : Built) (s : State) (g : DotGraph) → build undirected factor b s (marked_tokens (map mark_of ts)) ≡ Ok g → build undirected factor b s ts ≡ Ok g
+build_marked undirected factor [] b s g h = h
+build_marked undirected factor (t ∷ ts) b s g h =
+    (let found = bind_ok _ (λ n. build undirected factor (built_with (unsaid_weight factor) b n.1) n.0 (marked_tokens (map mark_of ts))) g h in
     let turn = line_ok _ _ found.0 found.1 in
-    let same = token_marked u factor s (marked_tokens (map mark_of ts)) ts t.line t.kind t.text found.0 (marked_ahead ts) turn in
-    rw same (build_marked u factor ts (built_with (unsaid_weight factor) b found.0.1) found.0.0 g found.2))
+    let same = token_marked undirected factor s (marked_tokens (map mark_of ts)) ts t.line t.kind t.text found.0 (marked_ahead ts) turn in
+    rw same (build_marked undirected factor ts (built_with (unsaid_weight factor) b found.0.1) found.0.0 g found.2))

@@ -29,54 +29,54 @@ outer_marks directed (l ∷ levels) = semicolon_marks l.semicolon (statements_ma
 
 -- there are as many levels as subgraphs that are open
 abbrev pub AreLevels : Option ℕ → ℕ → List Level → Type 0
-AreLevels f d [] = d ≡ 0
-AreLevels f d (l ∷ levels) = (n : ℕ) × (d ≡ n + 1) × AreStatements f l.statements × (depth_of l.statements ≤ 64 - n) × AreLevels f n levels
+AreLevels factor depth [] = depth ≡ 0
+AreLevels factor depth (l ∷ levels) = (n : ℕ) × (depth ≡ n + 1) × AreStatements factor l.statements × (depth_of l.statements ≤ 64 - n) × AreLevels factor n levels
 
 -- statements
-pub record BlockAt (f : Option ℕ) (d : ℕ) (directed : Bool) (ms : List Mark) : Type 0 where
+pub record BlockAt (factor : Option ℕ) (depth : ℕ) (directed : Bool) (ms : List Mark) : Type 0 where
   pub statements : Statements
   pub levels : List Level
-  pub are : AreStatements f statements
-  pub deep : depth_of statements ≤ 64 - d
-  pub are_levels : AreLevels f d levels
+  pub are : AreStatements factor statements
+  pub deep : depth_of statements ≤ 64 - depth
+  pub are_levels : AreLevels factor depth levels
   pub spelled : ms ≡ statements_marks directed statements (SignMark BraceClose ∷ outer_marks directed levels)
 
 -- a semicolon or none, and statements
-pub record DoneAt (f : Option ℕ) (d : ℕ) (directed : Bool) (ms : List Mark) : Type 0 where
+pub record DoneAt (factor : Option ℕ) (depth : ℕ) (directed : Bool) (ms : List Mark) : Type 0 where
   pub semicolon : Bool
   pub more : List Mark
-  pub block : BlockAt f d directed more
+  pub block : BlockAt factor depth directed more
   pub spelled : ms ≡ semicolon_marks semicolon more
 
 -- lists in brackets, and the statement's end
-pub record ListsAt (f : Option ℕ) (d : ℕ) (directed : Bool) (o : Owner) (ms : List Mark) : Type 0 where
+pub record ListsAt (factor : Option ℕ) (depth : ℕ) (directed : Bool) (owner : Owner) (ms : List Mark) : Type 0 where
   pub lists : List (List Attribute)
   pub more : List Mark
-  pub takes : Takes f o (weights_said lists)
-  pub done : DoneAt f d directed more
+  pub takes : Takes factor owner (weights_said lists)
+  pub done : DoneAt factor depth directed more
   pub spelled : ms ≡ list_marks lists more
 
 -- attributes, and more lists
-pub record AttributesAt (f : Option ℕ) (d : ℕ) (directed : Bool) (o : Owner) (ms : List Mark) : Type 0 where
+pub record AttributesAt (factor : Option ℕ) (depth : ℕ) (directed : Bool) (owner : Owner) (ms : List Mark) : Type 0 where
   pub attributes : List Attribute
   pub more : List Mark
-  pub takes : Takes f o (list_weights attributes)
-  pub lists : ListsAt f d directed o more
+  pub takes : Takes factor owner (list_weights attributes)
+  pub lists : ListsAt factor depth directed owner more
   pub spelled : ms ≡ attribute_marks attributes more
 
 -- a separator or none, and attributes
-pub record ValuedAt (f : Option ℕ) (d : ℕ) (directed : Bool) (o : Owner) (ms : List Mark) : Type 0 where
+pub record ValuedAt (factor : Option ℕ) (depth : ℕ) (directed : Bool) (owner : Owner) (ms : List Mark) : Type 0 where
   pub separator : Separator
   pub more : List Mark
-  pub attributes : AttributesAt f d directed o more
+  pub attributes : AttributesAt factor depth directed owner more
   pub spelled : ms ≡ separator_marks separator more
 
 -- an attribute's value
-pub record ValueAt (f : Option ℕ) (d : ℕ) (directed : Bool) (o : Owner) (weighs : Bool) (ms : List Mark) : Type 0 where
+pub record ValueAt (factor : Option ℕ) (depth : ℕ) (directed : Bool) (owner : Owner) (weighs : Bool) (ms : List Mark) : Type 0 where
   pub value : DotId
   pub more : List Mark
-  pub takes : Takes f o (one_weight weighs value.text)
-  pub valued : ValuedAt f d directed o more
+  pub takes : Takes factor owner (one_weight weighs value.text)
+  pub valued : ValuedAt factor depth directed owner more
   pub spelled : ms ≡ IdMark value ∷ more
 
 -- this sign, and what comes behind it
@@ -94,17 +94,17 @@ pub record IdAt (Rest : List Mark → Type 0) (ms : List Mark) : Type 0 where
 
 -- whose attributes they are, behind these nodes more
 abbrev pub owner_behind : Owner → List NodeId → Owner
-owner_behind o [] = o
-owner_behind o (n ∷ nodes) = whose.Edge
+owner_behind owner [] = owner
+owner_behind owner (n ∷ nodes) = whose.Edge
 
 -- nodes that are joined, and lists
-pub record ChainAt (f : Option ℕ) (d : ℕ) (directed : Bool) (o : Owner) (ms : List Mark) : Type 0 where
+pub record ChainAt (factor : Option ℕ) (depth : ℕ) (directed : Bool) (owner : Owner) (ms : List Mark) : Type 0 where
   pub others : List NodeId
   pub lists : List (List Attribute)
   pub more : List Mark
   pub are : AllByRecursion (λ (n : NodeId). IsNodeName n.name) others
-  pub takes : Takes f (owner_behind o others) (weights_said lists)
-  pub done : DoneAt f d directed more
+  pub takes : Takes factor (owner_behind owner others) (weights_said lists)
+  pub done : DoneAt factor depth directed more
   pub spelled : ms ≡ joined_marks directed others (list_marks lists more)
 
 abbrev pub side_marks : Option DotId → List Mark → List Mark
@@ -112,106 +112,106 @@ side_marks None behind = behind
 side_marks (Some id) behind = SignMark Colon ∷ IdMark id ∷ behind
 
 -- behind a node's port
-pub record PortedAt (f : Option ℕ) (d : ℕ) (directed : Bool) (o : Owner) (ms : List Mark) : Type 0 where
+pub record PortedAt (factor : Option ℕ) (depth : ℕ) (directed : Bool) (owner : Owner) (ms : List Mark) : Type 0 where
   pub side : Option DotId
   pub more : List Mark
-  pub chain : ChainAt f d directed o more
+  pub chain : ChainAt factor depth directed owner more
   pub spelled : ms ≡ side_marks side more
 
 -- behind a node's name
-pub record NodeAt (f : Option ℕ) (d : ℕ) (directed : Bool) (o : Owner) (ms : List Mark) : Type 0 where
+pub record NodeAt (factor : Option ℕ) (depth : ℕ) (directed : Bool) (owner : Owner) (ms : List Mark) : Type 0 where
   pub port : Port
   pub more : List Mark
-  pub chain : ChainAt f d directed o more
+  pub chain : ChainAt factor depth directed owner more
   pub spelled : ms ≡ port_marks port more
 
 -- behind an edge's sign
-pub record EdgeEndAt (f : Option ℕ) (d : ℕ) (directed : Bool) (ms : List Mark) : Type 0 where
+pub record EdgeEndAt (factor : Option ℕ) (depth : ℕ) (directed : Bool) (ms : List Mark) : Type 0 where
   pub node : NodeId
   pub more : List Mark
   pub name : IsNodeName node.name
-  pub chain : ChainAt f d directed whose.Edge more
+  pub chain : ChainAt factor depth directed whose.Edge more
   pub spelled : ms ≡ node_marks node more
 
 -- a subgraph's statements, its closing brace, and what comes behind it
-pub record BodyAt (f : Option ℕ) (d : ℕ) (directed : Bool) (ms : List Mark) : Type 0 where
+pub record BodyAt (factor : Option ℕ) (depth : ℕ) (directed : Bool) (ms : List Mark) : Type 0 where
   pub body : Statements
   pub more : List Mark
-  pub are : AreStatements f body
-  pub deep : depth_of body + 1 ≤ 64 - d
-  pub done : DoneAt f d directed more
+  pub are : AreStatements factor body
+  pub deep : depth_of body + 1 ≤ 64 - depth
+  pub done : DoneAt factor depth directed more
   pub spelled : ms ≡ statements_marks directed body (SignMark BraceClose ∷ more)
 
 -- behind `subgraph`: a name or none, and an opening brace
-pub record SubgraphAt (f : Option ℕ) (d : ℕ) (directed : Bool) (ms : List Mark) : Type 0 where
+pub record SubgraphAt (factor : Option ℕ) (depth : ℕ) (directed : Bool) (ms : List Mark) : Type 0 where
   pub name : Option DotId
   pub more : List Mark
-  pub body : BodyAt f d directed more
+  pub body : BodyAt factor depth directed more
   pub spelled : ms ≡ name_marks name (SignMark BraceOpen ∷ more)
 
 -- the graph's braces
-pub record WholeAt (f : Option ℕ) (directed : Bool) (ms : List Mark) : Type 0 where
+pub record WholeAt (factor : Option ℕ) (directed : Bool) (ms : List Mark) : Type 0 where
   pub statements : Statements
-  pub are : AreStatements f statements
+  pub are : AreStatements factor statements
   pub deep : depth_of statements ≤ 64
   pub spelled : ms ≡ SignMark BraceOpen ∷ statements_marks directed statements (SignMark BraceClose ∷ SignMark End ∷ [])
 
 -- the graph's name or none, and its braces
-pub record TitleAt (f : Option ℕ) (directed : Bool) (ms : List Mark) : Type 0 where
+pub record TitleAt (factor : Option ℕ) (directed : Bool) (ms : List Mark) : Type 0 where
   pub name : Option DotId
   pub more : List Mark
-  pub whole : WholeAt f directed more
+  pub whole : WholeAt factor directed more
   pub spelled : ms ≡ name_marks name more
 
 -- graph | digraph
-pub record KindAt (u : Bool) (f : Option ℕ) (ms : List Mark) : Type 0 where
+pub record KindAt (undirected : Bool) (factor : Option ℕ) (ms : List Mark) : Type 0 where
   pub directed : Bool
   pub more : List Mark
-  pub taken : directed ≡ true → u ≡ true
-  pub title : TitleAt f directed more
+  pub taken : directed ≡ true → undirected ≡ true
+  pub title : TitleAt factor directed more
   pub spelled : ms ≡ SignMark (graph_sign directed) ∷ more
 
 -- a whole text
-pub record StartAt (u : Bool) (f : Option ℕ) (ms : List Mark) : Type 0 where
+pub record StartAt (undirected : Bool) (factor : Option ℕ) (ms : List Mark) : Type 0 where
   pub strict : Bool
   pub more : List Mark
-  pub kind : KindAt u f more
+  pub kind : KindAt undirected factor more
   pub spelled : ms ≡ (if strict then SignMark Strict ∷ more else more)
 
 -- what a state needs to come
 abbrev pub Needs : Bool → Option ℕ → Place → State → List Mark → Type 0
-Needs u f stands.Start s ms = s.depth ≡ 0 → StartAt u f ms
-Needs u f stands.Strict s ms = s.depth ≡ 0 → KindAt u f ms
-Needs u f stands.Title s ms = s.depth ≡ 0 → TitleAt f s.directed ms
-Needs u f stands.Titled s ms = s.depth ≡ 0 → WholeAt f s.directed ms
-Needs u f stands.Statement s ms = BlockAt f s.depth s.directed ms
-Needs u f stands.Done s ms = DoneAt f s.depth s.directed ms
-Needs u f stands.Closed s ms = DoneAt f s.depth s.directed ms
-Needs u f stands.Subgraph s ms = SubgraphAt f s.depth s.directed ms
-Needs u f stands.SubgraphTitled s ms = SignAt BraceOpen (BodyAt f s.depth s.directed) ms
-Needs u f stands.Node s ms = NodeAt f s.depth s.directed s.owner ms
-Needs u f stands.Port s ms = IdAt (PortedAt f s.depth s.directed s.owner) ms
-Needs u f stands.Ported s ms = PortedAt f s.depth s.directed s.owner ms
-Needs u f stands.Side s ms = IdAt (ChainAt f s.depth s.directed s.owner) ms
-Needs u f stands.Sided s ms = ChainAt f s.depth s.directed s.owner ms
-Needs u f stands.EdgeEnd s ms = EdgeEndAt f s.depth s.directed ms
-Needs u f stands.Key s ms = SignAt Assign (IdAt (DoneAt f s.depth s.directed)) ms
-Needs u f stands.Setting s ms = IdAt (DoneAt f s.depth s.directed) ms
-Needs u f stands.Brackets s ms = SignAt BracketOpen (AttributesAt f s.depth s.directed s.owner) ms
-Needs u f stands.List s ms = AttributesAt f s.depth s.directed s.owner ms
-Needs u f stands.ListKey s ms = (s.weighs && is_default s.owner) ≡ false → SignAt Assign (ValueAt f s.depth s.directed s.owner s.weighs) ms
-Needs u f stands.Value s ms = (s.weighs && is_default s.owner) ≡ false → ValueAt f s.depth s.directed s.owner s.weighs ms
-Needs u f stands.Valued s ms = ValuedAt f s.depth s.directed s.owner ms
-Needs u f stands.Listed s ms = ListsAt f s.depth s.directed s.owner ms
-Needs u f stands.Over s ms = ms ≡ SignMark End ∷ []
-Needs u f stands.Finish s ms = ms ≡ []
+Needs undirected factor stands.Start s ms = s.depth ≡ 0 → StartAt undirected factor ms
+Needs undirected factor stands.Strict s ms = s.depth ≡ 0 → KindAt undirected factor ms
+Needs undirected factor stands.Title s ms = s.depth ≡ 0 → TitleAt factor s.directed ms
+Needs undirected factor stands.Titled s ms = s.depth ≡ 0 → WholeAt factor s.directed ms
+Needs undirected factor stands.Statement s ms = BlockAt factor s.depth s.directed ms
+Needs undirected factor stands.Done s ms = DoneAt factor s.depth s.directed ms
+Needs undirected factor stands.Closed s ms = DoneAt factor s.depth s.directed ms
+Needs undirected factor stands.Subgraph s ms = SubgraphAt factor s.depth s.directed ms
+Needs undirected factor stands.SubgraphTitled s ms = SignAt BraceOpen (BodyAt factor s.depth s.directed) ms
+Needs undirected factor stands.Node s ms = NodeAt factor s.depth s.directed s.owner ms
+Needs undirected factor stands.Port s ms = IdAt (PortedAt factor s.depth s.directed s.owner) ms
+Needs undirected factor stands.Ported s ms = PortedAt factor s.depth s.directed s.owner ms
+Needs undirected factor stands.Side s ms = IdAt (ChainAt factor s.depth s.directed s.owner) ms
+Needs undirected factor stands.Sided s ms = ChainAt factor s.depth s.directed s.owner ms
+Needs undirected factor stands.EdgeEnd s ms = EdgeEndAt factor s.depth s.directed ms
+Needs undirected factor stands.Key s ms = SignAt Assign (IdAt (DoneAt factor s.depth s.directed)) ms
+Needs undirected factor stands.Setting s ms = IdAt (DoneAt factor s.depth s.directed) ms
+Needs undirected factor stands.Brackets s ms = SignAt BracketOpen (AttributesAt factor s.depth s.directed s.owner) ms
+Needs undirected factor stands.List s ms = AttributesAt factor s.depth s.directed s.owner ms
+Needs undirected factor stands.ListKey s ms = (s.weighs && is_default s.owner) ≡ false → SignAt Assign (ValueAt factor s.depth s.directed s.owner s.weighs) ms
+Needs undirected factor stands.Value s ms = (s.weighs && is_default s.owner) ≡ false → ValueAt factor s.depth s.directed s.owner s.weighs ms
+Needs undirected factor stands.Valued s ms = ValuedAt factor s.depth s.directed s.owner ms
+Needs undirected factor stands.Listed s ms = ListsAt factor s.depth s.directed s.owner ms
+Needs undirected factor stands.Over s ms = ms ≡ SignMark End ∷ []
+Needs undirected factor stands.Finish s ms = ms ≡ []
 
 -- what a token that is read leads to
 abbrev pub After : Bool → Option ℕ → TokenKind → List ℕ → ℕ → List Mark → Turn → Type 0
-After u f k text line ms (Ok n) = IsOk (said f n.1 k text line) × Needs u f n.0.place n.0 ms
-After u f k text line ms (Err bad) = ⊥
+After undirected factor k text line ms (Ok n) = IsOk (said factor n.1 k text line) × Needs undirected factor n.0.place n.0 ms
+After undirected factor k text line ms (Err bad) = ⊥
 
-pub after_if : (u : Bool) (f : Option ℕ) (k : TokenKind) (text : List ℕ) (line : ℕ) (ms : List Mark) (c : Bool) (x y : Turn) → After u f k text line ms (if c then x else y)
-    → ((c ≡ true) × After u f k text line ms x) ⊎ ((c ≡ false) × After u f k text line ms y)
-after_if u f k text line ms true x y h = inl (refl, h)
-after_if u f k text line ms false x y h = inr (refl, h)
+pub after_if : (undirected : Bool) (factor : Option ℕ) (k : TokenKind) (text : List ℕ) (line : ℕ) (ms : List Mark) (c : Bool) (x y : Turn) → After undirected factor k text line ms (if c then x else y)
+    → ((c ≡ true) × After undirected factor k text line ms x) ⊎ ((c ≡ false) × After undirected factor k text line ms y)
+after_if undirected factor k text line ms true x y h = inl (refl, h)
+after_if undirected factor k text line ms false x y h = inr (refl, h)

@@ -22,30 +22,30 @@ use Rattle.import_dot.proofs.Starts.{AtNode, AtPorted, AtSided, Behind, IsFirst,
 
 -- ---- IDs
 
-pub any_port : (u : Bool) (f : Option ℕ) (b : Built) (d : ℕ) (directed : Bool) (o : Owner) (w : Bool) (text : List ℕ) (html : Bool) (line : ℕ) (ms : List Mark)
-    → go u f b (at stands.Port d directed o w) (IdMark (record { text = text; is_html = html; line = line }) ∷ ms) ≡ go u f b (at stands.Ported d directed o w) ms
-any_port u f b d directed o w text true line ms = refl
-any_port u f b d directed o w text false line ms = refl
+pub any_port : (undirected : Bool) (factor : Option ℕ) (b : Built) (depth : ℕ) (directed : Bool) (owner : Owner) (w : Bool) (text : List ℕ) (html : Bool) (line : ℕ) (ms : List Mark)
+    → go undirected factor b (at stands.Port depth directed owner w) (IdMark (record { text = text; is_html = html; line = line }) ∷ ms) ≡ go undirected factor b (at stands.Ported depth directed owner w) ms
+any_port undirected factor b depth directed owner w text true line ms = refl
+any_port undirected factor b depth directed owner w text false line ms = refl
 
-pub any_side : (u : Bool) (f : Option ℕ) (b : Built) (d : ℕ) (directed : Bool) (o : Owner) (w : Bool) (text : List ℕ) (html : Bool) (line : ℕ) (ms : List Mark)
-    → go u f b (at stands.Side d directed o w) (IdMark (record { text = text; is_html = html; line = line }) ∷ ms) ≡ go u f b (at stands.Sided d directed o w) ms
-any_side u f b d directed o w text true line ms = refl
-any_side u f b d directed o w text false line ms = refl
+pub any_side : (undirected : Bool) (factor : Option ℕ) (b : Built) (depth : ℕ) (directed : Bool) (owner : Owner) (w : Bool) (text : List ℕ) (html : Bool) (line : ℕ) (ms : List Mark)
+    → go undirected factor b (at stands.Side depth directed owner w) (IdMark (record { text = text; is_html = html; line = line }) ∷ ms) ≡ go undirected factor b (at stands.Sided depth directed owner w) ms
+any_side undirected factor b depth directed owner w text true line ms = refl
+any_side undirected factor b depth directed owner w text false line ms = refl
 
-pub any_setting : (u : Bool) (f : Option ℕ) (b : Built) (d : ℕ) (directed : Bool) (o : Owner) (w : Bool) (text : List ℕ) (html : Bool) (line : ℕ) (ms : List Mark)
-    → go u f b (at stands.Setting d directed o w) (IdMark (record { text = text; is_html = html; line = line }) ∷ ms) ≡ go u f b (at stands.Done d directed o w) ms
-any_setting u f b d directed o w text true line ms = refl
-any_setting u f b d directed o w text false line ms = refl
+pub any_setting : (undirected : Bool) (factor : Option ℕ) (b : Built) (depth : ℕ) (directed : Bool) (owner : Owner) (w : Bool) (text : List ℕ) (html : Bool) (line : ℕ) (ms : List Mark)
+    → go undirected factor b (at stands.Setting depth directed owner w) (IdMark (record { text = text; is_html = html; line = line }) ∷ ms) ≡ go undirected factor b (at stands.Done depth directed owner w) ms
+any_setting undirected factor b depth directed owner w text true line ms = refl
+any_setting undirected factor b depth directed owner w text false line ms = refl
 
-pub any_subgraph : (u : Bool) (f : Option ℕ) (b : Built) (d : ℕ) (directed : Bool) (o : Owner) (w : Bool) (text : List ℕ) (html : Bool) (line : ℕ) (ms : List Mark)
-    → go u f b (at stands.Subgraph d directed o w) (IdMark (record { text = text; is_html = html; line = line }) ∷ ms) ≡ go u f b (at stands.SubgraphTitled d directed o w) ms
-any_subgraph u f b d directed o w text true line ms = refl
-any_subgraph u f b d directed o w text false line ms = refl
+pub any_subgraph : (undirected : Bool) (factor : Option ℕ) (b : Built) (depth : ℕ) (directed : Bool) (owner : Owner) (w : Bool) (text : List ℕ) (html : Bool) (line : ℕ) (ms : List Mark)
+    → go undirected factor b (at stands.Subgraph depth directed owner w) (IdMark (record { text = text; is_html = html; line = line }) ∷ ms) ≡ go undirected factor b (at stands.SubgraphTitled depth directed owner w) ms
+any_subgraph undirected factor b depth directed owner w text true line ms = refl
+any_subgraph undirected factor b depth directed owner w text false line ms = refl
 
-pub any_title : (u : Bool) (f : Option ℕ) (b : Built) (d : ℕ) (directed : Bool) (o : Owner) (w : Bool) (text : List ℕ) (html : Bool) (line : ℕ) (ms : List Mark)
-    → go u f b (at stands.Title d directed o w) (IdMark (record { text = text; is_html = html; line = line }) ∷ ms) ≡ go u f b (at stands.Titled d directed o w) ms
-any_title u f b d directed o w text true line ms = refl
-any_title u f b d directed o w text false line ms = refl
+pub any_title : (undirected : Bool) (factor : Option ℕ) (b : Built) (depth : ℕ) (directed : Bool) (owner : Owner) (w : Bool) (text : List ℕ) (html : Bool) (line : ℕ) (ms : List Mark)
+    → go undirected factor b (at stands.Title depth directed owner w) (IdMark (record { text = text; is_html = html; line = line }) ∷ ms) ≡ go undirected factor b (at stands.Titled depth directed owner w) ms
+any_title undirected factor b depth directed owner w text true line ms = refl
+any_title undirected factor b depth directed owner w text false line ms = refl
 
 -- ---- nodes
 
@@ -61,20 +61,20 @@ pub name_turn : (s : State) (a : List DotToken) (html : Bool) → at_statement s
 name_turn s a true = refl
 name_turn s a false = refl
 
-pub name_begins : (u : Bool) (f : Option ℕ) (b : Built) (r : Ready) (d : ℕ) (directed : Bool) (o : Owner) (w : Bool) (text : List ℕ) (html : Bool) (line : ℕ) (ms : List Mark)
+pub name_begins : (undirected : Bool) (factor : Option ℕ) (b : Built) (r : Ready) (depth : ℕ) (directed : Bool) (owner : Owner) (w : Bool) (text : List ℕ) (html : Bool) (line : ℕ) (ms : List Mark)
     → IsNodeName (record { text = text; is_html = html; line = line }) → assigns (marked_tokens ms) ≡ false
-    → go u f b (at (ready_place r) d directed o w) (IdMark (record { text = text; is_html = html; line = line }) ∷ ms)
-    ≡ go u f (built_with (unsaid_weight f) b (BeginsEvent (record { name = text; line = line }))) (at stands.Node d directed whose.Node w) ms
-name_begins u f b r d directed o w text true line ms is not_set = absurd (true≢false is.0)
-name_begins u f b r d directed o w text false line ms is not_set =
-    ap (behind u f b kind.Name text line ms) (ready_turn r u d directed o w kind.Name text (marked_tokens ms) tt) ∙ rw (not_set, is.1, is.2) refl
+    → go undirected factor b (at (ready_place r) depth directed owner w) (IdMark (record { text = text; is_html = html; line = line }) ∷ ms)
+    ≡ go undirected factor (built_with (unsaid_weight factor) b (BeginsEvent (record { name = text; line = line }))) (at stands.Node depth directed whose.Node w) ms
+name_begins undirected factor b r depth directed owner w text true line ms is not_set = absurd (true≢false is.0)
+name_begins undirected factor b r depth directed owner w text false line ms is not_set =
+    ap (behind undirected factor b kind.Name text line ms) (ready_turn r undirected depth directed owner w kind.Name text (marked_tokens ms) tt) ∙ rw (not_set, is.1, is.2) refl
 
-pub name_joins : (u : Bool) (f : Option ℕ) (b : Built) (d : ℕ) (directed : Bool) (o : Owner) (w : Bool) (text : List ℕ) (html : Bool) (line : ℕ) (ms : List Mark)
+pub name_joins : (undirected : Bool) (factor : Option ℕ) (b : Built) (depth : ℕ) (directed : Bool) (owner : Owner) (w : Bool) (text : List ℕ) (html : Bool) (line : ℕ) (ms : List Mark)
     → IsNodeName (record { text = text; is_html = html; line = line })
-    → go u f b (at stands.EdgeEnd d directed o w) (IdMark (record { text = text; is_html = html; line = line }) ∷ ms)
-    ≡ go u f (built_with (unsaid_weight f) b (JoinsEvent (record { name = text; line = line }))) (at stands.Node d directed whose.Edge w) ms
-name_joins u f b d directed o w text true line ms is = absurd (true≢false is.0)
-name_joins u f b d directed o w text false line ms is = rw (is.1, is.2) refl
+    → go undirected factor b (at stands.EdgeEnd depth directed owner w) (IdMark (record { text = text; is_html = html; line = line }) ∷ ms)
+    ≡ go undirected factor (built_with (unsaid_weight factor) b (JoinsEvent (record { name = text; line = line }))) (at stands.Node depth directed whose.Edge w) ms
+name_joins undirected factor b depth directed owner w text true line ms is = absurd (true≢false is.0)
+name_joins undirected factor b depth directed owner w text false line ms is = rw (is.1, is.2) refl
 
 -- behind a node's ports
 pub data NodePlace : Type 0 where
@@ -95,46 +95,46 @@ port_place NoPort = Bare
 port_place (OnePort port) = Once
 port_place (TwoPorts port side) = Twice
 
-pub port_read : (u : Bool) (f : Option ℕ) (b : Built) (d : ℕ) (directed : Bool) (o : Owner) (w : Bool) (port : Port) (ms : List Mark)
-    → go u f b (at stands.Node d directed o w) (port_marks port ms) ≡ go u f b (at (node_place (port_place port)) d directed o w) ms
-port_read u f b d directed o w NoPort ms = refl
-port_read u f b d directed o w (OnePort p) ms = any_port u f b d directed o w p.text p.is_html p.line ms
-port_read u f b d directed o w (TwoPorts p q) ms =
-    any_port u f b d directed o w p.text p.is_html p.line (SignMark kind.Colon ∷ IdMark q ∷ ms) ∙ any_side u f b d directed o w q.text q.is_html q.line ms
+pub port_read : (undirected : Bool) (factor : Option ℕ) (b : Built) (depth : ℕ) (directed : Bool) (owner : Owner) (w : Bool) (port : Port) (ms : List Mark)
+    → go undirected factor b (at stands.Node depth directed owner w) (port_marks port ms) ≡ go undirected factor b (at (node_place (port_place port)) depth directed owner w) ms
+port_read undirected factor b depth directed owner w NoPort ms = refl
+port_read undirected factor b depth directed owner w (OnePort p) ms = any_port undirected factor b depth directed owner w p.text p.is_html p.line ms
+port_read undirected factor b depth directed owner w (TwoPorts p q) ms =
+    any_port undirected factor b depth directed owner w p.text p.is_html p.line (SignMark kind.Colon ∷ IdMark q ∷ ms) ∙ any_side undirected factor b depth directed owner w q.text q.is_html q.line ms
 
 -- ---- chains
 
 -- an edge's sign behind a node
-pub sign_read : (u : Bool) (f : Option ℕ) (b : Built) (n : NodePlace) (d : ℕ) (directed : Bool) (o : Owner) (w : Bool) (ms : List Mark)
-    → go u f b (at (node_place n) d directed o w) (SignMark (edge_sign directed) ∷ ms) ≡ go u f b (at stands.EdgeEnd d directed o w) ms
-sign_read u f b Bare d true o w ms = refl
-sign_read u f b Bare d false o w ms = refl
-sign_read u f b Once d true o w ms = refl
-sign_read u f b Once d false o w ms = refl
-sign_read u f b Twice d true o w ms = refl
-sign_read u f b Twice d false o w ms = refl
+pub sign_read : (undirected : Bool) (factor : Option ℕ) (b : Built) (n : NodePlace) (depth : ℕ) (directed : Bool) (owner : Owner) (w : Bool) (ms : List Mark)
+    → go undirected factor b (at (node_place n) depth directed owner w) (SignMark (edge_sign directed) ∷ ms) ≡ go undirected factor b (at stands.EdgeEnd depth directed owner w) ms
+sign_read undirected factor b Bare depth true owner w ms = refl
+sign_read undirected factor b Bare depth false owner w ms = refl
+sign_read undirected factor b Once depth true owner w ms = refl
+sign_read undirected factor b Once depth false owner w ms = refl
+sign_read undirected factor b Twice depth true owner w ms = refl
+sign_read undirected factor b Twice depth false owner w ms = refl
 
 abbrev pub joined_with : Weight → Built → NodeId → Built
 joined_with unsaid b n = built_with unsaid b (JoinsEvent (node_of n))
 
-pub join_read : (u : Bool) (f : Option ℕ) (b : Built) (n : NodePlace) (d : ℕ) (directed : Bool) (o : Owner) (w : Bool) (node : NodeId) (ms : List Mark) → IsNodeName node.name
-    → go u f b (at (node_place n) d directed o w) (SignMark (edge_sign directed) ∷ node_marks node ms)
-    ≡ go u f (joined_with (unsaid_weight f) b node) (at (node_place (port_place node.port)) d directed whose.Edge w) ms
-join_read u f b n d directed o w node ms is =
-    sign_read u f b n d directed o w (node_marks node ms)
-    ∙ name_joins u f b d directed o w node.name.text node.name.is_html node.name.line (port_marks node.port ms) is
-    ∙ port_read u f (joined_with (unsaid_weight f) b node) d directed whose.Edge w node.port ms
+pub join_read : (undirected : Bool) (factor : Option ℕ) (b : Built) (n : NodePlace) (depth : ℕ) (directed : Bool) (owner : Owner) (w : Bool) (node : NodeId) (ms : List Mark) → IsNodeName node.name
+    → go undirected factor b (at (node_place n) depth directed owner w) (SignMark (edge_sign directed) ∷ node_marks node ms)
+    ≡ go undirected factor (joined_with (unsaid_weight factor) b node) (at (node_place (port_place node.port)) depth directed whose.Edge w) ms
+join_read undirected factor b n depth directed owner w node ms is =
+    sign_read undirected factor b n depth directed owner w (node_marks node ms)
+    ∙ name_joins undirected factor b depth directed owner w node.name.text node.name.is_html node.name.line (port_marks node.port ms) is
+    ∙ port_read undirected factor (joined_with (unsaid_weight factor) b node) depth directed whose.Edge w node.port ms
 
 -- what is built with the nodes of a chain
 abbrev pub all_joined : Weight → Built → List NodeId → Built
 all_joined unsaid b [] = b
 all_joined unsaid b (n ∷ nodes) = all_joined unsaid (joined_with unsaid b n) nodes
 
-pub joined_read : (u : Bool) (f : Option ℕ) (b : Built) (n : NodePlace) (d : ℕ) (directed : Bool) (w : Bool) (nodes : List NodeId) (ms : List Mark) (result : Result DotGraph DotFault)
+pub joined_read : (undirected : Bool) (factor : Option ℕ) (b : Built) (n : NodePlace) (depth : ℕ) (directed : Bool) (w : Bool) (nodes : List NodeId) (ms : List Mark) (result : Result DotGraph DotFault)
     → AllByRecursion (λ (x : NodeId). IsNodeName x.name) nodes
-    → ((m : NodePlace) → go u f (all_joined (unsaid_weight f) b nodes) (at (node_place m) d directed whose.Edge w) ms ≡ result)
-    → go u f b (at (node_place n) d directed whose.Edge w) (joined_marks directed nodes ms) ≡ result
-joined_read u f b n d directed w [] ms result are goes = goes n
-joined_read u f b n d directed w (x ∷ nodes) ms result are goes =
-    join_read u f b n d directed whose.Edge w x (joined_marks directed nodes ms) are.0
-    ∙ joined_read u f (joined_with (unsaid_weight f) b x) (port_place x.port) d directed w nodes ms result are.1 goes
+    → ((m : NodePlace) → go undirected factor (all_joined (unsaid_weight factor) b nodes) (at (node_place m) depth directed whose.Edge w) ms ≡ result)
+    → go undirected factor b (at (node_place n) depth directed whose.Edge w) (joined_marks directed nodes ms) ≡ result
+joined_read undirected factor b n depth directed w [] ms result are goes = goes n
+joined_read undirected factor b n depth directed w (x ∷ nodes) ms result are goes =
+    join_read undirected factor b n depth directed whose.Edge w x (joined_marks directed nodes ms) are.0
+    ∙ joined_read undirected factor (joined_with (unsaid_weight factor) b x) (port_place x.port) depth directed w nodes ms result are.1 goes

@@ -21,40 +21,40 @@ use Rattle.import_dot.proofs.Needs.{After, AreLevels, AttributesAt, BlockAt, Bod
 
 -- ---- attributes and lists
 
-pub takes_nil : (f : Option ℕ) (o : Owner) → Takes f o []
-takes_nil f whose.Edge = tt
-takes_nil f whose.EdgeDefault = refl
-takes_nil f whose.Node = tt
-takes_nil f whose.Other = tt
+pub takes_nil : (factor : Option ℕ) (owner : Owner) → Takes factor owner []
+takes_nil factor whose.Edge = tt
+takes_nil factor whose.EdgeDefault = refl
+takes_nil factor whose.Node = tt
+takes_nil factor whose.Other = tt
 
-pub are_both : (f : Option ℕ) (x y : List (List ℕ)) → AreWeights f x → AreWeights f y → AreWeights f (x ++ y)
-are_both f [] y first second = second
-are_both f (word ∷ x) y first second = (first.0, are_both f x y first.1 second)
+pub are_both : (factor : Option ℕ) (x y : List (List ℕ)) → AreWeights factor x → AreWeights factor y → AreWeights factor (x ++ y)
+are_both factor [] y first second = second
+are_both factor (word ∷ x) y first second = (first.0, are_both factor x y first.1 second)
 
 pub none_both : (x y : List (List ℕ)) → x ≡ [] → y ≡ [] → x ++ y ≡ []
 none_both [] y first second = second
 none_both (word ∷ x) y first second = cc
 
-pub takes_both : (f : Option ℕ) (o : Owner) (x y : List (List ℕ)) → Takes f o x → Takes f o y → Takes f o (x ++ y)
-takes_both f whose.Edge x y first second = are_both f x y first second
-takes_both f whose.EdgeDefault x y first second = none_both x y first second
-takes_both f whose.Node x y first second = tt
-takes_both f whose.Other x y first second = tt
+pub takes_both : (factor : Option ℕ) (owner : Owner) (x y : List (List ℕ)) → Takes factor owner x → Takes factor owner y → Takes factor owner (x ++ y)
+takes_both factor whose.Edge x y first second = are_both factor x y first second
+takes_both factor whose.EdgeDefault x y first second = none_both x y first second
+takes_both factor whose.Node x y first second = tt
+takes_both factor whose.Other x y first second = tt
 
 -- attributes in brackets are the first of lists
-pub lists_with : (f : Option ℕ) (d : ℕ) (directed : Bool) (o : Owner) (ms : List Mark) → AttributesAt f d directed o ms → ListsAt f d directed o (SignMark BracketOpen ∷ ms)
-lists_with f d directed o ms a = record {
+pub lists_with : (factor : Option ℕ) (depth : ℕ) (directed : Bool) (owner : Owner) (ms : List Mark) → AttributesAt factor depth directed owner ms → ListsAt factor depth directed owner (SignMark BracketOpen ∷ ms)
+lists_with factor depth directed owner ms a = record {
   lists = a.attributes ∷ a.lists.lists;
   more = a.lists.more;
-  takes = takes_both f o (list_weights a.attributes) (weights_said a.lists.lists) a.takes a.lists.takes;
+  takes = takes_both factor owner (list_weights a.attributes) (weights_said a.lists.lists) a.takes a.lists.takes;
   done = a.lists.done;
   spelled = ap (λ x. SignMark BracketOpen ∷ x) (a.spelled ∙ ap (attribute_marks a.attributes) a.lists.spelled);
 }
 
 -- an attribute in front of others
-pub attributes_with : (f : Option ℕ) (d : ℕ) (directed : Bool) (o : Owner) (name : DotId) (ms : List Mark)
-    → SignAt Assign (ValueAt f d directed o (names_weight name)) ms → AttributesAt f d directed o (IdMark name ∷ ms)
-attributes_with f d directed o name ms key =
+pub attributes_with : (factor : Option ℕ) (depth : ℕ) (directed : Bool) (owner : Owner) (name : DotId) (ms : List Mark)
+    → SignAt Assign (ValueAt factor depth directed owner (names_weight name)) ms → AttributesAt factor depth directed owner (IdMark name ∷ ms)
+attributes_with factor depth directed owner name ms key =
     (let value = key.rest in
     let valued = value.valued in
     let rest = valued.attributes in
@@ -62,16 +62,16 @@ attributes_with f d directed o name ms key =
     record {
       attributes = a ∷ rest.attributes;
       more = rest.more;
-      takes = subst (Takes f o) (sym (list_more (names_weight name) a (filter (λ (x : Attribute). names_weight x.name) rest.attributes)))
-          (takes_both f o (one_weight (names_weight name) value.value.text) (list_weights rest.attributes) value.takes rest.takes);
+      takes = subst (Takes factor owner) (sym (list_more (names_weight name) a (filter (λ (x : Attribute). names_weight x.name) rest.attributes)))
+          (takes_both factor owner (one_weight (names_weight name) value.value.text) (list_weights rest.attributes) value.takes rest.takes);
       lists = rest.lists;
       spelled = ap (λ x. IdMark name ∷ x) (key.spelled ∙ ap (λ x. SignMark Assign ∷ x) (value.spelled ∙ ap (λ x. IdMark value.value ∷ x) (valued.spelled ∙ ap (separator_marks valued.separator) rest.spelled)));
     })
 
 -- ---- statements
 
-pub statement_with : (f : Option ℕ) (d : ℕ) (directed : Bool) (statement : Statement) (ms : List Mark) → IsStatement f statement → DoneAt f d directed ms → BlockAt f d directed (statement_marks directed statement ms)
-statement_with f d directed statement ms is done = record {
+pub statement_with : (factor : Option ℕ) (depth : ℕ) (directed : Bool) (statement : Statement) (ms : List Mark) → IsStatement factor statement → DoneAt factor depth directed ms → BlockAt factor depth directed (statement_marks directed statement ms)
+statement_with factor depth directed statement ms is done = record {
   statements = OneStatement statement done.semicolon done.block.statements;
   levels = done.block.levels;
   are = (is, done.block.are);
@@ -80,8 +80,8 @@ statement_with f d directed statement ms is done = record {
   spelled = ap (statement_marks directed statement) (done.spelled ∙ ap (semicolon_marks done.semicolon) done.block.spelled);
 }
 
-pub subgraph_with : (f : Option ℕ) (d : ℕ) (directed : Bool) (head : SubgraphHead) (ms : List Mark) → BodyAt f d directed ms → BlockAt f d directed (head_marks head ms)
-subgraph_with f d directed head ms b = record {
+pub subgraph_with : (factor : Option ℕ) (depth : ℕ) (directed : Bool) (head : SubgraphHead) (ms : List Mark) → BodyAt factor depth directed ms → BlockAt factor depth directed (head_marks head ms)
+subgraph_with factor depth directed head ms b = record {
   statements = OneSubgraph head b.body b.done.semicolon b.done.block.statements;
   levels = b.done.block.levels;
   are = (b.are, b.done.block.are);
@@ -91,45 +91,45 @@ subgraph_with f d directed head ms b = record {
 }
 
 -- behind the word subgraph
-pub word_with : (f : Option ℕ) (d : ℕ) (directed : Bool) (name : Option DotId) (more ms : List Mark) → ms ≡ name_marks name (SignMark BraceOpen ∷ more) → BodyAt f d directed more → BlockAt f d directed (SignMark Subgraph ∷ ms)
-word_with f d directed None more ms spelled b = subst (λ x. BlockAt f d directed (SignMark Subgraph ∷ x)) (sym spelled) (subgraph_with f d directed WordHead more b)
-word_with f d directed (Some name) more ms spelled b = subst (λ x. BlockAt f d directed (SignMark Subgraph ∷ x)) (sym spelled) (subgraph_with f d directed (NamedHead name) more b)
+pub word_with : (factor : Option ℕ) (depth : ℕ) (directed : Bool) (name : Option DotId) (more ms : List Mark) → ms ≡ name_marks name (SignMark BraceOpen ∷ more) → BodyAt factor depth directed more → BlockAt factor depth directed (SignMark Subgraph ∷ ms)
+word_with factor depth directed None more ms spelled b = subst (λ x. BlockAt factor depth directed (SignMark Subgraph ∷ x)) (sym spelled) (subgraph_with factor depth directed WordHead more b)
+word_with factor depth directed (Some name) more ms spelled b = subst (λ x. BlockAt factor depth directed (SignMark Subgraph ∷ x)) (sym spelled) (subgraph_with factor depth directed (NamedHead name) more b)
 
 -- a node, and nodes that are joined to it
-pub chain_with : (f : Option ℕ) (d : ℕ) (directed : Bool) (name : DotId) (port : Port) (others : List NodeId) (lists : List (List Attribute)) (ms : List Mark)
-    → IsNodeName name → AllByRecursion (λ (n : NodeId). IsNodeName n.name) others → Takes f (owner_behind whose.Node others) (weights_said lists) → DoneAt f d directed ms
-    → BlockAt f d directed (IdMark name ∷ port_marks port (joined_marks directed others (list_marks lists ms)))
-chain_with f d directed name port [] lists ms is are takes done = statement_with f d directed (NodeStatement (record { name = name; port = port }) lists) ms is done
-chain_with f d directed name port (second ∷ others) lists ms is are takes done =
-    statement_with f d directed (EdgeStatement (record { name = name; port = port }) second others lists) ms ((is, are), takes) done
+pub chain_with : (factor : Option ℕ) (depth : ℕ) (directed : Bool) (name : DotId) (port : Port) (others : List NodeId) (lists : List (List Attribute)) (ms : List Mark)
+    → IsNodeName name → AllByRecursion (λ (n : NodeId). IsNodeName n.name) others → Takes factor (owner_behind whose.Node others) (weights_said lists) → DoneAt factor depth directed ms
+    → BlockAt factor depth directed (IdMark name ∷ port_marks port (joined_marks directed others (list_marks lists ms)))
+chain_with factor depth directed name port [] lists ms is are takes done = statement_with factor depth directed (NodeStatement (record { name = name; port = port }) lists) ms is done
+chain_with factor depth directed name port (second ∷ others) lists ms is are takes done =
+    statement_with factor depth directed (EdgeStatement (record { name = name; port = port }) second others lists) ms ((is, are), takes) done
 
-pub node_with : (f : Option ℕ) (d : ℕ) (directed : Bool) (name : DotId) (ms : List Mark) → IsNodeName name → NodeAt f d directed whose.Node ms → BlockAt f d directed (IdMark name ∷ ms)
-node_with f d directed name ms is n =
-    subst (λ x. BlockAt f d directed (IdMark name ∷ x)) (sym (n.spelled ∙ ap (port_marks n.port) n.chain.spelled))
-    (chain_with f d directed name n.port n.chain.others n.chain.lists n.chain.more is n.chain.are n.chain.takes n.chain.done)
+pub node_with : (factor : Option ℕ) (depth : ℕ) (directed : Bool) (name : DotId) (ms : List Mark) → IsNodeName name → NodeAt factor depth directed whose.Node ms → BlockAt factor depth directed (IdMark name ∷ ms)
+node_with factor depth directed name ms is n =
+    subst (λ x. BlockAt factor depth directed (IdMark name ∷ x)) (sym (n.spelled ∙ ap (port_marks n.port) n.chain.spelled))
+    (chain_with factor depth directed name n.port n.chain.others n.chain.lists n.chain.more is n.chain.are n.chain.takes n.chain.done)
 
-pub setting_with : (f : Option ℕ) (d : ℕ) (directed : Bool) (name : DotId) (ms : List Mark) → SignAt Assign (IdAt (DoneAt f d directed)) ms → BlockAt f d directed (IdMark name ∷ ms)
-setting_with f d directed name ms key =
-    subst (λ x. BlockAt f d directed (IdMark name ∷ x)) (sym (key.spelled ∙ ap (λ x. SignMark Assign ∷ x) key.rest.spelled))
-    (statement_with f d directed (SettingStatement name key.rest.id) key.rest.more tt key.rest.rest)
+pub setting_with : (factor : Option ℕ) (depth : ℕ) (directed : Bool) (name : DotId) (ms : List Mark) → SignAt Assign (IdAt (DoneAt factor depth directed)) ms → BlockAt factor depth directed (IdMark name ∷ ms)
+setting_with factor depth directed name ms key =
+    subst (λ x. BlockAt factor depth directed (IdMark name ∷ x)) (sym (key.spelled ∙ ap (λ x. SignMark Assign ∷ x) key.rest.spelled))
+    (statement_with factor depth directed (SettingStatement name key.rest.id) key.rest.more tt key.rest.rest)
 
-pub default_with : (f : Option ℕ) (d : ℕ) (directed : Bool) (o : Owner) (default : Default) (ms : List Mark)
-    → ((first : List Attribute) (lists : List (List Attribute)) → Takes f o (weights_said (first ∷ lists)) → IsStatement f (DefaultStatement default first lists))
-    → SignAt BracketOpen (AttributesAt f d directed o) ms → BlockAt f d directed (SignMark (default_sign default) ∷ ms)
+pub default_with : (factor : Option ℕ) (depth : ℕ) (directed : Bool) (owner : Owner) (default : Default) (ms : List Mark)
+    → ((first : List Attribute) (lists : List (List Attribute)) → Takes factor owner (weights_said (first ∷ lists)) → IsStatement factor (DefaultStatement default first lists))
+    → SignAt BracketOpen (AttributesAt factor depth directed owner) ms → BlockAt factor depth directed (SignMark (default_sign default) ∷ ms)
 unfolding lists_with
-default_with f d directed o default ms is b =
+default_with factor depth directed owner default ms is b =
     (let a = b.rest in
-    subst (λ x. BlockAt f d directed (SignMark (default_sign default) ∷ x))
-    (sym (b.spelled ∙ (lists_with f d directed o b.more a).spelled))
-    (statement_with f d directed (DefaultStatement default a.attributes a.lists.lists) a.lists.more (is a.attributes a.lists.lists (lists_with f d directed o b.more a).takes) a.lists.done))
+    subst (λ x. BlockAt factor depth directed (SignMark (default_sign default) ∷ x))
+    (sym (b.spelled ∙ (lists_with factor depth directed owner b.more a).spelled))
+    (statement_with factor depth directed (DefaultStatement default a.attributes a.lists.lists) a.lists.more (is a.attributes a.lists.lists (lists_with factor depth directed owner b.more a).takes) a.lists.done))
 
 -- a subgraph's statements stand in a level of their own
-pub body_with : (f : Option ℕ) (d : ℕ) (directed : Bool) (ms : List Mark) (statements : Statements) (levels : List Level)
-    → AreStatements f statements → depth_of statements ≤ 64 - (d + 1) → d < 64 → AreLevels f (d + 1) levels
-    → ms ≡ statements_marks directed statements (SignMark BraceClose ∷ outer_marks directed levels) → BodyAt f d directed ms
-body_with f d directed ms statements [] are deep room none spelled = absurd (omega (arith, none))
-body_with f d directed ms statements (l ∷ levels) are deep room some spelled =
-    (let same : some.0 ≡ d = omega (arith, some.1) in
+pub body_with : (factor : Option ℕ) (depth : ℕ) (directed : Bool) (ms : List Mark) (statements : Statements) (levels : List Level)
+    → AreStatements factor statements → depth_of statements ≤ 64 - (depth + 1) → depth < 64 → AreLevels factor (depth + 1) levels
+    → ms ≡ statements_marks directed statements (SignMark BraceClose ∷ outer_marks directed levels) → BodyAt factor depth directed ms
+body_with factor depth directed ms statements [] are deep room none spelled = absurd (omega (arith, none))
+body_with factor depth directed ms statements (l ∷ levels) are deep room some spelled =
+    (let same : some.0 ≡ depth = omega (arith, some.1) in
     record {
       body = statements;
       more = outer_marks directed (l ∷ levels);
@@ -143,7 +143,7 @@ body_with f d directed ms statements (l ∷ levels) are deep room some spelled =
           levels = levels;
           are = some.2;
           deep = omega (arith, same, some.3);
-          are_levels = subst (λ n. AreLevels f n levels) same some.4;
+          are_levels = subst (λ n. AreLevels factor n levels) same some.4;
           spelled = refl;
         };
         spelled = refl;
@@ -151,15 +151,15 @@ body_with f d directed ms statements (l ∷ levels) are deep room some spelled =
       spelled = spelled;
     })
 
-pub opened_found : (u : Bool) (f : Option ℕ) (s : State) (text : List ℕ) (line : ℕ) (ms : List Mark) → After u f BraceOpen text line ms (opened s) → BodyAt f s.depth s.directed ms
-opened_found u f s text line ms h =
-    elim (after_if u f BraceOpen text line ms (nat_lt s.depth most_depth) (Ok (record s { place = stands.Statement; depth = s.depth + 1 }, does.Pass)) (Err fault.TooDeep) h) [
-      | inl room ↦ (let b = room.1.1 in body_with f s.depth s.directed ms b.statements b.levels b.are b.deep (ltb-true s.depth 64 room.0) b.are_levels b.spelled)
+pub opened_found : (undirected : Bool) (factor : Option ℕ) (s : State) (text : List ℕ) (line : ℕ) (ms : List Mark) → After undirected factor BraceOpen text line ms (opened s) → BodyAt factor s.depth s.directed ms
+opened_found undirected factor s text line ms h =
+    elim (after_if undirected factor BraceOpen text line ms (nat_lt s.depth most_depth) (Ok (record s { place = stands.Statement; depth = s.depth + 1 }, does.Pass)) (Err fault.TooDeep) h) [
+      | inl room ↦ (let b = room.1.1 in body_with factor s.depth s.directed ms b.statements b.levels b.are b.deep (ltb-true s.depth 64 room.0) b.are_levels b.spelled)
       | inr none ↦ absurd none.1
     ]
 
-pub brace_with : (f : Option ℕ) (d : ℕ) (directed : Bool) (ms : List Mark) (levels : List Level) → AreLevels f d levels → ms ≡ outer_marks directed levels → BlockAt f d directed (SignMark BraceClose ∷ ms)
-brace_with f d directed ms levels are spelled = record {
+pub brace_with : (factor : Option ℕ) (depth : ℕ) (directed : Bool) (ms : List Mark) (levels : List Level) → AreLevels factor depth levels → ms ≡ outer_marks directed levels → BlockAt factor depth directed (SignMark BraceClose ∷ ms)
+brace_with factor depth directed ms levels are spelled = record {
   statements = NoStatement;
   levels = levels;
   are = tt;
@@ -168,15 +168,15 @@ brace_with f d directed ms levels are spelled = record {
   spelled = ap (λ x. SignMark BraceClose ∷ x) spelled;
 }
 
-pub closed_found : (u : Bool) (f : Option ℕ) (s : State) (text : List ℕ) (line : ℕ) (ms : List Mark) → After u f BraceClose text line ms (closed s) → BlockAt f s.depth s.directed (SignMark BraceClose ∷ ms)
-closed_found u f s text line ms h =
-    elim (after_if u f BraceClose text line ms (s.depth == 0) (Ok (record s { place = stands.Over }, does.Pass)) (Ok (record s { place = stands.Closed; depth = s.depth - 1 }, does.Pass)) h) [
-      | inl outer ↦ brace_with f s.depth s.directed ms [] (eqb-true s.depth 0 outer.0) outer.1.1
+pub closed_found : (undirected : Bool) (factor : Option ℕ) (s : State) (text : List ℕ) (line : ℕ) (ms : List Mark) → After undirected factor BraceClose text line ms (closed s) → BlockAt factor s.depth s.directed (SignMark BraceClose ∷ ms)
+closed_found undirected factor s text line ms h =
+    elim (after_if undirected factor BraceClose text line ms (s.depth == 0) (Ok (record s { place = stands.Over }, does.Pass)) (Ok (record s { place = stands.Closed; depth = s.depth - 1 }, does.Pass)) h) [
+      | inl outer ↦ brace_with factor s.depth s.directed ms [] (eqb-true s.depth 0 outer.0) outer.1.1
       | inr inner ↦
           (let done = inner.1.1 in
           let some : (s.depth ≡ 0 → ⊥) = eqb-false s.depth 0 inner.0 in
           let less : s.depth ≡ s.depth - 1 + 1 = omega (arith, some) in
-          brace_with f s.depth s.directed ms (record { semicolon = done.semicolon; statements = done.block.statements } ∷ done.block.levels)
+          brace_with factor s.depth s.directed ms (record { semicolon = done.semicolon; statements = done.block.statements } ∷ done.block.levels)
           (s.depth - 1, less, done.block.are, done.block.deep, done.block.are_levels)
           (done.spelled ∙ ap (semicolon_marks done.semicolon) done.block.spelled))
     ]

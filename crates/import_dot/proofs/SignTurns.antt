@@ -50,15 +50,15 @@ pub listed_ahead : (s : State) (a b : List DotToken) (k : TokenKind) → Same a 
 listed_ahead s a b BracketOpen e = refl
 listed_ahead s a b k e = done_ahead s a b k e
 
-pub turn_ahead : (p : Place) (u : Bool) (s : State) (k : TokenKind) (text : List ℕ) (a b : List DotToken) → Same a b → turn_at p u s k text a ≡ turn_at p u s k text b
-turn_ahead stands.Statement u s k text a b e = statement_ahead s a b k e
-turn_ahead stands.Done u s k text a b e = done_ahead s a b k e
-turn_ahead stands.Closed u s k text a b e = closed_ahead s a b k e
-turn_ahead stands.Node u s k text a b e = node_ahead s a b k e
-turn_ahead stands.Ported u s k text a b e = ported_ahead s a b k e
-turn_ahead stands.Sided u s k text a b e = sided_ahead s a b k e
-turn_ahead stands.Listed u s k text a b e = listed_ahead s a b k e
-turn_ahead p u s k text a b e = refl
+pub turn_ahead : (p : Place) (undirected : Bool) (s : State) (k : TokenKind) (text : List ℕ) (a b : List DotToken) → Same a b → turn_at p undirected s k text a ≡ turn_at p undirected s k text b
+turn_ahead stands.Statement undirected s k text a b e = statement_ahead s a b k e
+turn_ahead stands.Done undirected s k text a b e = done_ahead s a b k e
+turn_ahead stands.Closed undirected s k text a b e = closed_ahead s a b k e
+turn_ahead stands.Node undirected s k text a b e = node_ahead s a b k e
+turn_ahead stands.Ported undirected s k text a b e = ported_ahead s a b k e
+turn_ahead stands.Sided undirected s k text a b e = sided_ahead s a b k e
+turn_ahead stands.Listed undirected s k text a b e = listed_ahead s a b k e
+turn_ahead p undirected s k text a b e = refl
 
 -- ---- a token that is no ID
 
@@ -81,10 +81,10 @@ valued_text s Html x y is = absurd is
 valued_text s k x y is = refl
 
 -- its text does not matter
-pub turn_text : (p : Place) (u : Bool) (s : State) (k : TokenKind) (x y : List ℕ) (a : List DotToken) → IsSign k → turn_at p u s k x a ≡ turn_at p u s k y a
-turn_text stands.List u s k x y a is = list_text s k x y is
-turn_text stands.Valued u s k x y a is = valued_text s k x y is
-turn_text p u s k x y a is = refl
+pub turn_text : (p : Place) (undirected : Bool) (s : State) (k : TokenKind) (x y : List ℕ) (a : List DotToken) → IsSign k → turn_at p undirected s k x a ≡ turn_at p undirected s k y a
+turn_text stands.List undirected s k x y a is = list_text s k x y is
+turn_text stands.Valued undirected s k x y a is = valued_text s k x y is
+turn_text p undirected s k x y a is = refl
 
 -- and it says nothing
 abbrev pub Quiet : Turn → Type 0
@@ -115,15 +115,15 @@ quiet_any s p Quoted = refl
 quiet_any s p Html = refl
 quiet_any s p k = tt
 
-pub quiet_start : (u : Bool) (s : State) (k : TokenKind) → Quiet (at_start u s k)
-quiet_start u s Strict = refl
-quiet_start u s Graph = refl
-quiet_start u s Digraph = quiet_if u (Ok (record s { place = stands.Title; directed = true }, does.Pass)) (Err Directed) refl tt
-quiet_start u s k = tt
+pub quiet_start : (undirected : Bool) (s : State) (k : TokenKind) → Quiet (at_start undirected s k)
+quiet_start undirected s Strict = refl
+quiet_start undirected s Graph = refl
+quiet_start undirected s Digraph = quiet_if undirected (Ok (record s { place = stands.Title; directed = true }, does.Pass)) (Err Directed) refl tt
+quiet_start undirected s k = tt
 
-pub quiet_strict : (u : Bool) (s : State) (k : TokenKind) → Quiet (at_strict u s k)
-quiet_strict u s Strict = tt
-quiet_strict u s k = quiet_start u s k
+pub quiet_strict : (undirected : Bool) (s : State) (k : TokenKind) → Quiet (at_strict undirected s k)
+quiet_strict undirected s Strict = tt
+quiet_strict undirected s k = quiet_start undirected s k
 
 pub quiet_title : (s : State) (k : TokenKind) → Quiet (at_title s k)
 quiet_title s BraceOpen = refl
@@ -220,32 +220,32 @@ pub quiet_over : (s : State) (k : TokenKind) → Quiet (at_over s k)
 quiet_over s End = refl
 quiet_over s k = tt
 
-pub quiet_turn : (p : Place) (u : Bool) (s : State) (k : TokenKind) (text : List ℕ) (a : List DotToken) → IsSign k → Quiet (turn_at p u s k text a)
-quiet_turn stands.Start u s k text a is = quiet_start u s k
-quiet_turn stands.Strict u s k text a is = quiet_strict u s k
-quiet_turn stands.Title u s k text a is = quiet_title s k
-quiet_turn stands.Titled u s k text a is = quiet_titled s k
-quiet_turn stands.Statement u s k text a is = quiet_statement s a k is
-quiet_turn stands.Done u s k text a is = quiet_done s a k is
-quiet_turn stands.Closed u s k text a is = quiet_closed s a k is
-quiet_turn stands.Subgraph u s k text a is = quiet_subgraph s k
-quiet_turn stands.SubgraphTitled u s k text a is = quiet_subgraph_titled s k
-quiet_turn stands.Node u s k text a is = quiet_node s a k is
-quiet_turn stands.Port u s k text a is = quiet_any s stands.Ported k
-quiet_turn stands.Ported u s k text a is = quiet_ported s a k is
-quiet_turn stands.Side u s k text a is = quiet_any s stands.Sided k
-quiet_turn stands.Sided u s k text a is = quiet_sided s a k is
-quiet_turn stands.EdgeEnd u s k text a is = quiet_edge_end s k is
-quiet_turn stands.Key u s k text a is = quiet_key s k
-quiet_turn stands.Setting u s k text a is = quiet_any s stands.Done k
-quiet_turn stands.Brackets u s k text a is = quiet_brackets s k
-quiet_turn stands.List u s k text a is = quiet_list s text k is
-quiet_turn stands.ListKey u s k text a is = quiet_list_key s k
-quiet_turn stands.Value u s k text a is = quiet_value s k is
-quiet_turn stands.Valued u s k text a is = quiet_valued s text k is
-quiet_turn stands.Listed u s k text a is = quiet_listed s a k is
-quiet_turn stands.Over u s k text a is = quiet_over s k
-quiet_turn stands.Finish u s k text a is = quiet_refused k
+pub quiet_turn : (p : Place) (undirected : Bool) (s : State) (k : TokenKind) (text : List ℕ) (a : List DotToken) → IsSign k → Quiet (turn_at p undirected s k text a)
+quiet_turn stands.Start undirected s k text a is = quiet_start undirected s k
+quiet_turn stands.Strict undirected s k text a is = quiet_strict undirected s k
+quiet_turn stands.Title undirected s k text a is = quiet_title s k
+quiet_turn stands.Titled undirected s k text a is = quiet_titled s k
+quiet_turn stands.Statement undirected s k text a is = quiet_statement s a k is
+quiet_turn stands.Done undirected s k text a is = quiet_done s a k is
+quiet_turn stands.Closed undirected s k text a is = quiet_closed s a k is
+quiet_turn stands.Subgraph undirected s k text a is = quiet_subgraph s k
+quiet_turn stands.SubgraphTitled undirected s k text a is = quiet_subgraph_titled s k
+quiet_turn stands.Node undirected s k text a is = quiet_node s a k is
+quiet_turn stands.Port undirected s k text a is = quiet_any s stands.Ported k
+quiet_turn stands.Ported undirected s k text a is = quiet_ported s a k is
+quiet_turn stands.Side undirected s k text a is = quiet_any s stands.Sided k
+quiet_turn stands.Sided undirected s k text a is = quiet_sided s a k is
+quiet_turn stands.EdgeEnd undirected s k text a is = quiet_edge_end s k is
+quiet_turn stands.Key undirected s k text a is = quiet_key s k
+quiet_turn stands.Setting undirected s k text a is = quiet_any s stands.Done k
+quiet_turn stands.Brackets undirected s k text a is = quiet_brackets s k
+quiet_turn stands.List undirected s k text a is = quiet_list s text k is
+quiet_turn stands.ListKey undirected s k text a is = quiet_list_key s k
+quiet_turn stands.Value undirected s k text a is = quiet_value s k is
+quiet_turn stands.Valued undirected s k text a is = quiet_valued s text k is
+quiet_turn stands.Listed undirected s k text a is = quiet_listed s a k is
+quiet_turn stands.Over undirected s k text a is = quiet_over s k
+quiet_turn stands.Finish undirected s k text a is = quiet_refused k
 
 -- what a turn and its token say
 abbrev pub told : Option ℕ → TokenKind → List ℕ → ℕ → Turn → Result (State × DotEvent) DotLineFault

@@ -23,11 +23,11 @@ at place depth directed owner weighs = record { place = place; depth = depth; di
 
 -- what is built from marks
 abbrev pub go : Bool → Option ℕ → Built → State → List Mark → Result DotGraph DotFault
-go u f b s ms = build u f b s (marked_tokens ms)
+go undirected factor b s ms = build undirected factor b s (marked_tokens ms)
 
 -- what is built behind a turn
 abbrev pub behind : Bool → Option ℕ → Built → TokenKind → List ℕ → ℕ → List Mark → Turn → Result DotGraph DotFault
-behind u f b k text line ms turn = and_then (at_line line (told f k text line turn)) (λ n. build u f (built_with (unsaid_weight f) b n.1) n.0 (marked_tokens ms))
+behind undirected factor b k text line ms turn = and_then (at_line line (told factor k text line turn)) (λ n. build undirected factor (built_with (unsaid_weight factor) b n.1) n.0 (marked_tokens ms))
 
 -- behind a statement
 pub data Behind : Type 0 where
@@ -103,16 +103,16 @@ listed_first s a kind.BracketOpen is = absurd is
 listed_first s a k is = refl
 
 -- the place before a token does not matter beyond the choice of a row
-pub statement_place : (p q : Place) (d : ℕ) (directed : Bool) (o : Owner) (w : Bool) (a : List DotToken) (k : TokenKind) → at_statement (at p d directed o w) a k ≡ at_statement (at q d directed o w) a k
-statement_place p q d directed o w a kind.End = refl
-statement_place p q d directed o w a k = refl
+pub statement_place : (p q : Place) (depth : ℕ) (directed : Bool) (owner : Owner) (w : Bool) (a : List DotToken) (k : TokenKind) → at_statement (at p depth directed owner w) a k ≡ at_statement (at q depth directed owner w) a k
+statement_place p q depth directed owner w a kind.End = refl
+statement_place p q depth directed owner w a k = refl
 
-pub ready_turn : (r : Ready) (u : Bool) (d : ℕ) (directed : Bool) (o : Owner) (w : Bool) (k : TokenKind) (text : List ℕ) (a : List DotToken) → IsFirst k
-    → turn_at (ready_place r) u (at (ready_place r) d directed o w) k text a ≡ at_statement (at stands.Statement d directed o w) a k
-ready_turn Fresh u d directed o w k text a is = refl
-ready_turn (Later AtDone) u d directed o w k text a is = done_first (at stands.Done d directed o w) a k is ∙ statement_place stands.Done stands.Statement d directed o w a k
-ready_turn (Later AtClosed) u d directed o w k text a is = closed_first (at stands.Closed d directed o w) a k is ∙ statement_place stands.Closed stands.Statement d directed o w a k
-ready_turn (Later AtNode) u d directed o w k text a is = node_first (at stands.Node d directed o w) a k is ∙ statement_place stands.Node stands.Statement d directed o w a k
-ready_turn (Later AtPorted) u d directed o w k text a is = ported_first (at stands.Ported d directed o w) a k is ∙ statement_place stands.Ported stands.Statement d directed o w a k
-ready_turn (Later AtSided) u d directed o w k text a is = sided_first (at stands.Sided d directed o w) a k is ∙ statement_place stands.Sided stands.Statement d directed o w a k
-ready_turn (Later AtListed) u d directed o w k text a is = listed_first (at stands.Listed d directed o w) a k is ∙ statement_place stands.Listed stands.Statement d directed o w a k
+pub ready_turn : (r : Ready) (undirected : Bool) (depth : ℕ) (directed : Bool) (owner : Owner) (w : Bool) (k : TokenKind) (text : List ℕ) (a : List DotToken) → IsFirst k
+    → turn_at (ready_place r) undirected (at (ready_place r) depth directed owner w) k text a ≡ at_statement (at stands.Statement depth directed owner w) a k
+ready_turn Fresh undirected depth directed owner w k text a is = refl
+ready_turn (Later AtDone) undirected depth directed owner w k text a is = done_first (at stands.Done depth directed owner w) a k is ∙ statement_place stands.Done stands.Statement depth directed owner w a k
+ready_turn (Later AtClosed) undirected depth directed owner w k text a is = closed_first (at stands.Closed depth directed owner w) a k is ∙ statement_place stands.Closed stands.Statement depth directed owner w a k
+ready_turn (Later AtNode) undirected depth directed owner w k text a is = node_first (at stands.Node depth directed owner w) a k is ∙ statement_place stands.Node stands.Statement depth directed owner w a k
+ready_turn (Later AtPorted) undirected depth directed owner w k text a is = ported_first (at stands.Ported depth directed owner w) a k is ∙ statement_place stands.Ported stands.Statement depth directed owner w a k
+ready_turn (Later AtSided) undirected depth directed owner w k text a is = sided_first (at stands.Sided depth directed owner w) a k is ∙ statement_place stands.Sided stands.Statement depth directed owner w a k
+ready_turn (Later AtListed) undirected depth directed owner w k text a is = listed_first (at stands.Listed depth directed owner w) a k is ∙ statement_place stands.Listed stands.Statement depth directed owner w a k

@@ -87,64 +87,64 @@ all_joined_is unsaid b (n ∷ nodes) =
 abbrev pub begun_with : Weight → Built → NodeId → Built
 begun_with unsaid b n = built_with unsaid b (BeginsEvent (node_of n))
 
-pub edges_built : (f : Option ℕ) (b : Built) (first second : NodeId) (others : List NodeId) (words : List (List ℕ))
-    → (let c = all_joined (unsaid_weight f) (joined_with (unsaid_weight f) (begun_with (unsaid_weight f) b first) second) others in graph_built (reweighed c (last_weight f c.weight words)))
-    ≡ plus (graph_built b) (node_of first ∷ node_of second ∷ map node_of others) (chain (last_weight f (unsaid_weight f) words) (node_of first ∷ node_of second ∷ map node_of others))
-edges_built f b first second others words =
-    ap (λ c. graph_built (reweighed c (last_weight f c.weight words))) (all_joined_is (unsaid_weight f) (joined_with (unsaid_weight f) (begun_with (unsaid_weight f) b first) second) others)
-    ∙ ap (λ nodes. graph_with nodes ((b.edges ++ chain b.weight b.ends) ++ chain (last_weight f (unsaid_weight f) words) (node_of first ∷ node_of second ∷ map node_of others)))
+pub edges_built : (factor : Option ℕ) (b : Built) (first second : NodeId) (others : List NodeId) (words : List (List ℕ))
+    → (let c = all_joined (unsaid_weight factor) (joined_with (unsaid_weight factor) (begun_with (unsaid_weight factor) b first) second) others in graph_built (reweighed c (last_weight factor c.weight words)))
+    ≡ plus (graph_built b) (node_of first ∷ node_of second ∷ map node_of others) (chain (last_weight factor (unsaid_weight factor) words) (node_of first ∷ node_of second ∷ map node_of others))
+edges_built factor b first second others words =
+    ap (λ c. graph_built (reweighed c (last_weight factor c.weight words))) (all_joined_is (unsaid_weight factor) (joined_with (unsaid_weight factor) (begun_with (unsaid_weight factor) b first) second) others)
+    ∙ ap (λ nodes. graph_with nodes ((b.edges ++ chain b.weight b.ends) ++ chain (last_weight factor (unsaid_weight factor) words) (node_of first ∷ node_of second ∷ map node_of others)))
     (append_assoc (b.nodes ++ node_of first ∷ []) (node_of second ∷ []) (map node_of others) ∙ append_assoc b.nodes (node_of first ∷ []) (node_of second ∷ map node_of others))
 
 -- a sign at the beginning of a statement
-pub sign_first : (u : Bool) (f : Option ℕ) (b : Built) (r : Ready) (d : ℕ) (directed : Bool) (o : Owner) (w : Bool) (k : TokenKind) (ms : List Mark) → IsFirst k
-    → go u f b (at (ready_place r) d directed o w) (SignMark k ∷ ms) ≡ go u f b (at stands.Statement d directed o w) (SignMark k ∷ ms)
-sign_first u f b r d directed o w k ms is = ap (behind u f b k [] 0 ms) (ready_turn r u d directed o w k [] (marked_tokens ms) is)
+pub sign_first : (undirected : Bool) (factor : Option ℕ) (b : Built) (r : Ready) (depth : ℕ) (directed : Bool) (owner : Owner) (w : Bool) (k : TokenKind) (ms : List Mark) → IsFirst k
+    → go undirected factor b (at (ready_place r) depth directed owner w) (SignMark k ∷ ms) ≡ go undirected factor b (at stands.Statement depth directed owner w) (SignMark k ∷ ms)
+sign_first undirected factor b r depth directed owner w k ms is = ap (behind undirected factor b k [] 0 ms) (ready_turn r undirected depth directed owner w k [] (marked_tokens ms) is)
 
 -- what follows a statement
 abbrev pub Follows : Bool → Option ℕ → Built → ℕ → Bool → List DotMention → List NamedEdge → List Mark → Result DotGraph DotFault → Type 0
-Follows u f b d directed nodes edges ms result =
-    (c : Built) (x : Behind) (o : Owner) (w : Bool) → graph_built c ≡ plus (graph_built b) nodes edges → go u f c (at (behind_place x) d directed o w) ms ≡ result
+Follows undirected factor b depth directed nodes edges ms result =
+    (c : Built) (x : Behind) (owner : Owner) (w : Bool) → graph_built c ≡ plus (graph_built b) nodes edges → go undirected factor c (at (behind_place x) depth directed owner w) ms ≡ result
 
-pub statement_read : (u : Bool) (f : Option ℕ) (b : Built) (r : Ready) (d : ℕ) (directed : Bool) (o : Owner) (w : Bool) (statement : Statement) (ms : List Mark) (result : Result DotGraph DotFault)
-    → IsStatement f statement → NotSet ms → Follows u f b d directed (statement_nodes statement) (statement_edges f statement) ms result
-    → go u f b (at (ready_place r) d directed o w) (statement_marks directed statement ms) ≡ result
-statement_read u f b r d directed o w (NodeStatement node lists) ms result is free goes =
-    (let first = begun_with (unsaid_weight f) b node in
-    name_begins u f b r d directed o w node.name.text node.name.is_html node.name.line (port_marks node.port (list_marks lists ms)) is (port_ahead node.port (list_marks lists ms) (lists_ahead lists ms free))
-    ∙ port_read u f first d directed whose.Node w node.port (list_marks lists ms)
-    ∙ node_lists_read u f first (port_place node.port) d directed whose.Node w lists ms result tt (λ x later. goes first x whose.Node later refl))
-statement_read u f b r d directed o w (EdgeStatement left right others lists) ms result is free goes =
-    (let first = begun_with (unsaid_weight f) b left in
-    let second = joined_with (unsaid_weight f) first right in
-    let all = all_joined (unsaid_weight f) second others in
-    name_begins u f b r d directed o w left.name.text left.name.is_html left.name.line (port_marks left.port (joined_marks directed (right ∷ others) (list_marks lists ms))) is.0.0
+pub statement_read : (undirected : Bool) (factor : Option ℕ) (b : Built) (r : Ready) (depth : ℕ) (directed : Bool) (owner : Owner) (w : Bool) (statement : Statement) (ms : List Mark) (result : Result DotGraph DotFault)
+    → IsStatement factor statement → NotSet ms → Follows undirected factor b depth directed (statement_nodes statement) (statement_edges factor statement) ms result
+    → go undirected factor b (at (ready_place r) depth directed owner w) (statement_marks directed statement ms) ≡ result
+statement_read undirected factor b r depth directed owner w (NodeStatement node lists) ms result is free goes =
+    (let first = begun_with (unsaid_weight factor) b node in
+    name_begins undirected factor b r depth directed owner w node.name.text node.name.is_html node.name.line (port_marks node.port (list_marks lists ms)) is (port_ahead node.port (list_marks lists ms) (lists_ahead lists ms free))
+    ∙ port_read undirected factor first depth directed whose.Node w node.port (list_marks lists ms)
+    ∙ node_lists_read undirected factor first (port_place node.port) depth directed whose.Node w lists ms result tt (λ x later. goes first x whose.Node later refl))
+statement_read undirected factor b r depth directed owner w (EdgeStatement left right others lists) ms result is free goes =
+    (let first = begun_with (unsaid_weight factor) b left in
+    let second = joined_with (unsaid_weight factor) first right in
+    let all = all_joined (unsaid_weight factor) second others in
+    name_begins undirected factor b r depth directed owner w left.name.text left.name.is_html left.name.line (port_marks left.port (joined_marks directed (right ∷ others) (list_marks lists ms))) is.0.0
     (port_ahead left.port (joined_marks directed (right ∷ others) (list_marks lists ms)) (joined_ahead directed right others (list_marks lists ms)))
-    ∙ port_read u f first d directed whose.Node w left.port (joined_marks directed (right ∷ others) (list_marks lists ms))
-    ∙ join_read u f first (port_place left.port) d directed whose.Node w right (joined_marks directed others (list_marks lists ms)) is.0.1.0
-    ∙ joined_read u f second (port_place right.port) d directed w others (list_marks lists ms) result is.0.1.1
-    (λ m. node_lists_read u f all m d directed whose.Edge w lists ms result is.1 (λ x later. goes (reweighed all (last_weight f all.weight (weights_said lists))) x whose.Edge later (edges_built f b left right others (weights_said lists)))))
-statement_read u f b r d directed o w (DefaultStatement GraphDefault first lists) ms result is free goes =
-    sign_first u f b r d directed o w kind.Graph (list_marks (first ∷ lists) ms) tt
-    ∙ lists_read u f b d directed whose.Other w (first ∷ lists) ms result tt (λ later. goes b AtListed whose.Other later (plus_none (graph_built b)))
-statement_read u f b r d directed o w (DefaultStatement NodeDefault first lists) ms result is free goes =
-    sign_first u f b r d directed o w kind.Node (list_marks (first ∷ lists) ms) tt
-    ∙ lists_read u f b d directed whose.Other w (first ∷ lists) ms result tt (λ later. goes b AtListed whose.Other later (plus_none (graph_built b)))
-statement_read u f b r d directed o w (DefaultStatement EdgeDefault first lists) ms result is free goes =
-    sign_first u f b r d directed o w kind.Edge (list_marks (first ∷ lists) ms) tt
-    ∙ lists_read u f b d directed whose.EdgeDefault w (first ∷ lists) ms result is (λ later. goes b AtListed whose.EdgeDefault later (plus_none (graph_built b)))
-statement_read u f b r d directed o w (SettingStatement name value) ms result is free goes =
-    ap (behind u f b (id_kind name.is_html) name.text name.line (SignMark kind.Assign ∷ IdMark value ∷ ms))
-    (ready_turn r u d directed o w (id_kind name.is_html) name.text (marked_tokens (SignMark kind.Assign ∷ IdMark value ∷ ms)) (first_named name.is_html)
-    ∙ name_turn (at stands.Statement d directed o w) (marked_tokens (SignMark kind.Assign ∷ IdMark value ∷ ms)) name.is_html)
-    ∙ any_setting u f b d directed o w value.text value.is_html value.line ms
-    ∙ goes b AtDone o w (plus_none (graph_built b))
+    ∙ port_read undirected factor first depth directed whose.Node w left.port (joined_marks directed (right ∷ others) (list_marks lists ms))
+    ∙ join_read undirected factor first (port_place left.port) depth directed whose.Node w right (joined_marks directed others (list_marks lists ms)) is.0.1.0
+    ∙ joined_read undirected factor second (port_place right.port) depth directed w others (list_marks lists ms) result is.0.1.1
+    (λ m. node_lists_read undirected factor all m depth directed whose.Edge w lists ms result is.1 (λ x later. goes (reweighed all (last_weight factor all.weight (weights_said lists))) x whose.Edge later (edges_built factor b left right others (weights_said lists)))))
+statement_read undirected factor b r depth directed owner w (DefaultStatement GraphDefault first lists) ms result is free goes =
+    sign_first undirected factor b r depth directed owner w kind.Graph (list_marks (first ∷ lists) ms) tt
+    ∙ lists_read undirected factor b depth directed whose.Other w (first ∷ lists) ms result tt (λ later. goes b AtListed whose.Other later (plus_none (graph_built b)))
+statement_read undirected factor b r depth directed owner w (DefaultStatement NodeDefault first lists) ms result is free goes =
+    sign_first undirected factor b r depth directed owner w kind.Node (list_marks (first ∷ lists) ms) tt
+    ∙ lists_read undirected factor b depth directed whose.Other w (first ∷ lists) ms result tt (λ later. goes b AtListed whose.Other later (plus_none (graph_built b)))
+statement_read undirected factor b r depth directed owner w (DefaultStatement EdgeDefault first lists) ms result is free goes =
+    sign_first undirected factor b r depth directed owner w kind.Edge (list_marks (first ∷ lists) ms) tt
+    ∙ lists_read undirected factor b depth directed whose.EdgeDefault w (first ∷ lists) ms result is (λ later. goes b AtListed whose.EdgeDefault later (plus_none (graph_built b)))
+statement_read undirected factor b r depth directed owner w (SettingStatement name value) ms result is free goes =
+    ap (behind undirected factor b (id_kind name.is_html) name.text name.line (SignMark kind.Assign ∷ IdMark value ∷ ms))
+    (ready_turn r undirected depth directed owner w (id_kind name.is_html) name.text (marked_tokens (SignMark kind.Assign ∷ IdMark value ∷ ms)) (first_named name.is_html)
+    ∙ name_turn (at stands.Statement depth directed owner w) (marked_tokens (SignMark kind.Assign ∷ IdMark value ∷ ms)) name.is_html)
+    ∙ any_setting undirected factor b depth directed owner w value.text value.is_html value.line ms
+    ∙ goes b AtDone owner w (plus_none (graph_built b))
 
-pub semicolon_read : (u : Bool) (f : Option ℕ) (b : Built) (x : Behind) (d : ℕ) (directed : Bool) (o : Owner) (w : Bool) (semicolon : Bool) (ms : List Mark) (result : Result DotGraph DotFault)
-    → ((r : Ready) → go u f b (at (ready_place r) d directed o w) ms ≡ result) → go u f b (at (behind_place x) d directed o w) (semicolon_marks semicolon ms) ≡ result
-semicolon_read u f b x d directed o w false ms result goes = goes (Later x)
-semicolon_read u f b AtDone d directed o w true ms result goes = goes Fresh
-semicolon_read u f b AtClosed d directed o w true ms result goes = goes Fresh
-semicolon_read u f b AtNode d directed o w true ms result goes = goes Fresh
-semicolon_read u f b AtPorted d directed o w true ms result goes = goes Fresh
-semicolon_read u f b AtSided d directed o w true ms result goes = goes Fresh
-semicolon_read u f b AtListed d directed o w true ms result goes = goes Fresh
+pub semicolon_read : (undirected : Bool) (factor : Option ℕ) (b : Built) (x : Behind) (depth : ℕ) (directed : Bool) (owner : Owner) (w : Bool) (semicolon : Bool) (ms : List Mark) (result : Result DotGraph DotFault)
+    → ((r : Ready) → go undirected factor b (at (ready_place r) depth directed owner w) ms ≡ result) → go undirected factor b (at (behind_place x) depth directed owner w) (semicolon_marks semicolon ms) ≡ result
+semicolon_read undirected factor b x depth directed owner w false ms result goes = goes (Later x)
+semicolon_read undirected factor b AtDone depth directed owner w true ms result goes = goes Fresh
+semicolon_read undirected factor b AtClosed depth directed owner w true ms result goes = goes Fresh
+semicolon_read undirected factor b AtNode depth directed owner w true ms result goes = goes Fresh
+semicolon_read undirected factor b AtPorted depth directed owner w true ms result goes = goes Fresh
+semicolon_read undirected factor b AtSided depth directed owner w true ms result goes = goes Fresh
+semicolon_read undirected factor b AtListed depth directed owner w true ms result goes = goes Fresh

@@ -30,61 +30,61 @@ abbrev pub Finishes : Turn → Type 0
 Finishes (Ok n) = n.0.place ≡ stands.Finish
 Finishes (Err bad) = Unit {0}
 
-pub end_turn : (p : Place) (u : Bool) (s : State) (text : List ℕ) (a : List DotToken) → Finishes (turn_at p u s End text a)
-end_turn stands.Over u s text a = refl
-end_turn p u s text a = tt
+pub end_turn : (p : Place) (undirected : Bool) (s : State) (text : List ℕ) (a : List DotToken) → Finishes (turn_at p undirected s End text a)
+end_turn stands.Over undirected s text a = refl
+end_turn p undirected s text a = tt
 
 abbrev pub Read : Bool → Option ℕ → State → List DotToken → Type 0
-Read u f s ts = IsOk (events_from u f s ts)
+Read undirected factor s ts = IsOk (events_from undirected factor s ts)
 
 pub events_ok : (e : DotEvent) (read : Result (List DotEvent) DotFault) → IsOk (and_then read (λ es. Ok (e ∷ es))) → IsOk read
 events_ok e (Ok es) is = refl
 events_ok e (Err bad) is = is
 
 abbrev pub read_behind : Bool → Option ℕ → ℕ → List DotToken → Result (State × DotEvent) DotLineFault → Result (List DotEvent) DotFault
-read_behind u f line ts r = and_then (at_line line r) (λ n. and_then (events_from u f n.0 ts) (λ es. Ok (n.1 ∷ es)))
+read_behind undirected factor line ts r = and_then (at_line line r) (λ n. and_then (events_from undirected factor n.0 ts) (λ es. Ok (n.1 ∷ es)))
 
-pub said_found : (u : Bool) (f : Option ℕ) (next : State) (line : ℕ) (ts : List DotToken) (e : Result DotEvent DotLineFault) → IsOk (read_behind u f line ts (and_then e (λ x. Ok (next, x)))) → IsOk e × Read u f next ts
-said_found u f next line ts (Ok e) is = (refl, events_ok e (events_from u f next ts) is)
-said_found u f next line ts (Err bad) is = absurd (false≢true is)
+pub said_found : (undirected : Bool) (factor : Option ℕ) (next : State) (line : ℕ) (ts : List DotToken) (e : Result DotEvent DotLineFault) → IsOk (read_behind undirected factor line ts (and_then e (λ x. Ok (next, x)))) → IsOk e × Read undirected factor next ts
+said_found undirected factor next line ts (Ok e) is = (refl, events_ok e (events_from undirected factor next ts) is)
+said_found undirected factor next line ts (Err bad) is = absurd (false≢true is)
 
-pub after_found : (u : Bool) (f : Option ℕ) (k : TokenKind) (text : List ℕ) (line : ℕ) (ts : List DotToken) (turn : Turn) → IsOk (read_behind u f line ts (told f k text line turn))
-    → ((next : State) (act : Act) → turn ≡ Ok (next, act) → Read u f next ts → Needs u f next.place next (map mark_of ts)) → After u f k text line (map mark_of ts) turn
-after_found u f k text line ts (Ok n) is needs = (let found = said_found u f n.0 line ts (said f n.1 k text line) is in (found.0, needs n.0 n.1 refl found.1))
-after_found u f k text line ts (Err bad) is needs = absurd (false≢true is)
+pub after_found : (undirected : Bool) (factor : Option ℕ) (k : TokenKind) (text : List ℕ) (line : ℕ) (ts : List DotToken) (turn : Turn) → IsOk (read_behind undirected factor line ts (told factor k text line turn))
+    → ((next : State) (act : Act) → turn ≡ Ok (next, act) → Read undirected factor next ts → Needs undirected factor next.place next (map mark_of ts)) → After undirected factor k text line (map mark_of ts) turn
+after_found undirected factor k text line ts (Ok n) is needs = (let found = said_found undirected factor n.0 line ts (said factor n.1 k text line) is in (found.0, needs n.0 n.1 refl found.1))
+after_found undirected factor k text line ts (Err bad) is needs = absurd (false≢true is)
 
-pub finished : (u : Bool) (f : Option ℕ) (turn : Turn) (next : State) (act : Act) → Finishes turn → turn ≡ Ok (next, act) → Needs u f next.place next []
-finished u f turn next act ends is = (let at_end : next.place ≡ stands.Finish = subst Finishes is ends in subst (λ p. Needs u f p next []) (sym at_end) refl)
+pub finished : (undirected : Bool) (factor : Option ℕ) (turn : Turn) (next : State) (act : Act) → Finishes turn → turn ≡ Ok (next, act) → Needs undirected factor next.place next []
+finished undirected factor turn next act ends is = (let at_end : next.place ≡ stands.Finish = subst Finishes is ends in subst (λ p. Needs undirected factor p next []) (sym at_end) refl)
 
-pub last_found : (u : Bool) (f : Option ℕ) (s : State) (line : ℕ) (k : Result TokenKind DotLineFault) (text : List ℕ) → IsLast k → Read u f s (record { line = line; kind = k; text = text } ∷ []) → Needs u f s.place s (mark_in line k text ∷ [])
-last_found u f s line (Ok End) text last is =
-    turn_found u f s.place s [] End text line [] (after_found u f End text line [] (turn_at s.place u s End text []) is
-    (λ next act same read. finished u f (turn_at s.place u s End text []) next act (end_turn s.place u s text []) same))
-last_found u f s line (Ok k) text last is = absurd last
-last_found u f s line (Err bad) text last is = absurd (false≢true is)
+pub last_found : (undirected : Bool) (factor : Option ℕ) (s : State) (line : ℕ) (k : Result TokenKind DotLineFault) (text : List ℕ) → IsLast k → Read undirected factor s (record { line = line; kind = k; text = text } ∷ []) → Needs undirected factor s.place s (mark_in line k text ∷ [])
+last_found undirected factor s line (Ok End) text last is =
+    turn_found undirected factor s.place s [] End text line [] (after_found undirected factor End text line [] (turn_at s.place undirected s End text []) is
+    (λ next act same read. finished undirected factor (turn_at s.place undirected s End text []) next act (end_turn s.place undirected s text []) same))
+last_found undirected factor s line (Ok k) text last is = absurd last
+last_found undirected factor s line (Err bad) text last is = absurd (false≢true is)
 
-pub more_found : (u : Bool) (f : Option ℕ) (s : State) (line : ℕ) (k : Result TokenKind DotLineFault) (text : List ℕ) (ts : List DotToken) → Read u f s (record { line = line; kind = k; text = text } ∷ ts)
-    → ((next : State) → Read u f next ts → Needs u f next.place next (map mark_of ts)) → Needs u f s.place s (mark_in line k text ∷ map mark_of ts)
-more_found u f s line (Ok k) text ts is needs =
-    turn_found u f s.place s ts k text line (map mark_of ts) (after_found u f k text line ts (turn_at s.place u s k text ts) is (λ next act same read. needs next read))
-more_found u f s line (Err bad) text ts is needs = absurd (false≢true is)
+pub more_found : (undirected : Bool) (factor : Option ℕ) (s : State) (line : ℕ) (k : Result TokenKind DotLineFault) (text : List ℕ) (ts : List DotToken) → Read undirected factor s (record { line = line; kind = k; text = text } ∷ ts)
+    → ((next : State) → Read undirected factor next ts → Needs undirected factor next.place next (map mark_of ts)) → Needs undirected factor s.place s (mark_in line k text ∷ map mark_of ts)
+more_found undirected factor s line (Ok k) text ts is needs =
+    turn_found undirected factor s.place s ts k text line (map mark_of ts) (after_found undirected factor k text line ts (turn_at s.place undirected s k text ts) is (λ next act same read. needs next read))
+more_found undirected factor s line (Err bad) text ts is needs = absurd (false≢true is)
 
-pub tokens_found : (u : Bool) (f : Option ℕ) (ts : List DotToken) (s : State) → Ended ts → Read u f s ts → Needs u f s.place s (map mark_of ts)
-tokens_found u f [] s ended is = absurd ended
-tokens_found u f (t ∷ []) s ended is = last_found u f s t.line t.kind t.text ended is
-tokens_found u f (t ∷ next ∷ ts) s ended is = more_found u f s t.line t.kind t.text (next ∷ ts) is (λ later read. tokens_found u f (next ∷ ts) later ended read)
+pub tokens_found : (undirected : Bool) (factor : Option ℕ) (ts : List DotToken) (s : State) → Ended ts → Read undirected factor s ts → Needs undirected factor s.place s (map mark_of ts)
+tokens_found undirected factor [] s ended is = absurd ended
+tokens_found undirected factor (t ∷ []) s ended is = last_found undirected factor s t.line t.kind t.text ended is
+tokens_found undirected factor (t ∷ next ∷ ts) s ended is = more_found undirected factor s t.line t.kind t.text (next ∷ ts) is (λ later read. tokens_found undirected factor (next ∷ ts) later ended read)
 
 -- ---- the tree
 
 pub same_ok : {A E : Type 0} (r : Result A E) (x y : A) → r ≡ Ok x → r ≡ Ok y → x ≡ y
 same_ok r x y first second = cc
 
-pub graph_ok : (f : Option ℕ) (read : Result (List DotEvent) DotFault) (g : DotGraph) → and_then read (λ es. Ok (graph_in f es)) ≡ Ok g → IsOk read
-graph_ok f (Ok es) g is = refl
-graph_ok f (Err bad) g is = cc
+pub graph_ok : (factor : Option ℕ) (read : Result (List DotEvent) DotFault) (g : DotGraph) → and_then read (λ es. Ok (graph_in factor es)) ≡ Ok g → IsOk read
+graph_ok factor (Ok es) g is = refl
+graph_ok factor (Err bad) g is = cc
 
-pub tree_of : (u : Bool) (f : Option ℕ) (ms : List Mark) → StartAt u f ms → (tree : DotTree) × IsTree u f tree × (ms ≡ tree_marks tree)
-tree_of u f ms s =
+pub tree_of : (undirected : Bool) (factor : Option ℕ) (ms : List Mark) → StartAt undirected factor ms → (tree : DotTree) × IsTree undirected factor tree × (ms ≡ tree_marks tree)
+tree_of undirected factor ms s =
     (let k = s.kind in
     let t = k.title in
     let w = t.whole in (
@@ -94,12 +94,12 @@ tree_of u f ms s =
     ))
 
 -- a text that is read spells a tree, and its graph is what the tree means
-pub tree_found : (u : Bool) (f : Option ℕ) (text : List ℕ) (g : DotGraph) → graph_of u f text ≡ Ok g → (tree : DotTree) × Spells u f text tree × (g ≡ meaning f tree)
-tree_found u f text g is =
-    (let found = tree_of u f (marks_of text) (tokens_found u f (tokens_of text) start (tokens_ended text 0 true 1) (graph_ok f (events_from u f start (tokens_of text)) g is) refl) in
-    let spells : Spells u f text found.0 = record { tree = found.1; marks = found.2 } in
-    let means = tree_read u f text found.0 spells in
-    (found.0, spells, same_ok (graph_of u f text) g (meaning f found.0) is means))
+pub tree_found : (undirected : Bool) (factor : Option ℕ) (text : List ℕ) (g : DotGraph) → graph_of undirected factor text ≡ Ok g → (tree : DotTree) × Spells undirected factor text tree × (g ≡ meaning factor tree)
+tree_found undirected factor text g is =
+    (let found = tree_of undirected factor (marks_of text) (tokens_found undirected factor (tokens_of text) start (tokens_ended text 0 true 1) (graph_ok factor (events_from undirected factor start (tokens_of text)) g is) refl) in
+    let spells : Spells undirected factor text found.0 = record { tree = found.1; marks = found.2 } in
+    let means = tree_read undirected factor text found.0 spells in
+    (found.0, spells, same_ok (graph_of undirected factor text) g (meaning factor found.0) is means))
 
 -- ---- a text without a fault
 
@@ -120,17 +120,17 @@ pub line_then : {A B : Type 0} (r : Result A DotFault) (next : A → Result B Do
 line_then (Ok x) next has each = each x
 line_then (Err bad) next has each = has
 
-pub events_line : (u : Bool) (f : Option ℕ) (ts : List DotToken) (s : State) → HasLine (events_from u f s ts)
-events_line u f [] s = tt
-events_line u f (t ∷ ts) s =
-    line_then (at_line t.line (token_turn u f s t ts)) (λ n. and_then (events_from u f n.0 ts) (λ es. Ok (n.1 ∷ es))) (has_line t.line (token_turn u f s t ts))
-    (λ n. line_then (events_from u f n.0 ts) (λ es. Ok (n.1 ∷ es)) (events_line u f ts n.0) (λ es. tt))
+pub events_line : (undirected : Bool) (factor : Option ℕ) (ts : List DotToken) (s : State) → HasLine (events_from undirected factor s ts)
+events_line undirected factor [] s = tt
+events_line undirected factor (t ∷ ts) s =
+    line_then (at_line t.line (token_turn undirected factor s t ts)) (λ n. and_then (events_from undirected factor n.0 ts) (λ es. Ok (n.1 ∷ es))) (has_line t.line (token_turn undirected factor s t ts))
+    (λ n. line_then (events_from undirected factor n.0 ts) (λ es. Ok (n.1 ∷ es)) (events_line undirected factor ts n.0) (λ es. tt))
 
-pub no_fault : (u : Bool) (f : Option ℕ) (text : List ℕ) (r : Result DotGraph DotFault) → graph_of u f text ≡ r → HasLine r → unwrap_or (result_err r) Memory ≡ Memory → (tree : DotTree) × Spells u f text tree
-no_fault u f text (Ok g) is has none = (let found = tree_found u f text g is in (found.0, found.1))
-no_fault u f text (Err bad) is has none = absurd (subst IsLineFault none has)
+pub no_fault : (undirected : Bool) (factor : Option ℕ) (text : List ℕ) (r : Result DotGraph DotFault) → graph_of undirected factor text ≡ r → HasLine r → unwrap_or (result_err r) Memory ≡ Memory → (tree : DotTree) × Spells undirected factor text tree
+no_fault undirected factor text (Ok g) is has none = (let found = tree_found undirected factor text g is in (found.0, found.1))
+no_fault undirected factor text (Err bad) is has none = absurd (subst IsLineFault none has)
 
 -- a text that has no fault spells a tree
-pub tree_faultless : (u : Bool) (f : Option ℕ) (text : List ℕ) → unwrap_or (result_err (graph_of u f text)) Memory ≡ Memory → (tree : DotTree) × Spells u f text tree
-tree_faultless u f text none =
-    no_fault u f text (graph_of u f text) refl (line_then (events_from u f start (tokens_of text)) (λ es. Ok (graph_in f es)) (events_line u f (tokens_of text) start) (λ es. tt)) none
+pub tree_faultless : (undirected : Bool) (factor : Option ℕ) (text : List ℕ) → unwrap_or (result_err (graph_of undirected factor text)) Memory ≡ Memory → (tree : DotTree) × Spells undirected factor text tree
+tree_faultless undirected factor text none =
+    no_fault undirected factor text (graph_of undirected factor text) refl (line_then (events_from undirected factor start (tokens_of text)) (λ es. Ok (graph_in factor es)) (events_line undirected factor (tokens_of text) start) (λ es. tt)) none

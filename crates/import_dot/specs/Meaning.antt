@@ -55,12 +55,13 @@ statement_edges factor (EdgeStatement first second others lists) =
 statement_edges factor (DefaultStatement default first lists) = []
 statement_edges factor (SettingStatement name value) = []
 
--- a subgraph's nodes and edges are those of its statements
+-- the nodes of statements, in order. A subgraph's nodes and edges are those of its statements
 abbrev pub nodes_in : Statements → List DotMention
 nodes_in NoStatement = []
 nodes_in (OneStatement statement semicolon behind) = statement_nodes statement ++ nodes_in behind
 nodes_in (OneSubgraph head body semicolon behind) = nodes_in body ++ nodes_in behind
 
+-- the edges of statements, in order
 abbrev pub edges_of : Option ℕ → Statements → List NamedEdge
 edges_of factor NoStatement = []
 edges_of factor (OneStatement statement semicolon behind) = statement_edges factor statement ++ edges_of factor behind
@@ -84,6 +85,7 @@ IsStatement factor (DefaultStatement EdgeDefault first lists) = weights_said (fi
 IsStatement factor (DefaultStatement default first lists) = Unit {0}
 IsStatement factor (SettingStatement name value) = Unit {0}
 
+-- all statements are such, also those of subgraphs
 abbrev pub AreStatements : Option ℕ → Statements → Type 0
 AreStatements factor NoStatement = Unit {0}
 AreStatements factor (OneStatement statement semicolon behind) = IsStatement factor statement × AreStatements factor behind

@@ -28,6 +28,7 @@ mark_in line (Ok kind.Html) text = IdMark (record { text = text; is_html = true;
 mark_in line (Ok sign) text = SignMark sign
 mark_in line (Err fault) text = FaultMark
 
+-- the mark of a token
 abbrev pub mark_of : DotToken → Mark
 mark_of t = mark_in t.line t.kind t.text
 
@@ -99,6 +100,7 @@ pub record DotTree : Type 0 where
 
 -- ---- spelling: the marks of a tree, with these marks behind them
 
+-- a semicolon, a comma or nothing
 abbrev pub separator_marks : Separator → List Mark → List Mark
 separator_marks NoSeparator behind = behind
 separator_marks SemicolonSeparator behind = SignMark kind.Semicolon ∷ behind
@@ -114,11 +116,13 @@ abbrev pub list_marks : List (List Attribute) → List Mark → List Mark
 list_marks [] behind = behind
 list_marks (attributes ∷ lists) behind = SignMark kind.BracketOpen ∷ attribute_marks attributes (list_marks lists behind)
 
+-- a node's ports, each behind a colon
 abbrev pub port_marks : Port → List Mark → List Mark
 port_marks NoPort behind = behind
 port_marks (OnePort port) behind = SignMark kind.Colon ∷ IdMark port ∷ behind
 port_marks (TwoPorts port side) behind = SignMark kind.Colon ∷ IdMark port ∷ SignMark kind.Colon ∷ IdMark side ∷ behind
 
+-- a node: its name, and its ports
 abbrev pub node_marks : NodeId → List Mark → List Mark
 node_marks n behind = IdMark n.name ∷ port_marks n.port behind
 
@@ -132,43 +136,51 @@ abbrev pub joined_marks : Bool → List NodeId → List Mark → List Mark
 joined_marks directed [] behind = behind
 joined_marks directed (n ∷ nodes) behind = SignMark (edge_sign directed) ∷ node_marks n (joined_marks directed nodes behind)
 
+-- the word before attributes of the graph, of all nodes or of all edges
 abbrev pub default_sign : Default → TokenKind
 default_sign GraphDefault = kind.Graph
 default_sign NodeDefault = kind.Node
 default_sign EdgeDefault = kind.Edge
 
+-- a statement; directed: the graph is
 abbrev pub statement_marks : Bool → Statement → List Mark → List Mark
 statement_marks directed (NodeStatement node lists) behind = node_marks node (list_marks lists behind)
 statement_marks directed (EdgeStatement first second others lists) behind = node_marks first (joined_marks directed (second ∷ others) (list_marks lists behind))
 statement_marks directed (DefaultStatement default first lists) behind = SignMark (default_sign default) ∷ list_marks (first ∷ lists) behind
 statement_marks directed (SettingStatement name value) behind = IdMark name ∷ SignMark kind.Assign ∷ IdMark value ∷ behind
 
+-- what stands before a subgraph's statements, with the opening brace
 abbrev pub head_marks : SubgraphHead → List Mark → List Mark
 head_marks NoHead behind = SignMark kind.BraceOpen ∷ behind
 head_marks WordHead behind = SignMark kind.Subgraph ∷ SignMark kind.BraceOpen ∷ behind
 head_marks (NamedHead name) behind = SignMark kind.Subgraph ∷ IdMark name ∷ SignMark kind.BraceOpen ∷ behind
 
+-- a semicolon, where one follows a statement
 abbrev pub semicolon_marks : Bool → List Mark → List Mark
 semicolon_marks true behind = SignMark kind.Semicolon ∷ behind
 semicolon_marks false behind = behind
 
+-- statements, each with its semicolon where it has one; those of a subgraph stand in braces
 abbrev pub statements_marks : Bool → Statements → List Mark → List Mark
 statements_marks directed NoStatement behind = behind
 statements_marks directed (OneStatement statement semicolon more) behind = statement_marks directed statement (semicolon_marks semicolon (statements_marks directed more behind))
 statements_marks directed (OneSubgraph head body semicolon more) behind =
     head_marks head (statements_marks directed body (SignMark kind.BraceClose ∷ semicolon_marks semicolon (statements_marks directed more behind)))
 
+-- a graph's name, where it has one
 abbrev pub name_marks : Option DotId → List Mark → List Mark
 name_marks None behind = behind
 name_marks (Some id) behind = IdMark id ∷ behind
 
+-- the word for a directed graph, or for one that is not
 abbrev pub graph_sign : Bool → TokenKind
 graph_sign true = kind.Digraph
 graph_sign false = kind.Graph
 
+-- a graph from that word on, to the text's end
 abbrev pub kind_marks : DotTree → List Mark
 kind_marks g = SignMark (graph_sign g.directed) ∷ name_marks g.name (SignMark kind.BraceOpen ∷ statements_marks g.directed g.statements (SignMark kind.BraceClose ∷ SignMark kind.End ∷ []))
 
--- the whole text of a tree
+-- the whole text of a tree: strict or not, and the graph
 abbrev pub tree_marks : DotTree → List Mark
 tree_marks g = if g.strict then SignMark kind.Strict ∷ kind_marks g else kind_marks g
