@@ -1,41 +1,40 @@
 -- Patterns that are written are read back.
-use Rattle.std.proofs.Common.{◌≡◌, ℕ, zero, suc, ◌+◌, ◌-◌, ◌≤◌, false, List, [], ◌∷◌, ◌++◌, length, refl, sym, ap, ◌∙◌, arith, None, Ok, append_assoc, length-append}
-use Rattle.std.specs.List.{AllByRecursion}
+use Rattle.std.proofs.Common.{◌≡◌, ℕ, zero, suc, ◌+◌, ◌-◌, ◌≤◌, true, false, List, [], ◌∷◌, ◌++◌, length, refl, sym, ap, ◌∙◌, arith, None, Ok, append_assoc, length-append}
+use Rattle.std.specs.List.{list_all}
 use Rattle.net_patterns.specs.declared.board.Cell.{Cell}
 use Rattle.net_patterns.specs.Cells.{pattern_of}
 use Rattle.net_patterns.specs.Rle.{pieces_from}
 use Rattle.net_patterns.specs.Steps.{comes}
 use Rattle.net_patterns.specs.Texts.{plain_pieces, pattern_in}
-use Rattle.net_patterns.specs.Written.{Span, cells_beside, cells_in, AreAhead, AreInOrder, IsLine, written_from, written_as_runs, written_as_plain, as_runs, as_plain}
+use Rattle.net_patterns.specs.Written.{Span, Frame, IsFrame, cells_beside, cells_in, AreAhead, AreInOrder, IsLine, is_gap, written_from, written_as_runs, written_as_plain, as_runs, as_plain}
 use Rattle.net_patterns.proofs.FirstLines.{runs_behind, rows_behind}
 use Rattle.net_patterns.proofs.PlainTexts.{no_comments, span_of_rows}
 use Rattle.net_patterns.proofs.RowCells.{comes-begin}
-use Rattle.net_patterns.proofs.RunTexts.{span_of_runs}
+use Rattle.net_patterns.proofs.RunTexts.{line_after, span_of_runs}
 
 length_beside : (n row column : ℕ) → length (cells_beside row column n) ≡ n
 length_beside zero row column = refl
 length_beside (suc n) row column = ap suc (length_beside n row (column + 1))
 
-runs_read : (spans : List Span) (behind : List ℕ) (front : List Cell) (column row line : ℕ) → AreAhead column row spans → length front + length (cells_in spans) ≤ 65536
-    → comes front column row (pieces_from line None (written_from (as_runs behind) column row spans)) ≡ Ok (front ++ cells_in spans)
-runs_read [] behind front column row line ahead few = refl
-runs_read (s ∷ spans) behind front column row line ahead few =
+runs_read : (spans : List Span) (gap behind : List ℕ) → list_all is_gap gap ≡ true → (front : List Cell) (column row line : ℕ) → AreAhead column row spans → length front + length (cells_in spans) ≤ 65536
+    → comes front column row (pieces_from line None (written_from (as_runs gap behind) column row spans)) ≡ Ok (front ++ cells_in spans)
+runs_read [] gap behind all front column row line ahead few = refl
+runs_read (s ∷ spans) gap behind all front column row line ahead few =
     let own = cells_beside s.row s.column s.count in
     let size = length-append own (cells_in spans) in
     let own_size = length_beside s.count s.row s.column in
     let more = length-append front own in
-    span_of_runs s front column row line (written_from (as_runs behind) (s.column + s.count) s.row spans) ahead.0 (omega arith)
-    ∙ runs_read spans behind (front ++ own) (s.column + s.count) s.row line ahead.1 (omega arith)
+    span_of_runs s gap all front column row line (written_from (as_runs gap behind) (s.column + s.count) s.row spans) ahead.0 (omega arith)
+    ∙ runs_read spans gap behind all (front ++ own) (s.column + s.count) s.row (line_after (line_after (line_after line gap) gap) gap) ahead.1 (omega arith)
     ∙ ap Ok (append_assoc front own (cells_in spans))
 
-pub reads_runs : (comments : List (List ℕ)) (header : List ℕ) (spans : List Span) (behind : List ℕ) → AllByRecursion (IsLine 35) comments → IsLine 120 header → AreInOrder spans
-    → pattern_in (written_as_runs comments header spans behind) ≡ Ok (cells_in spans)
-reads_runs comments header spans behind remarks is order =
-    let runs = written_from (as_runs behind) 0 0 spans in
-    let line = 1 + length comments + 1 in
-    runs_behind comments header runs remarks is
+pub reads_runs : (f : Frame) (spans : List Span) → IsFrame f → AreInOrder spans → pattern_in (written_as_runs f spans) ≡ Ok (cells_in spans)
+reads_runs f spans is order =
+    let runs = written_from (as_runs f.gap f.behind) 0 0 spans in
+    let line = 1 + length f.comments + 1 in
+    runs_behind f.comments f.header runs is.comments is.header
     ∙ sym (comes-begin (pieces_from line None runs))
-    ∙ runs_read spans behind [] 0 0 line order.0 (omega (arith, order.1))
+    ∙ runs_read spans f.gap f.behind is.gap [] 0 0 line order.0 (omega (arith, order.1))
 
 rows_read : (spans : List Span) (front : List Cell) (column row line : ℕ) → AreAhead column row spans → length front + length (cells_in spans) ≤ 65536
     → comes front column row (plain_pieces line false (written_from as_plain column row spans)) ≡ Ok (front ++ cells_in spans)

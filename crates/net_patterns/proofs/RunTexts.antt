@@ -3,6 +3,8 @@ use Rattle.std.proofs.Common.{◌≡◌, ℕ, zero, suc, ◌+◌, ◌*◌, ◌-�
 use Rattle.std.specs.Char.{is_ascii_digit, digit_value}
 use Rattle.std.specs.Fmt.{decimal}
 use Rattle.std.specs.Str.Parse.{AllDigits, IsNumeral, digits_value, digits_value_after}
+use Rattle.std.specs.List.{list_all}
+use Rattle.std.proofs.lemmas.Bool.{and_parts}
 use Rattle.std.proofs.lemmas.Bool.Decides.{nat_tests}
 use Rattle.std.proofs.lemmas.Fmt.{decimal_is_IsNumeral}
 use Rattle.std.proofs.lemmas.Str.{digit_value_digit}
@@ -10,9 +12,9 @@ use Rattle.std.proofs.lemmas.Str.Parse.{digit_from_value}
 use Rattle.net_patterns.specs.declared.board.Cell.{Cell}
 use Rattle.net_patterns.specs.declared.board.Mark.{Mark}
 use Rattle.net_patterns.specs.declared.board.Mark.TheVariants.{Dead, Alive, RowEnd}
-use Rattle.net_patterns.specs.Rle.{is_blank, mark_of, pieces_from}
+use Rattle.net_patterns.specs.Rle.{is_blank, line_behind, mark_of, pieces_from}
 use Rattle.net_patterns.specs.Steps.{comes}
-use Rattle.net_patterns.specs.Written.{Span, IsAhead, cells_beside, column_at, run_text}
+use Rattle.net_patterns.specs.Written.{Span, IsAhead, cells_beside, column_at, is_gap, run_text}
 use Rattle.net_patterns.proofs.MarkSteps.{rows_passed, dead_passed, alive_passed}
 
 is_digit : (d : ℕ) → 48 ≤ d → d ≤ 57 → is_ascii_digit d ≡ true
@@ -67,14 +69,38 @@ not_same n k more = grind (arith, nat_tests)
 long_run : (tag : List ℕ) (n : ℕ) → 1 < n → run_text tag n ≡ decimal n ++ tag
 long_run tag n more = rw (not_same n 0 (omega arith), not_same n 1 more) refl
 
+-- a gap says nothing
+no_digit : (b : ℕ) → is_gap b ≡ true → is_ascii_digit b ≡ false
+no_digit b is = grind (arith, nat_tests)
+
+-- the line behind a gap
+abbrev pub line_after : ℕ → List ℕ → ℕ
+line_after line [] = line
+line_after line (b ∷ bs) = line_after (line_behind line b) bs
+
+gap_passed : (gap : List ℕ) (line : ℕ) (rest : List ℕ) → list_all is_gap gap ≡ true → pieces_from line None (gap ++ rest) ≡ pieces_from (line_after line gap) None rest
+gap_passed [] line rest all = refl
+gap_passed (b ∷ bs) line rest all =
+    let parts = and_parts (is_gap b) (list_all is_gap bs) all in
+    rw (no_digit b parts.0, parts.0) (gap_passed bs (line_behind line b) rest parts.1)
+
 -- a run that is written is read as that run
-pub run_read : (tag : ℕ) (mark : Mark) → IsTag tag mark → (n : ℕ) (front : List Cell) (column row line : ℕ) (rest : List ℕ) → n ≤ 65536
+run_alone : (tag : ℕ) (mark : Mark) → IsTag tag mark → (n : ℕ) (front : List Cell) (column row line : ℕ) (rest : List ℕ) → n ≤ 65536
     → comes front column row (pieces_from line None (run_text (tag ∷ []) n ++ rest)) ≡ comes front column row (Ok (record { line = line; count = n; mark = mark }) ∷ pieces_from line None rest)
-run_read tag mark is zero front column row line rest few = refl
-run_read tag mark is (suc zero) front column row line rest few = ap (comes front column row) (single tag mark is line rest)
-run_read tag mark is (suc (suc n)) front column row line rest few =
+run_alone tag mark is zero front column row line rest few = refl
+run_alone tag mark is (suc zero) front column row line rest few = ap (comes front column row) (single tag mark is line rest)
+run_alone tag mark is (suc (suc n)) front column row line rest few =
     ap (λ bs. comes front column row (pieces_from line None bs)) (ap (λ bs. bs ++ rest) (long_run (tag ∷ []) (suc (suc n)) (omega arith)) ∙ append_assoc (decimal (suc (suc n))) (tag ∷ []) rest)
     ∙ ap (comes front column row) (number_read (suc (suc n)) line (tag ∷ rest) (omega arith) ∙ counted tag mark is (suc (suc n)) line rest (omega arith) (omega arith))
+
+-- and so it is where a gap stands behind it
+run_read : (tag : ℕ) (mark : Mark) → IsTag tag mark → (gap : List ℕ) → list_all is_gap gap ≡ true → (n : ℕ) (front : List Cell) (column row line : ℕ) (rest : List ℕ) → n ≤ 65536
+    → comes front column row (pieces_from line None ((run_text (tag ∷ []) n ++ gap) ++ rest))
+    ≡ comes front column row (Ok (record { line = line; count = n; mark = mark }) ∷ pieces_from (line_after line gap) None rest)
+run_read tag mark is gap all n front column row line rest few =
+    ap (λ bs. comes front column row (pieces_from line None bs)) (append_assoc (run_text (tag ∷ []) n) gap rest)
+    ∙ run_alone tag mark is n front column row line (gap ++ rest) few
+    ∙ ap (λ pieces. comes front column row (Ok (record { line = line; count = n; mark = mark }) ∷ pieces)) (gap_passed gap line rest all)
 
 ends_tag : IsTag 36 RowEnd
 ends_tag = record { no_digit = refl; no_blank = refl; no_line = refl; no_end = refl; stands = refl }
@@ -86,20 +112,22 @@ live_tag : IsTag 111 Alive
 live_tag = record { no_digit = refl; no_blank = refl; no_line = refl; no_end = refl; stands = refl }
 
 -- a span that is written as runs, before what follows it
-pub span_of_runs : (s : Span) (front : List Cell) (column row line : ℕ) (rest : List ℕ) → IsAhead column row s → length front + s.count ≤ 65536
-    → comes front column row (pieces_from line None (run_text (36 ∷ []) (s.row - row) ++ (run_text (98 ∷ []) (s.column - column_at column row s) ++ (run_text (111 ∷ []) s.count ++ rest))))
-    ≡ comes (front ++ cells_beside s.row s.column s.count) (s.column + s.count) s.row (pieces_from line None rest)
-span_of_runs s front column row line rest is few =
+pub span_of_runs : (s : Span) (gap : List ℕ) → list_all is_gap gap ≡ true → (front : List Cell) (column row line : ℕ) (rest : List ℕ) → IsAhead column row s → length front + s.count ≤ 65536
+    → comes front column row (pieces_from line None ((run_text (36 ∷ []) (s.row - row) ++ gap) ++ ((run_text (98 ∷ []) (s.column - column_at column row s) ++ gap) ++ ((run_text (111 ∷ []) s.count ++ gap) ++ rest))))
+    ≡ comes (front ++ cells_beside s.row s.column s.count) (s.column + s.count) s.row (pieces_from (line_after (line_after (line_after line gap) gap) gap) None rest)
+span_of_runs s gap all front column row line rest is few =
     let begin = column_at column row s in
     let down = is.down in
     let right = is.right in
     let near = is.near in
-    let live = run_text (111 ∷ []) s.count ++ rest in
-    let dead = run_text (98 ∷ []) (s.column - begin) ++ live in
-    run_read 36 RowEnd ends_tag (s.row - row) front column row line dead (omega arith)
-    ∙ rows_passed (s.row - row) front column row s.row line (pieces_from line None dead) (omega arith) is.low
-    ∙ run_read 98 Dead dead_tag (s.column - begin) front begin s.row line live (omega arith)
-    ∙ dead_passed (s.column - begin) front begin s.row line (pieces_from line None live) (omega arith)
-    ∙ ap (λ c. comes front c s.row (pieces_from line None live)) (omega arith)
-    ∙ run_read 111 Alive live_tag s.count front s.column s.row line rest (omega arith)
-    ∙ alive_passed s.count front s.column s.row line (pieces_from line None rest) few is.near is.low
+    let live = (run_text (111 ∷ []) s.count ++ gap) ++ rest in
+    let dead = (run_text (98 ∷ []) (s.column - begin) ++ gap) ++ live in
+    let second = line_after line gap in
+    let third = line_after second gap in
+    run_read 36 RowEnd ends_tag gap all (s.row - row) front column row line dead (omega arith)
+    ∙ rows_passed (s.row - row) front column row s.row line (pieces_from second None dead) (omega arith) is.low
+    ∙ run_read 98 Dead dead_tag gap all (s.column - begin) front begin s.row second live (omega arith)
+    ∙ dead_passed (s.column - begin) front begin s.row second (pieces_from third None live) (omega arith)
+    ∙ ap (λ c. comes front c s.row (pieces_from third None live)) (omega arith)
+    ∙ run_read 111 Alive live_tag gap all s.count front s.column s.row third rest (omega arith)
+    ∙ alive_passed s.count front s.column s.row third (pieces_from (line_after third gap) None rest) few is.near is.low

@@ -1,7 +1,7 @@
 -- Patterns as they are written: live cells are given in reading order, and the two kinds of text say them.
-use Rattle.std.specs.Prelude.{◌≡◌, ◌≤◌, ◌<◌, ℕ, zero, suc, ◌+◌, ◌-◌, ◌==◌, false, List, [], ◌∷◌, ◌++◌, length, slice_index, flat_map, replicate, codes, if◌then◌else◌}
+use Rattle.std.specs.Prelude.{◌≡◌, ◌≤◌, ◌<◌, ℕ, zero, suc, ◌+◌, ◌-◌, ◌==◌, Bool, ◌||◌, true, false, List, [], ◌∷◌, ◌++◌, length, slice_index, flat_map, replicate, codes, if◌then◌else◌}
 use Rattle.std.specs.Fmt.{decimal}
-use Rattle.std.specs.List.{list_any}
+use Rattle.std.specs.List.{AllByRecursion, list_all, list_any}
 use Rattle.net_patterns.specs.declared.board.Cell.{Cell}
 use Rattle.net_patterns.specs.Cells.{limit}
 use Rattle.net_patterns.specs.Texts.{is_line_feed}
@@ -62,9 +62,19 @@ written_from kind column row (s ∷ spans) =
 abbrev pub run_text : List ℕ → ℕ → List ℕ
 run_text tag n = if n == 0 then [] else if n == 1 then tag else decimal n ++ tag
 
--- runs: $ ends rows, b is a dead cell, o a live one, and ! the end, whatever stands behind it
-abbrev pub as_runs : List ℕ → Spelling
-as_runs behind = record { row_ends = run_text (codes "$"); dead = run_text (codes "b"); alive = run_text (codes "o"); ending = codes "!" ++ behind }
+-- what may stand between runs: a blank (32), TAB (9), CR (13) or LF (10)
+abbrev pub is_gap : ℕ → Bool
+is_gap b = b == 32 || b == 9 || b == 13 || b == 10
+
+-- runs: $ ends rows, b is a dead cell, o a live one, and ! the end; the gap stands behind each run, and more behind the
+-- end
+abbrev pub as_runs : List ℕ → List ℕ → Spelling
+as_runs gap behind = record {
+  row_ends = λ n. run_text (codes "$") n ++ gap;
+  dead = λ n. run_text (codes "b") n ++ gap;
+  alive = λ n. run_text (codes "o") n ++ gap;
+  ending = codes "!" ++ behind;
+}
 
 -- plain text: LF (10) ends a row, . (46) is a dead cell, O (79) a live one, and LF stands at the end
 abbrev pub as_plain : Spelling
@@ -74,10 +84,22 @@ as_plain = record { row_ends = λ n. replicate n 10; dead = λ n. replicate n 46
 abbrev pub IsLine : ℕ → List ℕ → Type 0
 IsLine first line = (slice_index line 0 ≡ first) × (list_any is_line_feed line ≡ false)
 
--- spans, written as runs: comments that begin with # (35), a header that begins with x (120), the runs, and what
--- stands behind them
-abbrev pub written_as_runs : List (List ℕ) → List ℕ → List Span → List ℕ → List ℕ
-written_as_runs comments header spans behind = flat_map (λ c. c ++ 10 ∷ []) comments ++ (header ++ 10 ∷ written_from (as_runs behind) 0 0 spans)
+-- what stands around runs: comment lines, a header line, a gap behind each run, and what stands behind the end
+pub record Frame : Type 0 where
+  pub comments : List (List ℕ)
+  pub header : List ℕ
+  pub gap : List ℕ
+  pub behind : List ℕ
+
+-- each comment begins with # (35) and the header with x (120); a gap says nothing, and behind the end may stand anything
+pub record IsFrame (f : Frame) : Type 0 where
+  pub comments : AllByRecursion (IsLine 35) f.comments
+  pub header : IsLine 120 f.header
+  pub gap : list_all is_gap f.gap ≡ true
+
+-- spans, written as runs: the comments, the header, and the runs
+abbrev pub written_as_runs : Frame → List Span → List ℕ
+written_as_runs f spans = flat_map (λ c. c ++ 10 ∷ []) f.comments ++ (f.header ++ 10 ∷ written_from (as_runs f.gap f.behind) 0 0 spans)
 
 -- spans, written as plain text: a comment that begins with ! (33), and the rows
 abbrev pub written_as_plain : List ℕ → List Span → List ℕ

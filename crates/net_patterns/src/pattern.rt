@@ -1,9 +1,8 @@
 //! Patterns that are read.
 ghost use Rattle.std.specs.Prelude.{◌≡◌, ℕ, List, Ok};
-ghost use Rattle.std.specs.List.{AllByRecursion};
 ghost use Rattle.net_patterns.specs.Cells.{IsAnswer};
 ghost use Rattle.net_patterns.specs.Texts.{pattern_in};
-ghost use Rattle.net_patterns.specs.Written.{Span, AreInOrder, IsLine, cells_in, written_as_plain, written_as_runs};
+ghost use Rattle.net_patterns.specs.Written.{AreInOrder, Frame, IsFrame, IsLine, Span, cells_in, written_as_plain, written_as_runs};
 
 use crate::board::Cell;
 use crate::fault::PatternFault;
@@ -48,7 +47,7 @@ fn read_either(alloc: Global, bytes: &[u8]) -> Result<Vec<Cell>, PatternFault>
 /// or as plain text behind a comment are the cells that come out.
 pub fn read_pattern(alloc: Global, bytes: &[u8]) -> Result<Vec<Cell>, PatternFault>
     ensures answer { IsAnswer (λ v. v.items) (pattern_in bytes.now) result }
-    ensures reads_runs { (comments : List (List ℕ)) (header : List ℕ) (spans : List Span) (behind : List ℕ) → AllByRecursion (IsLine 35) comments → IsLine 120 header → AreInOrder spans → bytes.now ≡ written_as_runs comments header spans behind → IsAnswer (λ v. v.items) (Ok (cells_in spans)) result }
+    ensures reads_runs { (frame : Frame) (spans : List Span) → IsFrame frame → AreInOrder spans → bytes.now ≡ written_as_runs frame spans → IsAnswer (λ v. v.items) (Ok (cells_in spans)) result }
     ensures reads_plain { (comment : List ℕ) (spans : List Span) → IsLine 33 comment → AreInOrder spans → bytes.now ≡ written_as_plain comment spans → IsAnswer (λ v. v.items) (Ok (cells_in spans)) result }
 {
     read_either(alloc, bytes)

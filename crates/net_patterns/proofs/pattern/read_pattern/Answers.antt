@@ -5,8 +5,8 @@ use Rattle.net_patterns.proofs.pattern.read_pattern.Goals as goal
 
 pub returns-clause-reads_runs : goal.returns-clause-reads_runs
 returns-clause-reads_runs c =
-    λ comments header spans behind remarks is order same.
-    rw (ap pattern_in same ∙ reads_runs comments header spans behind remarks is order) at c.read_either.ensures
+    λ frame spans is order same.
+    rw (ap pattern_in same ∙ reads_runs frame spans is order) at c.read_either.ensures
 
 pub returns-clause-reads_plain : goal.returns-clause-reads_plain
 returns-clause-reads_plain c =
