@@ -1,10 +1,8 @@
--- Patterns as they are written: live cells are given in reading order, and the two kinds of text say them.
+-- Patterns as they are written. Nothing here is taken from how they are read, so that what is read back is checked.
 use Rattle.std.specs.Prelude.{◌≡◌, ◌≤◌, ◌<◌, ℕ, zero, suc, ◌+◌, ◌-◌, ◌==◌, Bool, ◌||◌, true, false, List, [], ◌∷◌, ◌++◌, length, slice_index, flat_map, replicate, codes, if◌then◌else◌}
 use Rattle.std.specs.Fmt.{decimal}
 use Rattle.std.specs.List.{AllByRecursion, list_all, list_any}
 use Rattle.net_patterns.specs.declared.board.Cell.{Cell}
-use Rattle.net_patterns.specs.Cells.{limit}
-use Rattle.net_patterns.specs.Texts.{is_line_feed}
 
 -- live cells side by side in a row: so many, the first of them in this column
 pub record Span : Type 0 where
@@ -21,27 +19,27 @@ cells_beside row column (suc n) = record { column = column; row = row } ∷ cell
 abbrev pub cells_in : List Span → List Cell
 cells_in spans = flat_map (λ s. cells_beside s.row s.column s.count) spans
 
--- the column where a text that stands in this column and row begins in a span's row: in the same row this one, in a
--- later row column 0
+-- a text that stands in this column and row goes on in a span's row: in this column where it is the same row, and in
+-- column 0 where it is a later one
 abbrev pub column_at : ℕ → ℕ → Span → ℕ
 column_at column row s = if s.row == row then column else 0
 
--- a span stands ahead of this column and row, in the same row or a later one, and its cells stand below the limit
+-- a span stands ahead of this column and row: in the same row and not before the column, or in a later row; columns and
+-- rows are below 65,536
 pub record IsAhead (column row : ℕ) (s : Span) : Type 0 where
   pub down : row ≤ s.row
   pub right : column_at column row s ≤ s.column
-  pub low : s.row < limit
-  pub near : s.column + s.count ≤ limit
+  pub low : s.row < 65536
+  pub near : s.column + s.count ≤ 65536
 
--- spans in reading order, row by row from the top and in each row from the left, the first ahead of this column and
--- row: each is ahead of the place behind the one before
+-- spans in reading order from this column and row on: each stands ahead of the place behind the one before
 abbrev pub AreAhead : ℕ → ℕ → List Span → Type 0
 AreAhead column row [] = Unit {0}
 AreAhead column row (s ∷ spans) = IsAhead column row s × AreAhead (s.column + s.count) s.row spans
 
--- spans in reading order whose cells are as many as the limit at most
+-- spans in reading order, row by row from the top and in each row from the left, whose cells are at most 65,536
 abbrev pub AreInOrder : List Span → Type 0
-AreInOrder spans = AreAhead 0 0 spans × (length (cells_in spans) ≤ limit)
+AreInOrder spans = AreAhead 0 0 spans × (length (cells_in spans) ≤ 65536)
 
 -- how a kind of text writes so many ends of rows, so many dead cells and so many live ones, and the end of the text
 pub record Spelling : Type 0 where
@@ -80,9 +78,9 @@ as_runs gap behind = record {
 abbrev pub as_plain : Spelling
 as_plain = record { row_ends = λ n. replicate n 10; dead = λ n. replicate n 46; alive = λ n. replicate n 79; ending = 10 ∷ [] }
 
--- a line, without its LF, that begins with this byte
+-- a line that begins with this byte, without the LF (10) at its end
 abbrev pub IsLine : ℕ → List ℕ → Type 0
-IsLine first line = (slice_index line 0 ≡ first) × (list_any is_line_feed line ≡ false)
+IsLine first line = (slice_index line 0 ≡ first) × (list_any (λ b. b == 10) line ≡ false)
 
 -- what stands around runs: comment lines, a header line, a gap behind each run, and what stands behind the end
 pub record Frame : Type 0 where
