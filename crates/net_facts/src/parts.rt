@@ -22,7 +22,7 @@ pub(crate) fn none_reached(alloc: Global, count: usize) -> Result<Reached, Alloc
 {
     Ok(Reached {
         marks: vec![in alloc; false; count]?,
-        nodes: Vec::new(alloc),
+        nodes: Vec::with_capacity(alloc, count)?,
     })
 }
 
