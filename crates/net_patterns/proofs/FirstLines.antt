@@ -1,10 +1,11 @@
 -- Lines that stand before others.
-use Rattle.std.proofs.Common.{◌≡◌, ℕ, suc, ◌+◌, true, false, List, [], ◌∷◌, ◌++◌, length, take, drop, slice_index, flat_map, refl, sym, ap, ◌∙◌, arith, append_assoc, one-add, None}
-use Rattle.std.specs.List.{AllByRecursion, list_any, position_or_len, before_first, after_first}
+use Rattle.std.proofs.Common.{◌≡◌, ℕ, suc, ◌+◌, true, false, List, [], ◌∷◌, ◌++◌, length, take, drop, slice_index, flat_map, refl, sym, ap, ◌∙◌, arith, append_assoc, one-add, None, Bool, ◌==◌, ◌||◌, not, inl, inr}
+use Rattle.std.specs.List.{AllByRecursion, list_all, list_any, position_or_len, before_first, after_first}
 use Rattle.std.proofs.Math.Seq.{take-append_seam, drop-append-add}
-use Rattle.std.proofs.lemmas.Bool.{or_parts}
+use Rattle.std.proofs.lemmas.Bool.{and_parts, cases_Bool, or_parts}
+use Rattle.std.proofs.lemmas.Bool.Decides.{Decides-eqb, nat_tests}
 use Rattle.net_patterns.specs.Cells.{pattern_of}
-use Rattle.net_patterns.specs.Rle.{pieces_from}
+use Rattle.net_patterns.specs.Rle.{is_blank, pieces_from}
 use Rattle.net_patterns.specs.Texts.{is_comment, is_line_feed, says_nothing, told_from, plain_pieces, pieces_behind, pattern_in}
 use Rattle.net_patterns.specs.Written.{IsLine}
 use Rattle.net_patterns.proofs.LineSteps.{told_said, told_passed}
@@ -85,3 +86,45 @@ pub rows_behind : (comment rows : List ℕ) → IsLine 33 comment → pattern_in
 rows_behind comment rows is =
     ap (λ told. pattern_of (pieces_behind (comment ++ 10 ∷ rows) told)) (line_told comment rows 1 is.1 (title_says comment is.0))
     ∙ ap pattern_of (chosen_plain comment rows (told_from 2 rows) is ∙ comment_passed comment rows 1 is.1)
+
+-- rows with no comment before them: the bytes that rows are written with
+abbrev pub is_row_byte : ℕ → Bool
+is_row_byte b = b == 10 || b == 46 || b == 79
+
+no_remark : (b : ℕ) → is_row_byte b ≡ true → (b == 35) ≡ false
+no_remark b is = grind (arith, nat_tests)
+
+no_blank : (b : ℕ) → is_row_byte b ≡ true → (b == 10) ≡ false → is_blank b ≡ false
+no_blank b is other = grind (arith, nat_tests)
+
+no_header : (b : ℕ) → is_row_byte b ≡ true → (b == 120) ≡ false
+no_header b is = grind (arith, nat_tests)
+
+row_says : (b : ℕ) (bs : List ℕ) → is_row_byte b ≡ true → (b == 10) ≡ false → says_nothing (before_first is_line_feed (b ∷ bs)) ≡ false
+row_says b bs is other = rw (other, one-add (position_or_len is_line_feed bs)) (rw (no_remark b is, no_blank b is other) refl)
+
+-- the first line that says something does not begin with x
+row_told : (text : List ℕ) (number : ℕ) → list_all is_row_byte text ≡ true → list_any (λ b. not (b == 10)) text ≡ true
+    → (line : ℕ) × (first : ℕ) × (rest : List ℕ) × (more : List (ℕ × List ℕ)) × (told_from number text ≡ (line, first ∷ rest) ∷ more) × ((first == 120) ≡ false)
+row_told [] number all some = cc
+row_told (b ∷ bs) number all some =
+    let parts = and_parts (is_row_byte b) (list_all is_row_byte bs) all in
+    elim (cases_Bool (b == 10)) [
+      | inl feed ↦
+          (let same : b ≡ 10 = (Decides-eqb b 10).0 feed in
+          let later = row_told bs (number + 1) parts.1 (rw feed at some) in
+          (later.0, later.1, later.2, later.3, ap (λ x. told_from number (x ∷ bs)) same ∙ line_passed [] bs number refl refl ∙ later.4, later.5))
+      | inr other ↦ (
+        number,
+        b,
+        bs,
+        told_from (number + 1) (after_first is_line_feed (b ∷ bs)),
+        told_said number (b ∷ bs) (before_first is_line_feed (b ∷ bs)) (after_first is_line_feed (b ∷ bs)) false refl refl (sym (row_says b bs parts.0 other)) refl,
+        no_header b parts.0,
+      )
+    ]
+
+pub rows_alone : (rows : List ℕ) → list_all is_row_byte rows ≡ true → list_any (λ b. not (b == 10)) rows ≡ true → pattern_in rows ≡ pattern_of (plain_pieces 1 (is_comment rows) rows)
+rows_alone rows all some =
+    let told = row_told rows 1 all some in
+    ap (λ lines. pattern_of (pieces_behind rows lines)) told.4 ∙ rw told.5 refl

@@ -1,9 +1,13 @@
 -- Rows of plain text that are written are read.
-use Rattle.std.proofs.Common.{◌≡◌, ℕ, zero, suc, ◌+◌, ◌-◌, ◌<◌, ◌≤◌, ◌==◌, false, List, [], ◌∷◌, ◌++◌, length, refl, sym, ap, ◌∙◌, arith, cond, replicate, append_assoc, append-nil, length-append}
+use Rattle.std.proofs.Common.{◌≡◌, ℕ, zero, suc, ◌+◌, ◌-◌, ◌<◌, ◌≤◌, ◌==◌, not, true, false, inl, inr, List, [], ◌∷◌, ◌++◌, length, refl, sym, ap, ◌∙◌, arith, cond, replicate, append_assoc, append-nil, length-append}
+use Rattle.std.specs.List.{list_all, list_any}
+use Rattle.std.proofs.Math.Bool.{or-true}
+use Rattle.std.proofs.lemmas.Bool.{cases_lt}
 use Rattle.net_patterns.specs.declared.board.Cell.{Cell}
 use Rattle.net_patterns.specs.Steps.{comes}
 use Rattle.net_patterns.specs.Texts.{is_comment, plain_pieces}
-use Rattle.net_patterns.specs.Written.{Span, IsAhead, cells_beside, column_at, written_from, as_plain}
+use Rattle.net_patterns.specs.Written.{Span, IsAhead, cells_beside, cells_in, column_at, written_from, as_plain}
+use Rattle.net_patterns.proofs.FirstLines.{is_row_byte}
 use Rattle.net_patterns.proofs.BoardSteps.{comes-row_end}
 use Rattle.net_patterns.proofs.MarkSteps.{same_row, later_row, dead_passed, alive_passed}
 
@@ -84,3 +88,41 @@ span_of_rows s front column row line rest is few none =
     ∙ dead_written (s.column - begin) front begin s.row later live (omega arith)
     ∙ ap (λ c. comes front c s.row (plain_pieces later false live)) (omega arith)
     ∙ alive_written s.count front s.column s.row later rest few is.near is.low
+
+-- the bytes of rows, some of which have a sign
+rows_behind : (n byte : ℕ) (rest : List ℕ) → is_row_byte byte ≡ true → list_all is_row_byte rest ≡ true → list_all is_row_byte (replicate n byte ++ rest) ≡ true
+rows_behind zero byte rest is all = all
+rows_behind (suc n) byte rest is all = rw is (rows_behind n byte rest is all)
+
+pub all_of_rows : (spans : List Span) (column row : ℕ) → list_all is_row_byte (written_from as_plain column row spans) ≡ true
+all_of_rows [] column row = refl
+all_of_rows (s ∷ spans) column row =
+    let rest = written_from as_plain (s.column + s.count) s.row spans in
+    let live = rows_behind s.count 79 rest refl (all_of_rows spans (s.column + s.count) s.row) in
+    let dead = rows_behind (s.column - column_at column row s) 46 (replicate s.count 79 ++ rest) refl live in
+    rows_behind (s.row - row) 10 (replicate (s.column - column_at column row s) 46 ++ (replicate s.count 79 ++ rest)) refl dead
+
+sign_behind : (n byte : ℕ) (rest : List ℕ) → list_any (λ b. not (b == 10)) rest ≡ true → list_any (λ b. not (b == 10)) (replicate n byte ++ rest) ≡ true
+sign_behind zero byte rest some = some
+sign_behind (suc n) byte rest some = rw (sign_behind n byte rest some) (or-true (not (byte == 10)))
+
+live_sign : (n : ℕ) (rest : List ℕ) → 0 < n → list_any (λ b. not (b == 10)) (replicate n 79 ++ rest) ≡ true
+live_sign zero rest some = absurd (omega arith)
+live_sign (suc n) rest some = refl
+
+pub length_beside : (n row column : ℕ) → length (cells_beside row column n) ≡ n
+length_beside zero row column = refl
+length_beside (suc n) row column = ap suc (length_beside n row (column + 1))
+
+pub some_sign : (spans : List Span) (column row : ℕ) → 0 < length (cells_in spans) → list_any (λ b. not (b == 10)) (written_from as_plain column row spans) ≡ true
+some_sign [] column row some = absurd (omega arith)
+some_sign (s ∷ spans) column row some =
+    let rest = written_from as_plain (s.column + s.count) s.row spans in
+    let size = length-append (cells_beside s.row s.column s.count) (cells_in spans) in
+    let own = length_beside s.count s.row s.column in
+    let live : list_any (λ b. not (b == 10)) (replicate s.count 79 ++ rest) ≡ true = elim (cases_lt 0 s.count) [
+      | inl here ↦ live_sign s.count rest here
+      | inr none ↦ sign_behind s.count 79 rest (some_sign spans (s.column + s.count) s.row (omega arith))
+    ] in
+    sign_behind (s.row - row) 10 (replicate (s.column - column_at column row s) 46 ++ (replicate s.count 79 ++ rest))
+    (sign_behind (s.column - column_at column row s) 46 (replicate s.count 79 ++ rest) live)

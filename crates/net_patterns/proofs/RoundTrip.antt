@@ -1,5 +1,5 @@
 -- Patterns that are written are read back.
-use Rattle.std.proofs.Common.{◌≡◌, ℕ, zero, suc, ◌+◌, ◌-◌, ◌≤◌, true, false, List, [], ◌∷◌, ◌++◌, length, refl, sym, ap, ◌∙◌, arith, None, Ok, append_assoc, length-append}
+use Rattle.std.proofs.Common.{◌≡◌, ℕ, ◌+◌, ◌-◌, ◌<◌, ◌≤◌, true, false, List, [], ◌∷◌, ◌++◌, length, refl, sym, ap, ◌∙◌, arith, None, Ok, append_assoc, length-append}
 use Rattle.std.specs.List.{list_all}
 use Rattle.net_patterns.specs.declared.board.Cell.{Cell}
 use Rattle.net_patterns.specs.Cells.{pattern_of}
@@ -7,14 +7,10 @@ use Rattle.net_patterns.specs.Rle.{pieces_from}
 use Rattle.net_patterns.specs.Steps.{comes}
 use Rattle.net_patterns.specs.Texts.{plain_pieces, pattern_in}
 use Rattle.net_patterns.specs.Written.{Span, Frame, IsFrame, cells_beside, cells_in, AreAhead, AreInOrder, IsLine, is_gap, written_from, written_as_runs, written_as_plain, as_runs, as_plain}
-use Rattle.net_patterns.proofs.FirstLines.{runs_behind, rows_behind}
-use Rattle.net_patterns.proofs.PlainTexts.{no_comments, span_of_rows}
+use Rattle.net_patterns.proofs.FirstLines.{runs_behind, rows_alone, rows_behind}
+use Rattle.net_patterns.proofs.PlainTexts.{all_of_rows, length_beside, no_comments, some_sign, span_of_rows}
 use Rattle.net_patterns.proofs.RowCells.{comes-begin}
 use Rattle.net_patterns.proofs.RunTexts.{line_after, span_of_runs}
-
-length_beside : (n row column : ℕ) → length (cells_beside row column n) ≡ n
-length_beside zero row column = refl
-length_beside (suc n) row column = ap suc (length_beside n row (column + 1))
 
 runs_read : (spans : List Span) (gap behind : List ℕ) → list_all is_gap gap ≡ true → (front : List Cell) (column row line : ℕ) → AreAhead column row spans → length front + length (cells_in spans) ≤ 65536
     → comes front column row (pieces_from line None (written_from (as_runs gap behind) column row spans)) ≡ Ok (front ++ cells_in spans)
@@ -55,3 +51,11 @@ reads_plain comment spans is order =
     ∙ ap (λ none. pattern_of (plain_pieces 2 none rows)) (no_comments spans 0 0)
     ∙ sym (comes-begin (plain_pieces 2 false rows))
     ∙ rows_read spans [] 0 0 2 order.0 (omega (arith, order.1))
+
+pub reads_rows : (spans : List Span) → AreInOrder spans → 0 < length (cells_in spans) → pattern_in (written_from as_plain 0 0 spans) ≡ Ok (cells_in spans)
+reads_rows spans order some =
+    let rows = written_from as_plain 0 0 spans in
+    rows_alone rows (all_of_rows spans 0 0) (some_sign spans 0 0 some)
+    ∙ ap (λ none. pattern_of (plain_pieces 1 none rows)) (no_comments spans 0 0)
+    ∙ sym (comes-begin (plain_pieces 1 false rows))
+    ∙ rows_read spans [] 0 0 1 order.0 (omega (arith, order.1))

@@ -1,8 +1,8 @@
 //! Patterns that are read.
-ghost use Rattle.std.specs.Prelude.{◌≡◌, ℕ, List, Ok};
+ghost use Rattle.std.specs.Prelude.{◌≡◌, ◌<◌, ℕ, List, length, Ok};
 ghost use Rattle.net_patterns.specs.Cells.{IsAnswer};
 ghost use Rattle.net_patterns.specs.Texts.{pattern_in};
-ghost use Rattle.net_patterns.specs.Written.{AreInOrder, Frame, IsFrame, IsLine, Span, cells_in, written_as_plain, written_as_runs};
+ghost use Rattle.net_patterns.specs.Written.{AreInOrder, Frame, IsFrame, IsLine, Span, as_plain, cells_in, written_as_plain, written_as_runs, written_from};
 
 use crate::board::Cell;
 use crate::fault::PatternFault;
@@ -43,11 +43,12 @@ fn read_either(alloc: Global, bytes: &[u8]) -> Result<Vec<Cell>, PatternFault>
 /// without `!`; `TooLarge` at a live cell whose column or row is 65,536 or more or that follows 65,536 others. `Memory`
 /// comes only where memory runs out.
 ///
-/// What is written is read back: live cells in reading order, 65,536 at most, that are written as runs behind a header
-/// or as plain text behind a comment are the cells that come out.
+/// What is written is read back: live cells in reading order, 65,536 at most, that are written as runs behind a header,
+/// as rows of plain text, or as such rows behind a comment are the cells that come out.
 pub fn read_pattern(alloc: Global, bytes: &[u8]) -> Result<Vec<Cell>, PatternFault>
     ensures answer { IsAnswer (λ v. v.items) (pattern_in bytes.now) result }
     ensures reads_runs { (frame : Frame) (spans : List Span) → IsFrame frame → AreInOrder spans → bytes.now ≡ written_as_runs frame spans → IsAnswer (λ v. v.items) (Ok (cells_in spans)) result }
+    ensures reads_rows { (spans : List Span) → AreInOrder spans → 0 < length (cells_in spans) → bytes.now ≡ written_from as_plain 0 0 spans → IsAnswer (λ v. v.items) (Ok (cells_in spans)) result }
     ensures reads_plain { (comment : List ℕ) (spans : List Span) → IsLine 33 comment → AreInOrder spans → bytes.now ≡ written_as_plain comment spans → IsAnswer (λ v. v.items) (Ok (cells_in spans)) result }
 {
     read_either(alloc, bytes)
