@@ -1,3 +1,5 @@
 pub mod Ranges
 pub mod Whole
 pub mod Missing
+pub mod Lines
+pub mod Cells

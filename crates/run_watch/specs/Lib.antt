@@ -1,3 +1,4 @@
 pub mod Spans
 pub mod Watching
 pub mod Reports
+pub mod Records

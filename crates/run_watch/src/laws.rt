@@ -1,7 +1,17 @@
 //! Laws of watching.
+ghost use Rattle.run_watch.specs.Records.{CsvHeadingsAreRecords, CsvRowsAreRecords, CsvRowsTell};
 ghost use Rattle.run_watch.specs.Reports.{WholePartsAreReports};
 
 /// A configuration that is shown as a report, with all fields in order, all nodes and their numbers, is its report.
 pub fn whole_parts_are_reports()
     ensures report { WholePartsAreReports }
+{}
+
+/// A line of CSV, cut at its commas, is the round, what stands for the node, and the values of the shown fields in
+/// order. The line of the headings is `round`, `node` and the names of the shown fields, as many as each line has. Two
+/// lines that are equal say the same round, the same node and the same values. Labels are to have no comma and no LF.
+pub fn csv_is_read_back()
+    ensures rows { CsvRowsAreRecords }
+    ensures headings { CsvHeadingsAreRecords }
+    ensures tell { CsvRowsTell }
 {}

@@ -158,12 +158,13 @@ fn text_of<P: Progress>(
     Ok(out.into_bytes())
 }
 
-/// The text of the rounds of a span of a plan, in one pass over the rounds: none is computed twice. Each round is shared among
-/// as many threads as there are processors where it has enough to compute for them.
+/// The text of the rounds of a span of a plan, in one pass over the rounds: none is computed twice. Each round is
+/// shared among as many threads as there are processors where it has enough to compute for them. What a reader of a
+/// line of CSV gets back, `csv_is_read_back` says.
 ///
-/// `TooManyRounds` comes where the last round is above 1,000,000,000, else `RoundsBelowStart` where the first lies before
-/// the plan's start, and else `NoField` with the first place of those that are to be shown at which the program has no field, all
-/// before anything is done; `Memory` only where none of them holds.
+/// `TooManyRounds` comes where the last round is above 1,000,000,000, else `RoundsBelowStart` where the first lies
+/// before the plan's start, and else `NoField` with the first place of those that are to be shown at which the program
+/// has no field, all before anything is done; `Memory` only where none of them holds.
 pub fn watched<P: Progress>(
     rt: &(impl Threads + Sync),
     alloc: Global,
