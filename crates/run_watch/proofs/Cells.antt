@@ -1,5 +1,5 @@
 -- Lines of CSV, cut at their commas.
-use Rattle.std.proofs.Common.{◌≡◌, ◌≢◌, ◌∙◌, ◌<◌, ◌^◌, ℕ, suc, List, [], ◌∷◌, ◌++◌, Bool, false, All, ap, append-nil, append_assoc, arith, codes, drop, get_or, length, map, refl, slice_index, slice_index_or, string_bytes, sym}
+use Rattle.std.proofs.Common.{◌≡◌, ◌≢◌, ◌∙◌, ◌<◌, ◌^◌, ℕ, suc, List, [], ◌∷◌, ◌++◌, false, All, ap, append-nil, append_assoc, arith, codes, drop, get_or, length, map, refl, slice_index, slice_index_or, string_bytes, sym}
 use Rattle.std.proofs.lemmas.Bool.Decides.{nat_tests}
 use Rattle.std.proofs.lemmas.Fmt.{decimal_injective}
 use Rattle.std.proofs.lemmas.List.{append_cancel_right}
@@ -13,7 +13,7 @@ use Rattle.run_watch.specs.declared.show.Format.{Format}
 use Rattle.run_watch.specs.declared.show.Show.{Show}
 use Rattle.run_watch.specs.Records.{AreWords, CsvHeadingsAreRecords, CsvRowsAreRecords, CsvRowsTell, IsPlain, IsRecord, ShowsCsv, heading_cells, is_comma, node_name, row_cells}
 use Rattle.run_watch.specs.Watching.{cell_text, headings, opening_text, row_end, row_start, row_text}
-use Rattle.run_watch.proofs.Lines.{at_each, decimal_plain, field_name_plain, name_plain, no_end, written_no_end, written_plain}
+use Rattle.run_watch.proofs.Lines.{at_each, decimal_plain, field_name_plain, name_plain, no_end, number_is, written_no_end, written_plain}
 
 no_comma : (text : List ℕ) → IsPlain text → All (λ b. is_comma b ≡ false) text
 no_comma text plain k d inside =
@@ -123,9 +123,12 @@ same_values v w (k ∷ ks) small tiny same =
 pub csv_rows_tell : CsvRowsTell
 csv_rows_tell show names t u s w old new shows are these same =
     let cells = same_cells (row_text show names t u old) (row_text show names s w new) (row_cells show t u old) (row_cells show s w new) (row_record show names shows t u old are) (row_record show names shows s w new these) same in
+    let name : node_name show u ≡ node_name show w = ap (λ (xs : List (List ℕ)). get_or xs 1 []) cells in
     record {
       round = same_decimal t s are.round these.round (ap (λ (xs : List (List ℕ)). get_or xs 0 []) cells);
-      node = ap (λ (xs : List (List ℕ)). get_or xs 1 []) cells;
+      name = name;
+      node =
+          λ none. same_decimal u w are.node these.node (sym (number_is string_bytes show.labels.now u none) ∙ name ∙ number_is string_bytes show.labels.now w none);
       values =
           same_values (slice_index old.words) (slice_index new.words) show.fields.now
           (λ k. at_each (λ x. x < 2 ^ 32) 0 old.words k (omega arith) are.words) (λ k. at_each (λ x. x < 2 ^ 32) 0 new.words k (omega arith) these.words)

@@ -3,3 +3,4 @@ pub mod Whole
 pub mod Missing
 pub mod Lines
 pub mod Cells
+pub mod Members

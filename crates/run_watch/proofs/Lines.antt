@@ -1,5 +1,5 @@
 -- Texts that have no LF, and digits and names among them.
-use Rattle.std.proofs.Common.{◌≡◌, ◌≢◌, ◌<◌, ◌^◌, ℕ, zero, suc, List, [], ◌∷◌, Bool, true, false, not, ◌&&◌, ◌==◌, All, arith, get_or, length, refl, slice_get, slice_index_or, subst}
+use Rattle.std.proofs.Common.{◌≡◌, ◌≢◌, ◌<◌, ◌^◌, ℕ, zero, suc, List, [], ◌∷◌, Bool, true, false, not, ◌&&◌, ◌==◌, All, ap, arith, get_or, length, refl, slice_get, slice_index_or, subst}
 use Rattle.std.proofs.lemmas.Bool.Decides.{nat_tests}
 use Rattle.std.proofs.lemmas.Fmt.{digits_decimal}
 use Rattle.std.proofs.lemmas.List.Elements.{All-from_get_or}
@@ -9,7 +9,7 @@ use Rattle.std.specs.Int.{IsInRange}
 use Rattle.std.specs.List.{AllByRecursion, list_all}
 use Rattle.std.specs.Option.{option_map}
 use Rattle.std.specs.Str.Parse.{digits_value}
-use Rattle.rule_lang.specs.Tokens.{IsWord, is_word_byte}
+use Rattle.rule_lang.specs.Tokens.{is_word_byte}
 use Rattle.rule_lang.proofs.Forms.{word_all}
 use Rattle.rule_check.specs.WellFormed.{IsFieldName}
 use Rattle.run_watch.specs.Records.{IsPlain}
@@ -41,6 +41,10 @@ pub name_plain : {A : Type 0} (bytes : A → List ℕ) (labels : List A) (k u : 
 name_plain bytes [] k u small all = decimal_plain u small
 name_plain bytes (x ∷ xs) zero u small all = all zero x (omega arith)
 name_plain bytes (x ∷ xs) (suc k) u small all = name_plain bytes xs k u small (λ j d inside. all (suc j) d (omega (arith, inside)))
+
+-- where there are no labels, a node's number stands for it
+pub number_is : {A : Type 0} (bytes : A → List ℕ) (labels : List A) (u : ℕ) → labels ≡ [] → label_of (option_map bytes (slice_get labels u)) u ≡ decimal u
+number_is bytes labels u none = ap (λ ls. label_of (option_map bytes (slice_get ls u)) u) none
 
 -- ---- texts that are written out
 

@@ -2,3 +2,4 @@ pub mod Spans
 pub mod Watching
 pub mod Reports
 pub mod Records
+pub mod Objects

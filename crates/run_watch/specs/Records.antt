@@ -65,10 +65,12 @@ CsvHeadingsAreRecords =
     (show : Show) (names : List (List ℕ)) → ShowsCsv show → All IsFieldName names
     → IsRecord (opening_text show names) (heading_cells show names) × ((t u : ℕ) (state : State) → length (row_cells show t u state) ≡ length (heading_cells show names))
 
--- the two lines are of the same round, of nodes that the same stands for, and of the same values of the shown fields
+-- the two lines are of the same round, of nodes that the same stands for, the same node where there are no labels, and
+-- of the same values of the shown fields
 pub record SameRow (show : Show) (t u s w : ℕ) (old new : State) : Type 0 where
   pub round : t ≡ s
-  pub node : node_name show u ≡ node_name show w
+  pub name : node_name show u ≡ node_name show w
+  pub node : show.labels.now ≡ [] → u ≡ w
   pub values : shown_values show old ≡ shown_values show new
 
 -- two lines of CSV that are equal say the same

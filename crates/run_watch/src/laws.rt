@@ -1,4 +1,5 @@
 //! Laws of watching.
+ghost use Rattle.run_watch.specs.Objects.{JsonNodesAreNumbers, JsonRowsAreObjects};
 ghost use Rattle.run_watch.specs.Records.{CsvHeadingsAreRecords, CsvRowsAreRecords, CsvRowsTell};
 ghost use Rattle.run_watch.specs.Reports.{WholePartsAreReports};
 
@@ -14,4 +15,12 @@ pub fn csv_is_read_back()
     ensures rows { CsvRowsAreRecords }
     ensures headings { CsvHeadingsAreRecords }
     ensures tell { CsvRowsTell }
+{}
+
+/// A line of JSON is read as an object of `round`, `node` and the shown fields by their names, in this order, each with
+/// its number. What stands for a node is its number, or its label, which is to be the text of a JSON value that is no
+/// array and no object.
+pub fn json_is_read_back()
+    ensures rows { JsonRowsAreObjects }
+    ensures nodes { JsonNodesAreNumbers }
 {}

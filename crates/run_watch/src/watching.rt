@@ -160,7 +160,7 @@ fn text_of<P: Progress>(
 
 /// The text of the rounds of a span of a plan, in one pass over the rounds: none is computed twice. Each round is
 /// shared among as many threads as there are processors where it has enough to compute for them. What a reader of a
-/// line of CSV gets back, `csv_is_read_back` says.
+/// line gets back, `csv_is_read_back` and `json_is_read_back` say, and of a report `whole_parts_are_reports`.
 ///
 /// `TooManyRounds` comes where the last round is above 1,000,000,000, else `RoundsBelowStart` where the first lies
 /// before the plan's start, and else `NoField` with the first place of those that are to be shown at which the program

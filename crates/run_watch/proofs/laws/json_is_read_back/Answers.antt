@@ -1,0 +1,5 @@
+use Rattle.run_watch.proofs.Members.{json_nodes_are_numbers, json_rows_are_objects}
+use Rattle.run_watch.proofs.laws.json_is_read_back.Goals as goal
+
+pub returns : goal.returns
+returns c = record { rows = json_rows_are_objects; nodes = json_nodes_are_numbers }
