@@ -5,7 +5,6 @@ use Rattle.std.specs.Option.{option_map}
 use Rattle.std.specs.Prelude.{Option, Some, None}
 use Rattle.rounds_plan.specs.Configs.{most_rounds}
 use Rattle.rounds_plan.specs.Plans.{PlanView}
-use Rattle.run_watch.specs.declared.fault.WatchFault.{WatchFault}
 use Rattle.run_watch.specs.declared.fault.WatchFault.TheVariants.{TooManyRounds, RoundsBelowStart, NoField}
 use Rattle.run_watch.specs.declared.show.Show.{Show}
 use Rattle.run_watch.specs.Spans.{SpanView}

@@ -1,5 +1,5 @@
 -- Configurations that are shown whole.
-use Rattle.std.proofs.Common.{◌≡◌, ◌∙◌, ◌<◌, ◌≤◌, ◌+◌, ◌++◌, ◌||◌, not, ℕ, zero, suc, List, [], ◌∷◌, Bool, true, false, if◌then◌else◌, All, ap, append-nil, arith, codes, length, refl, slice_get, slice_index, slice_index_or, string_bytes, subst, sym}
+use Rattle.std.proofs.Common.{◌≡◌, ◌∙◌, ◌<◌, ◌≤◌, ◌+◌, ◌++◌, ◌||◌, not, ℕ, suc, List, [], ◌∷◌, Bool, true, false, if◌then◌else◌, All, ap, append-nil, arith, codes, length, refl, slice_get, slice_index, slice_index_or, string_bytes, subst, sym}
 use Rattle.std.specs.Fmt.{decimal}
 use Rattle.std.specs.List.{flat_map, range_with_len}
 use Rattle.std.specs.Option.{option_map}
@@ -13,7 +13,7 @@ use Rattle.run_watch.specs.declared.show.Format.{Format}
 use Rattle.run_watch.specs.declared.show.Format.TheVariants.{Report}
 use Rattle.run_watch.specs.declared.show.Show.{Show}
 use Rattle.run_watch.specs.Reports.{ShowsAll, WholePartsAreReports}
-use Rattle.run_watch.specs.Watching.{cell_text, cells_text, differs, head_text, is_changed, is_shown, label_of, node_text, part_text, row_end, row_start, row_text, shown_nodes}
+use Rattle.run_watch.specs.Watching.{cell_text, cells_text, differs, head_text, is_changed, label_of, node_text, part_text, row_end, row_start, row_text, shown_nodes}
 
 -- the fields of all places in order
 fields_are : (names : List (List ℕ)) (words : List ℕ) (i : ℕ) (f : ℕ → List ℕ) → length names ≤ length words

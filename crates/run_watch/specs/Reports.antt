@@ -1,5 +1,5 @@
 -- What is shown whole is a report.
-use Rattle.std.specs.Prelude.{◌≡◌, ℕ, ◌≤◌, Bool, false, List, [], length, All}
+use Rattle.std.specs.Prelude.{◌≡◌, ℕ, ◌≤◌, false, List, [], length, All}
 use Rattle.std.specs.List.{range_with_len}
 use Rattle.rule_check.specs.declared.state.State.{State}
 use Rattle.rounds_plan.specs.Configs.{Configuration}

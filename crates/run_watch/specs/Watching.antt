@@ -1,12 +1,12 @@
 -- The text of the rounds that are watched.
-use Rattle.std.specs.Prelude.{ℕ, ◌+◌, ◌==◌, Bool, true, not, ◌||◌, List, [], ◌∷◌, ◌++◌, codes, length, slice_get, slice_index, slice_index_or, string_bytes, if◌then◌else◌, Option, Some, None, nat_lt}
+use Rattle.std.specs.Prelude.{ℕ, ◌==◌, Bool, true, not, ◌||◌, List, [], ◌∷◌, ◌++◌, codes, length, slice_get, slice_index, slice_index_or, string_bytes, if◌then◌else◌, Option, Some, None, nat_lt}
 use Rattle.std.specs.Fmt.{decimal}
 use Rattle.std.specs.List.{filter, flat_map, list_any}
 use Rattle.std.specs.Option.{option_map}
 use Rattle.rule_check.specs.declared.state.State.{State}
 use Rattle.rule_check.specs.Value.{names_of}
 use Rattle.link_net.specs.Neighbours.{numbers_below}
-use Rattle.rounds_plan.specs.Configs.{Configuration, blank, most_rounds}
+use Rattle.rounds_plan.specs.Configs.{Configuration, most_rounds}
 use Rattle.rounds_plan.specs.Lockstep.{lockstep_config, lockstep_states, state_in}
 use Rattle.rounds_plan.specs.Plans.{PlanView}
 use Rattle.report_text.specs.Report.{field_text, round_line}

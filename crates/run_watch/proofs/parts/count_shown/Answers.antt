@@ -1,4 +1,4 @@
-use Rattle.std.proofs.Common.{◌≡◌, ◌<◌, ◌∙◌, ℕ, ap, arith, length, sym}
+use Rattle.std.proofs.Common.{◌<◌, ℕ, ap, arith, length}
 use Rattle.std.proofs.lemmas.Grind.{common_steps}
 use Rattle.rounds_plan.specs.Lockstep.{state_in}
 use Rattle.run_watch.specs.Watching.{is_shown}

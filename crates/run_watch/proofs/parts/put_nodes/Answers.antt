@@ -1,4 +1,4 @@
-use Rattle.std.proofs.Common.{◌≡◌, ◌<◌, ◌∙◌, ap, arith, append_assoc, length}
+use Rattle.std.proofs.Common.{◌<◌, ap, arith, append_assoc, length}
 use Rattle.std.proofs.lemmas.Grind.{common_steps}
 use Rattle.rule_check.specs.Value.{names_of}
 use Rattle.run_watch.specs.Watching.{node_text}

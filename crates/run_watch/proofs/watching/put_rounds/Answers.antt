@@ -1,4 +1,4 @@
-use Rattle.std.proofs.Common.{◌≡◌, ◌∙◌, ◌<◌, ◌≤◌, ◌+◌, ◌-◌, ◌*◌, ◌++◌, ℕ, List, ap, append_assoc, arith, length, map, string_bytes, sym}
+use Rattle.std.proofs.Common.{◌≡◌, ◌∙◌, ◌<◌, ◌+◌, ◌-◌, ◌++◌, ℕ, List, ap, append_assoc, arith, length, map, string_bytes, sym}
 use Rattle.std.specs.List.{range_with_len}
 use Rattle.rule_check.specs.declared.state.State.{State}
 use Rattle.rule_check.specs.Value.{names_of}

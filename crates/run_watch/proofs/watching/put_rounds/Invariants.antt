@@ -1,4 +1,4 @@
-use Rattle.std.proofs.Common.{◌≡◌, ◌≤◌, ◌++◌, ◌-◌, ◌<◌, ℕ, [], map, string_bytes}
+use Rattle.std.proofs.Common.{◌≡◌, ◌≤◌, ◌++◌, ◌-◌, ◌<◌, [], map, string_bytes}
 use Rattle.std.specs.List.{range_with_len}
 use Rattle.run_watch.specs.Spans.{count_of, round_at, rounds_in}
 use Rattle.run_watch.specs.Watching.{parts_text, states_in}
