@@ -1,5 +1,5 @@
 -- Arcs stand twice just where links do.
-use Rattle.std.proofs.Common.{◌≡◌, ℕ, ◌+◌, ◌<◌, ◌==◌, Bool, true, false, ◌&&◌, ◌||◌, List, [], ◌∷◌, length, get_or, zero, suc, add-one, Ordering, Less, Equal, Greater, is_eq, nat_cmp, refl, sym, ap, ◌∙◌, arith, inl, inr}
+use Rattle.std.proofs.Common.{◌≡◌, ℕ, ◌+◌, ◌<◌, ◌==◌, Bool, true, false, ◌&&◌, ◌||◌, List, [], ◌∷◌, length, get_or, zero, suc, add-one, Ordering, Less, Equal, Greater, is_eq, nat_cmp, refl, sym, ap, ◌∙◌, ◌++◌, append_assoc, arith, inl, inr}
 use Rattle.std.proofs.lemmas.Bool.{or_cases, or_parts, cases_Bool}
 use Rattle.std.proofs.lemmas.Map.Keys.{IsDistinct-head, IsDistinct-tail, IsDistinct-IsPermutation, IsDistinct-from_sorted, sorted_from_all_adjacent}
 use Rattle.std.proofs.lemmas.List.Sorted.{IsPermutation-sym}
@@ -166,3 +166,7 @@ twice links sorted straight moved again =
       | inl double ↦ double
       | inr single ↦ absurd (repeats-distinct sorted again (IsDistinct-IsPermutation same_arc same_arc_flips (arcs_of links) sorted moved (IsDistinct-arcs links straight single)))
     ]
+
+-- two more arcs
+pub two_more : (done rest : List Arc) (a b : Arc) → ((done ++ a ∷ []) ++ b ∷ []) ++ rest ≡ done ++ a ∷ b ∷ rest
+two_more done rest a b = append_assoc (done ++ a ∷ []) (b ∷ []) rest ∙ append_assoc done (a ∷ []) (b ∷ rest)

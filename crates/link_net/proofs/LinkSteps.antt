@@ -1,5 +1,6 @@
 -- Steps of the reader of links.
-use Rattle.std.proofs.Common.{◌≡◌, ℕ, ℤ, pos, negsuc, ◌+◌, ◌<◌, ◌≤◌, ◌&&◌, nat_le, List, [], ◌∷◌, ◌++◌, map, Option, Some, None, option_map, refl, append_assoc, arith, inl, inr}
+use Rattle.std.proofs.Common.{◌≡◌, ℕ, ℤ, pos, negsuc, ◌+◌, ◌<◌, ◌≤◌, ◌&&◌, nat_le, List, [], ◌∷◌, ◌++◌, length, drop, map, Option, Some, None, option_map, refl, ap, ◌∙◌, append_assoc, append-nil, arith, inl, inr}
+use Rattle.std.proofs.lemmas.List.{drop_all}
 use Rattle.std.specs.Prelude.{option_and_then}
 use Rattle.std.proofs.lemmas.Bool.{cases_Bool, and_parts}
 use Rattle.std.proofs.lemmas.Bool.Decides.{nat_tests}
@@ -26,6 +27,19 @@ all_placed-step all done last l ls link is before = at (placed last l) (all_plac
   at (Some p) (Some ps) is e =
       let same : settled p ≡ link = cc in
       rw append_assoc (rw same at e)
+
+-- a link that is not read
+pub all_placed-stop : (all : Option (List Arc)) (done : List Arc) (last : ℕ) (l : Raw) (ls : List Raw) → option_map settled (placed last l) ≡ None
+    → all ≡ option_map (λ ps. done ++ map settled ps) (all_placed last (l ∷ ls)) → all ≡ None
+all_placed-stop all done last l ls is before = at (placed last l) is before where
+  at : (here : Option Half) → option_map settled here ≡ None → all ≡ option_map (λ ps. done ++ map settled ps) (option_and_then (λ p. option_map (λ ps. p ∷ ps) (all_placed last ls)) here) → all ≡ None
+  at None is e = e
+  at (Some p) is e = cc
+
+-- all links read
+pub all_placed-end : (all : Option (List Arc)) (done : List Arc) (last i : ℕ) (ls : List Raw) → length ls ≤ i
+    → all ≡ option_map (λ ps. done ++ map settled ps) (all_placed last (drop i ls)) → all ≡ Some done
+all_placed-end all done last i ls past before = before ∙ ap (λ rest. option_map (λ ps. done ++ map settled ps) (all_placed last rest)) (drop_all i ls past) ∙ ap Some (append-nil done)
 
 number_below : (high : ℕ) (z : ℤ) (k : ℕ) → number_in 0 high z ≡ Some k → k < high + 1
 number_below high (pos m) k e =

@@ -1,9 +1,9 @@
 -- Where the arcs of each node begin.
-use Rattle.std.proofs.Common.{◌≡◌, ◌∙◌, ℕ, ◌+◌, ◌-◌, ◌<◌, ◌≤◌, ◌==◌, Bool, true, false, List, [], ◌∷◌, length, get_or, zero, suc, nat_le, nat_lt, refl, sym, ap, take, drop, length-take, length-drop, append-nil, arith, inl, inr}
+use Rattle.std.proofs.Common.{◌≡◌, ◌∙◌, ℕ, ◌+◌, ◌-◌, ◌<◌, ◌≤◌, ◌==◌, Bool, true, false, List, [], ◌∷◌, length, get_or, zero, suc, nat_le, nat_lt, refl, sym, ap, take, drop, ◌++◌, subst, length-take, length-drop, append-nil, below_more, arith, inl, inr}
 use Rattle.std.proofs.lemmas.Bool.{cases_Bool}
 use Rattle.std.proofs.lemmas.Bool.Decides.{nat_tests}
 use Rattle.std.specs.List.{filter, AllByRecursion}
-use Rattle.std.proofs.lemmas.List.{get_or-take, get_or-drop}
+use Rattle.std.proofs.lemmas.List.{get_or-take, get_or-drop, get_or_push, get_or_append_left, length_push}
 use Rattle.std.proofs.lemmas.List.Edits.{split_between}
 use Rattle.std.proofs.lemmas.List.Elements.{filter-append, All-from_recursion}
 use Rattle.std.proofs.lemmas.List.Sorted.{IsNonDecreasingBy-from_default}
@@ -18,6 +18,16 @@ filter_none p (x ∷ xs) none = rw (none 0 x (omega arith)) (filter_none p xs (�
 filter_all : (p : Arc → Bool) (xs : List Arc) → ((k : ℕ) (d : Arc) → k < length xs → p (get_or xs k d) ≡ true) → filter p xs ≡ xs
 filter_all p [] all = refl
 filter_all p (x ∷ xs) all = rw (all 0 x (omega arith)) (ap (λ t. x ∷ t) (filter_all p xs (λ k d h. all (suc k) d (omega arith))))
+
+-- one more node's place
+pub firsts_more : (arcs : List Arc) (offsets : List ℕ) (n i : ℕ) → length offsets ≡ n → ((u : ℕ) → u < n → IsFirst arcs u (get_or offsets u 0)) → IsFirst arcs n i
+    → (length (offsets ++ i ∷ []) ≡ n + 1) × ((u : ℕ) → u < n + 1 → IsFirst arcs u (get_or (offsets ++ i ∷ []) u 0))
+firsts_more arcs offsets n i count before here = (
+  length_push offsets i ∙ ap (λ k. k + 1) count,
+  below_more (λ u. IsFirst arcs u (get_or (offsets ++ i ∷ []) u 0)) n
+      (λ u below. subst (IsFirst arcs u) (sym (get_or_append_left offsets (i ∷ []) 0 u (omega arith))) (before u below))
+      (subst (IsFirst arcs n) (sym (get_or_push offsets i 0 n count)) here),
+)
 
 -- a lower node's arcs begin no later
 pub firsts_in_order : (arcs : List Arc) (u v i j : ℕ) → u ≤ v → IsFirst arcs u i → IsFirst arcs v j → i ≤ j

@@ -5,11 +5,11 @@ ghost use Rattle.std.specs.List.{list_any};
 ghost use Rattle.link_net.specs.Limits.{most_weight};
 ghost use Rattle.link_net.specs.Links.{AllWithin};
 ghost use Rattle.link_net.specs.Reading.{IsAnswer, IsAnswerBy, number_in, placed, all_placed, description_of};
-ghost use Rattle.link_net.specs.Tables.{settled, is_off};
+ghost use Rattle.link_net.specs.Tables.{settled, is_off, drawn, opened};
 
 use crate::draft::Draft;
 use crate::tables::{Link, link_network};
-use crate::{NetFault, NetFile};
+use crate::{NetFault, NetFile, Network};
 use std::alloc::Global;
 
 /// The most nodes of a network.
@@ -69,16 +69,32 @@ fn has_bad_weight(links: &[(i64, i64, i64)]) -> bool
     links.iter().any(is_off)
 }
 
-/// What a draft describes.
-pub(crate) fn describe(alloc: Global, draft: Draft) -> Result<NetFile, NetFault>
-    ensures { IsAnswer (description_of draft) result }
+/// The network of a draft. A weight out of range is held as 0 in it.
+fn draft_network(alloc: Global, draft: &Draft) -> Result<Network, NetFault>
+    ensures { IsAnswer (drawn draft.now) result }
 {
     let nodes = number_in(1, MOST_NODES, draft.nodes).ok_or(NetFault::NodeCount)?;
     let links = read_links(alloc, nodes - 1, draft.links.as_slice())?;
-    let network = link_network(alloc, nodes, links.as_slice())?;
+    link_network(alloc, nodes, links.as_slice())
+}
+
+/// The phase of a draft whose weights are in range.
+fn draft_phase(draft: &Draft) -> Result<u8, NetFault>
+    ensures exact { result ≡ opened draft.now }
+    ensures bound { IfOk result (λ phase. phase ≤ 2) }
+{
     let phase = number_in(0, LAST_PHASE, draft.phase).ok_or(NetFault::BadPhase)?;
     if has_bad_weight(draft.links.as_slice()) {
         return Err(NetFault::BadWeight);
     }
-    Ok(NetFile::new(network, phase as u8, draft.sets))
+    Ok(phase as u8)
+}
+
+/// What a draft describes.
+pub(crate) fn describe(alloc: Global, draft: Draft) -> Result<NetFile, NetFault>
+    ensures { IsAnswer (description_of draft) result }
+{
+    let network = draft_network(alloc, &draft)?;
+    let phase = draft_phase(&draft)?;
+    Ok(NetFile::new(network, phase, draft.sets))
 }

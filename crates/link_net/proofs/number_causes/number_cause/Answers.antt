@@ -35,6 +35,11 @@ returns-in-Some-astray_link-clause-agrees c =
     let b = (goal.at.returns-in-Some-astray_link-clause-agrees c).In-Some in
     astray_refusal c.args.draft.now c.in-Some.nodes (nodes_read b) c.in-Some-astray_link.link (sym (rw c.as_slice.ensures at c.in-Some-astray_link.ensures))
 
+pub returns-in-Some-astray_link-clause-named : goal.returns-in-Some-astray_link-clause-named
+returns-in-Some-astray_link-clause-named c =
+    let b = (goal.at.returns-in-Some-astray_link-clause-named c).In-Some in
+    rw (nodes_read b) (sym (rw c.as_slice.ensures at c.in-Some-astray_link.ensures))
+
 pub returns-in-Some-2-clause-agrees : goal.returns-in-Some-2-clause-agrees
 returns-in-Some-2-clause-agrees c =
     let n = nodes_read (goal.at.returns-in-Some-2-clause-agrees c).In-Some in
@@ -71,3 +76,6 @@ returns-clause-agrees c =
     let sound = fine (goal.at.returns-clause-agrees c).In_default-2 read.0 read.2 in
     let phase = sym (phase_seen (goal.at.returns-clause-agrees c).After-is_none) ∙ c.if-is_none.false in
     weight_refusal c.args.draft.now c.in-Some.nodes n read.0 read.1 sound c.in-Some-off_link.link phase (sym (rw c.as_slice-4.ensures at c.in-Some-off_link.ensures))
+
+pub returns-clause-named : goal.returns-clause-named
+returns-clause-named c = sym (rw c.as_slice-4.ensures at c.in-Some-off_link.ensures)
