@@ -1,11 +1,15 @@
 -- Bytes, the document that they are, and its keys.
-use Rattle.std.proofs.Common.{◌≡◌, ℕ, true, not, ◌||◌, List, Option, Some, None, is_some, refl, ap, inl, inr}
-use Rattle.std.specs.Prelude.{IsSomeAnd, IsUtf8}
+use Rattle.std.proofs.Common.{◌≡◌, ℕ, suc, length, true, false, not, ◌||◌, List, [], Option, Some, None, Result, Ok, Err, is_some, refl, ap, arith, inl, inr}
+use Rattle.std.specs.Prelude.{IsSomeAnd, IsUtf8, IfErr}
 use Rattle.std.proofs.lemmas.Bool.{cases_Bool}
 use Rattle.std.proofs.lemmas.Str.{IsUtf8-from_is_utf8, is_utf8-from_IsUtf8}
 use Rattle.std.specs.Str.{is_utf8}
-use Rattle.toml.specs.Data.{Data, Members, member}
-use Rattle.toml.specs.Parse.{parse_document}
+use Rattle.toml.specs.Data.{Data, Members, member, no_members}
+use Rattle.toml.specs.Errors.{IsBlank, IsMemory}
+use Rattle.toml.specs.declared.de.error.Error.{Error}
+use Rattle.toml.specs.Tables.{no_nodes}
+use Rattle.toml.proofs.Turns.{document_some, lines_end}
+use Rattle.toml.specs.Parse.{parse_document, skip_bom}
 use Rattle.link_net.specs.declared.cause.NetCause.{NetCause}
 use Rattle.link_net.specs.declared.fault.NetFault.TheVariants.{NotToml}
 use Rattle.link_net.specs.Causes.{refusal_of, IsDocumentCause, IsCause}
@@ -43,3 +47,22 @@ known_step key d ms h = ap (λ t. not t || has_unknown_key ms) h
 
 pub is_there : {A : Type 0} (o : Option A) (x : A) → o ≡ Some x → is_some o ≡ true
 is_there o x h = ap is_some h
+
+pub unknown_step : (key : List ℕ) (d : Data) (ms : Members) → is_known key ≡ false → has_unknown_key (member key d ms) ≡ true
+unknown_step key d ms h = ap (λ t. not t || has_unknown_key ms) h
+
+-- a text of nothing but white space and comments is a document with no key
+pub blank_document : (text : List ℕ) → IsBlank text → parse_document text ≡ Some no_members
+blank_document text blank = document_some text (no_nodes, []) (lines_end (suc (length text)) (no_nodes, []) (skip_bom text) (omega arith) blank)
+
+-- so such a text is read, or memory ran out, which it wants none of
+pub blank_is_read : (text : List ℕ) (e : Error) → ((IsMemory e → ⊥) → parse_document text ≡ None) → (IsMemory e → IsBlank text → ⊥) → IsBlank text → ⊥
+blank_is_read text e refused memory blank =
+    let none = refused (λ m. memory m blank) in
+    let some = blank_document text blank in
+    cc
+
+-- what holds anyhow holds where there is an error
+pub if_err : {T E X : Type 0} (r : Result T E) → X → IfErr r (λ _. X)
+if_err (Ok x) h = tt
+if_err (Err e) h = h

@@ -1,5 +1,8 @@
 //! Why a network file is refused, in enough detail to find the place and mend it.
-ghost use Rattle.std.specs.Prelude.{◌≡◌, option_map, IfOk, IfSome};
+ghost use Rattle.std.specs.Prelude.{◌≡◌, ◌≢◌, true, option_map, IfOk, IfErr, IfSome};
+ghost use Rattle.std.specs.Str.{is_utf8};
+ghost use Rattle.toml.specs.Data.{no_members};
+ghost use Rattle.toml.specs.Errors.{IsBlank};
 ghost use Rattle.toml.specs.View.{table_view};
 ghost use Rattle.link_net.specs.Causes.{fault_of, refusal_of, fault_if, IsShapeCause, IsDocumentCause, IsCause};
 ghost use Rattle.link_net.specs.Document.{has_unknown_key};
@@ -14,10 +17,12 @@ use toml::Table;
 
 /// Why a network file is refused, with the place: `None` exactly where `read_network` gives a network, running out of
 /// memory aside. Of several causes the first in the order of [`NetFault`], and of links, entries and nodes the first at
-/// fault.
+/// fault. A text of nothing but white space and comments takes no memory. Any other bytes take some: for the table that
+/// they are, or for a message.
 pub fn diagnose(alloc: Global, bytes: &[u8]) -> Result<Option<NetCause>, AllocError>
     ensures agrees { IfOk result (λ cause. option_map fault_of cause ≡ refusal_of (reading_of bytes.now)) }
     ensures named { IfOk result (λ cause. IfSome cause (IsCause bytes.now)) }
+    ensures at_once { IfErr result (λ _. is_utf8 bytes.now ≡ true → IsBlank bytes.now → ⊥) }
 {
     match std::str::from_utf8(bytes) {
         Ok(text) => text_cause(alloc, text),
@@ -33,6 +38,7 @@ pub fn diagnose(alloc: Global, bytes: &[u8]) -> Result<Option<NetCause>, AllocEr
 fn text_cause(alloc: Global, text: &str) -> Result<Option<NetCause>, AllocError>
     ensures agrees { IfOk result (λ cause. option_map fault_of cause ≡ refusal_of (reading_of text.now)) }
     ensures named { IfOk result (λ cause. IfSome cause (IsCause text.now)) }
+    ensures at_once { IfErr result (λ _. IsBlank text.now → ⊥) }
 {
     match toml::table_from_str(alloc, text) {
         Ok(table) => {
@@ -54,6 +60,7 @@ fn text_cause(alloc: Global, text: &str) -> Result<Option<NetCause>, AllocError>
 fn table_cause(alloc: Global, table: &Table) -> Result<Option<NetCause>, AllocError>
     ensures agrees { IfOk result (λ cause. option_map fault_of cause ≡ refusal_of (description_in (table_view table.now))) }
     ensures named { IfOk result (λ cause. IfSome cause (IsDocumentCause (table_view table.now))) }
+    ensures at_once { IfErr result (λ _. table_view table.now ≢ no_members) }
 {
     if let Some(cause) = key_cause(alloc, table)? {
         return Ok(Some(cause));
@@ -72,6 +79,7 @@ fn table_cause(alloc: Global, table: &Table) -> Result<Option<NetCause>, AllocEr
 fn key_cause(alloc: Global, table: &Table) -> Result<Option<NetCause>, AllocError>
     ensures agrees { IfOk result (λ cause. option_map fault_of cause ≡ fault_if (has_unknown_key (table_view table.now)) NetFault.UnknownKey) }
     ensures named { IfOk result (λ cause. IfSome cause (IsShapeCause (table_view table.now))) }
+    ensures at_once { IfErr result (λ _. has_unknown_key (table_view table.now) ≡ true) }
 {
     for (key, _value) in table.iter() {
         if !is_known_key(key.as_str()) {

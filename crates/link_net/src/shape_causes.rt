@@ -1,5 +1,6 @@
 //! Why the shape of a document is refused.
-ghost use Rattle.std.specs.Prelude.{◌≡◌, option_map, is_none, position, IfOk, IfSome};
+ghost use Rattle.std.specs.Prelude.{◌≡◌, ◌≢◌, option_map, is_none, position, IfOk, IfErr, IfSome};
+ghost use Rattle.toml.specs.Data.{no_members};
 ghost use Rattle.toml.specs.View.{view, table_view};
 ghost use Rattle.link_net.specs.Causes.{fault_of, fault_if, IsSetCause, IsShapeCause};
 ghost use Rattle.link_net.specs.Document.{pair_of, link_of, sets_of, nodes_of, links_of, phase_of, field_sets_of, draft_of};
@@ -115,6 +116,7 @@ fn sets_cause(alloc: Global, table: &Table) -> Result<Option<NetCause>, AllocErr
 pub(crate) fn shape_cause(alloc: Global, table: &Table) -> Result<Option<NetCause>, AllocError>
     ensures agrees { IfOk result (λ cause. option_map fault_of cause ≡ fault_if (is_none (draft_of (table_view table.now))) NetFault.BadShape) }
     ensures named { IfOk result (λ cause. IfSome cause (IsShapeCause (table_view table.now))) }
+    ensures at_once { IfErr result (λ _. table_view table.now ≢ no_members) }
 {
     if let Some(cause) = nodes_cause(table) {
         return Ok(Some(cause));
