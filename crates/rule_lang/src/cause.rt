@@ -9,7 +9,7 @@ use crate::fault::LangFault;
 use std::alloc::{AllocError, AllocFailed};
 
 /// What could stand at the place at which a text cannot be read on.
-#[derive(Clone, Copy, Debug, PartialEq, Eq)]
+#[derive(Clone, Copy, PartialEq, Eq)]
 pub enum Expected {
     /// `field` or `next`, with which an item begins.
     Item,
@@ -38,7 +38,7 @@ pub enum Expected {
 }
 
 /// Why a text is no program, and where: the first cause that holds, in this order. Places are counted in bytes from 0.
-#[derive(Clone, Copy, Debug, PartialEq, Eq)]
+#[derive(Clone, Copy, PartialEq, Eq)]
 pub enum LangCause {
     /// The text has more than 65,536 bytes.
     TooLong,

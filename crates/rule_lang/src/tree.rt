@@ -1,7 +1,7 @@
 //! The tree of a program.
 
 /// An operator between two parts, in brackets.
-#[derive(Clone, Copy, Debug, PartialEq, Eq)]
+#[derive(Clone, Copy, PartialEq, Eq)]
 pub enum Op {
     /// `(a + b)`
     Plus,
@@ -38,7 +38,7 @@ pub enum Op {
 }
 
 /// What is made of the values of an expression over all neighbours.
-#[derive(Clone, Copy, Debug, PartialEq, Eq)]
+#[derive(Clone, Copy, PartialEq, Eq)]
 pub enum Agg {
     /// `total a`
     Total,
@@ -55,7 +55,7 @@ pub enum Agg {
 }
 
 /// An expression.
-#[derive(Drop, PartialEq)]
+#[derive(Drop)]
 pub enum Expr {
     /// A number.
     Number(u32),
@@ -84,7 +84,7 @@ pub enum Expr {
 }
 
 /// An item of a program.
-#[derive(Drop, PartialEq)]
+#[derive(Drop)]
 pub enum Item {
     /// `field name = value;`: a field and its initial value.
     Field { name: String, value: u32 },
