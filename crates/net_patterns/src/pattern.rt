@@ -44,7 +44,7 @@ fn read_either(alloc: Global, bytes: &[u8]) -> Result<Vec<Cell>, PatternFault>
 /// comes only where memory runs out.
 ///
 /// What is written is read back: live cells in reading order, 65,536 at most, that are written as runs behind a header,
-/// as rows of plain text, or as such rows behind a comment are the cells that come out.
+/// as rows of plain text behind a comment, or, where there is a cell, as such rows alone are the cells that come out.
 pub fn read_pattern(alloc: Global, bytes: &[u8]) -> Result<Vec<Cell>, PatternFault>
     ensures answer { IsAnswer (λ v. v.items) (pattern_in bytes.now) result }
     ensures reads_runs { (frame : Frame) (spans : List Span) → IsFrame frame → AreInOrder spans → bytes.now ≡ written_as_runs frame spans → IsAnswer (λ v. v.items) (Ok (cells_in spans)) result }
