@@ -4,3 +4,4 @@ pub mod Missing
 pub mod Lines
 pub mod Cells
 pub mod Members
+pub mod Labels

@@ -2,7 +2,7 @@
 use Rattle.std.specs.Prelude.{◌≡◌, ◌≢◌, ℕ, List, [], ◌∷◌, ◌++◌, All, Some, codes, slice_index, slice_index_or}
 use Rattle.std.specs.Fmt.{decimal}
 use Rattle.json.specs.Json as json
-use Rattle.json.specs.Print.{print}
+use Rattle.json.specs.Print.{print, quoted}
 use Rattle.json.specs.Tree.{HasNumbers, depth, json_tokens}
 use Rattle.rule_check.specs.declared.state.State.{State}
 use Rattle.rule_check.specs.WellFormed.{IsFieldName}
@@ -45,3 +45,7 @@ JsonRowsAreObjects =
 -- where there are no labels, what stands for a node is the JSON number of its number
 abbrev pub JsonNodesAreNumbers : Type 0
 JsonNodesAreNumbers = (show : Show) (t u : ℕ) (state : State) → show.format ≡ Json → show.labels.now ≡ [] → AreWords t u state → ShowsJson show u (json.number (decimal u))
+
+-- a label that is a text in quotes, as JSON spells it, is read as that text
+abbrev pub JsonLabelsAreTexts : Type 0
+JsonLabelsAreTexts = (show : Show) (u : ℕ) (name : List ℕ) → show.format ≡ Json → node_name show u ≡ quoted name → ShowsJson show u (json.string name)

@@ -1,5 +1,5 @@
 //! Laws of watching.
-ghost use Rattle.run_watch.specs.Objects.{JsonNodesAreNumbers, JsonRowsAreObjects};
+ghost use Rattle.run_watch.specs.Objects.{JsonLabelsAreTexts, JsonNodesAreNumbers, JsonRowsAreObjects};
 ghost use Rattle.run_watch.specs.Records.{CsvHeadingsAreRecords, CsvRowsAreRecords, CsvRowsTell};
 ghost use Rattle.run_watch.specs.Reports.{WholePartsAreReports};
 
@@ -19,8 +19,9 @@ pub fn csv_is_read_back()
 
 /// A line of JSON is read as an object of `round`, `node` and the shown fields by their names, in this order, each with
 /// its number. What stands for a node is its number, or its label, which is to be the text of a JSON value that is no
-/// array and no object.
+/// array and no object: a label in quotes, as JSON spells a text, is read as that text.
 pub fn json_is_read_back()
     ensures rows { JsonRowsAreObjects }
     ensures nodes { JsonNodesAreNumbers }
+    ensures labels { JsonLabelsAreTexts }
 {}
