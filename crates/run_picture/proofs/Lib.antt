@@ -1,2 +1,4 @@
 pub mod Told
 pub mod Counts
+pub mod EachLink
+pub mod LinkLines

@@ -2,3 +2,4 @@ pub mod Shades
 pub mod Sheets
 pub mod Frames
 pub mod Drawn
+pub mod DrawnLinks

@@ -63,14 +63,15 @@ fn text_of(
     graph_of(alloc, plan.network(), labels, round, &values)
 }
 
-/// The network of a plan for Graphviz, with the values of a field after a round: an undirected graph with a line for each
-/// node by rising number, its label the node's name with its value below, coloured as in `time_picture`, and a line for
-/// each link, from the lesser number to the greater, with its weight where that is not 1. A node is called by its label
-/// among these, and past the last label by its number; a value of 4294967295 is shown as `none`.
+/// The network of a plan for Graphviz, with the values of a field after a round: an undirected graph with a line for
+/// each node by rising number, its label the node's name with its value below, coloured as in `time_picture`, and a
+/// line for each link, from the lesser number to the greater, with its weight where that is not 1: each link has one,
+/// as `each_link_is_drawn_once` says. A node is called by its label among these, and past the last label by its number;
+/// a value of 4294967295 is shown as `none`.
 ///
-/// `TooManyRounds` comes where the round is above 1,000,000,000, else `RoundsBelowStart` where it lies before the plan's
-/// start, and else `NoField` where the program has no field at this place, all before anything is done; `Memory` only
-/// where none of them holds.
+/// `TooManyRounds` comes where the round is above 1,000,000,000, else `RoundsBelowStart` where it lies before the
+/// plan's start, and else `NoField` where the program has no field at this place, all before anything is done; `Memory`
+/// only where none of them holds.
 pub fn network_dot(
     rt: &(impl Threads + Sync),
     alloc: Global,
