@@ -2,3 +2,5 @@ pub mod Told
 pub mod Counts
 pub mod EachLink
 pub mod LinkLines
+pub mod EachCell
+pub mod CellTexts

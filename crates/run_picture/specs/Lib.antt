@@ -3,3 +3,4 @@ pub mod Sheets
 pub mod Frames
 pub mod Drawn
 pub mod DrawnLinks
+pub mod Placed

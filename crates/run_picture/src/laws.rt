@@ -1,5 +1,6 @@
 //! Laws of pictures.
 ghost use Rattle.run_picture.specs.DrawnLinks.{EachLinkIsDrawnOnce, LinesTellLinks};
+ghost use Rattle.run_picture.specs.Placed.{EachCellHasItsPlace, TextTellsCells};
 ghost use Rattle.run_picture.specs.Shades.{SameClassSameValue};
 
 /// In a picture with few values two cells have the same colour exactly where they have the same value.
@@ -12,4 +13,11 @@ pub fn same_class_same_value()
 pub fn each_link_is_drawn_once()
     ensures links { EachLinkIsDrawnOnce }
     ensures tell { LinesTellLinks }
+{}
+
+/// The cells of a picture stand in rows of its width, one for each value in order and with the value's colour, within
+/// its columns and rows, and no two at the same place. The text tells the cells: other cells have another text.
+pub fn each_cell_has_its_place()
+    ensures places { EachCellHasItsPlace }
+    ensures tell { TextTellsCells }
 {}

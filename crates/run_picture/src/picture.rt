@@ -76,15 +76,16 @@ fn grid_text(
     picture_of(alloc, width, &values)
 }
 
-/// The time picture of a field as SVG: the rounds of a span of a plan down the page, one below the other, the nodes across
-/// by rising number, and each value a cell with the colour of its value. Below the cells stands which colour is which
-/// value: each of up to eight values has a colour of its own, more are on a scale of 16 steps, and 4294967295 is grey.
-/// In one pass over the rounds: none is computed twice. Each round is shared among as many threads as there are processors
-/// where it has enough to compute for them.
+/// The time picture of a field as SVG: the rounds of a span of a plan down the page, one below the other, the nodes
+/// across by rising number, and each value a cell with the colour of its value. Below the cells stands which colour is
+/// which value: each of up to eight values has a colour of its own, more are on a scale of 16 steps, and 4294967295 is
+/// grey. `each_cell_has_its_place` says where each cell stands, and `same_class_same_value` when two have the same
+/// colour. In one pass over the rounds: none is computed twice. Each round is shared among as many threads as there are
+/// processors where it has enough to compute for them.
 ///
-/// `TooManyRounds` comes where the last round is above 1,000,000,000, else `RoundsBelowStart` where the first lies before
-/// the plan's start, else `NoField` where the program has no field at this place, and else `TooManyCells` where nodes times
-/// rounds are more than 1,000,000, all before anything is done; `Memory` only where none of them holds.
+/// `TooManyRounds` comes where the last round is above 1,000,000,000, else `RoundsBelowStart` where the first lies
+/// before the plan's start, else `NoField` where the program has no field at this place, and else `TooManyCells` where
+/// nodes times rounds are more than 1,000,000, all before anything is done; `Memory` only where none of them holds.
 pub fn time_picture<P: Progress>(
     rt: &(impl Threads + Sync),
     alloc: Global,
@@ -105,12 +106,12 @@ pub fn time_picture<P: Progress>(
     Ok(text)
 }
 
-/// The picture of a field after a round as SVG: the nodes by rising number in rows of so many cells, the last of which may
-/// be shorter, coloured as in `time_picture`.
+/// The picture of a field after a round as SVG: the nodes by rising number in rows of so many cells, the last of which
+/// may be shorter, coloured as in `time_picture`. `each_cell_has_its_place` says where each cell stands.
 ///
-/// `TooManyRounds` comes where the round is above 1,000,000,000, else `RoundsBelowStart` where it lies before the plan's
-/// start, else `NoField` where the program has no field at this place, and else `NoWidth` where the rows are to have no
-/// cells, all before anything is done; `Memory` only where none of them holds.
+/// `TooManyRounds` comes where the round is above 1,000,000,000, else `RoundsBelowStart` where it lies before the
+/// plan's start, else `NoField` where the program has no field at this place, and else `NoWidth` where the rows are to
+/// have no cells, all before anything is done; `Memory` only where none of them holds.
 pub fn grid_picture(
     rt: &(impl Threads + Sync),
     alloc: Global,
