@@ -23,3 +23,4 @@ pub mod Searches
 pub mod Repeats
 pub mod Counts
 pub mod Agreed
+pub mod Collects

@@ -3,7 +3,7 @@
 use rule_lang::Op;
 
 /// One instruction, which takes its operands from the stack and puts its value there.
-#[derive(Clone, Copy, Debug, PartialEq, Eq)]
+#[derive(Clone, Copy, PartialEq, Eq)]
 pub enum Instr {
     /// This number.
     Push(u32),
