@@ -4,7 +4,6 @@ ghost use Rattle.std.specs.Prelude.{◌≡◌};
 ghost use Rattle.rule_check.specs.declared.fault.CheckFault.TheVariants.{Memory};
 
 use std::alloc::{AllocError, AllocFailed};
-use std::fmt::{self, Debug, Display, Formatter, Write};
 use thiserror::Error;
 
 /// Why a program is refused: the first cause that holds, in this order. Running out of memory can come in place of each
@@ -12,28 +11,29 @@ use thiserror::Error;
 #[derive(Clone, Copy, Debug, PartialEq, Eq, Error)]
 pub enum CheckFault {
     /// More than 8 `field` items.
+    #[error("TooManyFields")]
     TooManyFields,
     /// Two `field` items of one name.
+    #[error("FieldTwice")]
     FieldTwice,
     /// Two `next` items of one name.
+    #[error("NextTwice")]
     NextTwice,
     /// A name that no `field` item declares.
+    #[error("UnknownName")]
     UnknownName,
     /// A form of the neighbour outside an aggregate.
+    #[error("NeighbourOutside")]
     NeighbourOutside,
     /// An aggregate in an aggregate.
+    #[error("NestedAggregate")]
     NestedAggregate,
     /// More than 16 aggregates in all expressions together.
+    #[error("TooManyAggregates")]
     TooManyAggregates,
     /// Out of memory.
+    #[error("Memory")]
     Memory,
-}
-
-/// A fault is shown by its name.
-impl Display for CheckFault {
-    fn fmt<W: Write>(&self, formatter: &mut Formatter<W>) -> fmt::Result {
-        Debug::fmt(self, formatter)
-    }
 }
 
 impl From<AllocError> for CheckFault {
