@@ -12,7 +12,7 @@ use Rattle.import_links.specs.declared.mending.ParallelLinks.{ParallelLinks}
 use Rattle.import_links.specs.declared.mending.ParallelLinks.TheVariants as parallel
 use Rattle.import_links.specs.declared.mending.Mending.{Mending}
 use Rattle.import_links.specs.declared.settle_fault.SettleFault.{SettleFault}
-use Rattle.import_links.specs.declared.settle_fault.SettleFault.TheVariants.{SelfLoop, Parallel, Net}
+use Rattle.import_links.specs.declared.settle_fault.SettleFault.TheVariants.{SelfLoop, ParallelEdge, Net}
 use Rattle.import_links.specs.Merging.{are_parallel, merged}
 
 -- the link joins a node with itself
@@ -74,7 +74,7 @@ unlooped l ps = or_fault SelfLoop (refused_self_loop l ps) (left_by l ps)
 
 -- the links, one for each two nodes, or the first that is not the only one
 abbrev pub single : ParallelLinks → List PlacedLink → Result (List Link) SettleFault
-single d ps = or_fault (λ lines. Parallel lines.0 lines.1) (refused_parallel d ps) (single_by d ps)
+single d ps = or_fault (λ lines. ParallelEdge lines.0 lines.1) (refused_parallel d ps) (single_by d ps)
 
 -- a fault of the network's links as one of the text's
 abbrev pub as_settled : Result Listing NetFault → Result Listing SettleFault

@@ -51,7 +51,7 @@ pub(crate) fn single(
     match parallel {
         ParallelLinks::Merged(kept) => Ok(merged(alloc, plain.as_slice(), kept)?),
         ParallelLinks::Refused => match first_parallel(alloc, links)? {
-            Some((line, first)) => Err(SettleFault::Parallel { line, first }),
+            Some((line, first)) => Err(SettleFault::ParallelEdge { line, first }),
             None => Ok(plain),
         },
     }

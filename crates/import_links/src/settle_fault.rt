@@ -15,7 +15,7 @@ pub enum SettleFault {
     /// A link joins the same two nodes as an earlier one, and such links are refused: the line of the first one, and that
     /// of the first link that joins these nodes.
     #[error("line {line}: the two nodes are joined on line {first} already")]
-    Parallel { line: u64, first: u64 },
+    ParallelEdge { line: u64, first: u64 },
     /// The links that are left are not within the bounds of a network: `NodeCount`, `BadLink`, `TooManyLinks` or
     /// `TooManyNeighbours`, in this order.
     #[error("{0}")]

@@ -8,7 +8,7 @@ use Rattle.import_links.specs.Joining.{names_with, links_of}
 use Rattle.import_links.specs.declared.placed.PlacedLink.{PlacedLink}
 use Rattle.import_links.specs.declared.mending.Mending.{Mending}
 use Rattle.import_links.specs.declared.settle_fault.SettleFault.{SettleFault}
-use Rattle.import_links.specs.declared.settle_fault.SettleFault.TheVariants.{SelfLoop, Parallel, Net, Memory as SettleMemory}
+use Rattle.import_links.specs.declared.settle_fault.SettleFault.TheVariants.{SelfLoop, ParallelEdge, Net, Memory as SettleMemory}
 use Rattle.import_matrix.specs.Steps.{told_as}
 use Rattle.import_network.specs.declared.fault.TakeFault.{TakeFault}
 use Rattle.import_network.specs.declared.fault.TakeFault.TheVariants.{Edges, Matrix, Dot, Join, Numbers, Settle, Memory}
@@ -21,7 +21,7 @@ use Rattle.import_network.specs.Naming.{IsJoinFault}
 not_join : (r : Result Listing SettleFault) (fault : JoinFault) → told_as settle_fault r ≡ Err (Join fault) → ⊥
 not_join (Ok listing) fault h = cc
 not_join (Err (SelfLoop line)) fault h = cc
-not_join (Err (Parallel line first)) fault h = cc
+not_join (Err (ParallelEdge line first)) fault h = cc
 not_join (Err (Net why)) fault h = cc
 not_join (Err SettleMemory) fault h = cc
 

@@ -308,9 +308,9 @@ fn settle_told(fault: SettleFault) -> Told {
             "SelfLoop",
             "a node is joined with itself (--drop-loops drops such edges)",
         ),
-        SettleFault::Parallel { line, .. } => (
+        SettleFault::ParallelEdge { line, .. } => (
             Some(line),
-            "Parallel",
+            "ParallelEdge",
             "an earlier edge joins these two nodes (--parallel min, max or first keeps one)",
         ),
         SettleFault::Net(fault) => net_told(fault),
@@ -360,7 +360,7 @@ fn token_text(kind: TokenKind) -> &'static str {
 /// Adds what is told beside: the earlier edge of two, how many entries there are, and what was found.
 fn put_detail(draft: &mut Draft, fault: TakeFault) {
     match fault {
-        TakeFault::Settle(SettleFault::Parallel { first, .. }) => {
+        TakeFault::Settle(SettleFault::ParallelEdge { first, .. }) => {
             draft.put("; it stands on line ");
             draft.put_count(first);
         }
