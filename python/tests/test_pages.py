@@ -4,6 +4,7 @@ import contextlib
 import doctest
 import importlib
 import io
+import os
 import re
 
 from support import PYTHON, ROOT, run_python, skip, wanted
@@ -50,6 +51,18 @@ def run_piece(piece, names):
     return told.getvalue()
 
 
+@contextlib.contextmanager
+def at_the_top():
+    """The repository's top is the working folder, as the pages say."""
+    before = os.getcwd()
+    os.chdir(ROOT)
+    try:
+        yield
+    finally:
+        os.chdir(before)
+
+
+@at_the_top()
 def run_page(path):
     """The pieces of a page run one after the other, and print what it shows."""
     names = {}
