@@ -110,7 +110,7 @@ def lines(steps):
 
 
 def starved(nodes, links, still, stop, refused=15, seed=4):
-    """A schedule by lot in which one node makes no step, up to rest; so many in a hundred of the others' steps are refused."""
+    """A random schedule in which one node makes no step, up to rest; so many in a hundred of the others' steps are refused."""
     lot = random.Random(seed)
     counts = Counts(rows_of(nodes, links), stop)
     others = [step for node in range(nodes) if node != still for step in counts.steps_of(node)]
@@ -126,7 +126,7 @@ def starved(nodes, links, still, stop, refused=15, seed=4):
 
 
 def by_lot(nodes, links, many, stop, seed=1):
-    """A schedule of so many steps by lot, refused ones among them, some of nodes and slots that are not there."""
+    """A schedule of so many random steps, refused ones among them, some of nodes and slots that are not there."""
     lot = random.Random(seed)
     counts = Counts(rows_of(nodes, links), stop)
     steps = []

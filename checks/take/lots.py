@@ -1,4 +1,4 @@
-"""Random texts of the three formats, from small alphabets, so that doubles, loops and chains meet often; and damage."""
+"""Random texts of the three formats, from small alphabets, so that parallel edges, self-loops and chains meet often; and damage."""
 
 NAMES = ["a", "b", "c", "d", "7", "007", "x_y", "Zoë", "東", "🐝", "e\u0301", "\u200b", "\ufeffa", "é"]
 GOOD = ["1", "0", "5", "007", "2", "12"]
