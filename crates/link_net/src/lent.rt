@@ -30,14 +30,11 @@ impl<'a> Model for NetRows<'a> {
 }
 
 impl<'a> NetRows<'a> {
-    /// The rows that are laid out in these lists: row u goes from offset u up to the next one.
-    pub(crate) fn new(
-        offsets: &'a [usize],
-        neighbours: &'a [u32],
-        weights: &'a [u32],
-    ) -> NetRows<'a>
-        requires { HoldRows offsets.now neighbours.now weights.now }
-        ensures { result ≡ rows_of offsets.now neighbours.now weights.now }
+    /// The rows that are laid out in these lists: row u goes from offset u up to the next one. There may be more nodes
+    /// and more links than a network file has, several links between two nodes, and links that lead one way.
+    pub fn new(offsets: &'a [usize], neighbours: &'a [u32], weights: &'a [u32]) -> NetRows<'a>
+        requires laid_out { HoldRows offsets.now neighbours.now weights.now }
+        ensures rows { result ≡ rows_of offsets.now neighbours.now weights.now }
     {
         NetRows {
             offsets,

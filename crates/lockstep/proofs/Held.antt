@@ -4,22 +4,22 @@ use Rattle.std.proofs.lemmas.List.{ext_get_or}
 use Rattle.std.proofs.lemmas.List.FromFn.{get_or-map-range_with_len, length-map-range_with_len}
 use Rattle.rule_check.specs.declared.state.State.{State}
 use Rattle.rule_check.specs.Value.{Rules}
-use Rattle.link_net.specs.Neighbours.{Neighbours, IsNetwork, numbers_below}
+use Rattle.link_net.specs.Neighbours.{Neighbours, numbers_below}
 use Rattle.rounds_plan.specs.Rounds.{round_from}
 use Rattle.rounds_blocks.specs.Walks.{Walked, state_by}
 use Rattle.rounds_plan.specs.Configs.{Configuration, blank}
 use Rattle.rounds_plan.specs.Lockstep.{state_in, lockstep, lockstep_states, lockstep_config, lockstep-start, lockstep-more}
-use Rattle.rounds_plan.specs.Plans.{PlanView, IsPlan}
+use Rattle.rounds_plan.specs.Plans.{PlanView}
 use Rattle.lockstep.specs.Walking.{HasRound}
-use Rattle.rounds_plan.proofs.Nears.{round_agrees}
+use Rattle.rounds_plan.proofs.Nears.{AreWithin, round_agrees}
 
 abbrev config_by : ℕ → ℕ → List State → Configuration
 config_by fields rounds states = record { rounds = rounds; fields = fields; states = states }
 
 -- a walk from the opening states on has the states of the start
-pub opening_held : (p : PlanView) (walk : Walked) (states : List State) (n : ℕ) → IsPlan p → states ≡ p.opening → n ≡ length p.network → walk.rules ≡ p.program → walk.network ≡ p.network
+pub opening_held : (p : PlanView) (walk : Walked) (states : List State) (n : ℕ) → states ≡ p.opening → n ≡ length p.network → walk.rules ≡ p.program → walk.network ≡ p.network
     → ((u : ℕ) (d : State) → u < n → state_by walk.words u ≡ slice_index_or states u d) → HasRound p p.start walk
-opening_held p walk states n plan are count rules network held = record {
+opening_held p walk states n are count rules network held = record {
   rules = rules;
   network = network;
   states = λ u inside.
@@ -29,16 +29,16 @@ opening_held p walk states n plan are count rules network held = record {
 }
 
 -- a round takes the states of a round to those of the next
-pub held_more : (p : PlanView) (t : ℕ) (old new : Walked) → IsNetwork p.network → p.start ≤ t → HasRound p t old → new.rules ≡ old.rules → new.network ≡ old.network
+pub held_more : (p : PlanView) (t : ℕ) (old new : Walked) → AreWithin p.network → p.start ≤ t → HasRound p t old → new.rules ≡ old.rules → new.network ≡ old.network
     → ((u : ℕ) → u < length old.network → state_by new.words u ≡ round_from old.rules old.network t (state_by old.words) u) → HasRound p (t + 1) new
-held_more p t old new network late held rules_are network_is next = record {
+held_more p t old new within late held rules_are network_is next = record {
   rules = rules_are ∙ held.rules;
   network = network_is ∙ held.network;
   states = λ u inside.
       next u (omega (arith, inside, ap length held.network))
       ∙ ap (λ (r : Rules). round_from r old.network t (state_by old.words) u) held.rules
       ∙ ap (λ (n : Neighbours). round_from p.program n t (state_by old.words) u) held.network
-      ∙ round_agrees p t (state_by old.words) (lockstep p t) u network held.states inside
+      ∙ round_agrees p t (state_by old.words) (lockstep p t) u within held.states inside
       ∙ sym (lockstep-more p t u late);
 }
 

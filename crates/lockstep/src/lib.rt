@@ -2,7 +2,6 @@
 //! reports and devices those of `report_text`; the rounds are made here.
 #![tactic(auto)]
 
-mod costs;
 mod laws;
 mod parallel;
 mod round_walk;

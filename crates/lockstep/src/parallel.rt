@@ -3,8 +3,7 @@ ghost use Rattle.std.specs.Prelude.{◌≡◌, IfErr, Err};
 ghost use Rattle.rounds_plan.specs.Answer.{IsAnswer};
 ghost use Rattle.rounds_plan.specs.Lockstep.{rounds_of};
 
-use crate::costs::is_worth_sharing;
-use crate::round_walk::Course;
+use crate::round_walk::{Course, is_worth_threads};
 use crate::rounds::{check_round, lockstep};
 use rounds_plan::{Config, Plan, RoundFault};
 use std::alloc::Global;
@@ -24,7 +23,7 @@ pub fn lockstep_par(
     ensures exact { IsAnswer RoundFault.Memory (rounds_of plan.now rounds) result }
     ensures at_once { IfErr (rounds_of plan.now rounds) (λ fault. result ≡ Err fault) }
 {
-    if rounds == plan.start() || !is_worth_sharing(plan) {
+    if rounds == plan.start() || !is_worth_threads(plan) {
         return lockstep(alloc, plan, rounds);
     }
     check_round(plan, rounds)?;

@@ -6,15 +6,21 @@ ghost use Rattle.rounds_plan.specs.Lockstep.{lockstep_config};
 ghost use Rattle.rounds_plan.specs.Plans.{IsPlan};
 ghost use Rattle.lockstep.specs.Walking.{AreAlike};
 
-use crate::costs::{MOST_ENDS, costs_of, is_worth_sharing, most_ends_to_share};
 use crate::steps::{InThreads, InTurn, walk_to};
 use rayon::current_num_threads;
-use rounds_blocks::{Layout, Walk};
+use rounds_blocks::{Layout, MOST_ENDS, Walk, costs_of, is_worth_sharing, most_ends_to_share};
 use rounds_code::RowCode;
 use rounds_plan::{Config, Plan};
 use std::alloc::{AllocError, Global};
 use std::marker::Model;
 use std::thread::Threads;
+
+/// Whether a whole round of a plan has as much work as threads have to save.
+pub(crate) fn is_worth_threads(plan: &Plan) -> bool {
+    let network = plan.network();
+    let ends = 2 * network.links() as u64;
+    is_worth_sharing(plan.program(), network.nodes() as u64, ends)
+}
 
 /// A plan with what every walk over its rounds needs: the code of its program and the layout of its network. A contract
 /// sees the plan.
@@ -96,7 +102,7 @@ impl<'a> Course<'a> {
         ensures start { IfOk result (λ walk. walk ≡ record { plan = self.now; round = self.now.start }) }
     {
         let mut walk = self.walk(alloc)?;
-        if is_worth_sharing(self.plan) {
+        if is_worth_threads(self.plan) {
             let costs = costs_of(self.plan.program());
             let threads = current_num_threads(rt);
             walk.states.share(alloc, &self.code, threads, costs)?;

@@ -4,6 +4,7 @@
 mod activity;
 mod batch;
 mod columns;
+mod costs;
 mod group;
 mod laws;
 mod layout;
@@ -18,6 +19,7 @@ mod sharing;
 mod task;
 mod walk;
 
+pub use costs::{MOST_ENDS, costs_of, is_worth_sharing, most_ends_to_share};
 pub use laws::rests_where_nothing_moved;
 pub use layout::Layout;
 pub use sharing::Costs;

@@ -19,7 +19,7 @@ module _ (old : PlanView) (c : Configuration) (network : IsNetwork old.network) 
       let old_late : old.start ≤ c.rounds + k = omega arith in
       subst (λ t. lockstep (from_config old c) t u ≡ lockstep old t u) (sym e)
       (lockstep-more (from_config old c) (c.rounds + k) u new_late
-      ∙ round_agrees old (c.rounds + k) (lockstep (from_config old c) (c.rounds + k)) (lockstep old (c.rounds + k)) u network (λ w h. so_many_on k w h) inside
+      ∙ round_agrees old (c.rounds + k) (lockstep (from_config old c) (c.rounds + k)) (lockstep old (c.rounds + k)) u network.within (λ w h. so_many_on k w h) inside
       ∙ sym (lockstep-more old (c.rounds + k) u old_late))
 
 pub goes_on : (old : PlanView) (c : Configuration) → IsNetwork old.network → GoesOnAs old c (from_config old c)

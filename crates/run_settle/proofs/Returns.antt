@@ -24,7 +24,7 @@ module _ (p : PlanView) (network : IsNetwork p.network) (unread : reads_round p.
       alike_of p (a + 1) (b + 1)
       (λ u inside.
       lockstep-more p a u late
-      ∙ round_agrees p a (lockstep p a) (lockstep p b) u network (each_alike p a b same) inside
+      ∙ round_agrees p a (lockstep p a) (lockstep p b) u network.within (each_alike p a b same) inside
       ∙ next_state-any_round p.program a b u (lockstep p b u) (nears_in p.network (lockstep p b) u) unread
       ∙ sym (lockstep-more p b u later))
 

@@ -14,7 +14,7 @@ loop-round-preserved g c =
     let late : p.start ≤ l.round = omega (arith, c.requires.started, l.auto.round) in
     record {
       way = c.step.ensures.way;
-      held = held_more p l.round l.walk c.step.new.walk whole.network late l.invariant.held c.step.ensures.rules c.step.ensures.network c.step.ensures.next;
+      held = held_more p l.round l.walk c.step.new.walk whole.network.within late l.invariant.held c.step.ensures.rules c.step.ensures.network c.step.ensures.next;
     }
 
 pub returns-then-not-step : goal.returns-then-not-step
@@ -27,7 +27,7 @@ returns-then-not-step g c =
     let early : l.round ≤ c.args.rounds = omega (arith, c.loop-round-test.true) in
     let unread : reads_round p.program ≡ false = ap (λ (r : Rules). reads_round r) (sym held.rules) ∙ c.if-not-step.ensures.unread refl in
     record {
-      there = held_still p l.round c.args.rounds l.walk c.step.new.walk whole.network unread late early held
-          (held_more p l.round l.walk c.step.new.walk whole.network late held c.step.ensures.rules c.step.ensures.network c.step.ensures.next)
+      there = held_still p l.round c.args.rounds l.walk c.step.new.walk whole.network.within unread late early held
+          (held_more p l.round l.walk c.step.new.walk whole.network.within late held c.step.ensures.rules c.step.ensures.network c.step.ensures.next)
           (c.if-not-step.ensures.rests refl);
     }

@@ -15,6 +15,6 @@ invariant_of-result c =
       late = omega (arith, c.start.ensures.start);
       held =
           subst (λ (t : ℕ). HasRound p t walk) (sym c.start.ensures.start)
-          (opening_held p walk c.openings.result.now (length s.layout) c.self.invariant.whole c.openings.ensures.openings
+          (opening_held p walk c.openings.result.now (length s.layout) c.openings.ensures.openings
           (ap (λ (n : Neighbours). length n) c.self.invariant.layout) (e.rules ∙ c.program.ensures.program) (e.network ∙ c.self.invariant.layout) e.states);
     }

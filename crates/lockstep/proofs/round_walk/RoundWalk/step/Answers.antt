@@ -11,7 +11,7 @@ next_held : (c : goal.After-self-1) → HasRound c.self.inside.plan.now (c.self.
 next_held c =
     let s = c.self.inside in
     let e = c.round-moved.ensures in
-    held_more s.plan.now s.round s.states c.round-moved.new.self c.self.invariant.whole.network c.self.invariant.late c.self.invariant.held e.rules e.network e.next
+    held_more s.plan.now s.round s.states c.round-moved.new.self c.self.invariant.whole.network.within c.self.invariant.late c.self.invariant.held e.rules e.network e.next
 
 pub invariant_of-self : goal.invariant_of-self
 invariant_of-self c = record {
