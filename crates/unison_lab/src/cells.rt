@@ -1,8 +1,7 @@
 //! `init .. --cells FIELD=FILE@X,Y --width W`: patterns of cells as initial values.
 
-use crate::ending::Ending;
-use crate::files::{bytes_at, name_at};
 use crate::init::put_opening;
+use app_files::{Ending, bytes_at, name_at};
 use app_requests::{CellsWord, InitRequest};
 use net_initial::{Chosen, Opening};
 use net_patterns::{Cell, Grid, PatternFault, PlaceFault, placed, read_pattern};

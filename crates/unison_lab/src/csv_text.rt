@@ -1,9 +1,7 @@
 //! `csv REPORT --names FILE`: a report as CSV, with names in place of numbers.
 
-use crate::ending::Ending;
-use crate::files::{bytes_at, name_at, read_once};
 use crate::names::names_from;
-use crate::output::print_out;
+use app_files::{Ending, bytes_at, name_at, print_out, read_once};
 use app_requests::CsvRequest;
 use net_names::NodeNames;
 use report_csv::{CsvFault, names_csv};

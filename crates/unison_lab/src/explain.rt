@@ -1,9 +1,7 @@
 //! `explain PROGRAM NETWORK SCHEDULE --stop T`: what each step of a schedule does.
 
-use crate::ending::Ending;
-use crate::files::{bytes_at, path_in, read_once};
-use crate::output::print_out;
 use crate::plan_texts::shared_plan;
+use app_files::{Ending, bytes_at, path_in, print_out, read_once};
 use app_jobs::ServeFault;
 use app_requests::ExplainRequest;
 use rounds_plan::Plan;

@@ -1,6 +1,6 @@
 //! Fields of a program, by their names.
 
-use crate::ending::Ending;
+use app_files::Ending;
 use app_table::Draft;
 use rule_check::Program;
 use std::alloc::{AllocError, Global};

@@ -1,7 +1,6 @@
 //! `generate SHAPE NUMBERS..`: the network file of a shape, or of a random network.
 
-use crate::ending::Ending;
-use crate::output::print_out;
+use app_files::{Ending, print_out};
 use app_requests::{GenerateRequest, Topology, Weights};
 use net_random::{RandomFault, RandomNetwork, WeightFault, drawn, drawn_text, weighted_text};
 use net_shapes::{Shape, ShapeFault, links_of, made_text};

@@ -1,7 +1,6 @@
 //! What the program tells of its commands: help, the completion of a shell, and the page of the manual.
 
-use crate::ending::Ending;
-use crate::output::print_out;
+use app_files::{Ending, print_out};
 use app_requests::{GROUPS, Group, check_completion, check_manual};
 use app_table::{Draft, completion, manual};
 use app_words::five_commands;

@@ -1,9 +1,7 @@
 //! `import FORMAT FILE`: a network from another format, and the names of its nodes.
 
-use crate::ending::Ending;
-use crate::files::{bytes_at, name_at};
-use crate::output::{write_file, write_out};
 use crate::refusals::refusal;
+use app_files::{Ending, bytes_at, name_at, write_file, write_out};
 use app_requests::{Format, ImportRequest};
 use app_table::Draft;
 use import_network::{TakeFault, Taken, take_dot, take_edges, take_matrix, take_numbers};

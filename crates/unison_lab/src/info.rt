@@ -1,8 +1,6 @@
 //! `info NETWORK`: what one wants to know of a network before a run.
 
-use crate::ending::Ending;
-use crate::files::bytes_at;
-use crate::output::print_out;
+use app_files::{Ending, bytes_at, print_out};
 use app_requests::InfoRequest;
 use link_net::{NetFault, NetFile, read_network};
 use net_facts::{facts_of, facts_text};

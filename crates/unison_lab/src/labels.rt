@@ -1,7 +1,7 @@
 //! What stands for nodes in CSV and JSON: their names.
 
-use crate::ending::Ending;
 use crate::names::names_at;
+use app_files::Ending;
 use csv::{ByteRecord, Writer};
 use net_names::NodeNames;
 use run_watch::Format;

@@ -3,10 +3,8 @@
 
 mod cells;
 mod csv_text;
-mod ending;
 mod explain;
 mod fields;
-mod files;
 mod generate;
 mod help;
 mod import;
@@ -14,7 +12,6 @@ mod info;
 mod init;
 mod labels;
 mod names;
-mod output;
 mod page;
 mod page_size;
 mod picture;
@@ -23,12 +20,10 @@ mod progress;
 mod refusals;
 mod schedule;
 mod settle;
-mod usage;
 mod watch;
 mod why;
 
 use crate::csv_text::print_csv;
-use crate::ending::{Ending, refused};
 use crate::explain::explain_schedule;
 use crate::generate::generate_network;
 use crate::help::{help_text, print_completion, print_manual};
@@ -39,10 +34,9 @@ use crate::page::make_page;
 use crate::picture::{make_dot, make_image};
 use crate::schedule::make_schedule;
 use crate::settle::settle_rounds;
-use crate::usage::around_advice;
 use crate::watch::watch_rounds;
-use crate::why::{print_fault, why_command};
-use app_jobs::ServeFault;
+use crate::why::why_command;
+use app_files::{Ending, print_ending, refused};
 use app_requests::Task;
 use std::process::ExitCode;
 use std::thread::Threads;
@@ -110,57 +104,6 @@ fn run(rt: &HostRuntime, threads: &(impl Threads + Sync)) -> Result<u8, Ending> 
     match Task::named(command.as_str()) {
         Some(task) => run_task(rt, threads, task, &words[1..]),
         None => no_task(rt, command.as_str()),
-    }
-}
-
-/// What tells more of a fault of this part, where something does.
-fn hint(part: &str) -> Option<&'static str> {
-    match part {
-        "memory" | "device" => None,
-        "schedule" => Some(
-            "unison why tells where and what to do: unison why replay PROGRAM NETWORK SCHEDULE --stop 0",
-        ),
-        "run" | "replay" => Some(
-            "rounds and stops lie between the plan's start, which is 0 or the round of the report that --from names, and 1000000000",
-        ),
-        _ => Some(
-            "unison why tells where and what to do: unison why lockstep PROGRAM NETWORK --rounds 0, with --from REPORT where there is one",
-        ),
-    }
-}
-
-/// Prints the line of a fault that one of the five commands has, too, and what tells more.
-fn print_served(rt: &HostRuntime, fault: &ServeFault) -> io::Result<()> {
-    print_fault(rt, fault)?;
-    let (part, _) = fault.part_and_name();
-    match hint(part) {
-        Some(text) => eprintln!(rt; "{text}"),
-        None => Ok(()),
-    }
-}
-
-/// Prints the line of invalid arguments, and what is told of them.
-fn print_usage(rt: &HostRuntime, text: &str) -> io::Result<()> {
-    match around_advice(text) {
-        Some((front, back)) => eprintln!(rt; "fault: usage\n{front}\n\n{back}"),
-        None => eprintln!(rt; "fault: usage\n{text}"),
-    }
-}
-
-/// Prints the help, or the fault's line on standard error.
-fn print_ending(rt: &HostRuntime, ending: &Ending) -> io::Result<()> {
-    match ending {
-        Ending::Help(text) => print!(rt; "{text}"),
-        Ending::Usage(text) => print_usage(rt, text.as_str()),
-        Ending::File(text) => eprintln!(rt; "fault: file\n{text}"),
-        Ending::Network(fault) => eprintln!(rt;
-            "fault: network {fault}\nunison why tells where: unison why lockstep PROGRAM NETWORK --rounds 0"
-        ),
-        Ending::Served(fault) => print_served(rt, fault),
-        Ending::Refused(text) => eprintln!(rt; "fault: {text}"),
-        Ending::Output => eprintln!(rt; "fault: device Write"),
-        Ending::Unread => Ok(()),
-        Ending::Memory => eprintln!(rt; "fault: memory Memory"),
     }
 }
 

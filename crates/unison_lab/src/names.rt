@@ -1,7 +1,6 @@
 //! Files of the names of nodes.
 
-use crate::ending::Ending;
-use crate::files::{bytes_at, name_at};
+use app_files::{Ending, bytes_at, name_at};
 use net_names::{NamesFileFault, NodeNames, read_names};
 use std::alloc::Global;
 

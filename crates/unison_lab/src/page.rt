@@ -1,15 +1,13 @@
 //! `page PROGRAM NETWORK`: an HTML page on which a run is stepped through.
 
-use crate::ending::Ending;
 use crate::explain::steps_at;
 use crate::fields::shown_fields;
-use crate::files::{bytes_at, name_at, path_in, read_once};
 use crate::labels::labels_at;
-use crate::output::print_out;
 use crate::page_size::{check_size, steps_too_many};
 use crate::plan_texts::plan_at;
 use crate::progress::Telling;
 use crate::watch::no_rounds;
+use app_files::{Ending, bytes_at, name_at, path_in, print_out, read_once};
 use app_jobs::ServeFault;
 use app_requests::{PageRequest, PageRun};
 use rounds_plan::Plan;

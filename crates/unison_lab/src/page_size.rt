@@ -1,6 +1,6 @@
 //! How much of a run a page can hold.
 
-use crate::ending::Ending;
+use app_files::Ending;
 use app_table::Draft;
 use run_page::MOST_VALUES;
 use run_watch::Span;

@@ -1,13 +1,11 @@
 //! `image PROGRAM NETWORK` and `dot PROGRAM NETWORK`: rounds as pictures, and networks for Graphviz.
 
-use crate::ending::Ending;
 use crate::fields::coloured_field;
-use crate::files::{path_in, read_once};
 use crate::labels::labels_at;
-use crate::output::print_out;
 use crate::plan_texts::plan_at;
 use crate::progress::Telling;
 use crate::watch::no_rounds;
+use app_files::{Ending, path_in, print_out, read_once};
 use app_requests::{DotRequest, ImageRequest, PlanPaths};
 use rounds_plan::Plan;
 use run_picture::{MOST_CELLS, PictureFault, grid_picture, network_dot, time_picture};

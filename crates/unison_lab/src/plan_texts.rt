@@ -1,7 +1,6 @@
 //! Plans of the texts that the words name.
 
-use crate::ending::Ending;
-use crate::files::{bytes_at, bytes_where};
+use app_files::{Ending, bytes_at, bytes_where};
 use app_jobs::plan_from;
 use app_requests::PlanPaths;
 use rounds_plan::Plan;

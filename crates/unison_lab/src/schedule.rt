@@ -1,11 +1,9 @@
 //! `schedule MANNER PROGRAM NETWORK`: schedules, made in a manner or from a script.
 
-use crate::ending::Ending;
-use crate::files::{bytes_at, name_at, path_in, read_once};
 use crate::labels::check_count;
 use crate::names::names_at;
-use crate::output::print_out;
 use crate::plan_texts::plan_at;
+use app_files::{Ending, bytes_at, name_at, path_in, print_out, read_once};
 use app_jobs::ServeFault;
 use app_requests::{Limits, Listing, PlanPaths, ScheduleRequest, StepsManner, Writing};
 use app_table::number;

@@ -1,12 +1,10 @@
 //! `watch PROGRAM NETWORK --rounds FIRST..LAST`: all rounds from one to another, in one pass.
 
-use crate::ending::Ending;
 use crate::fields::shown_fields;
-use crate::files::{path_in, read_once};
 use crate::labels::labels_at;
-use crate::output::print_out;
 use crate::plan_texts::plan_at;
 use crate::progress::Telling;
+use app_files::{Ending, path_in, print_out, read_once};
 use app_jobs::ServeFault;
 use app_requests::WatchRequest;
 use rounds_plan::{Plan, RoundFault};

@@ -1,13 +1,10 @@
 //! `why COMMAND WORDS..`: why a command refuses its texts.
 
-use crate::ending::Ending;
-use crate::files::{Text, path_in, read_once, text_at, text_where};
-use crate::output::write_out;
+use app_files::{Ending, Text, path_in, print_fault, read_once, text_at, text_where, write_out};
 use app_jobs::ServeFault;
 use app_why::{Finding, Named, Texts, why};
 use app_words::{Request, UsageFault, command_as, job_by};
 use std::alloc::{AllocError, Global};
-use std::io;
 
 /// What stands behind the help of `why`.
 const EXAMPLE: &str =
@@ -133,15 +130,6 @@ fn finding_of(alloc: Global, request: &Request, read: &Given) -> Result<Finding,
         schedule: named_where(&read.schedule),
     };
     why(alloc, &request.job, &texts)
-}
-
-/// Prints the line of a fault on standard error, as the command would.
-pub(crate) fn print_fault(rt: &HostRuntime, fault: &ServeFault) -> io::Result<()> {
-    let (part, name) = fault.part_and_name();
-    match fault.bad_line() {
-        Some(line) => eprintln!(rt; "fault: {part} {name} {line}"),
-        None => eprintln!(rt; "fault: {part} {name}"),
-    }
 }
 
 /// What is found in the texts of a request.

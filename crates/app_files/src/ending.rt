@@ -10,7 +10,7 @@ use std::io::ErrorKind;
 
 /// Why the program ends with a status other than that of a job, or after help.
 #[derive(Drop)]
-pub(crate) enum Ending {
+pub enum Ending {
     Help(String),
     Usage(String),
     /// A file could not be read, as the text says.
@@ -30,7 +30,7 @@ pub(crate) enum Ending {
 
 impl Ending {
     /// Invalid arguments, as this text says; running out of memory where it could not be made.
-    pub(crate) fn usage(text: Result<String, AllocError>) -> Ending {
+    pub fn usage(text: Result<String, AllocError>) -> Ending {
         match text {
             Ok(text) => Ending::Usage(text),
             Err(_) => Ending::Memory,
@@ -38,7 +38,7 @@ impl Ending {
     }
 
     /// A refused text, as this one says; running out of memory where it could not be made.
-    pub(crate) fn refused(text: Result<String, AllocError>) -> Ending {
+    pub fn refused(text: Result<String, AllocError>) -> Ending {
         match text {
             Ok(text) => Ending::Refused(text),
             Err(_) => Ending::Memory,
@@ -46,7 +46,7 @@ impl Ending {
     }
 
     /// The status with which the program ends.
-    pub(crate) fn status(&self) -> u8 {
+    pub fn status(&self) -> u8 {
         match self {
             Ending::Help(_) => 0,
             Ending::Usage(_) => 2,
@@ -91,7 +91,7 @@ impl From<WordsFault> for Ending {
 }
 
 /// Running out of memory where that is the error, else this ending.
-pub(crate) fn refused(error: &io::Error, ending: Ending) -> Ending {
+pub fn refused(error: &io::Error, ending: Ending) -> Ending {
     if error.kind() == ErrorKind::OutOfMemory {
         Ending::Memory
     } else {

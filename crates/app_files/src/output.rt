@@ -3,6 +3,7 @@
 use crate::ending::{Ending, refused};
 use crate::files::unserved;
 use std::io::{BufWriter, ErrorKind, Write};
+use std::rt::Files;
 use std::{fs, io};
 
 /// The ending where standard output refused. A reader that has closed its pipe, as `head` does, has what it wants.
@@ -20,7 +21,7 @@ fn put_whole(output: &mut impl Write, text: &[u8]) -> io::Result<()> {
 }
 
 /// Writes a text on standard output, whole.
-pub(crate) fn write_out(rt: &HostRuntime, text: &[u8]) -> Result<(), Ending> {
+pub fn write_out(rt: &(impl Print + AllocGlobal), text: &[u8]) -> Result<(), Ending> {
     let mut output = match BufWriter::new(rt.alloc(), io::writer(rt)) {
         Ok(output) => output,
         Err(error) => return Err(refused(&error, Ending::Output)),
@@ -32,13 +33,13 @@ pub(crate) fn write_out(rt: &HostRuntime, text: &[u8]) -> Result<(), Ending> {
 }
 
 /// Prints a text on standard output, whole. The status with which the program ends.
-pub(crate) fn print_out(rt: &HostRuntime, text: &[u8]) -> Result<u8, Ending> {
+pub fn print_out(rt: &(impl Print + AllocGlobal), text: &[u8]) -> Result<u8, Ending> {
     write_out(rt, text)?;
     Ok(0)
 }
 
 /// Writes a file, whole.
-pub(crate) fn write_file(rt: &HostRuntime, path: &str, text: &[u8]) -> Result<(), Ending> {
+pub fn write_file(rt: &(impl Files + AllocGlobal), path: &str, text: &[u8]) -> Result<(), Ending> {
     let Err(error) = fs::write(rt, path, text) else {
         return Ok(());
     };

@@ -2,18 +2,19 @@
 
 use crate::ending::{Ending, refused};
 use std::alloc::Global;
-use std::io::{Input, Read};
+use std::io::Read;
+use std::rt::Files;
 use std::{fs, io};
 
 /// The text of a file, with the name under which people know it.
 #[derive(Drop)]
-pub(crate) struct Text {
-    pub(crate) name: String,
-    pub(crate) bytes: Vec<u8>,
+pub struct Text {
+    pub name: String,
+    pub bytes: Vec<u8>,
 }
 
 /// The ending where a path could not be read or written: the path and the system's reason.
-pub(crate) fn unserved(rt: &HostRuntime, path: &str, error: &io::Error) -> Ending {
+pub fn unserved(rt: &impl AllocGlobal, path: &str, error: &io::Error) -> Ending {
     match format!(in rt.alloc(); "{path}: {error}") {
         Ok(text) => refused(error, Ending::File(text)),
         Err(_) => Ending::Memory,
@@ -21,14 +22,14 @@ pub(crate) fn unserved(rt: &HostRuntime, path: &str, error: &io::Error) -> Endin
 }
 
 /// All of standard input.
-fn input_bytes(rt: &HostRuntime) -> io::Result<Vec<u8>> {
+fn input_bytes(rt: &(impl Input + AllocGlobal)) -> io::Result<Vec<u8>> {
     let mut bytes = Vec::new(rt.alloc());
     rt.reader().read_to_end(&mut bytes)?;
     Ok(bytes)
 }
 
 /// The bytes at a path; for `-` those of standard input.
-fn read_at(rt: &HostRuntime, path: &str) -> io::Result<Vec<u8>> {
+fn read_at(rt: &(impl Files + Input + AllocGlobal), path: &str) -> io::Result<Vec<u8>> {
     if path == "-" {
         input_bytes(rt)
     } else {
@@ -37,12 +38,12 @@ fn read_at(rt: &HostRuntime, path: &str) -> io::Result<Vec<u8>> {
 }
 
 /// How people know the text at a path.
-pub(crate) fn name_at(path: &str) -> &str {
+pub fn name_at(path: &str) -> &str {
     if path == "-" { "standard input" } else { path }
 }
 
 /// The bytes of the text at a path; for `-` those of standard input.
-pub(crate) fn bytes_at(rt: &HostRuntime, path: &str) -> Result<Vec<u8>, Ending> {
+pub fn bytes_at(rt: &(impl Files + Input + AllocGlobal), path: &str) -> Result<Vec<u8>, Ending> {
     match read_at(rt, path) {
         Ok(bytes) => Ok(bytes),
         Err(error) => Err(unserved(rt, name_at(path), &error)),
@@ -50,14 +51,17 @@ pub(crate) fn bytes_at(rt: &HostRuntime, path: &str) -> Result<Vec<u8>, Ending> 
 }
 
 /// The text at a path; for `-` that of standard input.
-pub(crate) fn text_at(rt: &HostRuntime, path: &str) -> Result<Text, Ending> {
+pub fn text_at(rt: &(impl Files + Input + AllocGlobal), path: &str) -> Result<Text, Ending> {
     let bytes = bytes_at(rt, path)?;
     let name = String::from_str(rt.alloc(), name_at(path))?;
     Ok(Text { name, bytes })
 }
 
 /// The text at a path, where there is a path.
-pub(crate) fn text_where(rt: &HostRuntime, path: &Option<String>) -> Result<Option<Text>, Ending> {
+pub fn text_where(
+    rt: &(impl Files + Input + AllocGlobal),
+    path: &Option<String>,
+) -> Result<Option<Text>, Ending> {
     let Some(path) = path else {
         return Ok(None);
     };
@@ -66,8 +70,8 @@ pub(crate) fn text_where(rt: &HostRuntime, path: &Option<String>) -> Result<Opti
 }
 
 /// The bytes of the text at a path, where there is a path.
-pub(crate) fn bytes_where(
-    rt: &HostRuntime,
+pub fn bytes_where(
+    rt: &(impl Files + Input + AllocGlobal),
     path: &Option<String>,
 ) -> Result<Option<Vec<u8>>, Ending> {
     let Some(path) = path else {
@@ -83,7 +87,7 @@ fn read_twice(alloc: Global) -> Ending {
 }
 
 /// Refuses standard input, `-`, where more than one of the paths is it.
-pub(crate) fn read_once(alloc: Global, paths: &[&str]) -> Result<(), Ending> {
+pub fn read_once(alloc: Global, paths: &[&str]) -> Result<(), Ending> {
     let mut is_read = false;
     for path in paths {
         if *path == "-" {
@@ -97,6 +101,6 @@ pub(crate) fn read_once(alloc: Global, paths: &[&str]) -> Result<(), Ending> {
 }
 
 /// The path, and where there is none the empty text.
-pub(crate) fn path_in(path: &Option<String>) -> &str {
+pub fn path_in(path: &Option<String>) -> &str {
     path.as_ref().map_or("", |path| path.as_str())
 }
