@@ -1,15 +1,21 @@
 //! What the programs for people share: files and standard input, standard output, and how a program ends.
 #![tactic(auto)]
 
+mod command_line;
 mod ending;
+mod fields;
 mod files;
+mod networks;
 mod output;
 mod told;
 mod usage;
 
+pub use command_line::words_of;
 pub use ending::{Ending, refused};
+pub use fields::{all_fields, coloured_field, field_place, shown_fields};
 pub use files::{
     Text, bytes_at, bytes_where, name_at, path_in, read_once, text_at, text_where, unserved,
 };
+pub use networks::file_at;
 pub use output::{print_out, write_file, write_out};
 pub use told::{print_ending, print_fault};

@@ -11,5 +11,5 @@ mod texts;
 pub use comparison::difference_line;
 pub use fault::ServeFault;
 pub use job::Job;
-pub use plans::plan_from;
+pub use plans::{plan_from, program_of};
 pub use serving::{Served, serve};

@@ -14,7 +14,7 @@ use std::alloc::Global;
 use std::sync::Arc;
 
 /// The items of a program's text, and the program that they are.
-pub(crate) fn program_of(alloc: Global, text: &[u8]) -> Result<(Source, Program), ServeFault>
+pub fn program_of(alloc: Global, text: &[u8]) -> Result<(Source, Program), ServeFault>
     ensures accepted { IfOk result (λ x. IsAccepted text.now x.0 × (x.1 ≡ rules_of x.0)) }
     ensures refused { IfErr result (RefusesProgram text.now) }
     ensures long { IfErr result (IsLongFirst text.now) }

@@ -51,7 +51,7 @@ pub(crate) const PROGRAM: Argument = Argument {
 };
 
 /// `PROGRAM`, as it is read.
-static PROGRAM_ARGUMENT: Argument = PROGRAM;
+pub(crate) static PROGRAM_ARGUMENT: Argument = PROGRAM;
 
 pub(crate) const NETWORK: Argument = Argument {
     name: "network",

@@ -7,6 +7,8 @@ use crate::generate::generate;
 use crate::import::import;
 use crate::info::info;
 use crate::init::init;
+use crate::large::large;
+use crate::pack::pack;
 use crate::page::page;
 use crate::schedule::schedule;
 use crate::settle::settle;
@@ -64,7 +66,9 @@ pub enum Task {
     Import,
     Info,
     Init,
+    Large,
     Manual,
+    Pack,
     Page,
     Schedule,
     Settle,
@@ -80,7 +84,7 @@ pub struct Group {
 }
 
 /// The commands of this program, in groups.
-pub const GROUPS: [Group; 4] = [
+pub const GROUPS: [Group; 5] = [
     Group {
         title: "Runs in detail",
         tasks: &[Task::Watch, Task::Settle, Task::Schedule, Task::Explain],
@@ -98,6 +102,10 @@ pub const GROUPS: [Group; 4] = [
             Task::Info,
             Task::Csv,
         ],
+    },
+    Group {
+        title: "Networks of any size",
+        tasks: &[Task::Pack, Task::Large],
     },
     Group {
         title: "Help",
@@ -130,7 +138,9 @@ impl Task {
             Task::Import => import(),
             Task::Info => info(),
             Task::Init => init(),
+            Task::Large => large(),
             Task::Manual => &MANUAL,
+            Task::Pack => pack(),
             Task::Page => page(),
             Task::Schedule => schedule(),
             Task::Settle => settle(),

@@ -6,7 +6,7 @@ use app_table::{Argument, Choice, Command, OPTION, Reading, Subcommand, Value, W
 use import_links::{Kept, Mending, ParallelLinks, SelfLoops};
 use std::alloc::Global;
 
-const TEXT: Argument = Argument {
+pub(crate) const TEXT: Argument = Argument {
     name: "file",
     help: "The text to import, or - for standard input",
     ..FILE
@@ -15,7 +15,7 @@ const TEXT: Argument = Argument {
 /// `TEXT`, as it is read.
 static TEXT_ARGUMENT: Argument = TEXT;
 
-const SCALE: Argument = Argument {
+pub(crate) const SCALE: Argument = Argument {
     name: "scale",
     value: Value::Number {
         least: 1,
@@ -29,7 +29,7 @@ const SCALE: Argument = Argument {
 /// `SCALE`, as it is read.
 static SCALE_ARGUMENT: Argument = SCALE;
 
-const DROP_LOOPS: Argument = Argument {
+pub(crate) const DROP_LOOPS: Argument = Argument {
     name: "drop-loops",
     help: "Drop edges of a node with itself, which are refused else",
     ..FLAG
@@ -72,7 +72,7 @@ const NAMES: Argument = Argument {
 /// `NAMES`, as it is read.
 static NAMES_ARGUMENT: Argument = NAMES;
 
-const HEADER: Argument = Argument {
+pub(crate) const HEADER: Argument = Argument {
     name: "header",
     help: "Pass over the first line that is no comment",
     ..FLAG
@@ -189,7 +189,7 @@ pub struct ImportRequest {
 }
 
 /// The factor that the words name; it is 1 or more.
-fn factor_in(reading: &mut Reading) -> Option<u32>
+pub(crate) fn factor_in(reading: &mut Reading) -> Option<u32>
     ensures positive { IfSome result (λ factor. 1 ≤ factor) }
 {
     let factor = reading.number_or(&SCALE_ARGUMENT, 0);

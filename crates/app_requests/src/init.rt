@@ -14,7 +14,7 @@ const REPEATED: Argument = Argument {
     ..OPTION
 };
 
-const SET: Argument = Argument {
+pub(crate) const SET: Argument = Argument {
     name: "set",
     value_name: "FIELD=NODE:VALUE",
     help: "Give a field of a node, or of all nodes where NODE is *, its initial value; as often as wanted",
@@ -24,7 +24,7 @@ const SET: Argument = Argument {
 /// `SET`, as it is read.
 static SET_ARGUMENT: Argument = SET;
 
-const SET_RANDOM: Argument = Argument {
+pub(crate) const SET_RANDOM: Argument = Argument {
     name: "set-random",
     value_name: "FIELD=VALUE:COUNT",
     help: "Give a field of so many nodes, drawn by the seed, its initial value; as often as wanted",
@@ -35,7 +35,7 @@ const SET_RANDOM: Argument = Argument {
 /// `SET_RANDOM`, as it is read.
 static SET_RANDOM_ARGUMENT: Argument = SET_RANDOM;
 
-const SEED: Argument = Argument {
+pub(crate) const SEED: Argument = Argument {
     name: "seed",
     value: NUMBER,
     value_name: "S",
@@ -198,7 +198,7 @@ fn put_set(sets: &mut Vec<SetWord>, reading: &mut Reading, word: &str) {
 }
 
 /// The words of `--set`, in their order.
-fn sets_in(reading: &mut Reading) -> Vec<SetWord> {
+pub(crate) fn sets_in(reading: &mut Reading) -> Vec<SetWord> {
     let words = reading.texts(&SET_ARGUMENT);
     let mut sets = Vec::new(reading.alloc());
     for word in &words {
@@ -247,7 +247,7 @@ fn put_random(random: &mut Vec<RandomWord>, reading: &mut Reading, word: &str) {
 }
 
 /// The words of `--set-random`, in their order.
-fn random_in(reading: &mut Reading) -> Vec<RandomWord> {
+pub(crate) fn random_in(reading: &mut Reading) -> Vec<RandomWord> {
     let words = reading.texts(&SET_RANDOM_ARGUMENT);
     let mut random = Vec::new(reading.alloc());
     for word in &words {

@@ -1,7 +1,7 @@
 -- The states of a plan's nodes, round by round.
 use Rattle.std.specs.Prelude.{ℕ, ◌≡◌, ◌<◌, ◌≤◌, length}
 use Rattle.rule_check.specs.Value.{Rules}
-use Rattle.link_net.specs.Neighbours.{Neighbours}
+use Rattle.link_net.specs.Neighbours.{Neighbours, degree, neighbour}
 use Rattle.rounds_blocks.specs.Walks.{Walked, state_by}
 use Rattle.rounds_plan.specs.Plans.{PlanView, IsPlan}
 use Rattle.rounds_plan.specs.Lockstep.{lockstep, lockstep_states}
@@ -11,6 +11,11 @@ pub record HasRound (p : PlanView) (t : ℕ) (walk : Walked) : Type 0 where
   pub rules : walk.rules ≡ p.program
   pub network : walk.network ≡ p.network
   pub states : (u : ℕ) → u < length p.network → state_by walk.words u ≡ lockstep p t u
+
+-- of each plan from whose start on the walk was at round s, it is at round t
+abbrev pub GoesOn : ℕ → ℕ → Walked → Walked → Type 0
+GoesOn s t old new =
+    (p : PlanView) → ((u j : ℕ) → j < degree p.network u → neighbour p.network u j < length p.network) → p.start ≤ s → HasRound p s old → HasRound p t new
 
 -- a plan, and the round at which its nodes stand
 pub record RoundView : Type 0 where

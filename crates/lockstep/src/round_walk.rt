@@ -6,7 +6,7 @@ ghost use Rattle.rounds_plan.specs.Lockstep.{lockstep_config};
 ghost use Rattle.rounds_plan.specs.Plans.{IsPlan};
 ghost use Rattle.lockstep.specs.Walking.{AreAlike};
 
-use crate::steps::{InThreads, InTurn, walk_to};
+use crate::steps;
 use rayon::current_num_threads;
 use rounds_blocks::{Layout, MOST_ENDS, Walk, costs_of, is_worth_sharing, most_ends_to_share};
 use rounds_code::RowCode;
@@ -163,7 +163,7 @@ impl<'a> RoundWalk<'a> {
         requires late { self.old.round ≤ round }
         ensures there { self.new ≡ record { plan = self.old.plan; round = round } }
     {
-        walk_to(&mut InTurn, self.plan, &mut self.states, self.round, round);
+        steps::go_to(&mut self.states, self.round, round);
         self.round = round;
     }
 
@@ -172,8 +172,7 @@ impl<'a> RoundWalk<'a> {
         requires late { self.old.round ≤ round }
         ensures there { self.new ≡ record { plan = self.old.plan; round = round } }
     {
-        let mut way = InThreads { rt };
-        walk_to(&mut way, self.plan, &mut self.states, self.round, round);
+        steps::go_to_shared(rt, &mut self.states, self.round, round);
         self.round = round;
     }
 

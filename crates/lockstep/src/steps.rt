@@ -4,14 +4,13 @@ ghost use denote.Param.Send.{IsSync};
 ghost use Rattle.rule_check.specs.Rounds.{reads_round};
 ghost use Rattle.rounds_plan.specs.Rounds.{round_from};
 ghost use Rattle.rounds_blocks.specs.Walks.{state_by};
-ghost use Rattle.lockstep.specs.Walking.{HasRound};
+ghost use Rattle.lockstep.specs.Walking.{GoesOn};
 
 use rounds_blocks::Walk;
-use rounds_plan::Plan;
 use std::thread::Threads;
 
 /// A way to move the states of all nodes one round on.
-pub(crate) trait Step {
+trait Step {
     ghost serves: { Self → Type 0 };
 
     /// Moves them on, in the step from a round. Where the answer is false, the program doesn't read the number of the
@@ -28,7 +27,7 @@ pub(crate) trait Step {
 
 /// Sequentially.
 #[derive(Drop)]
-pub(crate) struct InTurn;
+struct InTurn;
 
 impl Step for InTurn {
     ghost serves = { λ way. Unit {0} };
@@ -40,8 +39,8 @@ impl Step for InTurn {
 
 /// Shares of the batches, each in a thread.
 #[derive(Drop)]
-pub(crate) struct InThreads<'a, R> {
-    pub(crate) rt: &'a R,
+struct InThreads<'a, R> {
+    rt: &'a R,
 }
 
 impl<R: Threads + Sync> Step for InThreads<'_, R> {
@@ -54,24 +53,31 @@ impl<R: Threads + Sync> Step for InThreads<'_, R> {
 
 /// Moves the states from those of a round to those of a later one, each round made in this way. Where the program doesn't
 /// read the number of the round, a round that changes nothing is the last one made.
-pub(crate) fn walk_to<S: Step>(
-    way: &mut S,
-    plan: &Plan,
-    walk: &mut Walk<'_>,
-    from: u32,
-    rounds: u32,
-)
+fn walk_to<S: Step>(way: &mut S, walk: &mut Walk<'_>, from: u32, rounds: u32)
     requires way { S.serves way.old }
-    requires started { plan.now.start ≤ from }
     requires late { from ≤ rounds }
-    requires here { HasRound plan.now from walk.old }
-    ensures there { HasRound plan.now rounds walk.new }
+    ensures there { GoesOn from rounds walk.old walk.new }
 {
-    // For the proof: what holds of every plan.
-    let _phase = plan.phase();
     for round in from..rounds {
         if !way.step(walk, round) {
             return;
         }
     }
+}
+
+/// Moves the states of all nodes from those of a round to those of a later one, sequentially. Where the program doesn't
+/// read the number of the round, none is made behind the first one that changes nothing.
+pub fn go_to(walk: &mut Walk<'_>, from: u32, rounds: u32)
+    requires late { from ≤ rounds }
+    ensures there { GoesOn from rounds walk.old walk.new }
+{
+    walk_to(&mut InTurn, walk, from, rounds);
+}
+
+/// What `go_to` does, each round shared among threads where it has enough to compute for them.
+pub fn go_to_shared(rt: &(impl Threads + Sync), walk: &mut Walk<'_>, from: u32, rounds: u32)
+    requires late { from ≤ rounds }
+    ensures there { GoesOn from rounds walk.old walk.new }
+{
+    walk_to(&mut InThreads { rt }, walk, from, rounds);
 }

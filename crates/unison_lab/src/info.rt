@@ -1,27 +1,10 @@
 //! `info NETWORK`: what one wants to know of a network before a run.
 
-use app_files::{Ending, bytes_at, print_out};
+use app_files::{Ending, file_at, print_out};
 use app_requests::InfoRequest;
-use link_net::{NetFault, NetFile, read_network};
+use link_net::NetFile;
 use net_facts::{facts_of, facts_text};
 use std::alloc::{AllocError, Global};
-
-/// The ending where bytes are no network.
-fn no_file(fault: NetFault) -> Ending {
-    match fault {
-        NetFault::Memory => Ending::Memory,
-        fault => Ending::Network(fault),
-    }
-}
-
-/// What a network file describes.
-pub(crate) fn file_at(rt: &HostRuntime, path: &str) -> Result<NetFile, Ending> {
-    let bytes = bytes_at(rt, path)?;
-    match read_network(rt.alloc(), &bytes) {
-        Ok(file) => Ok(file),
-        Err(fault) => Err(no_file(fault)),
-    }
-}
 
 /// The lines about a network.
 fn lines_of(alloc: Global, file: &NetFile) -> Result<String, AllocError> {

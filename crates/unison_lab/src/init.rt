@@ -1,9 +1,8 @@
 //! `init NETWORK --set FIELD=NODE:VALUE ..`: the network with other initial values.
 
 use crate::cells::put_cells;
-use crate::info::file_at;
 use crate::names::names_at;
-use app_files::{Ending, path_in, print_out, read_once};
+use app_files::{Ending, file_at, path_in, print_out, read_once};
 use app_requests::{InitRequest, RandomWord, SetWord};
 use app_table::number;
 use link_net::{MOST_NODES, Name, NetFile};

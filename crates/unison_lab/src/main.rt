@@ -4,7 +4,6 @@
 mod cells;
 mod csv_text;
 mod explain;
-mod fields;
 mod generate;
 mod help;
 mod import;
@@ -36,27 +35,24 @@ use crate::schedule::make_schedule;
 use crate::settle::settle_rounds;
 use crate::watch::watch_rounds;
 use crate::why::why_command;
-use app_files::{Ending, print_ending, refused};
+use app_files::{Ending, print_ending, words_of};
 use app_requests::Task;
 use std::process::ExitCode;
 use std::thread::Threads;
-use std::{env, io};
-
-/// The words of the command line. One that is no UTF-8 is an invalid argument.
-fn words_of(rt: &HostRuntime) -> Result<Vec<String>, Ending> {
-    match env::args(rt) {
-        Ok(words) => Ok(words.collect(rt.alloc())?),
-        Err(error) => {
-            let text = String::from_str(rt.alloc(), "a word is not UTF-8")?;
-            Err(refused(&error, Ending::Usage(text)))
-        }
-    }
-}
 
 /// The ending where a word is no command.
 fn no_command(rt: &HostRuntime, word: &str) -> Result<u8, Ending> {
     let text = format!(in rt.alloc();
         "there is no command `{word}`: unison --help tells which there are"
+    )?;
+    Err(Ending::Usage(text))
+}
+
+/// The ending where a command is of the program for networks of any size.
+fn of_large(rt: &HostRuntime, task: Task) -> Result<u8, Ending> {
+    let name = task.command().name;
+    let text = format!(in rt.alloc();
+        "{name} is a command of the program unison_large: ./unison {name} leads there"
     )?;
     Err(Ending::Usage(text))
 }
@@ -78,6 +74,7 @@ fn run_task(
         Task::Import => import_network(rt, words),
         Task::Info => show_info(rt, words),
         Task::Init => init_network(rt, words),
+        Task::Large | Task::Pack => of_large(rt, task),
         Task::Manual => print_manual(rt, words),
         Task::Page => make_page(rt, threads, words),
         Task::Schedule => make_schedule(rt, words),

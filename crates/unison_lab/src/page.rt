@@ -1,13 +1,12 @@
 //! `page PROGRAM NETWORK`: an HTML page on which a run is stepped through.
 
 use crate::explain::steps_at;
-use crate::fields::shown_fields;
 use crate::labels::labels_at;
 use crate::page_size::{check_size, steps_too_many};
 use crate::plan_texts::plan_at;
 use crate::progress::Telling;
 use crate::watch::no_rounds;
-use app_files::{Ending, bytes_at, name_at, path_in, print_out, read_once};
+use app_files::{Ending, bytes_at, name_at, path_in, print_out, read_once, shown_fields};
 use app_jobs::ServeFault;
 use app_requests::{PageRequest, PageRun};
 use rounds_plan::Plan;

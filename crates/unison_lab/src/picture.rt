@@ -1,11 +1,10 @@
 //! `image PROGRAM NETWORK` and `dot PROGRAM NETWORK`: rounds as pictures, and networks for Graphviz.
 
-use crate::fields::coloured_field;
 use crate::labels::labels_at;
 use crate::plan_texts::plan_at;
 use crate::progress::Telling;
 use crate::watch::no_rounds;
-use app_files::{Ending, path_in, print_out, read_once};
+use app_files::{Ending, coloured_field, path_in, print_out, read_once};
 use app_requests::{DotRequest, ImageRequest, PlanPaths};
 use rounds_plan::Plan;
 use run_picture::{MOST_CELLS, PictureFault, grid_picture, network_dot, time_picture};

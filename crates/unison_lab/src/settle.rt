@@ -1,10 +1,9 @@
 //! `settle PROGRAM NETWORK`: from which round on nothing changes, or all states come again.
 
-use crate::fields::all_fields;
 use crate::plan_texts::plan_at;
 use crate::progress::Silent;
 use crate::watch::no_rounds;
-use app_files::{Ending, path_in, print_out, read_once};
+use app_files::{Ending, all_fields, path_in, print_out, read_once};
 use app_requests::SettleRequest;
 use rounds_plan::Plan;
 use run_settle::{SettleFault, Settling, settle};

@@ -1,10 +1,9 @@
 //! `watch PROGRAM NETWORK --rounds FIRST..LAST`: all rounds from one to another, in one pass.
 
-use crate::fields::shown_fields;
 use crate::labels::labels_at;
 use crate::plan_texts::plan_at;
 use crate::progress::Telling;
-use app_files::{Ending, path_in, print_out, read_once};
+use app_files::{Ending, path_in, print_out, read_once, shown_fields};
 use app_jobs::ServeFault;
 use app_requests::WatchRequest;
 use rounds_plan::{Plan, RoundFault};

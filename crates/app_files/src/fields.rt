@@ -1,12 +1,12 @@
 //! Fields of a program, by their names.
 
-use app_files::Ending;
+use crate::ending::Ending;
 use app_table::Draft;
 use rule_check::Program;
 use std::alloc::{AllocError, Global};
 
 /// The places of all fields.
-pub(crate) fn all_fields(alloc: Global, program: &Program) -> Result<Vec<u32>, AllocError> {
+pub fn all_fields(alloc: Global, program: &Program) -> Result<Vec<u32>, AllocError> {
     let mut places = Vec::new(alloc);
     for place in 0..program.field_count() {
         places.push(place)?;
@@ -41,7 +41,12 @@ fn no_field(
 }
 
 /// The place of the field that a word behind an option names.
-fn place_of(alloc: Global, program: &Program, option: &str, word: &str) -> Result<u32, Ending> {
+pub fn field_place(
+    alloc: Global,
+    program: &Program,
+    option: &str,
+    word: &str,
+) -> Result<u32, Ending> {
     match program.field_index(word) {
         Some(place) => Ok(place),
         None => Err(Ending::usage(no_field(alloc, program, option, word))),
@@ -55,7 +60,7 @@ fn put_place(
     program: &Program,
     word: &str,
 ) -> Result<(), Ending> {
-    let place = place_of(alloc, program, "--only", word)?;
+    let place = field_place(alloc, program, "--only", word)?;
     places.push(place)?;
     Ok(())
 }
@@ -70,7 +75,7 @@ fn named_fields(alloc: Global, program: &Program, words: &[String]) -> Result<Ve
 }
 
 /// The places of the fields that are shown: those of these names, or all.
-pub(crate) fn shown_fields(
+pub fn shown_fields(
     alloc: Global,
     program: &Program,
     only: &Option<Vec<String>>,
@@ -93,13 +98,13 @@ fn many_fields(alloc: Global, program: &Program) -> Result<String, AllocError> {
 }
 
 /// The place of the field by which is coloured: that of this name, or the only one.
-pub(crate) fn coloured_field(
+pub fn coloured_field(
     alloc: Global,
     program: &Program,
     word: &Option<String>,
 ) -> Result<u32, Ending> {
     match word {
-        Some(word) => place_of(alloc, program, "--field", word.as_str()),
+        Some(word) => field_place(alloc, program, "--field", word.as_str()),
         None if program.field_count() == 1 => Ok(0),
         None => Err(Ending::usage(many_fields(alloc, program))),
     }

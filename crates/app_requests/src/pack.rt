@@ -1,0 +1,195 @@
+//! `pack`: networks of any size, as binary files.
+ghost use Rattle.std.specs.Prelude.{◌≤◌, IfOk, IfSome};
+
+use crate::arguments::{FLAG, NETWORK, NETWORK_ARGUMENT};
+use crate::import::{DROP_LOOPS, HEADER, SCALE, TEXT, factor_in};
+use app_table::{Argument, Choice, Command, OPTION, Reading, Subcommand, Value, WordsFault};
+use large_pack::{PackOptions, Parallel, SelfLoops};
+use std::alloc::Global;
+
+/// `TEXT`, as it is read.
+static TEXT_ARGUMENT: Argument = TEXT;
+
+/// `DROP_LOOPS`, as it is read.
+static DROP_LOOPS_ARGUMENT: Argument = DROP_LOOPS;
+
+/// `HEADER`, as it is read.
+static HEADER_ARGUMENT: Argument = HEADER;
+
+const KEEP_LOOPS: Argument = Argument {
+    name: "keep-loops",
+    help: "Keep edges of a node with itself, which are refused else: the node is a neighbour of itself",
+    ..FLAG
+};
+
+/// `KEEP_LOOPS`, as it is read.
+static KEEP_LOOPS_ARGUMENT: Argument = KEEP_LOOPS;
+
+const NODES: Argument = Argument {
+    name: "nodes",
+    value: Value::Number {
+        least: 1,
+        most: 4_294_967_295,
+    },
+    value_name: "N",
+    help: "How many nodes there are; else the greatest number that stands there, and one more",
+    ..OPTION
+};
+
+/// `NODES`, as it is read.
+static NODES_ARGUMENT: Argument = NODES;
+
+const DIRECTED: Argument = Argument {
+    name: "directed",
+    help: "An edge a b gives a the neighbour b alone; else it gives b the neighbour a, too",
+    ..FLAG
+};
+
+/// `DIRECTED`, as it is read.
+static DIRECTED_ARGUMENT: Argument = DIRECTED;
+
+const PARALLEL: Argument = Argument {
+    name: "parallel",
+    value: Value::Choice(&[
+        Choice {
+            name: "min",
+            aliases: &["least"],
+        },
+        Choice {
+            name: "max",
+            aliases: &["most"],
+        },
+        Choice {
+            name: "first",
+            aliases: &[],
+        },
+        Choice {
+            name: "keep",
+            aliases: &[],
+        },
+    ]),
+    value_name: "WEIGHT",
+    help: "Take edges between the same two nodes, which are refused else, as one with the least, the greatest or the first weight, or keep all: min, max, first or keep",
+    ..OPTION
+};
+
+/// `PARALLEL`, as it is read.
+static PARALLEL_ARGUMENT: Argument = PARALLEL;
+
+const FORMATS: [Subcommand; 2] = [
+    Subcommand {
+        name: "edges",
+        about: "Lines of two numbers of nodes, from 0, and a weight, which may be left out; blanks, tabs or commas between, comments behind # or %",
+        notes: "",
+        arguments: &[
+            TEXT, NODES, DIRECTED, SCALE, DROP_LOOPS, KEEP_LOOPS, PARALLEL, HEADER,
+        ],
+    },
+    Subcommand {
+        name: "network",
+        about: "A network file, a TOML document; its initial values are left out",
+        notes: "",
+        arguments: &[NETWORK],
+    },
+];
+
+/// `pack` and what it takes.
+static PACK: Command = Command {
+    name: "pack",
+    aliases: &[],
+    called: "unison pack",
+    about: "Pack a network of any size into a binary file, for unison large",
+    notes: "Prints the binary file; docs/formats.md says what stands in it.\nAn example: unison pack edges friends.txt --drop-loops --parallel min > friends.net\nAnother one: unison generate torus 200 300 | unison pack network - > torus.net\n",
+    arguments: &[],
+    subcommands: &FORMATS,
+};
+
+/// The table of `pack`.
+pub(crate) fn pack() -> &'static Command {
+    &PACK
+}
+
+/// What `pack` is asked for.
+#[derive(Drop)]
+pub enum PackRequest {
+    /// A list of edges at a path.
+    Edges { path: String, options: PackOptions },
+    /// The network file at a path.
+    Network { path: String },
+}
+
+/// What becomes of edges between the same two nodes.
+fn parallel_in(reading: &mut Reading) -> Parallel {
+    match reading.choice(&PARALLEL_ARGUMENT) {
+        None => Parallel::Refuse,
+        Some("min") => Parallel::Least,
+        Some("max") => Parallel::Greatest,
+        Some("first") => Parallel::First,
+        Some(_) => Parallel::Keep,
+    }
+}
+
+/// What becomes of edges of a node with itself. They are not both dropped and kept.
+fn self_loops_in(reading: &mut Reading) -> SelfLoops {
+    match (
+        reading.has(&DROP_LOOPS_ARGUMENT),
+        reading.has(&KEEP_LOOPS_ARGUMENT),
+    ) {
+        (false, false) => SelfLoops::Refuse,
+        (true, false) => SelfLoops::Drop,
+        (false, true) => SelfLoops::Keep,
+        (true, true) => {
+            reading.refuse_words("--keep-loops cannot stand beside --drop-loops");
+            SelfLoops::Refuse
+        }
+    }
+}
+
+/// The number of nodes that the words name, where they name one.
+fn nodes_in(reading: &mut Reading) -> Option<u32>
+    ensures some { IfSome result (λ nodes. 1 ≤ nodes) }
+{
+    let nodes = reading.number_or(&NODES_ARGUMENT, 0);
+    if nodes > 0 { Some(nodes) } else { None }
+}
+
+/// How a list of edges is packed.
+fn options_in(reading: &mut Reading) -> PackOptions
+    ensures nodes { IfSome result.nodes (λ nodes. 1 ≤ nodes) }
+    ensures positive { IfSome result.factor (λ factor. 1 ≤ factor) }
+{
+    let nodes = nodes_in(reading);
+    let factor = factor_in(reading);
+    let self_loops = self_loops_in(reading);
+    let parallel = parallel_in(reading);
+    PackOptions {
+        nodes,
+        is_directed: reading.has(&DIRECTED_ARGUMENT),
+        factor,
+        header: reading.has(&HEADER_ARGUMENT),
+        self_loops,
+        parallel,
+    }
+}
+
+/// What plain words ask for.
+fn request_in(reading: &mut Reading) -> PackRequest {
+    if reading.subcommand() == "network" {
+        return PackRequest::Network {
+            path: reading.needed_text(&NETWORK_ARGUMENT),
+        };
+    }
+    let options = options_in(reading);
+    let path = reading.needed_text(&TEXT_ARGUMENT);
+    PackRequest::Edges { path, options }
+}
+
+impl PackRequest {
+    /// What the words ask for, the command's name first. Words that no format has, and `--keep-loops` beside `--drop-loops`
+    /// are `Usage`.
+    pub fn parse(alloc: Global, line: &[String]) -> Result<PackRequest, WordsFault> {
+        let mut reading = Reading::of(alloc, pack(), line)?;
+        let asked = request_in(&mut reading);
+        reading.end(asked)
+    }
+}

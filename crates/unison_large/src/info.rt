@@ -1,0 +1,83 @@
+//! `large info`: what one wants to know of a network of any size.
+
+use crate::network::network_at;
+use app_files::{Ending, print_out};
+use large_net::LargeNetwork;
+use link_net::NetRows;
+use std::alloc::{AllocError, Global};
+
+/// The least and the greatest of some numbers.
+#[derive(Clone, Copy)]
+struct Extremes {
+    least: u32,
+    greatest: u32,
+}
+
+impl Extremes {
+    /// Those of no numbers.
+    const NONE: Extremes = Extremes {
+        least: u32::MAX,
+        greatest: 0,
+    };
+
+    /// Those with a number more.
+    fn with(self, number: u32) -> Extremes {
+        Extremes {
+            least: self.least.min(number),
+            greatest: self.greatest.max(number),
+        }
+    }
+}
+
+/// The least and the greatest number of neighbours of a node.
+fn degrees_of(rows: &NetRows<'_>) -> Extremes {
+    let mut extremes = Extremes::NONE;
+    for node in 0..rows.nodes() {
+        extremes = extremes.with(rows.degree(node).unwrap_or(0));
+    }
+    extremes
+}
+
+/// The least and the greatest weight, these of a node's links counted in.
+fn with_weights(extremes: Extremes, weights: &[u32]) -> Extremes {
+    let mut extremes = extremes;
+    for weight in weights {
+        extremes = extremes.with(*weight);
+    }
+    extremes
+}
+
+/// The least and the greatest weight of a link.
+fn weights_of(rows: &NetRows<'_>) -> Extremes {
+    let mut extremes = Extremes::NONE;
+    for node in 0..rows.nodes() {
+        extremes = with_weights(extremes, rows.weights(node).unwrap_or(&[]));
+    }
+    extremes
+}
+
+/// The lines about a network.
+fn lines_of(alloc: Global, network: &LargeNetwork) -> Result<String, AllocError> {
+    let rows = network.rows();
+    let degrees = degrees_of(&rows);
+    let mut text = String::new(alloc);
+    let (nodes, ends) = (network.nodes(), network.ends());
+    write!(text, "nodes {nodes}\nneighbours {ends}\n")?;
+    write!(
+        text,
+        "neighbours of a node {} to {}\n",
+        degrees.least, degrees.greatest
+    )?;
+    if ends > 0 {
+        let weights = weights_of(&rows);
+        write!(text, "weights {} to {}\n", weights.least, weights.greatest)?;
+    }
+    Ok(text)
+}
+
+/// Prints what one wants to know of the network at a path. The status with which the program ends.
+pub(crate) fn show_info(rt: &HostRuntime, path: &str) -> Result<u8, Ending> {
+    let network = network_at(rt, path)?;
+    let lines = lines_of(rt.alloc(), &network)?;
+    print_out(rt, lines.as_bytes())
+}

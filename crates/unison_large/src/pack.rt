@@ -1,0 +1,82 @@
+//! `pack`: a network of any size as a binary file.
+
+use app_files::{Ending, bytes_at, file_at, name_at, print_out};
+use app_requests::PackRequest;
+use large_net::{LargeNetwork, large_bytes};
+use large_pack::{PackFault, PackOptions, Packed, pack_edges};
+use std::alloc::Global;
+use std::io;
+use std::io::IsTerminal;
+
+/// The ending where a list of edges is refused.
+fn no_edges(alloc: Global, path: &str, fault: PackFault) -> Ending {
+    match fault {
+        PackFault::Memory => Ending::Memory,
+        fault => Ending::refused(format!(in alloc; "edges\n{}: {fault}", name_at(path))),
+    }
+}
+
+/// What is told of edges that were dropped or merged, where some were.
+fn tell_mended(rt: &HostRuntime, packed: &Packed) -> io::Result<()> {
+    let (dropped, merged) = (packed.dropped_loops, packed.merged);
+    if dropped > 0 {
+        eprintln!(rt; "dropped {dropped} edges of a node with itself")?;
+    }
+    if merged > 0 {
+        eprintln!(rt; "merged {merged} edges into others between the same two nodes")?;
+    }
+    Ok(())
+}
+
+/// The network of the list of edges at a path.
+fn edges_at(rt: &HostRuntime, path: &str, options: &PackOptions) -> Result<LargeNetwork, Ending> {
+    let text = bytes_at(rt, path)?;
+    match pack_edges(rt.alloc(), &text, options) {
+        Ok(packed) => {
+            let _ = tell_mended(rt, &packed);
+            Ok(packed.network)
+        }
+        Err(fault) => Err(no_edges(rt.alloc(), path, fault)),
+    }
+}
+
+/// The network of the network file at a path.
+fn copied_at(rt: &HostRuntime, path: &str) -> Result<LargeNetwork, Ending> {
+    let file = file_at(rt, path)?;
+    let network = LargeNetwork::of_network(rt.alloc(), file.network())?;
+    Ok(network)
+}
+
+/// The network that is asked for.
+fn network_for(rt: &HostRuntime, asked: &PackRequest) -> Result<LargeNetwork, Ending> {
+    match asked {
+        PackRequest::Edges { path, options } => edges_at(rt, path.as_str(), options),
+        PackRequest::Network { path } => copied_at(rt, path.as_str()),
+    }
+}
+
+/// The binary file that is asked for.
+fn file_for(rt: &HostRuntime, asked: &PackRequest) -> Result<Vec<u8>, Ending> {
+    let network = network_for(rt, asked)?;
+    let bytes = large_bytes(rt.alloc(), &network)?;
+    Ok(bytes)
+}
+
+/// Refuses a terminal as standard output, for which a binary file is nothing.
+fn check_output(rt: &HostRuntime) -> Result<(), Ending> {
+    if rt.stdout().is_terminal() {
+        return Err(Ending::usage(String::from_str(
+            rt.alloc(),
+            "the file is binary: put > and the name of a file behind the words",
+        )));
+    }
+    Ok(())
+}
+
+/// Prints the binary file of a network. The status with which the program ends.
+pub(crate) fn pack_network(rt: &HostRuntime, words: &[String]) -> Result<u8, Ending> {
+    let asked = PackRequest::parse(rt.alloc(), words)?;
+    check_output(rt)?;
+    let bytes = file_for(rt, &asked)?;
+    print_out(rt, &bytes)
+}

@@ -1,0 +1,162 @@
+//! What rounds on a network of any size begin with: a program, a network, and the initial state of each node.
+
+use crate::network::network_at;
+use app_files::{Ending, bytes_at, field_place, read_once};
+use app_jobs::program_of;
+use app_requests::{LargeTexts, RandomWord, SetWord, StartWords};
+use app_table::number;
+use large_net::LargeNetwork;
+use large_rounds::{openings, set_all_values, set_value};
+use net_initial::{DrawFault, drawn_nodes};
+use rule_check::{Program, State};
+use std::alloc::Global;
+
+/// A program, a network that it is run on, and the initial state of each node.
+#[derive(Drop)]
+pub(crate) struct Start {
+    pub(crate) program: Program,
+    pub(crate) network: LargeNetwork,
+    pub(crate) states: Vec<State>,
+}
+
+/// The ending where a word of `--set` names no node.
+fn no_node(alloc: Global, nodes: usize, word: &SetWord) -> Ending {
+    let (field, node) = (word.field.as_str(), word.node.as_str());
+    Ending::usage(format!(in alloc;
+        "--set: {field}: expected * or a node's number below {nodes}, found `{node}`"
+    ))
+}
+
+/// Gives a node's field the value that a word of `--set` names.
+fn put_value(
+    states: &mut [State],
+    alloc: Global,
+    program: &Program,
+    field: u32,
+    word: &SetWord,
+) -> Result<(), Ending> {
+    let nodes = states.len();
+    match number(word.node.as_str(), 0, 4_294_967_295) {
+        Some(node) if set_value(program, states, node, field, word.value).is_ok() => Ok(()),
+        _ => Err(no_node(alloc, nodes, word)),
+    }
+}
+
+/// Gives the values that a word of `--set` names.
+fn put_set(
+    states: &mut [State],
+    alloc: Global,
+    program: &Program,
+    word: &SetWord,
+) -> Result<(), Ending> {
+    let field = field_place(alloc, program, "--set", word.field.as_str())?;
+    if word.node.as_str() == "*" {
+        let _ = set_all_values(program, states, field, word.value);
+        return Ok(());
+    }
+    put_value(states, alloc, program, field, word)
+}
+
+/// Gives the values that the words of `--set` name, in their order.
+fn put_sets(
+    states: &mut [State],
+    alloc: Global,
+    program: &Program,
+    words: &[SetWord],
+) -> Result<(), Ending> {
+    for word in words {
+        put_set(states, alloc, program, word)?;
+    }
+    Ok(())
+}
+
+/// The ending where no nodes are drawn.
+fn no_draw(alloc: Global, fault: DrawFault) -> Ending {
+    match fault {
+        DrawFault::TooManyNodes => Ending::usage(String::from_str(
+            alloc,
+            "--set-random: more nodes are asked for than the network has",
+        )),
+        DrawFault::Memory => Ending::Memory,
+    }
+}
+
+/// The nodes that a word of `--set-random` draws.
+fn drawn(alloc: Global, nodes: u32, word: &RandomWord, seed: u64) -> Result<Vec<u32>, Ending> {
+    match drawn_nodes(alloc, nodes, word.count, seed) {
+        Ok(drawn) => Ok(drawn),
+        Err(fault) => Err(no_draw(alloc, fault)),
+    }
+}
+
+/// Gives a field of these nodes a value.
+fn put_values(states: &mut [State], program: &Program, nodes: &[u32], field: u32, value: u32) {
+    for node in nodes {
+        let _ = set_value(program, states, *node, field, value);
+    }
+}
+
+/// Gives the values that a word of `--set-random` names. It draws the nodes that `unison init` draws by the same words.
+fn put_random(
+    states: &mut [State],
+    alloc: Global,
+    program: &Program,
+    word: &RandomWord,
+    seed: u64,
+) -> Result<(), Ending> {
+    let field = field_place(alloc, program, "--set-random", word.field.as_str())?;
+    let nodes = drawn(alloc, states.len() as u32, word, seed)?;
+    put_values(states, program, &nodes, field, word.value);
+    Ok(())
+}
+
+/// Gives the values that the words of `--set-random` name, in their order.
+fn put_randoms(
+    states: &mut [State],
+    alloc: Global,
+    program: &Program,
+    words: &StartWords,
+) -> Result<(), Ending> {
+    let mut seed = words.seed as u64;
+    for word in &words.random {
+        seed = seed.wrapping_add(4_294_967_296);
+        put_random(states, alloc, program, word, seed)?;
+    }
+    Ok(())
+}
+
+/// The initial states of so many nodes: those of the program, then drawn values, then those of `--set`.
+fn states_of(
+    alloc: Global,
+    program: &Program,
+    nodes: u32,
+    words: &StartWords,
+) -> Result<Vec<State>, Ending> {
+    let mut states = openings(alloc, program, nodes)?;
+    put_randoms(&mut states, alloc, program, words)?;
+    put_sets(&mut states, alloc, program, words.sets.as_slice())?;
+    Ok(states)
+}
+
+/// The program whose text stands at a path.
+fn program_at(rt: &HostRuntime, path: &str) -> Result<Program, Ending> {
+    let text = bytes_at(rt, path)?;
+    match program_of(rt.alloc(), &text) {
+        Ok((_source, program)) => Ok(program),
+        Err(fault) => Err(Ending::Served(fault)),
+    }
+}
+
+/// What rounds begin with by these words.
+pub(crate) fn start_at(rt: &HostRuntime, texts: &LargeTexts) -> Result<Start, Ending> {
+    let (program, network) = (texts.program.as_str(), texts.network.as_str());
+    read_once(rt.alloc(), &[program, network])?;
+    let program = program_at(rt, program)?;
+    let network = network_at(rt, network)?;
+    let states = states_of(rt.alloc(), &program, network.nodes(), &texts.start)?;
+    Ok(Start {
+        program,
+        network,
+        states,
+    })
+}

@@ -1,0 +1,118 @@
+//! `large watch`: how many nodes changed, or have each value, round by round.
+
+use crate::counts::{counted, put_counts};
+use crate::rounds::plan_of;
+use crate::start::{Start, start_at};
+use app_files::{Ending, print_out};
+use app_requests::LargeTexts;
+use large_rounds::{LargeWalk, changed_nodes};
+use rule_check::State;
+use run_watch::Span;
+use std::alloc::{AllocError, Global};
+use std::io::IsTerminal;
+use std::thread::Threads;
+
+/// What is shown of each round.
+#[derive(Clone, Copy)]
+enum Show {
+    /// How many nodes changed since the round that was shown before.
+    Changes,
+    /// How many nodes have each value of the field at this place.
+    Counts(u32),
+}
+
+impl Show {
+    /// What the words ask for.
+    fn of(alloc: Global, start: &Start, texts: &LargeTexts) -> Result<Show, Ending> {
+        match &texts.count {
+            None => Ok(Show::Changes),
+            Some(name) => Ok(Show::Counts(counted(alloc, &start.program, name.as_str())?)),
+        }
+    }
+
+    /// The line that stands first.
+    fn heading(self) -> &'static str {
+        match self {
+            Show::Changes => "round,changed\n",
+            Show::Counts(_) => "round,value,nodes\n",
+        }
+    }
+}
+
+/// Tells on standard error which round is reached, where that is a terminal.
+fn tell_reached(rt: &HostRuntime, round: u32, last: u32) {
+    if rt.stderr().is_terminal() {
+        let _ = eprint!(rt; "\rround {round} of {last}");
+        if round == last {
+            let _ = eprintln!(rt; "");
+        }
+    }
+}
+
+/// Adds what is shown of a round; `before` are the states of the round that was shown before.
+fn put_round(
+    text: &mut String,
+    alloc: Global,
+    show: Show,
+    round: u32,
+    before: &[State],
+    states: &[State],
+) -> Result<(), AllocError> {
+    match show {
+        Show::Changes => {
+            let changed = changed_nodes(before, states);
+            write!(text, "{round},{changed}\n")
+        }
+        Show::Counts(field) => put_counts(text, alloc, round, states, field),
+    }
+}
+
+/// The lines of all rounds of a span. The walk stands at the first of them or before.
+fn put_rounds(
+    rt: &HostRuntime,
+    threads: &(impl Threads + Sync),
+    text: &mut String,
+    walk: &mut LargeWalk<'_>,
+    span: &Span,
+    show: Show,
+) -> Result<(), AllocError> {
+    walk.go_to_shared(threads, span.first());
+    let mut before = walk.states(rt.alloc())?;
+    for step in 0..span.steps() + 1 {
+        let round = span.round_at(step);
+        walk.go_to_shared(threads, round);
+        let states = walk.states(rt.alloc())?;
+        put_round(text, rt.alloc(), show, round, &before, &states)?;
+        tell_reached(rt, round, span.last());
+        before = states;
+    }
+    Ok(())
+}
+
+/// The text of the rounds of a span.
+fn text_of(
+    rt: &HostRuntime,
+    threads: &(impl Threads + Sync),
+    start: &Start,
+    span: &Span,
+    show: Show,
+) -> Result<String, Ending> {
+    let plan = plan_of(rt.alloc(), start)?;
+    let mut walk = plan.shared_walk(threads, rt.alloc())?;
+    let mut text = String::from_str(rt.alloc(), show.heading())?;
+    put_rounds(rt, threads, &mut text, &mut walk, span, show)?;
+    Ok(text)
+}
+
+/// Prints the rounds of a span. The status with which the program ends.
+pub(crate) fn watch_rounds(
+    rt: &HostRuntime,
+    threads: &(impl Threads + Sync),
+    texts: &LargeTexts,
+    span: &Span,
+) -> Result<u8, Ending> {
+    let start = start_at(rt, texts)?;
+    let show = Show::of(rt.alloc(), &start, texts)?;
+    let text = text_of(rt, threads, &start, span, show)?;
+    print_out(rt, text.as_bytes())
+}
