@@ -16,8 +16,8 @@ pub use report_text::{
 };
 pub use round_walk::{Course, RoundWalk};
 pub use rounds::lockstep;
-pub use steps::{go_to, go_to_shared};
 pub use rounds_plan::{
     Config, Difference, MOST_ROUNDS, Plan, PlanCause, PlanFault, ResumeFault, RoundFault, compare,
     diagnose_plan,
 };
+pub use steps::{go_to, go_to_shared};
