@@ -1,10 +1,11 @@
 //! What is told of a text of another format that has no network.
 
+use app_files::{put_place, weight_told, words_told};
 use app_requests::Format;
 use app_table::Draft;
 use import_dot::{DotFault, DotLineFault, TokenKind};
 use import_edges::{EdgeFault, LineFault};
-use import_lines::{WeightFault, WordsFault};
+use import_lines::WordsFault;
 use import_links::{JoinFault, NumberFault, SettleFault};
 use import_matrix::{MatrixFault, MatrixLineFault};
 use import_network::TakeFault;
@@ -13,46 +14,6 @@ use std::alloc::{AllocError, Global};
 
 /// The line of a fault where it has one, the fault's name, and what is wrong and what to do.
 type Told = (Option<u64>, &'static str, &'static str);
-
-/// What is wrong with a line that is no text of words.
-fn words_told(fault: WordsFault) -> (&'static str, &'static str) {
-    match fault {
-        WordsFault::NotUtf8 => ("NotUtf8", "the line is not UTF-8"),
-        WordsFault::ControlCharacter => (
-            "ControlCharacter",
-            "a control character stands in the line",
-        ),
-        WordsFault::LongLine => ("LongLine", "the line has more than 65536 bytes"),
-        WordsFault::OneWord => (
-            "OneWord",
-            "expected two names and, where it has one, a weight; found one word",
-        ),
-        WordsFault::TooManyWords => (
-            "TooManyWords",
-            "expected two names and, where it has one, a weight; found more than three words",
-        ),
-    }
-}
-
-/// What is wrong with a weight.
-fn weight_told(fault: WeightFault) -> (&'static str, &'static str) {
-    match fault {
-        WeightFault::Negative => ("Negative", "a weight is 0 or more"),
-        WeightFault::Decimal => (
-            "Decimal",
-            "a weight is a whole number, and this is a decimal one (--scale FACTOR multiplies and rounds)",
-        ),
-        WeightFault::BadWeight => (
-            "BadWeight",
-            "the weight is no number (of a list of edges, --header passes over a line of headings)",
-        ),
-        WeightFault::TooManyDigits => (
-            "TooManyDigits",
-            "the digits of a weight say less than 2 to the power of 64, whatever its point and its exponent",
-        ),
-        WeightFault::WeightTooLarge => ("WeightTooLarge", "a weight is 4294967295 at most"),
-    }
-}
 
 /// A fault of a line.
 fn on_line(line: u64, told: (&'static str, &'static str)) -> Told {
@@ -185,7 +146,7 @@ fn bytes_told(fault: DotLineFault) -> (&'static str, &'static str) {
     match fault {
         DotLineFault::BadByte { .. } => (
             "BadByte",
-            "no part of a graph begins with this byte; a name with such bytes stands in quotes, and a comment line has # as its first character, and a comment line has # as its first character",
+            "no part of a graph begins with this byte; a name with such bytes stands in quotes, and a comment line has # as its first character",
         ),
         DotLineFault::BadNumeral => (
             "BadNumeral",
@@ -382,15 +343,6 @@ fn put_detail(draft: &mut Draft, fault: TakeFault) {
             },
         ) => draft.put(token_text(found)),
         _ => {}
-    }
-}
-
-/// Adds the name of a text, and the line where there is one.
-fn put_place(draft: &mut Draft, name: &str, line: Option<u64>) {
-    draft.put(name);
-    if let Some(line) = line {
-        draft.put(":");
-        draft.put_count(line);
     }
 }
 

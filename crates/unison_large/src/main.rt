@@ -5,6 +5,7 @@ mod counts;
 mod info;
 mod network;
 mod pack;
+mod refusals;
 mod rounds;
 mod start;
 mod watch;

@@ -1,20 +1,12 @@
 //! `pack`: a network of any size as a binary file.
 
+use crate::refusals::refusal;
 use app_files::{Ending, bytes_at, file_at, name_at, print_out};
 use app_requests::PackRequest;
 use large_net::{LargeNetwork, large_bytes};
-use large_pack::{PackFault, PackOptions, Packed, pack_edges};
-use std::alloc::Global;
+use large_pack::{PackOptions, Packed, pack_edges};
 use std::io;
 use std::io::IsTerminal;
-
-/// The ending where a list of edges is refused.
-fn no_edges(alloc: Global, path: &str, fault: PackFault) -> Ending {
-    match fault {
-        PackFault::Memory => Ending::Memory,
-        fault => Ending::refused(format!(in alloc; "edges\n{}: {fault}", name_at(path))),
-    }
-}
 
 /// What is told of edges that were dropped or merged, where some were.
 fn tell_mended(rt: &HostRuntime, packed: &Packed) -> io::Result<()> {
@@ -36,7 +28,7 @@ fn edges_at(rt: &HostRuntime, path: &str, options: &PackOptions) -> Result<Large
             let _ = tell_mended(rt, &packed);
             Ok(packed.network)
         }
-        Err(fault) => Err(no_edges(rt.alloc(), path, fault)),
+        Err(fault) => Err(Ending::refused(refusal(rt.alloc(), name_at(path), fault))),
     }
 }
 
