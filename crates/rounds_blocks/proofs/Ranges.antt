@@ -1,9 +1,9 @@
 -- Ranges of numbers, and lists in two parts.
-use Rattle.std.proofs.Common.{◌≡◌, ◌<◌, ◌+◌, ◌++◌, ℕ, List, [], ◌∷◌, length, map, All, refl, sym, ap, ◌∙◌, arith, subst, slice_index, slice_index_or, length-append, append-nil, append_assoc, zero-add}
+use Rattle.std.proofs.Common.{◌≡◌, ◌<◌, ◌≤◌, ◌+◌, ◌-◌, ◌++◌, ℕ, zero, suc, List, [], ◌∷◌, length, map, All, refl, sym, ap, ◌∙◌, arith, subst, slice_index, slice_index_or, length-append, append-nil, append_assoc, zero-add}
 use Rattle.std.specs.List.{range_with_len}
 use Rattle.std.proofs.lemmas.List.{get_or-append_right}
 use Rattle.std.proofs.lemmas.List.FromFn.{map-range_with_len_more, length-range_with_len, get_or-range_with_len}
-use Rattle.std.proofs.lemmas.List.Sorted.{All-permutation, IsPermutation-sym}
+use Rattle.std.proofs.lemmas.List.Sorted.{All-permutation, IsPermutation-sym, IsPermutation-append}
 use Rattle.std.proofs.lemmas.Grind.{flat_map-append}
 use Rattle.std.specs.List.Sorted.{IsPermutation}
 use Rattle.link_net.specs.Neighbours.{Neighbours, degree, numbers_below}
@@ -20,6 +20,43 @@ numbers_more n =
     sym (map_same (range_with_len 0 (n + 1)))
     ∙ map-range_with_len_more (λ x. x) 0 n n (zero-add n)
     ∙ ap (λ xs. xs ++ n ∷ []) (map_same (range_with_len 0 n))
+
+-- one number more, from any first one on
+pub range_more : (a n : ℕ) → range_with_len a (n + 1) ≡ range_with_len a n ++ (a + n) ∷ []
+range_more a n =
+    sym (map_same (range_with_len a (n + 1)))
+    ∙ map-range_with_len_more (λ x. x) a n (a + n) refl
+    ∙ ap (λ xs. xs ++ (a + n) ∷ []) (map_same (range_with_len a n))
+
+-- the first numbers, and those behind them
+pub numbers_parts : (a n : ℕ) → numbers_below (a + n) ≡ numbers_below a ++ range_with_len a n
+numbers_parts a zero =
+    let e : a + 0 ≡ a = omega arith in
+    ap numbers_below e ∙ sym (append-nil (numbers_below a))
+numbers_parts a (suc n) =
+    let e : a + suc n ≡ a + n + 1 = omega arith in
+    let f : suc n ≡ n + 1 = omega arith in
+    ap numbers_below e
+    ∙ numbers_more (a + n)
+    ∙ ap (λ xs. xs ++ (a + n) ∷ []) (numbers_parts a n)
+    ∙ append_assoc (numbers_below a) (range_with_len a n) ((a + n) ∷ [])
+    ∙ ap (λ xs. numbers_below a ++ xs) (sym (range_more a n) ∙ ap (range_with_len a) (sym f))
+
+-- numbers up to an end are below all that is not below the end
+pub range_within : (a n most : ℕ) → a + n ≤ most → All (λ u. u < most) (range_with_len a n)
+range_within a n most few k d h =
+    let inside : k < n = omega (arith, h, length-range_with_len a n) in
+    omega (arith, inside, few, get_or-range_with_len a n k d inside)
+
+-- the nodes of a window behind those before it
+pub window_more : (first end : ℕ) (before window after : List ℕ) → first ≤ end → IsPermutation (numbers_below first) before → IsPermutation (range_with_len first (end - first)) window
+    → after ≡ before ++ window → IsPermutation (numbers_below end) after
+window_more first end before window after order once here are =
+    let e : first + (end - first) ≡ end = omega (arith, order) in
+    let parts : numbers_below first ++ range_with_len first (end - first) ≡ numbers_below end = sym (numbers_parts first (end - first)) ∙ ap numbers_below e in
+    subst (λ xs. IsPermutation xs after) parts
+    (subst (λ ys. IsPermutation (numbers_below first ++ range_with_len first (end - first)) ys) (sym are)
+    (IsPermutation-append (numbers_below first) before (range_with_len first (end - first)) window once here))
 
 -- all of them are below their number
 pub numbers_within : (n : ℕ) → All (λ u. u < n) (numbers_below n)

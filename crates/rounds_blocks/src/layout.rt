@@ -1,7 +1,5 @@
 //! The layout of a network for rounds.
-ghost use Rattle.std.specs.Prelude.{◌≡◌, ◌<◌, ◌≤◌, ℕ, All, IfOk, None, length};
-ghost use Rattle.std.specs.List.Sorted.{IsPermutation};
-ghost use Rattle.link_net.specs.Neighbours.{Neighbours};
+ghost use Rattle.std.specs.Prelude.{◌≡◌, ◌<◌, ◌≤◌, ◌++◌, All, IfOk, OnOk, length};
 ghost use Rattle.rounds_blocks.specs.Batches.{AreFalling, IsBatch, IsLayout, nodes_of};
 
 use crate::batch::{Batch, batch_of};
@@ -14,6 +12,13 @@ use std::marker::Model;
 
 /// How many nodes a batch has at most.
 const BATCH: usize = 256;
+
+/// The nodes of a network of so many nodes at most stand by falling number of their neighbours, all of them together.
+const TOGETHER: u32 = 65_536;
+
+/// How many nodes that follow one another stand by falling number of their neighbours, for themselves, in a greater network:
+/// there what a batch reads and writes of its nodes lies side by side, and that of near nodes near.
+const WINDOW: u32 = 256;
 
 /// The nodes of a network in batches, with all that a round reads of the network. A contract sees the network.
 #[derive(Drop)]
@@ -55,24 +60,55 @@ fn next_batch(network: &NetRows<'_>, nodes: &[u32], most_ends: u32) -> usize
     most
 }
 
-/// These nodes in batches, whose nodes have so many neighbours together at most.
-fn batches_of(
+/// Puts these nodes behind the others, in batches whose nodes have so many neighbours together at most.
+fn put_batches(
+    batches: &mut Vec<Batch>,
     alloc: Global,
     network: &NetRows<'_>,
     nodes: &[u32],
     most_ends: u32,
-) -> Result<Vec<Batch>, AllocError>
+) -> Result<(), AllocError>
     requires within { All (λ u. u < length network.now) nodes.now }
     requires falling { AreFalling network.now nodes.now }
-    ensures each { IfOk result (λ batches. All (IsBatch network.now) batches.items) }
-    ensures nodes { IfOk result (λ batches. nodes_of batches.items ≡ nodes.now) }
+    requires each { All (IsBatch network.now) batches.old.items }
+    ensures each { OnOk result (All (IsBatch network.now) batches.new.items) }
+    ensures nodes { OnOk result (nodes_of batches.new.items ≡ nodes_of batches.old.items ++ nodes.now) }
 {
-    let mut batches = Vec::new(alloc);
     let mut rest = nodes;
     while !rest.is_empty() {
         let (front, back) = rest.split_at(next_batch(network, rest, most_ends));
         batches.push(batch_of(alloc, network, front)?)?;
         rest = back;
+    }
+    Ok(())
+}
+
+/// The end of the nodes that stand by falling number of their neighbours together, from the first one on.
+fn window_end(nodes: u32, first: u32) -> u32
+    requires there { first < nodes }
+    ensures some { first < result }
+    ensures inside { result ≤ nodes }
+{
+    let window = if nodes <= TOGETHER { TOGETHER } else { WINDOW };
+    first.saturating_add(window).min(nodes)
+}
+
+/// All nodes in batches, whose nodes have so many neighbours together at most.
+fn all_batches(
+    alloc: Global,
+    network: &NetRows<'_>,
+    most_ends: u32,
+) -> Result<Vec<Batch>, AllocError>
+    ensures layout { IfOk result (λ batches. IsLayout network.now batches.items) }
+{
+    let nodes = network.nodes();
+    let mut batches = Vec::new(alloc);
+    let mut first = 0;
+    while first < nodes {
+        let end = window_end(nodes, first);
+        let window = by_falling_degree(alloc, network, first, end)?;
+        put_batches(&mut batches, alloc, network, &window, most_ends)?;
+        first = end;
     }
     Ok(batches)
 }
@@ -87,8 +123,7 @@ impl<'a> Layout<'a> {
     ) -> Result<Layout<'a>, AllocError>
         ensures network { IfOk result (λ layout. layout ≡ network.entry) }
     {
-        let nodes = by_falling_degree(alloc, &network)?;
-        let batches = batches_of(alloc, &network, &nodes, most_ends)?;
+        let batches = all_batches(alloc, &network, most_ends)?;
         let nears = nears_of(alloc, &network, &batches)?;
         Ok(Layout {
             network,

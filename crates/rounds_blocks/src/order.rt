@@ -1,7 +1,8 @@
 //! The order in which nodes stand.
-ghost use Rattle.std.specs.Prelude.{◌≡◌, ◌-◌, IfOk, length};
+ghost use Rattle.std.specs.Prelude.{◌≡◌, ◌≤◌, ◌-◌, IfOk};
+ghost use Rattle.std.specs.List.{range_with_len};
 ghost use Rattle.std.specs.List.Sorted.{IsPermutation};
-ghost use Rattle.link_net.specs.Neighbours.{numbers_below, degree};
+ghost use Rattle.link_net.specs.Neighbours.{degree};
 ghost use Rattle.rounds_blocks.specs.Batches.{AreFalling};
 
 use crate::nodes::degree_of;
@@ -11,13 +12,13 @@ use std::alloc::{AllocError, Global};
 /// The most neighbours of a node.
 const MOST_NEIGHBOURS: u32 = u32::MAX;
 
-/// All nodes by rising number.
-fn all_nodes(alloc: Global, network: &NetRows<'_>) -> Result<Vec<u32>, AllocError>
-    ensures all { IfOk result (λ nodes. nodes.items ≡ numbers_below (length network.now)) }
+/// The nodes from the first one on to the one before the end, by rising number.
+fn nodes_from(alloc: Global, first: u32, end: u32) -> Result<Vec<u32>, AllocError>
+    requires order { first ≤ end }
+    ensures all { IfOk result (λ nodes. nodes.items ≡ range_with_len first (end - first)) }
 {
-    let count = network.nodes();
-    let mut nodes = Vec::with_capacity(alloc, count as usize)?;
-    for node in 0..count {
+    let mut nodes = Vec::with_capacity(alloc, (end - first) as usize)?;
+    for node in first..end {
         nodes.push(node)?;
     }
     Ok(nodes)
@@ -30,12 +31,18 @@ fn lack_of(network: &NetRows<'_>, node: u32) -> u32
     MOST_NEIGHBOURS - degree_of(network, node)
 }
 
-/// All nodes by falling number of their neighbours.
-pub fn by_falling_degree(alloc: Global, network: &NetRows<'_>) -> Result<Vec<u32>, AllocError>
-    ensures once { IfOk result (λ nodes. IsPermutation (numbers_below (length network.now)) nodes.items) }
+/// The nodes from the first one on to the one before the end, by falling number of their neighbours.
+pub fn by_falling_degree(
+    alloc: Global,
+    network: &NetRows<'_>,
+    first: u32,
+    end: u32,
+) -> Result<Vec<u32>, AllocError>
+    requires order { first ≤ end }
+    ensures once { IfOk result (λ nodes. IsPermutation (range_with_len first (end - first)) nodes.items) }
     ensures falling { IfOk result (λ nodes. AreFalling network.now nodes.items) }
 {
-    let mut nodes = all_nodes(alloc, network)?;
+    let mut nodes = nodes_from(alloc, first, end)?;
     // For the proof: what holds of every network.
     let _nodes = network.nodes();
     nodes.sort_by_key(|node| lack_of(network, *node))?;
