@@ -21,7 +21,7 @@ const NEEDED: Argument = Argument {
     ..OPTION
 };
 
-const NODES: Argument = Argument {
+pub(crate) const NODES: Argument = Argument {
     name: "N",
     value_name: "N",
     help: "The number of nodes",
@@ -29,9 +29,9 @@ const NODES: Argument = Argument {
 };
 
 /// `NODES`, as it is read.
-static NODES_ARGUMENT: Argument = NODES;
+pub(crate) static NODES_ARGUMENT: Argument = NODES;
 
-const RING_NODES: Argument = Argument {
+pub(crate) const RING_NODES: Argument = Argument {
     help: "The number of nodes, 3 or more",
     ..NODES
 };
@@ -76,7 +76,7 @@ const DIMENSION: Argument = Argument {
 /// `DIMENSION`, as it is read.
 static DIMENSION_ARGUMENT: Argument = DIMENSION;
 
-const GRID_WIDTH: Argument = Argument {
+pub(crate) const GRID_WIDTH: Argument = Argument {
     name: "W",
     value_name: "W",
     help: "The number of nodes in a row",
@@ -84,9 +84,9 @@ const GRID_WIDTH: Argument = Argument {
 };
 
 /// `GRID_WIDTH`, as it is read.
-static GRID_WIDTH_ARGUMENT: Argument = GRID_WIDTH;
+pub(crate) static GRID_WIDTH_ARGUMENT: Argument = GRID_WIDTH;
 
-const GRID_HEIGHT: Argument = Argument {
+pub(crate) const GRID_HEIGHT: Argument = Argument {
     name: "H",
     value_name: "H",
     help: "The number of rows",
@@ -94,14 +94,14 @@ const GRID_HEIGHT: Argument = Argument {
 };
 
 /// `GRID_HEIGHT`, as it is read.
-static GRID_HEIGHT_ARGUMENT: Argument = GRID_HEIGHT;
+pub(crate) static GRID_HEIGHT_ARGUMENT: Argument = GRID_HEIGHT;
 
-const TORUS_WIDTH: Argument = Argument {
+pub(crate) const TORUS_WIDTH: Argument = Argument {
     help: "The number of nodes in a row, 3 or more",
     ..GRID_WIDTH
 };
 
-const TORUS_HEIGHT: Argument = Argument {
+pub(crate) const TORUS_HEIGHT: Argument = Argument {
     help: "The number of rows, 3 or more",
     ..GRID_HEIGHT
 };
@@ -116,14 +116,14 @@ const ARITY: Argument = Argument {
 /// `ARITY`, as it is read.
 static ARITY_ARGUMENT: Argument = ARITY;
 
-const DIAGONALS: Argument = Argument {
+pub(crate) const DIAGONALS: Argument = Argument {
     name: "diagonals",
     help: "Link each node with the four beside its corners, too",
     ..FLAG
 };
 
 /// `DIAGONALS`, as it is read.
-static DIAGONALS_ARGUMENT: Argument = DIAGONALS;
+pub(crate) static DIAGONALS_ARGUMENT: Argument = DIAGONALS;
 
 const LINKS: Argument = Argument {
     name: "links",

@@ -1,6 +1,6 @@
 //! `large`: rounds on networks of any size.
 
-use crate::arguments::{EVERY, FILE, PROGRAM, PROGRAM_ARGUMENT, ROUND, ROUNDS, span_in};
+use crate::arguments::{EVERY, FILE, FLAG, PROGRAM, PROGRAM_ARGUMENT, ROUND, ROUNDS, span_in};
 use crate::init::{RandomWord, SEED, SET, SET_RANDOM, SetWord, random_in, sets_in};
 use app_table::{Argument, Command, Kind, OPTION, Reading, Subcommand, WordsFault};
 use run_watch::Span;
@@ -41,6 +41,15 @@ const COUNT: Argument = Argument {
 /// `COUNT`, as it is read.
 static COUNT_ARGUMENT: Argument = COUNT;
 
+const SEQUENTIAL: Argument = Argument {
+    name: "sequential",
+    help: "Make all rounds by one thread",
+    ..FLAG
+};
+
+/// `SEQUENTIAL`, as it is read.
+static SEQUENTIAL_ARGUMENT: Argument = SEQUENTIAL;
+
 const WAYS: [Subcommand; 3] = [
     Subcommand {
         name: "info",
@@ -52,13 +61,17 @@ const WAYS: [Subcommand; 3] = [
         name: "lockstep",
         about: "Report the states after a round, as unison lockstep does",
         notes: "",
-        arguments: &[PROGRAM, PACKED, LAST, SET, SET_RANDOM, SEED, COUNT],
+        arguments: &[
+            PROGRAM, PACKED, LAST, SET, SET_RANDOM, SEED, COUNT, SEQUENTIAL,
+        ],
     },
     Subcommand {
         name: "watch",
         about: "Tell for each round from one to another how many nodes changed since the round shown before, or count a field's values, as CSV",
         notes: "",
-        arguments: &[PROGRAM, PACKED, ROUNDS, EVERY, SET, SET_RANDOM, SEED, COUNT],
+        arguments: &[
+            PROGRAM, PACKED, ROUNDS, EVERY, SET, SET_RANDOM, SEED, COUNT, SEQUENTIAL,
+        ],
     },
 ];
 
@@ -98,6 +111,8 @@ pub struct LargeTexts {
     pub start: StartWords,
     /// The field whose values are counted, where they are.
     pub count: Option<String>,
+    /// Whether rounds are shared among the processors.
+    pub is_shared: bool,
 }
 
 /// What `large` is asked for.
@@ -130,6 +145,7 @@ fn texts_in(reading: &mut Reading) -> LargeTexts {
         network,
         start,
         count,
+        is_shared: !reading.has(&SEQUENTIAL_ARGUMENT),
     }
 }
 

@@ -2,9 +2,14 @@
 ghost use Rattle.std.specs.Prelude.{◌≤◌, IfOk, IfSome};
 
 use crate::arguments::{FLAG, NETWORK, NETWORK_ARGUMENT};
+use crate::generate::{
+    DIAGONALS, DIAGONALS_ARGUMENT, GRID_HEIGHT, GRID_HEIGHT_ARGUMENT, GRID_WIDTH,
+    GRID_WIDTH_ARGUMENT, NODES, NODES_ARGUMENT, RING_NODES, TORUS_HEIGHT, TORUS_WIDTH,
+};
 use crate::import::{DROP_LOOPS, HEADER, SCALE, TEXT, factor_in};
 use app_table::{Argument, Choice, Command, OPTION, Reading, Subcommand, Value, WordsFault};
 use large_pack::{PackOptions, Parallel, SelfLoops};
+use large_shapes::LargeShape;
 use std::alloc::Global;
 
 /// `TEXT`, as it is read.
@@ -25,7 +30,7 @@ const KEEP_LOOPS: Argument = Argument {
 /// `KEEP_LOOPS`, as it is read.
 static KEEP_LOOPS_ARGUMENT: Argument = KEEP_LOOPS;
 
-const NODES: Argument = Argument {
+const COUNT: Argument = Argument {
     name: "nodes",
     value: Value::Number {
         least: 1,
@@ -36,8 +41,8 @@ const NODES: Argument = Argument {
     ..OPTION
 };
 
-/// `NODES`, as it is read.
-static NODES_ARGUMENT: Argument = NODES;
+/// `COUNT`, as it is read.
+static COUNT_ARGUMENT: Argument = COUNT;
 
 const DIRECTED: Argument = Argument {
     name: "directed",
@@ -76,13 +81,13 @@ const PARALLEL: Argument = Argument {
 /// `PARALLEL`, as it is read.
 static PARALLEL_ARGUMENT: Argument = PARALLEL;
 
-const FORMATS: [Subcommand; 2] = [
+const FORMATS: [Subcommand; 6] = [
     Subcommand {
         name: "edges",
         about: "Lines of two numbers of nodes, from 0, and a weight, which may be left out; blanks, tabs or commas between, comments behind # or %",
         notes: "",
         arguments: &[
-            TEXT, NODES, DIRECTED, SCALE, DROP_LOOPS, KEEP_LOOPS, PARALLEL, HEADER,
+            TEXT, COUNT, DIRECTED, SCALE, DROP_LOOPS, KEEP_LOOPS, PARALLEL, HEADER,
         ],
     },
     Subcommand {
@@ -90,6 +95,30 @@ const FORMATS: [Subcommand; 2] = [
         about: "A network file, a TOML document; its initial values are left out",
         notes: "",
         arguments: &[NETWORK],
+    },
+    Subcommand {
+        name: "path",
+        about: "Each node is linked with the next one",
+        notes: "",
+        arguments: &[NODES],
+    },
+    Subcommand {
+        name: "ring",
+        about: "Each node is linked with the next one, and the last with the first",
+        notes: "",
+        arguments: &[RING_NODES],
+    },
+    Subcommand {
+        name: "grid",
+        about: "Each node is linked with the one at its right and the one below it",
+        notes: "",
+        arguments: &[GRID_WIDTH, GRID_HEIGHT],
+    },
+    Subcommand {
+        name: "torus",
+        about: "A grid whose rows and columns are rings",
+        notes: "",
+        arguments: &[TORUS_WIDTH, TORUS_HEIGHT, DIAGONALS],
     },
 ];
 
@@ -99,7 +128,7 @@ static PACK: Command = Command {
     aliases: &[],
     called: "unison pack",
     about: "Pack a network of any size into a binary file, for unison large",
-    notes: "Prints the binary file; docs/formats.md says what stands in it.\nAn example: unison pack edges friends.txt --drop-loops --parallel min > friends.net\nAnother one: unison generate torus 200 300 | unison pack network - > torus.net\n",
+    notes: "Prints the binary file; docs/formats.md says what stands in it.\nAn example: unison pack edges friends.txt --drop-loops --parallel min > friends.net\nAnother one: unison pack torus 1000 1000 --diagonals > torus.net\n",
     arguments: &[],
     subcommands: &FORMATS,
 };
@@ -116,6 +145,8 @@ pub enum PackRequest {
     Edges { path: String, options: PackOptions },
     /// The network file at a path.
     Network { path: String },
+    /// A shape.
+    Shape(LargeShape),
 }
 
 /// What becomes of edges between the same two nodes.
@@ -149,7 +180,7 @@ fn self_loops_in(reading: &mut Reading) -> SelfLoops {
 fn nodes_in(reading: &mut Reading) -> Option<u32>
     ensures some { IfSome result (λ nodes. 1 ≤ nodes) }
 {
-    let nodes = reading.number_or(&NODES_ARGUMENT, 0);
+    let nodes = reading.number_or(&COUNT_ARGUMENT, 0);
     if nodes > 0 { Some(nodes) } else { None }
 }
 
@@ -172,16 +203,54 @@ fn options_in(reading: &mut Reading) -> PackOptions
     }
 }
 
-/// What plain words ask for.
-fn request_in(reading: &mut Reading) -> PackRequest {
-    if reading.subcommand() == "network" {
-        return PackRequest::Network {
-            path: reading.needed_text(&NETWORK_ARGUMENT),
-        };
-    }
+/// The list of edges that the words name.
+fn edges_in(reading: &mut Reading) -> PackRequest {
     let options = options_in(reading);
     let path = reading.needed_text(&TEXT_ARGUMENT);
     PackRequest::Edges { path, options }
+}
+
+/// The columns and rows that the words name.
+fn sides_in(reading: &mut Reading) -> (u32, u32) {
+    let width = reading.number_or(&GRID_WIDTH_ARGUMENT, 0);
+    let height = reading.number_or(&GRID_HEIGHT_ARGUMENT, 0);
+    (width, height)
+}
+
+/// The shape that the words name.
+fn shape_in(reading: &mut Reading) -> LargeShape {
+    match reading.subcommand() {
+        "path" => LargeShape::Path {
+            nodes: reading.number_or(&NODES_ARGUMENT, 0),
+        },
+        "ring" => LargeShape::Ring {
+            nodes: reading.number_or(&NODES_ARGUMENT, 0),
+        },
+        "grid" => {
+            let (width, height) = sides_in(reading);
+            LargeShape::Grid { width, height }
+        }
+        _ => {
+            let (width, height) = sides_in(reading);
+            let diagonals = reading.has(&DIAGONALS_ARGUMENT);
+            LargeShape::Torus {
+                width,
+                height,
+                diagonals,
+            }
+        }
+    }
+}
+
+/// What plain words ask for.
+fn request_in(reading: &mut Reading) -> PackRequest {
+    match reading.subcommand() {
+        "edges" => edges_in(reading),
+        "network" => PackRequest::Network {
+            path: reading.needed_text(&NETWORK_ARGUMENT),
+        },
+        _ => PackRequest::Shape(shape_in(reading)),
+    }
 }
 
 impl PackRequest {

@@ -5,6 +5,8 @@ use app_files::{Ending, bytes_at, file_at, name_at, print_out};
 use app_requests::PackRequest;
 use large_net::{LargeNetwork, large_bytes};
 use large_pack::{PackOptions, Packed, pack_edges};
+use large_shapes::{LargeShape, LargeShapeFault, large_shape};
+use std::alloc::Global;
 use std::io;
 use std::io::IsTerminal;
 
@@ -39,11 +41,32 @@ fn copied_at(rt: &HostRuntime, path: &str) -> Result<LargeNetwork, Ending> {
     Ok(network)
 }
 
+/// The ending where a shape has no network.
+fn no_shape(alloc: Global, fault: LargeShapeFault) -> Ending {
+    let text = match fault {
+        LargeShapeFault::TooFewNodes => {
+            "a shape has a node at least, a ring three, and a torus three in each row and column"
+        }
+        LargeShapeFault::TooManyNodes => "a network has 4294967295 nodes at most",
+        LargeShapeFault::Memory => return Ending::Memory,
+    };
+    Ending::usage(String::from_str(alloc, text))
+}
+
+/// The network of a shape.
+fn shape_of(alloc: Global, shape: LargeShape) -> Result<LargeNetwork, Ending> {
+    match large_shape(alloc, shape) {
+        Ok(network) => Ok(network),
+        Err(fault) => Err(no_shape(alloc, fault)),
+    }
+}
+
 /// The network that is asked for.
 fn network_for(rt: &HostRuntime, asked: &PackRequest) -> Result<LargeNetwork, Ending> {
     match asked {
         PackRequest::Edges { path, options } => edges_at(rt, path.as_str(), options),
         PackRequest::Network { path } => copied_at(rt, path.as_str()),
+        PackRequest::Shape(shape) => shape_of(rt.alloc(), *shape),
     }
 }
 

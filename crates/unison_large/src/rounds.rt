@@ -32,9 +32,10 @@ fn states_after(
     threads: &(impl Threads + Sync),
     start: &Start,
     rounds: u32,
+    is_shared: bool,
 ) -> Result<Vec<State>, Ending> {
     let plan = plan_of(rt.alloc(), start)?;
-    match large_lockstep(threads, rt.alloc(), &plan, rounds) {
+    match large_lockstep(threads, rt.alloc(), &plan, rounds, is_shared) {
         Ok(states) => Ok(states),
         Err(RoundFault::Memory) => Err(Ending::Memory),
         Err(fault) => Err(Ending::Served(ServeFault::Round(fault))),
@@ -68,7 +69,7 @@ pub(crate) fn report_round(
     rounds: u32,
 ) -> Result<u8, Ending> {
     let start = start_at(rt, texts)?;
-    let states = states_after(rt, threads, &start, rounds)?;
+    let states = states_after(rt, threads, &start, rounds, texts.is_shared)?;
     let text = text_of(rt.alloc(), &start, texts, rounds, &states)?;
     print_out(rt, &text)
 }

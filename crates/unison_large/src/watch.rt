@@ -5,7 +5,7 @@ use crate::rounds::plan_of;
 use crate::start::{Start, start_at};
 use app_files::{Ending, print_out};
 use app_requests::LargeTexts;
-use large_rounds::{LargeWalk, changed_nodes};
+use large_rounds::{LargePlan, LargeWalk, changed_nodes};
 use rule_check::State;
 use run_watch::Span;
 use std::alloc::{AllocError, Global};
@@ -67,7 +67,7 @@ fn put_round(
     }
 }
 
-/// The lines of all rounds of a span. The walk stands at the first of them or before.
+/// The lines of all rounds of a span. The walk stands at round 0.
 fn put_rounds(
     rt: &HostRuntime,
     threads: &(impl Threads + Sync),
@@ -78,7 +78,7 @@ fn put_rounds(
 ) -> Result<(), AllocError> {
     walk.go_to_shared(threads, span.first());
     let mut before = walk.states(rt.alloc())?;
-    for step in 0..span.steps() + 1 {
+    for step in 0..=span.steps() {
         let round = span.round_at(step);
         walk.go_to_shared(threads, round);
         let states = walk.states(rt.alloc())?;
@@ -89,6 +89,20 @@ fn put_rounds(
     Ok(())
 }
 
+/// A walk over the rounds of a plan, from its start on. One that is not shared makes each round by one thread.
+fn walk_of<'a>(
+    rt: &HostRuntime,
+    threads: &(impl Threads + Sync),
+    plan: &'a LargePlan<'a>,
+    is_shared: bool,
+) -> Result<LargeWalk<'a>, AllocError> {
+    if is_shared {
+        plan.shared_walk(threads, rt.alloc())
+    } else {
+        plan.walk(rt.alloc())
+    }
+}
+
 /// The text of the rounds of a span.
 fn text_of(
     rt: &HostRuntime,
@@ -96,9 +110,10 @@ fn text_of(
     start: &Start,
     span: &Span,
     show: Show,
+    is_shared: bool,
 ) -> Result<String, Ending> {
     let plan = plan_of(rt.alloc(), start)?;
-    let mut walk = plan.shared_walk(threads, rt.alloc())?;
+    let mut walk = walk_of(rt, threads, &plan, is_shared)?;
     let mut text = String::from_str(rt.alloc(), show.heading())?;
     put_rounds(rt, threads, &mut text, &mut walk, span, show)?;
     Ok(text)
@@ -113,6 +128,6 @@ pub(crate) fn watch_rounds(
 ) -> Result<u8, Ending> {
     let start = start_at(rt, texts)?;
     let show = Show::of(rt.alloc(), &start, texts)?;
-    let text = text_of(rt, threads, &start, span, show)?;
+    let text = text_of(rt, threads, &start, span, show, texts.is_shared)?;
     print_out(rt, text.as_bytes())
 }
