@@ -32,16 +32,16 @@ module _ {X : Type 0} (offsets : List ℕ) (items : List X) (good : AreOffsets o
   pub sum_parts : sum_by length (map (part offsets items) (numbers_below (length offsets - 1))) ≡ length items
   sum_parts = sum_below (length offsets - 1) (omega (arith, good.some)) ∙ good.last
 
+pub paired_length : (ns ws : List ℕ) → length ws ≡ length ns → length (zip ns ws) ≡ length ns
+paired_length ns ws same = omega (arith, length-zip ns ws, same)
+
 module _ (offsets ns ws : List ℕ) where
   pub rows_count : length (rows_of offsets ns ws) ≡ length offsets - 1
   rows_count = length-map-range_with_len (part offsets (zip ns ws)) 0 (length offsets - 1)
 
-  pub paired_length : length ws ≡ length ns → length (zip ns ws) ≡ length ns
-  paired_length same = omega (arith, length-zip ns ws, same)
-
   pub rows_sum : length ws ≡ length ns → AreOffsets offsets (length ns) → sum_by length (rows_of offsets ns ws) ≡ length ns
   rows_sum same good =
-      let long = paired_length same in
+      let long = paired_length ns ws same in
       sum_parts offsets (zip ns ws) (rw long good) ∙ long
 
   pub few_nodes : AreLaidOut offsets ns ws → length offsets ≤ 4294967296

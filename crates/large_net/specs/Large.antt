@@ -1,6 +1,6 @@
 -- Networks of any size.
-use Rattle.std.specs.Prelude.{ℕ, ◌≤◌, List, length}
-use Rattle.link_net.specs.Layout.{rows_of, HoldRows}
+use Rattle.std.specs.Prelude.{◌≡◌, ℕ, ◌≤◌, List, length}
+use Rattle.link_net.specs.Layout.{HoldRows, AreOffsets}
 use Rattle.link_net.specs.Neighbours.{Neighbours, AreRows}
 
 -- rows that a round can go over, one at least
@@ -12,3 +12,8 @@ pub record IsLargeNetwork (network : Neighbours) : Type 0 where
 pub record AreLaidOut (offsets neighbours weights : List ℕ) : Type 0 where
   pub some : 2 ≤ length offsets
   pub held : HoldRows offsets neighbours weights
+
+-- the three lists hold rows, whatever numbers stand in them
+pub record ArePlaced (offsets neighbours weights : List ℕ) : Type 0 where
+  pub placed : AreOffsets offsets (length neighbours)
+  pub paired : length weights ≡ length neighbours

@@ -1,10 +1,12 @@
 //! Networks of any size: rows of neighbours.
-ghost use Rattle.std.specs.Prelude.{◌≡◌, ◌≤◌, length};
+ghost use Rattle.std.specs.Prelude.{◌≡◌, ◌≤◌, length, IfOk};
 ghost use Rattle.std.specs.List.{sum_by};
 ghost use Rattle.link_net.specs.Layout.{rows_of, HoldRows};
 ghost use Rattle.large_net.specs.Large.{IsLargeNetwork};
 
-use link_net::NetRows;
+use crate::laid_rows::LaidRows;
+use link_net::{NetRows, Network};
+use std::alloc::{AllocError, Global};
 use std::marker::Model;
 
 /// A network of any size that memory holds: 1 to 4,294,967,295 nodes, numbered from 0, and for each node its neighbours in
@@ -45,6 +47,26 @@ impl LargeNetwork {
             neighbours,
             weights,
         }
+    }
+
+    /// A copy of rows that stand elsewhere.
+    pub fn copied(alloc: Global, rows: &NetRows<'_>) -> Result<LargeNetwork, AllocError>
+        requires some { 1 ≤ length rows.now }
+        ensures rows { IfOk result (λ large. large ≡ rows.now) }
+    {
+        let room = LaidRows::with_capacity(alloc, rows.nodes(), 0)?;
+        let laid = room.with_rows(rows)?;
+        Ok(laid.into_network())
+    }
+
+    /// A copy of a network as a file describes it.
+    pub fn of_network(alloc: Global, network: &Network) -> Result<LargeNetwork, AllocError>
+        ensures rows { IfOk result (λ large. large ≡ network.now) }
+    {
+        let ends = 2 * network.links() as usize;
+        let room = LaidRows::with_capacity(alloc, network.nodes(), ends)?;
+        let laid = room.with_rows(&network.rows())?;
+        Ok(laid.into_network())
     }
 
     /// The rows, lent.
