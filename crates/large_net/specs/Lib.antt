@@ -1,1 +1,2 @@
 pub mod Large
+pub mod File

@@ -1,7 +1,11 @@
 //! Networks of any size that memory holds: rows of neighbours, and the binary files in which they are kept.
 #![tactic(auto)]
 
+mod fault;
+mod header;
 mod laid_rows;
 mod network;
+mod numbers;
 
+pub use fault::LargeFault;
 pub use network::LargeNetwork;

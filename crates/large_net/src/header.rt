@@ -1,0 +1,64 @@
+//! The first 32 bytes of a network file.
+ghost use Rattle.std.specs.Prelude.{◌≡◌, ◌≤◌, length, min, ◌^◌, ◌-◌, IfOk};
+ghost use Rattle.link_net.specs.Limits.{most_rows};
+ghost use Rattle.large_net.specs.File.{magic, header_of, length_for};
+
+use crate::fault::LargeFault;
+use crate::numbers::long_at;
+
+/// What a network file begins with.
+pub(crate) const MAGIC: [u8; 8] = *b"UNISONW1";
+
+/// How many bytes the header has.
+pub(crate) const HEADER: usize = 32;
+
+/// The most nodes that a network may have.
+const MOST_NODES: u64 = 4_294_967_295;
+
+/// What the first 32 bytes of a network file say.
+#[derive(Clone, Copy)]
+pub(crate) struct FileHeader {
+    pub(crate) nodes: u64,
+    pub(crate) ends: u64,
+    pub(crate) weighted: bool,
+}
+
+/// How many bytes a file has, or 2^64 - 1 where that is less.
+fn file_length(nodes: u64, ends: u64, weighted: bool) -> u64
+    requires few { nodes ≤ most_rows }
+    ensures { result ≡ min (length_for nodes ends weighted) (2 ^ 64 - 1) }
+{
+    let each = if weighted { 8 } else { 4 };
+    (32 + 8 * (nodes + 1)).saturating_add(ends.saturating_mul(each))
+}
+
+/// The header of a network file whose length is as its header asks.
+pub(crate) fn read_header(bytes: &[u8]) -> Result<FileHeader, LargeFault>
+    ensures exact { result ≡ header_of bytes.now }
+    ensures some { IfOk result (λ header. 1 ≤ header.nodes) }
+    ensures few { IfOk result (λ header. header.nodes ≤ most_rows) }
+    ensures whole { IfOk result (λ header. length bytes.now ≡ length_for header.nodes header.ends header.weighted) }
+{
+    if !bytes.starts_with(&MAGIC) {
+        return Err(LargeFault::Magic);
+    }
+    if bytes.len() < HEADER || long_at(bytes, 24) > 1 {
+        return Err(LargeFault::Header);
+    }
+    let nodes = long_at(bytes, 8);
+    if nodes == 0 || nodes > MOST_NODES {
+        return Err(LargeFault::NodeCount { nodes });
+    }
+    let ends = long_at(bytes, 16);
+    let weighted = long_at(bytes, 24) == 1;
+    let found = bytes.len() as u64;
+    let expected = file_length(nodes, ends, weighted);
+    if found != expected {
+        return Err(LargeFault::Length { expected, found });
+    }
+    Ok(FileHeader {
+        nodes,
+        ends,
+        weighted,
+    })
+}
