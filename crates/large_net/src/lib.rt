@@ -1,6 +1,7 @@
 //! Networks of any size that memory holds: rows of neighbours, and the binary files in which they are kept.
 #![tactic(auto)]
 
+mod checks;
 mod fault;
 mod header;
 mod laid_rows;
