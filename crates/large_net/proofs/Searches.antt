@@ -1,9 +1,10 @@
 -- Searches for the first of some numbers.
-use Rattle.std.proofs.Common.{◌≡◌, ◌∙◌, ℕ, ◌+◌, ◌-◌, ◌<◌, ◌≤◌, Bool, true, false, cond, List, ◌∷◌, length, get_or, zero, suc, nat_lt, refl, sym, ap, Option, Some, None, option_map, arith, inl, inr}
+use Rattle.std.proofs.Common.{◌≡◌, ◌∙◌, ℕ, ◌+◌, ◌-◌, ◌<◌, ◌≤◌, Bool, true, false, cond, not, List, [], ◌∷◌, map, length, get_or, zero, suc, nat_lt, refl, sym, ap, Option, Some, None, option_map, arith, inl, inr}
 use Rattle.std.specs.List.{find, range_with_len, position, position_or_len}
 use Rattle.std.specs.Option.{option_or}
 use Rattle.std.proofs.lemmas.Bool.{cases_Bool}
 use Rattle.std.proofs.lemmas.Bool.Decides.{nat_tests}
+use Rattle.std.proofs.lemmas.List.{length-map}
 use Rattle.std.proofs.lemmas.List.Sums.{fails_before_first}
 
 -- the first of the numbers that are left
@@ -40,6 +41,14 @@ none_placed p xs h i low =
     at false same = refl
     before : nat_lt (position_or_len p xs) (length xs) ≡ false → i < position_or_len p xs
     before past = grind (arith, nat_tests)
+
+-- the first place in a mapped list
+place_mapped : {X : Type 0} (p : ℕ → Bool) (f : X → ℕ) (xs : List X) → position_or_len p (map f xs) ≡ position_or_len (λ x. p (f x)) xs
+place_mapped p f [] = refl
+place_mapped p f (x ∷ xs) = ap (λ k. cond (not (p (f x))) (1 + k) 0) (place_mapped p f xs)
+
+pub position_mapped : {X : Type 0} (p : ℕ → Bool) (f : X → ℕ) (xs : List X) → position p (map f xs) ≡ position (λ x. p (f x)) xs
+position_mapped p f xs = rw (place_mapped p f xs, length-map) refl
 
 -- neither of two
 pub neither : {A : Type 0} (o p : Option A) → option_or o p ≡ None → (o ≡ None) × (p ≡ None)

@@ -57,13 +57,21 @@ fn first_wide_row(offsets: &[[u8; 8]]) -> Option<u64>
     None
 }
 
+/// The first piece in which no node stands.
+fn stray_place(neighbours: &[[u8; 4]], nodes: u64) -> Option<usize>
+    ensures { result ≡ position (λ piece. nat_le nodes (from_le_bytes w32 piece)) neighbours.now }
+{
+    neighbours
+        .iter()
+        .position(|piece| u32::from_le_bytes(*piece) as u64 >= nodes)
+}
+
 /// The first place among the neighbours at which no node stands.
+#[tactic(auto, using(crate::proofs::Searches::position_mapped))]
 fn first_stray(neighbours: &[[u8; 4]], nodes: u64) -> Option<u64>
     ensures { result ≡ position (λ v. nat_le nodes v) (map (from_le_bytes w32) neighbours.now) }
 {
-    let place = neighbours
-        .iter()
-        .position(|piece| u32::from_le_bytes(*piece) as u64 >= nodes)?;
+    let place = stray_place(neighbours, nodes)?;
     Some(place as u64)
 }
 

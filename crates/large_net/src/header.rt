@@ -1,7 +1,7 @@
 //! The first 32 bytes of a network file.
-ghost use Rattle.std.specs.Prelude.{◌≡◌, ◌≤◌, length, min, ◌^◌, ◌-◌, IfOk};
+ghost use Rattle.std.specs.Prelude.{◌≡◌, ◌≤◌, ◌+◌, ◌-◌, ◌^◌, length, min, IfOk};
 ghost use Rattle.link_net.specs.Limits.{most_rows};
-ghost use Rattle.large_net.specs.File.{magic, header_of, length_for};
+ghost use Rattle.large_net.specs.File.{header_of, length_for, neighbours_start};
 
 use crate::fault::LargeFault;
 use crate::numbers::long_at;
@@ -21,6 +21,24 @@ pub(crate) struct FileHeader {
     pub(crate) nodes: u64,
     pub(crate) ends: u64,
     pub(crate) weighted: bool,
+}
+
+impl FileHeader {
+    /// How many offsets there are, one more than nodes.
+    pub(crate) fn offsets(self) -> usize
+        requires few { self.nodes ≤ most_rows }
+        ensures { result ≡ self.nodes + 1 }
+    {
+        self.nodes as usize + 1
+    }
+
+    /// The place of the first neighbour, behind the offsets.
+    pub(crate) fn neighbours_start(self) -> usize
+        requires few { self.nodes ≤ most_rows }
+        ensures { result ≡ neighbours_start self.nodes }
+    {
+        HEADER + 8 * self.offsets()
+    }
 }
 
 /// How many bytes a file has, or 2^64 - 1 where that is less.

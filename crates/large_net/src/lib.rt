@@ -7,6 +7,8 @@ mod header;
 mod laid_rows;
 mod network;
 mod numbers;
+mod reader;
 
 pub use fault::LargeFault;
 pub use network::LargeNetwork;
+pub use reader::read_large;

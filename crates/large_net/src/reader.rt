@@ -1,0 +1,53 @@
+//! Network files that are read.
+ghost use Rattle.std.specs.Prelude.{◌≡◌, ◌≤◌, length, IfOk, IfErr, Ok, Err};
+ghost use Rattle.link_net.specs.Limits.{most_rows};
+ghost use Rattle.large_net.specs.File.{IsAnswer, header_of, length_for, large_of, weights_in};
+
+use crate::checks::check_rows;
+use crate::fault::LargeFault;
+use crate::header::{FileHeader, HEADER, read_header};
+use crate::network::LargeNetwork;
+use crate::numbers::{eights, fours, read_longs, read_words};
+use std::alloc::{AllocError, Global};
+
+/// The weights of a file, each 1 where none follow.
+fn read_weights(alloc: Global, bytes: &[u8], header: FileHeader) -> Result<Vec<u32>, AllocError>
+    requires few { header.nodes ≤ most_rows }
+    requires whole { length bytes.now ≡ length_for header.nodes header.ends header.weighted }
+    ensures weights { IfOk result (λ v. v.items ≡ weights_in header bytes.now) }
+{
+    let ends = header.ends as usize;
+    if !header.weighted {
+        return vec![in alloc; 1; ends];
+    }
+    let start = header.neighbours_start() + 4 * ends;
+    read_words(alloc, fours(bytes, start, ends))
+}
+
+/// The network of a file with this header, or what is wrong with its rows.
+fn read_rows(alloc: Global, bytes: &[u8], header: FileHeader) -> Result<LargeNetwork, LargeFault>
+    requires some { 1 ≤ header.nodes }
+    requires few { header.nodes ≤ most_rows }
+    requires whole { length bytes.now ≡ length_for header.nodes header.ends header.weighted }
+    requires header { header_of bytes.now ≡ Ok header }
+    ensures answer { IsAnswer (large_of bytes.now) result }
+    ensures refused { IfErr (large_of bytes.now) (λ fault. result ≡ Err fault) }
+{
+    let offsets = eights(bytes, HEADER, header.offsets());
+    let neighbours = fours(bytes, header.neighbours_start(), header.ends as usize);
+    check_rows(offsets, neighbours)?;
+    let offsets = read_longs(alloc, offsets)?;
+    let neighbours = read_words(alloc, neighbours)?;
+    let weights = read_weights(alloc, bytes, header)?;
+    Ok(LargeNetwork::new(offsets, neighbours, weights))
+}
+
+/// Reads a network file: the network that stands in it, or the first fault in the order of [`LargeFault`], which is found
+/// before memory is taken. `Memory` comes only where memory runs out. Besides the network no memory is taken.
+pub fn read_large(alloc: Global, bytes: &[u8]) -> Result<LargeNetwork, LargeFault>
+    ensures answer { IsAnswer (large_of bytes.now) result }
+    ensures refused { IfErr (large_of bytes.now) (λ fault. result ≡ Err fault) }
+{
+    let header = read_header(bytes)?;
+    read_rows(alloc, bytes, header)
+}
