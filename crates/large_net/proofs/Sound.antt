@@ -99,9 +99,9 @@ pub sound_lists : (offsets ns ws : List ℕ) → 2 ≤ length offsets → length
 sound_lists offsets ns ws some few paired clean =
     let first = neither (option_map Offsets (find (is_bad_offset offsets (length ns)) (numbers_below (length offsets)))) (option_or (option_map TooManyNeighbours (find (is_wide offsets) (numbers_below (length offsets - 1)))) (option_map Neighbour (position (λ v. nat_le (length offsets - 1) v) ns))) clean in
     let second = neither (option_map TooManyNeighbours (find (is_wide offsets) (numbers_below (length offsets - 1)))) (option_map Neighbour (position (λ v. nat_le (length offsets - 1) v) ns)) first.1 in
-    let bad = none_mapped Offsets _ first.0 in
-    let wide = none_mapped TooManyNeighbours _ second.0 in
-    let stray = none_mapped Neighbour _ second.1 in
+    let bad : find (is_bad_offset offsets (length ns)) (numbers_below (length offsets)) ≡ None = none_mapped Offsets _ first.0 in
+    let wide : find (is_wide offsets) (numbers_below (length offsets - 1)) ≡ None = none_mapped TooManyNeighbours _ second.0 in
+    let stray : position (λ v. nat_le (length offsets - 1) v) ns ≡ None = none_mapped Neighbour _ second.1 in
     let placed = sound_offsets offsets (length ns) some (λ u low. none_found (is_bad_offset offsets (length ns)) 0 (length offsets) bad u (omega arith) (omega (arith, low))) in
     record {
       some = some;

@@ -1,7 +1,7 @@
 -- The binary files in which networks of any size are kept.
 use Rattle.std.specs.Prelude.{◌≡◌, ◌≢◌, ℕ, ◌+◌, ◌-◌, ◌*◌, ◌^◌, Bool, not, ◌&&◌, ◌||◌, ◌==◌, nat_eq, nat_lt, nat_le, List, length, map, drop, min, replicate, position, find, codes, slice_index, slice_range, MatchResult, Option, Some, None, option_map, Result, Ok, Err, if◌then◌else◌}
 use Rattle.std.specs.Int.{from_le_bytes, w32, w64}
-use Rattle.std.specs.List.{starts_with}
+use Rattle.std.specs.List.{list_any, starts_with}
 use Rattle.std.specs.Option.{option_or}
 use Rattle.std.specs.Simd.{first_chunks}
 use Rattle.link_net.specs.Limits.{most_rows}
@@ -88,6 +88,10 @@ unless (Some fault) network = Err fault
 abbrev pub large_of : List ℕ → Result Neighbours LargeFault
 large_of bytes = and_then (header_of bytes) (λ header.
     unless (rows_fault (offsets_in header bytes) (neighbours_in header bytes)) (rows_of (offsets_in header bytes) (neighbours_in header bytes) (weights_in header bytes)))
+
+-- whether the weight of some link is not 1
+abbrev pub is_weighted : Neighbours → Bool
+is_weighted network = list_any (λ row. list_any (λ a. not (a.1 == 1)) row) network
 
 -- what was returned is the defined result, or stands for running out of memory
 abbrev pub IsAnswer : Result Neighbours LargeFault → Result Neighbours LargeFault → Type 0

@@ -42,7 +42,7 @@ impl FileHeader {
 }
 
 /// How many bytes a file has, or 2^64 - 1 where that is less.
-fn file_length(nodes: u64, ends: u64, weighted: bool) -> u64
+pub(crate) fn file_length(nodes: u64, ends: u64, weighted: bool) -> u64
     requires few { nodes ≤ most_rows }
     ensures { result ≡ min (length_for nodes ends weighted) (2 ^ 64 - 1) }
 {

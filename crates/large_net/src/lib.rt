@@ -8,6 +8,7 @@ mod laid_rows;
 mod network;
 mod numbers;
 mod reader;
+mod writer;
 
 pub use fault::LargeFault;
 pub use network::LargeNetwork;

@@ -34,6 +34,14 @@ impl Model for LargeNetwork {
     ghost invariant = { λ a. AreLaidOut a.offsets.items a.neighbours.items a.weights.items };
 }
 
+/// The three lists of a network, lent.
+#[derive(Clone, Copy)]
+pub(crate) struct RowLists<'a> {
+    pub(crate) offsets: &'a [usize],
+    pub(crate) neighbours: &'a [u32],
+    pub(crate) weights: &'a [u32],
+}
+
 impl LargeNetwork {
     ghost use Rattle.large_net.specs.Large.{AreLaidOut};
 
@@ -79,6 +87,18 @@ impl LargeNetwork {
             self.neighbours.as_slice(),
             self.weights.as_slice(),
         )
+    }
+
+    /// The lists that hold the rows, lent.
+    pub(crate) fn lists(&self) -> RowLists<'_>
+        ensures laid_out { AreLaidOut result.offsets.now result.neighbours.now result.weights.now }
+        ensures rows { rows_of result.offsets.now result.neighbours.now result.weights.now ≡ self.now }
+    {
+        RowLists {
+            offsets: self.offsets.as_slice(),
+            neighbours: self.neighbours.as_slice(),
+            weights: self.weights.as_slice(),
+        }
     }
 
     /// How many nodes there are, from 1 to 4,294,967,295.

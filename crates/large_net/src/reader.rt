@@ -15,6 +15,7 @@ fn read_weights(alloc: Global, bytes: &[u8], header: FileHeader) -> Result<Vec<u
     requires few { header.nodes ≤ most_rows }
     requires whole { length bytes.now ≡ length_for header.nodes header.ends header.weighted }
     ensures weights { IfOk result (λ v. v.items ≡ weights_in header bytes.now) }
+    ensures count { IfOk result (λ v. length v.items ≡ header.ends) }
 {
     let ends = header.ends as usize;
     if !header.weighted {
