@@ -48,10 +48,10 @@ module _ (offsets : List ℕ) (ends : ℕ) (some : 2 ≤ length offsets) (good :
   }
 
 module _ (offsets ns ws : List ℕ) (placed : AreOffsets offsets (length ns)) (paired : length ws ≡ length ns) where
-  items_placed : AreOffsets offsets (length (zip ns ws))
+  pub items_placed : AreOffsets offsets (length (zip ns ws))
   items_placed = rw (paired_length ns ws paired) placed
 
-  row_part : (u : ℕ) → u < length offsets - 1 → row (rows_of offsets ns ws) u ≡ part offsets (zip ns ws) u
+  pub row_part : (u : ℕ) → u < length offsets - 1 → row (rows_of offsets ns ws) u ≡ part offsets (zip ns ws) u
   row_part u low = get_or-map-range_with_len (part offsets (zip ns ws)) 0 (length offsets - 1) u u [] low (omega arith)
 
   no_row : (u : ℕ) → length offsets - 1 ≤ u → row (rows_of offsets ns ws) u ≡ []

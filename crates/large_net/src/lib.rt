@@ -13,3 +13,4 @@ mod writer;
 pub use fault::LargeFault;
 pub use network::LargeNetwork;
 pub use reader::read_large;
+pub use writer::large_bytes;

@@ -1,5 +1,5 @@
 //! Network files that are written.
-ghost use Rattle.std.specs.Prelude.{◌≡◌, ◌++◌, ◌==◌, not, length, flat_map, sum_by, IfOk, OnOk, Ok};
+ghost use Rattle.std.specs.Prelude.{◌≡◌, ◌-◌, ◌++◌, ◌==◌, [], if◌then◌else◌, not, length, flat_map, sum_by, IfOk, OnOk, Ok};
 ghost use Rattle.std.specs.Int.{to_le_bytes, w32, w64};
 ghost use Rattle.std.specs.List.{list_any};
 ghost use Rattle.link_net.specs.Layout.{rows_of};
@@ -35,4 +35,44 @@ fn has_weight(weights: &[u32]) -> bool
     ensures { result ≡ list_any (λ weight. not (weight == 1)) weights.now }
 {
     weights.iter().any(|weight| *weight != 1)
+}
+
+/// The weights that are written: none where each is 1.
+fn written(weights: &[u32]) -> &[u32]
+    ensures { result.now ≡ (if list_any (λ weight. not (weight == 1)) weights.now then weights.now else []) }
+{
+    if has_weight(weights) { weights } else { &[] }
+}
+
+/// The file of the rows that stand in these lists.
+fn spell(
+    alloc: Global,
+    offsets: &[usize],
+    neighbours: &[u32],
+    weights: &[u32],
+) -> Result<Vec<u8>, AllocError>
+    requires laid_out { AreLaidOut offsets.now neighbours.now weights.now }
+    ensures reads_back { IfOk result (λ v. large_of v.items ≡ Ok (rows_of offsets.now neighbours.now weights.now)) }
+    ensures short { IfOk result (λ v. length v.items ≡ length_for (length offsets.now - 1) (length neighbours.now) (list_any (λ weight. not (weight == 1)) weights.now)) }
+{
+    let nodes = offsets.len() - 1;
+    let ends = neighbours.len();
+    let weighted = has_weight(weights);
+    let size = file_length(nodes as u64, ends as u64, weighted);
+    let mut bytes = Vec::with_capacity(alloc, size as usize)?;
+    bytes.extend_from_slice(&MAGIC)?;
+    push_longs(&mut bytes, &[nodes, ends, usize::from(weighted)])?;
+    push_longs(&mut bytes, offsets)?;
+    push_words(&mut bytes, neighbours)?;
+    push_words(&mut bytes, written(weights))?;
+    Ok(bytes)
+}
+
+/// The file of a network, without weights where each is 1.
+pub fn large_bytes(alloc: Global, network: &LargeNetwork) -> Result<Vec<u8>, AllocError>
+    ensures reads_back { IfOk result (λ v. large_of v.items ≡ Ok network.now) }
+    ensures short { IfOk result (λ v. length v.items ≡ length_for (length network.now) (sum_by length network.now) (is_weighted network.now)) }
+{
+    let lists = network.lists();
+    spell(alloc, lists.offsets, lists.neighbours, lists.weights)
 }
