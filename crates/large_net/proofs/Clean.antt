@@ -13,7 +13,7 @@ use Rattle.large_net.specs.Large.{AreLaidOut}
 use Rattle.large_net.specs.File.{is_bad_offset, is_wide, rows_fault}
 use Rattle.large_net.specs.declared.fault.LargeFault.TheVariants.{Offsets, TooManyNeighbours, Neighbour}
 use Rattle.large_net.proofs.Parts.{rows_count, paired_length, length_part}
-use Rattle.large_net.proofs.Sound.{items_placed, row_part}
+use Rattle.large_net.proofs.Sound.{items_placed, row_part, slot_value}
 
 -- a search that none passes
 found_none : (p : ℕ → Bool) (a n : ℕ) → ((u : ℕ) → a ≤ u → u < a + n → p u ≡ false) → find p (range_with_len a n) ≡ None
@@ -85,9 +85,9 @@ module _ (offsets ns ws : List ℕ) (laid : AreLaidOut offsets ns ws) where
       let is = row_part offsets ns ws good laid.held.paired u node in
       let slot : j < degree (rows_of offsets ns ws) u = omega (arith, near, long, ap length is) in
       let less = laid.held.rows.within u j slot in
-      let value = ap (λ (r : List (ℕ × ℕ)). (get_or r j (0, 0)).0) is
-          ∙ ap (λ (a : ℕ × ℕ). a.0) (get_or-take (to - from) (drop from (zip ns ws)) j (0, 0) near ∙ get_or-drop from (zip ns ws) j (0, 0) ∙ ap (λ k. get_or (zip ns ws) k (0, 0)) at ∙ get_or-zip ns ws i (0, 0) low (omega (arith, low, laid.held.paired))) in
-      let below : get_or ns i 0 < length offsets - 1 = omega (arith, value, less, rows_count offsets ns ws) in
+      let value = slot_value offsets ns ws good laid.held.paired u j node near (omega (arith, at, low)) in
+      let here : get_or ns (from + j) 0 ≡ get_or ns i 0 = ap (λ k. get_or ns k 0) at in
+      let below : get_or ns i 0 < length offsets - 1 = omega (arith, value, here, less, rows_count offsets ns ws) in
       grind (arith, nat_tests)
 
   pub clean_lists : rows_fault offsets ns ≡ None

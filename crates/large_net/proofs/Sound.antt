@@ -54,6 +54,15 @@ module _ (offsets ns ws : List ℕ) (placed : AreOffsets offsets (length ns)) (p
   pub row_part : (u : ℕ) → u < length offsets - 1 → row (rows_of offsets ns ws) u ≡ part offsets (zip ns ws) u
   row_part u low = get_or-map-range_with_len (part offsets (zip ns ws)) 0 (length offsets - 1) u u [] low (omega arith)
 
+  -- the neighbour at a slot stands that far behind the node's offset
+  pub slot_value : (u j : ℕ) → u < length offsets - 1 → j < get_or offsets (u + 1) 0 - get_or offsets u 0 → get_or offsets u 0 + j < length ns
+      → neighbour (rows_of offsets ns ws) u j ≡ get_or ns (get_or offsets u 0 + j) 0
+  slot_value u j low near at =
+      let from = get_or offsets u 0 in
+      let to = get_or offsets (u + 1) 0 in
+      ap (λ (r : List (ℕ × ℕ)). (get_or r j (0, 0)).0) (row_part u low)
+      ∙ ap (λ (a : ℕ × ℕ). a.0) (get_or-take (to - from) (drop from (zip ns ws)) j (0, 0) near ∙ get_or-drop from (zip ns ws) j (0, 0) ∙ get_or-zip ns ws (from + j) (0, 0) at (omega (arith, at, paired)))
+
   no_row : (u : ℕ) → length offsets - 1 ≤ u → row (rows_of offsets ns ws) u ≡ []
   no_row u high = get_or-eq_default (rows_of offsets ns ws) [] (omega (arith, rows_count offsets ns ws, high))
 
@@ -84,8 +93,7 @@ module _ (offsets ns ws : List ℕ) (placed : AreOffsets offsets (length ns)) (p
             let total = paired_length ns ws paired in
             let near : j < to - from = omega (arith, long, low, ap length (row_part u node)) in
             let at : from + j < length ns = omega (arith, near, end, total) in
-            let value = ap (λ (r : List (ℕ × ℕ)). (get_or r j (0, 0)).0) (row_part u node)
-                ∙ ap (λ (a : ℕ × ℕ). a.0) (get_or-take (to - from) (drop from (zip ns ws)) j (0, 0) near ∙ get_or-drop from (zip ns ws) j (0, 0) ∙ get_or-zip ns ws (from + j) (0, 0) at (omega (arith, at, paired))) in
+            let value = slot_value u j node near at in
             let few = stray (from + j) at in
             let less : get_or ns (from + j) 0 < length offsets - 1 = grind (arith, nat_tests) in
             omega (arith, value, less, rows_count offsets ns ws)

@@ -24,13 +24,13 @@ pub enum LargeFault {
     Length { expected: u64, found: u64 },
     /// The offsets of this node are bad: node 0 does not begin at 0, or the next offset is lower than this one; or, at
     /// the number behind the last node, the last offset is not the number of neighbours.
-    #[error("the offset of node {node} is bad")]
+    #[error("the offsets are bad at node {node}")]
     Offsets { node: u64 },
     /// This node has more than 4,294,967,295 neighbours.
     #[error("node {node} has more than 4294967295 neighbours")]
     TooManyNeighbours { node: u64 },
     /// At this place in the list of all neighbours stands a number that is no node.
-    #[error("neighbour {end} of the list is no node")]
+    #[error("entry {end} of the list of neighbours is no node")]
     Neighbour { end: u64 },
     /// Memory ran out; nothing else is wrong with the file.
     #[error("memory ran out")]

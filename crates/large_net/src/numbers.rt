@@ -46,18 +46,20 @@ pub(crate) fn long_in(pieces: &[[u8; 8]], place: usize) -> u64
 pub(crate) fn read_longs(alloc: Global, pieces: &[[u8; 8]]) -> Result<Vec<usize>, AllocError>
     ensures { IfOk result (λ v. v.items ≡ map (from_le_bytes w64) pieces.now) }
 {
-    pieces
-        .iter()
-        .map(|piece| u64::from_le_bytes(*piece) as usize)
-        .collect(alloc)
+    let mut numbers = Vec::with_capacity(alloc, pieces.len())?;
+    for piece in pieces {
+        numbers.push(u64::from_le_bytes(*piece) as usize)?;
+    }
+    Ok(numbers)
 }
 
 /// The numbers in the pieces, of four bytes each.
 pub(crate) fn read_words(alloc: Global, pieces: &[[u8; 4]]) -> Result<Vec<u32>, AllocError>
     ensures { IfOk result (λ v. v.items ≡ map (from_le_bytes w32) pieces.now) }
 {
-    pieces
-        .iter()
-        .map(|piece| u32::from_le_bytes(*piece))
-        .collect(alloc)
+    let mut numbers = Vec::with_capacity(alloc, pieces.len())?;
+    for piece in pieces {
+        numbers.push(u32::from_le_bytes(*piece))?;
+    }
+    Ok(numbers)
 }
