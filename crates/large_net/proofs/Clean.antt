@@ -1,18 +1,16 @@
 -- Lists that hold a network have no fault.
-use Rattle.std.proofs.Common.{◌≡◌, ◌∙◌, ℕ, ◌+◌, ◌-◌, ◌<◌, ◌≤◌, Bool, true, false, not, ◌&&◌, ◌||◌, eqb, List, [], ◌∷◌, length, get_or, zero, suc, nat_lt, nat_le, cond, refl, sym, ap, take, drop, Option, Some, None, option_map, arith, inl, inr}
+use Rattle.std.proofs.Common.{◌≡◌, ◌∙◌, ℕ, ◌+◌, ◌-◌, ◌<◌, ◌≤◌, Bool, false, not, ◌&&◌, ◌||◌, eqb, List, length, get_or, zero, suc, nat_lt, nat_le, refl, ap, None, option_map, arith, inl, inr}
 use Rattle.std.specs.List.{find, position, position_or_len, range_with_len, zip}
 use Rattle.std.specs.Option.{option_or}
 use Rattle.std.proofs.lemmas.Bool.{cases_Bool}
 use Rattle.std.proofs.lemmas.Bool.Decides.{nat_tests}
-use Rattle.std.proofs.lemmas.List.{get_or-take, get_or-drop}
 use Rattle.std.proofs.lemmas.List.Sums.{position_or_len_is}
-use Rattle.std.proofs.lemmas.Slice.Zip.{get_or-zip}
-use Rattle.link_net.specs.Neighbours.{Neighbours, numbers_below, degree, neighbour}
-use Rattle.link_net.specs.Layout.{part, rows_of, AreOffsets}
+use Rattle.link_net.specs.Neighbours.{numbers_below, degree}
+use Rattle.link_net.specs.Layout.{rows_of, AreOffsets}
 use Rattle.large_net.specs.Large.{AreLaidOut}
 use Rattle.large_net.specs.File.{is_bad_offset, is_wide, rows_fault}
 use Rattle.large_net.specs.declared.fault.LargeFault.TheVariants.{Offsets, TooManyNeighbours, Neighbour}
-use Rattle.large_net.proofs.Parts.{rows_count, paired_length, length_part}
+use Rattle.large_net.proofs.Parts.{rows_count, length_part}
 use Rattle.large_net.proofs.Sound.{items_placed, row_part, slot_value}
 
 -- a search that none passes
@@ -41,9 +39,9 @@ module _ (offsets : List ℕ) (ends : ℕ) (some : 2 ≤ length offsets) (good :
             let up : get_or offsets u 0 ≤ get_or offsets (u + 1) 0 = good.rising u (u + 1) 0 (omega arith) more in
             rw inner (first u up)
       ] where
-      first : (u : ℕ) → get_or offsets u 0 ≤ get_or offsets (u + 1) 0 → ((eqb u 0 && not (eqb (get_or offsets u 0) 0)) || nat_lt (get_or offsets (u + 1) 0) (get_or offsets u 0)) ≡ false
-      first zero up = let begins = good.first in grind (arith, nat_tests)
-      first (suc u) up = grind (arith, nat_tests)
+        first : (u : ℕ) → get_or offsets u 0 ≤ get_or offsets (u + 1) 0 → ((eqb u 0 && not (eqb (get_or offsets u 0) 0)) || nat_lt (get_or offsets (u + 1) 0) (get_or offsets u 0)) ≡ false
+        first zero up = let begins = good.first in grind (arith, nat_tests)
+        first (suc u) up = grind (arith, nat_tests)
 
   -- the node in whose part a place lies
   pub node_of_place : (i n : ℕ) → n < length offsets → i < get_or offsets n 0 → (u : ℕ) × (u < n) × (get_or offsets u 0 ≤ i) × (i < get_or offsets (u + 1) 0)
@@ -93,9 +91,9 @@ module _ (offsets ns ws : List ℕ) (laid : AreLaidOut offsets ns ws) where
   pub clean_lists : rows_fault offsets ns ≡ None
   clean_lists =
       let bad : find (is_bad_offset offsets (length ns)) (numbers_below (length offsets)) ≡ None
-          = found_none (is_bad_offset offsets (length ns)) 0 (length offsets) (λ u low high. no_bad_offset offsets (length ns) laid.some laid.held.placed u (omega (arith, high))) in
+      = found_none (is_bad_offset offsets (length ns)) 0 (length offsets) (λ u low high. no_bad_offset offsets (length ns) laid.some laid.held.placed u (omega (arith, high))) in
       let wide : find (is_wide offsets) (numbers_below (length offsets - 1)) ≡ None
-          = found_none (is_wide offsets) 0 (length offsets - 1) (λ u low high. nothing_wide u (omega (arith, high))) in
+      = found_none (is_wide offsets) 0 (length offsets - 1) (λ u low high. nothing_wide u (omega (arith, high))) in
       let stray : position (λ v. nat_le (length offsets - 1) v) ns ≡ None = placed_none (λ v. nat_le (length offsets - 1) v) ns no_stray in
       ap (λ o. option_or (option_map Offsets o) (option_or (option_map TooManyNeighbours (find (is_wide offsets) (numbers_below (length offsets - 1)))) (option_map Neighbour (position (λ v. nat_le (length offsets - 1) v) ns)))) bad
       ∙ ap (λ o. option_or (option_map TooManyNeighbours o) (option_map Neighbour (position (λ v. nat_le (length offsets - 1) v) ns))) wide

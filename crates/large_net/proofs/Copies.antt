@@ -1,16 +1,14 @@
 -- Rows that are laid out one behind the other.
-use Rattle.std.proofs.Common.{◌≡◌, ◌∙◌, ℕ, ◌+◌, ◌-◌, ◌<◌, ◌≤◌, List, [], ◌∷◌, ◌++◌, length, get_or, zero, suc, refl, sym, ap, map, take, drop, Option, Some, None, option_map, unwrap_or, Bor, add-one, arith}
+use Rattle.std.proofs.Common.{◌≡◌, ◌∙◌, ℕ, ◌+◌, ◌-◌, ◌<◌, ◌≤◌, List, [], ◌∷◌, ◌++◌, length, get_or, zero, suc, refl, sym, ap, map, take, drop, Option, Some, None, option_map, unwrap_or, Bor, arith}
 use Rattle.std.proofs.Math.Seq.{get_or-append_seam, drop-append_seam}
 use Rattle.std.specs.List.{zip, slice_get, slice_range}
-use Rattle.std.specs.List.Sorted.{IsNonDecreasing}
-use Rattle.std.proofs.lemmas.List.{take-append-le, drop-append-le, get_or_append_left, take_all, take_more, length-append, length-map, length-drop, length_push}
+use Rattle.std.proofs.lemmas.List.{take-append-le, drop-append-le, get_or_append_left, take_all, length-append, length-drop, length_push}
 use Rattle.std.proofs.lemmas.List.FromFn.{map-range_with_len_more}
 use Rattle.std.proofs.lemmas.Grind.{get_or_default_zero}
 use Rattle.std.proofs.lemmas.Option.{slice_get-get_or}
 use Rattle.std.proofs.lemmas.List.Sorted.{IsNonDecreasingBy-push, IsNonDecreasingBy-short}
 use Rattle.link_net.specs.Neighbours.{Neighbours, numbers_below, row}
-use Rattle.link_net.specs.Layout.{part, rows_of, AreOffsets, HoldRows}
-use Rattle.large_net.specs.Large.{AreLaidOut}
+use Rattle.link_net.specs.Layout.{part, rows_of, AreOffsets}
 use Rattle.large_net.proofs.Parts.{offset_within, paired_length}
 
 -- functions that agree below n
@@ -18,9 +16,9 @@ pub map_same_below : {X : Type 0} (f h : ℕ → X) (n : ℕ) → ((u : ℕ) →
 map_same_below f h zero same = refl
 map_same_below f h (suc n) same =
     next n (suc n) (omega arith) (map_same_below f h n (λ u low. same u (omega arith))) (same n (omega arith)) where
-    next : (n m : ℕ) → m ≡ n + 1 → map f (numbers_below n) ≡ map h (numbers_below n) → f n ≡ h n → map f (numbers_below m) ≡ map h (numbers_below m)
-    next n m is before here =
-        rw is (map-range_with_len_more f 0 n n (omega arith) ∙ ap (λ xs. xs ++ f n ∷ []) before ∙ ap (λ x. map h (numbers_below n) ++ x ∷ []) here ∙ sym (map-range_with_len_more h 0 n n (omega arith)))
+      next : (n m : ℕ) → m ≡ n + 1 → map f (numbers_below n) ≡ map h (numbers_below n) → f n ≡ h n → map f (numbers_below m) ≡ map h (numbers_below m)
+      next n m is before here =
+          rw is (map-range_with_len_more f 0 n n (omega arith) ∙ ap (λ xs. xs ++ f n ∷ []) before ∙ ap (λ x. map h (numbers_below n) ++ x ∷ []) here ∙ sym (map-range_with_len_more h 0 n n (omega arith)))
 
 -- two lists side by side, each with a column behind it
 zip_more : (xs ys : List ℕ) (row : List (ℕ × ℕ)) → length ys ≡ length xs → zip (xs ++ map (λ a. a.0) row) (ys ++ map (λ a. a.1) row) ≡ zip xs ys ++ row

@@ -1,5 +1,5 @@
 -- The parts of one list between offsets.
-use Rattle.std.proofs.Common.{◌≡◌, ◌∙◌, ℕ, ◌+◌, ◌-◌, ◌<◌, ◌≤◌, List, length, get_or, zero, suc, min, sym, map, drop, length-take, length-drop, arith}
+use Rattle.std.proofs.Common.{◌≡◌, ◌∙◌, ℕ, ◌+◌, ◌-◌, ◌<◌, ◌≤◌, List, length, get_or, zero, suc, sym, map, drop, length-take, length-drop, arith}
 use Rattle.std.specs.List.{sum_by, zip}
 use Rattle.std.proofs.lemmas.List.FromFn.{length-map-range_with_len, sum_by-map-range_with_len_more}
 use Rattle.std.proofs.lemmas.Slice.Zip.{length-zip}

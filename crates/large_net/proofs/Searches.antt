@@ -1,5 +1,5 @@
 -- Searches for the first of some numbers.
-use Rattle.std.proofs.Common.{◌≡◌, ◌∙◌, ℕ, ◌+◌, ◌-◌, ◌<◌, ◌≤◌, Bool, true, false, cond, not, List, [], ◌∷◌, map, length, get_or, zero, suc, nat_lt, refl, sym, ap, Option, Some, None, option_map, arith, inl, inr}
+use Rattle.std.proofs.Common.{◌≡◌, ℕ, ◌+◌, ◌-◌, ◌<◌, ◌≤◌, Bool, true, false, cond, not, List, [], ◌∷◌, map, length, get_or, zero, suc, nat_lt, refl, ap, Option, Some, None, option_map, arith, inl, inr}
 use Rattle.std.specs.List.{find, range_with_len, position, position_or_len}
 use Rattle.std.specs.Option.{option_or}
 use Rattle.std.proofs.lemmas.Bool.{cases_Bool}
@@ -36,11 +36,12 @@ pub none_placed : (p : ℕ → Bool) (xs : List ℕ) → position p xs ≡ None 
 none_placed p xs h i low =
     let past = at (nat_lt (position_or_len p xs) (length xs)) h in
     fails_before_first p xs i 0 (before past) where
-    at : (b : Bool) → cond b (Some (position_or_len p xs)) None ≡ None → b ≡ false
-    at true same = absurd cc
-    at false same = refl
-    before : nat_lt (position_or_len p xs) (length xs) ≡ false → i < position_or_len p xs
-    before past = grind (arith, nat_tests)
+      at : (b : Bool) → cond b (Some (position_or_len p xs)) None ≡ None → b ≡ false
+      at true same = absurd cc
+      at false same = refl
+
+      before : nat_lt (position_or_len p xs) (length xs) ≡ false → i < position_or_len p xs
+      before past = grind (arith, nat_tests)
 
 -- the first place in a mapped list
 place_mapped : {X : Type 0} (p : ℕ → Bool) (f : X → ℕ) (xs : List X) → position_or_len p (map f xs) ≡ position_or_len (λ x. p (f x)) xs

@@ -1,5 +1,5 @@
 -- Lists in which nothing is wrong hold a network.
-use Rattle.std.proofs.Common.{◌≡◌, ◌∙◌, ℕ, ◌+◌, ◌-◌, ◌<◌, ◌≤◌, Bool, true, false, not, ◌&&◌, ◌||◌, eqb, List, [], length, get_or, min, nat_lt, nat_le, cond, refl, sym, ap, take, drop, Option, None, option_map, length-take, length-drop, arith, inl, inr}
+use Rattle.std.proofs.Common.{◌≡◌, ◌∙◌, ℕ, ◌+◌, ◌-◌, ◌<◌, ◌≤◌, true, false, not, ◌&&◌, ◌||◌, eqb, List, [], length, get_or, nat_lt, nat_le, ap, drop, None, option_map, arith, inl, inr}
 use Rattle.std.specs.List.{find, position, zip}
 use Rattle.std.specs.Option.{option_or}
 use Rattle.std.proofs.lemmas.Bool.{cases_Bool}
@@ -11,8 +11,8 @@ use Rattle.std.proofs.lemmas.List.Sorted.{IsNonDecreasingBy-from_all_adjacent}
 use Rattle.std.proofs.lemmas.Slice.Zip.{get_or-zip}
 use Rattle.std.proofs.Math.ListN.{get_or-eq_default}
 use Rattle.link_net.specs.Limits.{most_rows}
-use Rattle.link_net.specs.Neighbours.{Neighbours, numbers_below, row, degree, neighbour, AreRows}
-use Rattle.link_net.specs.Layout.{part, rows_of, AreOffsets, HoldRows}
+use Rattle.link_net.specs.Neighbours.{numbers_below, row, degree, neighbour}
+use Rattle.link_net.specs.Layout.{part, rows_of, AreOffsets}
 use Rattle.large_net.specs.Large.{AreLaidOut}
 use Rattle.large_net.specs.File.{is_bad_offset, is_wide, rows_fault}
 use Rattle.large_net.specs.declared.fault.LargeFault.TheVariants.{Offsets, TooManyNeighbours, Neighbour}

@@ -1,11 +1,9 @@
 -- What is written is read.
-use Rattle.std.proofs.Common.{◌≡◌, ◌∙◌, ℕ, ◌+◌, ◌-◌, ◌*◌, ◌^◌, ◌<◌, ◌≤◌, Bool, true, false, not, ◌||◌, eqb, List, [], ◌∷◌, ◌++◌, length, get_or, zero, suc, min, nat_eq, nat_lt, cond, map, refl, sym, ap, take, drop, append_assoc, Option, Some, None, Result, Ok, Err, arith, inl, inr}
+use Rattle.std.proofs.Common.{◌≡◌, ◌∙◌, ℕ, ◌+◌, ◌*◌, ◌^◌, ◌<◌, ◌≤◌, Bool, true, false, not, ◌||◌, eqb, List, [], ◌∷◌, ◌++◌, length, get_or, suc, nat_eq, nat_lt, cond, refl, sym, ap, drop, append_assoc, None, Ok, arith}
 use mir.Val.{bool_byte}
 use Rattle.std.specs.Prelude.{codes, replicate}
-use Rattle.std.specs.Int.{from_le_bytes, to_le_bytes, w32, w64}
+use Rattle.std.specs.Int.{to_le_bytes, w32, w64}
 use Rattle.std.specs.List.{flat_map, list_any, starts_with}
-use Rattle.std.specs.Simd.{first_chunks}
-use Rattle.std.proofs.lemmas.Bool.{cases_Bool}
 use Rattle.std.proofs.lemmas.Bool.Decides.{nat_tests}
 use Rattle.std.proofs.lemmas.List.{append-nil, length-append, drop-drop, drop_at}
 use Rattle.std.proofs.lemmas.Nat.{from_le_bytes-to_le_bytes_4, from_le_bytes-to_le_bytes_8}
@@ -159,8 +157,8 @@ module _ (offsets ns ws : List ℕ) (paired : length ws ≡ length ns) (nodes en
       let file = head nodes ends flag ++ (a ++ (b ++ c)) in
       ap large_of (regroup (head nodes ends flag) a b c)
       ∙ back_from file (record { nodes = nodes; ends = ends; weighted = eqb flag 1 }) offsets ns ws
-        (head_back nodes ends flag (a ++ (b ++ c)) (omega (arith, few, is_nodes)) small_ends flag_small (omega (arith, is_nodes, laid.some)) (omega (arith, few, is_nodes)) (body_length ∙ ap (length_for nodes ends) (sym flag_is)))
-        (ap (λ k. longs k (a ++ (b ++ c))) is_nodes ∙ longs_back offsets (b ++ c) small_offsets)
-        (ap (words ends) (ap (λ k. drop k file) first ∙ from_neighbours 0) ∙ ap (λ k. words k (b ++ c)) is_ends ∙ words_back ns c small_neighbours)
-        (ap (λ w. cond w (words ends (drop (neighbours_start nodes + 4 * ends) file)) (replicate ends 1)) flag_is ∙ written_back small_weights (list_any (λ w. not (eqb w 1)) ws) refl)
-        (clean_lists offsets ns ws laid)
+      (head_back nodes ends flag (a ++ (b ++ c)) (omega (arith, few, is_nodes)) small_ends flag_small (omega (arith, is_nodes, laid.some)) (omega (arith, few, is_nodes)) (body_length ∙ ap (length_for nodes ends) (sym flag_is)))
+      (ap (λ k. longs k (a ++ (b ++ c))) is_nodes ∙ longs_back offsets (b ++ c) small_offsets)
+      (ap (words ends) (ap (λ k. drop k file) first ∙ from_neighbours 0) ∙ ap (λ k. words k (b ++ c)) is_ends ∙ words_back ns c small_neighbours)
+      (ap (λ w. cond w (words ends (drop (neighbours_start nodes + 4 * ends) file)) (replicate ends 1)) flag_is ∙ written_back small_weights (list_any (λ w. not (eqb w 1)) ws) refl)
+      (clean_lists offsets ns ws laid)

@@ -42,7 +42,7 @@ header_of bytes =
     else (if nat_lt (length bytes) 32 || nat_lt 1 (long_at bytes 24) then Err BadHeader
     else (if long_at bytes 8 == 0 || nat_lt most_rows (long_at bytes 8) then Err (NodeCount (long_at bytes 8))
     else (if not (length bytes == length_for (long_at bytes 8) (long_at bytes 16) (long_at bytes 24 == 1))
-        then Err (Length (min (length_for (long_at bytes 8) (long_at bytes 16) (long_at bytes 24 == 1)) (2 ^ 64 - 1)) (length bytes))
+    then Err (Length (min (length_for (long_at bytes 8) (long_at bytes 16) (long_at bytes 24 == 1)) (2 ^ 64 - 1)) (length bytes))
     else Ok (record { nodes = long_at bytes 8; ends = long_at bytes 16; weighted = long_at bytes 24 == 1 }))))
 
 -- whether an offset is bad: the first is not 0, or the next is lower, or the last is not the number of neighbours

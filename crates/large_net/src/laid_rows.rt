@@ -49,11 +49,7 @@ impl LaidRows {
     }
 
     /// One row more behind the others.
-    fn with_row(
-        self,
-        row_neighbours: &[u32],
-        row_weights: &[u32],
-    ) -> Result<LaidRows, AllocError>
+    fn with_row(self, row_neighbours: &[u32], row_weights: &[u32]) -> Result<LaidRows, AllocError>
         requires paired { length row_weights.now ≡ length row_neighbours.now }
         ensures more { IfOk result (λ laid. laid ≡ self ++ zip row_neighbours.now row_weights.now ∷ []) }
     {

@@ -1,4 +1,4 @@
-use Rattle.std.proofs.Common.{◌≤◌, ◌≡◌, length, map, arith}
+use Rattle.std.proofs.Common.{◌≡◌, length, map, arith}
 use Rattle.std.specs.Int.{from_le_bytes, w32, w64}
 use Rattle.std.proofs.lemmas.List.{length-map}
 use Rattle.large_net.proofs.Sound.{sound_lists}

@@ -1,4 +1,4 @@
-use Rattle.std.proofs.Common.{◌≡◌, ◌∙◌, ◌-◌, ◌+◌, ◌<◌, ◌^◌, length, refl, ap, arith}
+use Rattle.std.proofs.Common.{◌≡◌, ◌∙◌, ◌-◌, length, refl, ap, arith}
 use mir.Val.{bool_byte}
 use Rattle.large_net.proofs.Parts.{few_nodes}
 use Rattle.large_net.proofs.Spelling.{spelled, spelled_back, spelled_length}

@@ -7,7 +7,7 @@ pub returns : goal.returns
 returns c =
     let held = c.self.inside in
     let long : vec_len c.extend_from_slice.new.self ≡ length (held.neighbours.items ++ c.args.row_neighbours.now)
-        = omega (arith, c.extend_from_slice.new.self.ok.0, ap length c.in_ok-extend_from_slice.ensures.items) in
+    = omega (arith, c.extend_from_slice.new.self.ok.0, ap length c.in_ok-extend_from_slice.ensures.items) in
     record {
       more =
           rw (c.in_ok-push.ensures.items, c.len.ensures, long, c.in_ok-extend_from_slice.ensures.items, c.in_ok-extend_from_slice-2.ensures.items)
