@@ -31,19 +31,26 @@ words count bytes = map (from_le_bytes w32) (first_chunks 4 count bytes)
 abbrev pub neighbours_start : ℕ → ℕ
 neighbours_start nodes = 32 + 8 * (nodes + 1)
 
--- how many bytes there are: four for each neighbour, and four for its weight where weights follow
+-- how many bytes a file has: header and offsets, four bytes for each neighbour, and four more for its weight where weights follow
 abbrev pub length_for : ℕ → ℕ → Bool → ℕ
 length_for nodes ends weighted = neighbours_start nodes + (if weighted then 8 * ends else 4 * ends)
 
--- the first 32 bytes: what a file begins with, the number of nodes, that of all neighbours, and the flags, of which 1 says that weights follow
+-- how many bytes a header asks for
+abbrev pub asked_length : FileHeader → ℕ
+asked_length header = length_for header.nodes header.ends header.weighted
+
+-- what the numbers of the first 32 bytes say: how many nodes and how many neighbours there are, and whether the flags are 1, so that weights follow
+abbrev pub spelled_header : List ℕ → FileHeader
+spelled_header bytes = record { nodes = long_at bytes 8; ends = long_at bytes 16; weighted = long_at bytes 24 == 1 }
+
+-- the header of a file that begins as it should, has flags 0 or 1, a number of nodes in range and as many bytes as the header asks for, or the first fault
 abbrev pub header_of : List ℕ → Result FileHeader LargeFault
 header_of bytes =
     if not (starts_with nat_eq bytes magic) then Err Magic
     else (if nat_lt (length bytes) 32 || nat_lt 1 (long_at bytes 24) then Err BadHeader
     else (if long_at bytes 8 == 0 || nat_lt most_rows (long_at bytes 8) then Err (NodeCount (long_at bytes 8))
-    else (if not (length bytes == length_for (long_at bytes 8) (long_at bytes 16) (long_at bytes 24 == 1))
-    then Err (Length (min (length_for (long_at bytes 8) (long_at bytes 16) (long_at bytes 24 == 1)) (2 ^ 64 - 1)) (length bytes))
-    else Ok (record { nodes = long_at bytes 8; ends = long_at bytes 16; weighted = long_at bytes 24 == 1 }))))
+    else (if length bytes == asked_length (spelled_header bytes) then Ok (spelled_header bytes)
+    else Err (Length (min (asked_length (spelled_header bytes)) (2 ^ 64 - 1)) (length bytes)))))
 
 -- whether an offset is bad: the first is not 0, or the next is lower, or the last is not the number of neighbours
 abbrev pub is_bad_offset : List ℕ → ℕ → ℕ → Bool
@@ -74,7 +81,7 @@ neighbours_in header bytes = words header.ends (drop (neighbours_start header.no
 abbrev pub weights_in : FileHeader → List ℕ → List ℕ
 weights_in header bytes = if header.weighted then words header.ends (drop (neighbours_start header.nodes + 4 * header.ends) bytes) else replicate header.ends 1
 
--- what a header's next step makes of it
+-- the next step at a header that is read, or its fault
 abbrev pub and_then : Result FileHeader LargeFault → (FileHeader → Result Neighbours LargeFault) → Result Neighbours LargeFault
 and_then (Ok header) next = next header
 and_then (Err fault) next = Err fault

@@ -1,7 +1,7 @@
 //! The first 32 bytes of a network file.
 ghost use Rattle.std.specs.Prelude.{◌≡◌, ◌≤◌, ◌+◌, ◌-◌, ◌^◌, length, min, IfOk};
 ghost use Rattle.link_net.specs.Limits.{most_rows};
-ghost use Rattle.large_net.specs.File.{header_of, length_for, neighbours_start};
+ghost use Rattle.large_net.specs.File.{asked_length, header_of, length_for, neighbours_start};
 
 use crate::fault::LargeFault;
 use crate::numbers::long_at;
@@ -55,7 +55,7 @@ pub(crate) fn read_header(bytes: &[u8]) -> Result<FileHeader, LargeFault>
     ensures exact { result ≡ header_of bytes.now }
     ensures some { IfOk result (λ header. 1 ≤ header.nodes) }
     ensures few { IfOk result (λ header. header.nodes ≤ most_rows) }
-    ensures whole { IfOk result (λ header. length bytes.now ≡ length_for header.nodes header.ends header.weighted) }
+    ensures whole { IfOk result (λ header. length bytes.now ≡ asked_length header) }
 {
     if !bytes.starts_with(&MAGIC) {
         return Err(LargeFault::Magic);

@@ -1,7 +1,7 @@
 //! Network files that are read.
 ghost use Rattle.std.specs.Prelude.{◌≡◌, ◌≤◌, length, IfOk, IfErr, Ok, Err};
 ghost use Rattle.link_net.specs.Limits.{most_rows};
-ghost use Rattle.large_net.specs.File.{IsAnswer, header_of, length_for, large_of, weights_in};
+ghost use Rattle.large_net.specs.File.{IsAnswer, asked_length, header_of, large_of, weights_in};
 
 use crate::checks::check_rows;
 use crate::fault::LargeFault;
@@ -13,7 +13,7 @@ use std::alloc::{AllocError, Global};
 /// The weights of a file, each 1 where none follow.
 fn read_weights(alloc: Global, bytes: &[u8], header: FileHeader) -> Result<Vec<u32>, AllocError>
     requires few { header.nodes ≤ most_rows }
-    requires whole { length bytes.now ≡ length_for header.nodes header.ends header.weighted }
+    requires whole { length bytes.now ≡ asked_length header }
     ensures weights { IfOk result (λ v. v.items ≡ weights_in header bytes.now) }
     ensures count { IfOk result (λ v. length v.items ≡ header.ends) }
 {
@@ -29,7 +29,7 @@ fn read_weights(alloc: Global, bytes: &[u8], header: FileHeader) -> Result<Vec<u
 fn read_rows(alloc: Global, bytes: &[u8], header: FileHeader) -> Result<LargeNetwork, LargeFault>
     requires some { 1 ≤ header.nodes }
     requires few { header.nodes ≤ most_rows }
-    requires whole { length bytes.now ≡ length_for header.nodes header.ends header.weighted }
+    requires whole { length bytes.now ≡ asked_length header }
     requires header { header_of bytes.now ≡ Ok header }
     ensures answer { IsAnswer (large_of bytes.now) result }
     ensures refused { IfErr (large_of bytes.now) (λ fault. result ≡ Err fault) }
