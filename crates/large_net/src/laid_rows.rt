@@ -1,7 +1,6 @@
 //! Rows that are laid out one behind the other.
-ghost use Rattle.std.specs.Prelude.{◌≡◌, ◌∷◌, ◌++◌, ◌<◌, ◌≤◌, [], length, map, zip, IfOk};
+ghost use Rattle.std.specs.Prelude.{◌≡◌, ◌∷◌, ◌++◌, ◌<◌, ◌≤◌, [], length, zip, IfOk};
 ghost use Rattle.link_net.specs.Neighbours.{row, AreRows};
-ghost use Rattle.large_net.specs.Large.{AreLaidOut};
 
 use crate::network::LargeNetwork;
 use link_net::NetRows;

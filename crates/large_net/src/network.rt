@@ -1,7 +1,7 @@
 //! Networks of any size: rows of neighbours.
 ghost use Rattle.std.specs.Prelude.{◌≡◌, ◌≤◌, length, IfOk};
 ghost use Rattle.std.specs.List.{sum_by};
-ghost use Rattle.link_net.specs.Layout.{rows_of, HoldRows};
+ghost use Rattle.link_net.specs.Layout.{rows_of};
 ghost use Rattle.large_net.specs.Large.{IsLargeNetwork};
 
 use crate::laid_rows::LaidRows;
