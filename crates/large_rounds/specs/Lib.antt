@@ -1,0 +1,4 @@
+pub mod Counts
+pub mod LargePlans
+pub mod Values
+pub mod Walking

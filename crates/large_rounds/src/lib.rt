@@ -1,0 +1,22 @@
+//! Lockstep rounds of a program on a network of any size. What a round is, and which states it leads to, is what
+//! `rounds_plan` defines, for these networks as for those of a network file.
+#![tactic(auto)]
+
+mod counts;
+mod fault;
+mod initial;
+mod parts;
+mod plan;
+mod report;
+mod rounds;
+mod steps;
+mod walk;
+
+pub use counts::{changed_nodes, count_values};
+pub use fault::{LargePlanFault, SetFault};
+pub use initial::{openings, set_all_values, set_value};
+pub use plan::LargePlan;
+pub use report::large_report;
+pub use rounds::large_lockstep;
+pub use rounds_plan::{MOST_ROUNDS, RoundFault};
+pub use walk::LargeWalk;

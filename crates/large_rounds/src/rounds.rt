@@ -1,0 +1,83 @@
+//! The states after a round.
+ghost use Rattle.std.specs.Prelude.{◌≡◌, ◌≢◌, ◌≤◌, IfOk, IfErr, MatchResult, Ok, Err, length};
+ghost use Rattle.rounds_plan.specs.Configs.{most_rounds};
+ghost use Rattle.rounds_plan.specs.Lockstep.{rounds_of, lockstep_states};
+
+use crate::plan::LargePlan;
+use rounds_plan::{MOST_ROUNDS, RoundFault};
+use rule_check::State;
+use std::alloc::{AllocError, Global};
+use std::thread::Threads;
+
+/// Why there is no such round of the plan, if there is none.
+fn check_round(plan: &LargePlan<'_>, rounds: u32) -> Result<(), RoundFault>
+    ensures there { MatchResult result (λ _. (plan.now.start ≤ rounds) × (rounds ≤ most_rounds)) (λ fault. rounds_of plan.now rounds ≡ Err fault) }
+{
+    if rounds > MOST_ROUNDS {
+        return Err(RoundFault::TooManyRounds);
+    }
+    if rounds < plan.start() {
+        return Err(RoundFault::RoundsBelowStart);
+    }
+    Ok(())
+}
+
+/// The states after a round, made sequentially.
+fn made_in_turn<'a>(
+    alloc: Global,
+    plan: &'a LargePlan<'a>,
+    rounds: u32,
+) -> Result<Vec<State>, AllocError>
+    requires late { plan.now.start ≤ rounds }
+    ensures exact { IfOk result (λ states. states.items ≡ lockstep_states plan.now rounds (length plan.now.network)) }
+{
+    let mut walk = plan.walk(alloc)?;
+    walk.go_to(rounds);
+    let states = walk.states(alloc)?;
+    Ok(states)
+}
+
+/// The states after a round, each round shared among threads.
+fn made_in_threads<'a>(
+    rt: &(impl Threads + Sync),
+    alloc: Global,
+    plan: &'a LargePlan<'a>,
+    rounds: u32,
+) -> Result<Vec<State>, AllocError>
+    requires late { plan.now.start ≤ rounds }
+    ensures exact { IfOk result (λ states. states.items ≡ lockstep_states plan.now rounds (length plan.now.network)) }
+{
+    let mut walk = plan.shared_walk(rt, alloc)?;
+    walk.go_to_shared(rt, rounds);
+    let states = walk.states(alloc)?;
+    Ok(states)
+}
+
+/// The states of all nodes after a round, counted from round 0, by the textbook synchronous round: from the plan's
+/// initial states on all nodes move at once, each by its own state and its neighbours' states before. Where the program
+/// doesn't read the number of the round, none is computed behind the first one that changes nothing.
+///
+/// Where the rounds are to be shared, each that has enough to compute is shared among as many threads as there are
+/// processors; the states are the same.
+///
+/// `TooManyRounds` comes above 1,000,000,000, and else `RoundsBelowStart` below the plan's start, both before anything
+/// is done.
+pub fn large_lockstep<'a>(
+    rt: &(impl Threads + Sync),
+    alloc: Global,
+    plan: &'a LargePlan<'a>,
+    rounds: u32,
+    is_shared: bool,
+) -> Result<Vec<State>, RoundFault>
+    ensures exact { IfOk result (λ states. rounds_of plan.now rounds ≡ Ok (record { rounds = rounds; fields = length plan.now.program.fields; states = states.items })) }
+    ensures refused { IfErr result (λ fault. fault ≢ RoundFault.Memory → rounds_of plan.now rounds ≡ Err fault) }
+    ensures at_once { IfErr (rounds_of plan.now rounds) (λ fault. result ≡ Err fault) }
+{
+    check_round(plan, rounds)?;
+    let states = if is_shared {
+        made_in_threads(rt, alloc, plan, rounds)?
+    } else {
+        made_in_turn(alloc, plan, rounds)?
+    };
+    Ok(states)
+}
