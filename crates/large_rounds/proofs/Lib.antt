@@ -1,3 +1,4 @@
 pub mod Counted
 pub mod Filled
+pub mod GoesOn
 pub mod Plain

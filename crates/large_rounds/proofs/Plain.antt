@@ -1,12 +1,14 @@
 -- States with no value behind their fields.
-use Rattle.std.proofs.Common.{◌≡◌, ◌==◌, ◌<◌, ◌-◌, ◌+◌, ℕ, Bool, false, not, List, length, drop, get_or, All, sym, ap, ◌∙◌, arith, inl, inr}
+use Rattle.std.proofs.Common.{◌≡◌, ◌==◌, ◌<◌, ◌-◌, ◌+◌, ℕ, Bool, false, not, List, length, drop, get_or, All, sym, ap, ◌∙◌, arith, inl, inr, ◌≢◌, Some, map}
 use Rattle.std.specs.List.{list_any}
 use Rattle.std.proofs.lemmas.Bool.{cases_lt, false_from_ne_true, not-false, false≢true}
-use Rattle.std.proofs.lemmas.List.{get_or-drop, get_or_past}
+use Rattle.std.proofs.lemmas.List.{get_or-set_other, get_or-drop, get_or_past}
+use Rattle.std.proofs.lemmas.List.Elements.{All-map}
 use Rattle.std.proofs.lemmas.List.Folds.{list_any_at}
 use Rattle.std.proofs.lemmas.Map.Views.{exact_unsigned_eq}
 use Rattle.rule_check.specs.declared.state.State.{State}
 use Rattle.rounds_plan.specs.Configs.{IsPlain}
+use Rattle.rounds_plan.specs.Opening.{with_value}
 use Rattle.large_rounds.specs.LargePlans.{is_stray}
 
 -- where no element passes, none does
@@ -28,3 +30,15 @@ plain_of fields state none k past =
 -- and states none of which has such a word
 pub all_plain : (fields : ℕ) (states : List State) → list_any (is_stray fields) states ≡ false → All (IsPlain fields) states
 all_plain fields states none u d inside = plain_of fields (get_or states u d) (none_at (is_stray fields) states u d none inside)
+
+-- a value in a field leaves what stands behind the fields
+pub plain_with : (fields field value : ℕ) (state : State) → field < fields → IsPlain fields state → IsPlain fields (with_value field (Some value) state)
+plain_with fields field value state low plain k past =
+    let apart : k ≢ field = omega arith in
+    get_or-set_other state.words field k value 0 apart ∙ plain k past
+
+-- and so in each of the states
+pub all_plain_with : (fields field value : ℕ) (states : List State) → field < fields → All (IsPlain fields) states → All (IsPlain fields) (map (with_value field (Some value)) states)
+all_plain_with fields field value states low plain =
+    All-map (IsPlain fields) (with_value field (Some value)) states
+    (λ u d inside. plain_with fields field value (get_or states u d) low (plain u d inside))

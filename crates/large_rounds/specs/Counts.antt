@@ -9,7 +9,7 @@ use Rattle.rule_check.specs.declared.state.State.{State}
 abbrev pub has_moved : State × State → Bool
 has_moved p = not (bytes_eq p.0.words p.1.words)
 
--- the state has this value in the field; a field that no state has is 0
+-- the state has this value in the field; a field that states do not have is 0
 abbrev pub has_value : ℕ → ℕ → State → Bool
 has_value field value state = slice_index state.words field == value
 

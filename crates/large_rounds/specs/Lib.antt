@@ -1,4 +1,5 @@
 pub mod Counts
+pub mod GoingOn
 pub mod LargePlans
 pub mod Values
 pub mod Walking

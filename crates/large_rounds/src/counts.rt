@@ -1,7 +1,6 @@
 //! What there is to count in the states of many nodes.
-ghost use Rattle.std.specs.Prelude.{◌≡◌, length, zip, IfOk};
+ghost use Rattle.std.specs.Prelude.{◌≡◌, length, zip, slice_index, IfOk};
 ghost use Rattle.std.specs.List.{filter};
-ghost use Rattle.std.specs.Prelude.{ℕ, ◌==◌, unwrap_or, count_by, slice_index, IfSome, ◌≤◌};
 ghost use Rattle.std.specs.BTreeMap.{get};
 ghost use Rattle.std.specs.Ordering.{nat_cmp};
 ghost use Rattle.large_rounds.specs.Counts.{AreCounts, has_moved, IsTally};
@@ -10,19 +9,26 @@ use rule_check::State;
 use std::alloc::{AllocError, Global};
 use std::collections::BTreeMap;
 
-/// How many of the states have each value.
+/// The value of a field, and 0 for one that states do not have.
+fn field_value(state: &State, field: u32) -> u32
+    ensures value { result ≡ slice_index state.now.words field }
+{
+    state.words.get(field as usize).copied().unwrap_or(0)
+}
+
+/// How many of the states have each value of a field.
 fn tally(alloc: Global, states: &[State], field: u32) -> Result<BTreeMap<u32, u64>, AllocError>
     ensures tally { IfOk result (λ counts. IsTally field states.now (get nat_cmp counts)) }
 {
     let mut counts = BTreeMap::new(alloc);
     for state in states {
-        let word = state.words.get(field as usize).copied().unwrap_or(0);
-        *counts.entry(word)?.or_insert(0) += 1;
+        *counts.entry(field_value(state, field))?.or_insert(0) += 1;
     }
     Ok(counts)
 }
 
-/// How many nodes have each value of a field that occurs, by rising value.
+/// How many of the states have each value of a field that occurs, by rising value. Fields are counted from 0; one that
+/// states do not have is 0 in each of them.
 pub fn count_values(
     alloc: Global,
     states: &[State],
@@ -35,7 +41,8 @@ pub fn count_values(
     Ok(counts)
 }
 
-/// How many nodes have another state in the second list.
+/// How many nodes have another state in the new list than in the old one. Where one list is longer, the nodes that stand in
+/// it alone are not counted.
 pub fn changed_nodes(old: &[State], new: &[State]) -> usize
     ensures count { result ≡ length (filter has_moved (zip old.now new.now)) }
 {

@@ -30,6 +30,7 @@ pub fn set_value(
     ensures set { OnOk result (set_at_node program.now states.old node field value ≡ Ok states.new) }
     ensures refused { IfErr result (λ fault. set_at_node program.now states.old node field value ≡ Err fault) }
     ensures unchanged { OnErr result (states.new ≡ states.old) }
+    ensures plain { All (IsPlain (length program.now.fields)) states.old → All (IsPlain (length program.now.fields)) states.new }
 {
     if field >= program.field_count() {
         return Err(SetFault::NoField);
@@ -62,6 +63,7 @@ pub fn set_all_values(
     ensures set { OnOk result (set_at_all program.now states.old field value ≡ Ok states.new) }
     ensures refused { IfErr result (λ fault. set_at_all program.now states.old field value ≡ Err fault) }
     ensures unchanged { OnErr result (states.new ≡ states.old) }
+    ensures plain { All (IsPlain (length program.now.fields)) states.old → All (IsPlain (length program.now.fields)) states.new }
 {
     if field >= program.field_count() {
         return Err(SetFault::NoField);

@@ -5,6 +5,7 @@
 mod counts;
 mod fault;
 mod initial;
+mod laws;
 mod parts;
 mod plan;
 mod report;
@@ -15,6 +16,7 @@ mod walk;
 pub use counts::{changed_nodes, count_values};
 pub use fault::{LargePlanFault, SetFault};
 pub use initial::{openings, set_all_values, set_value};
+pub use laws::goes_on_from_states;
 pub use plan::LargePlan;
 pub use report::large_report;
 pub use rounds::large_lockstep;
