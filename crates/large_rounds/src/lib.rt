@@ -10,7 +10,6 @@ mod parts;
 mod plan;
 mod report;
 mod rounds;
-mod steps;
 mod walk;
 
 pub use counts::{changed_nodes, count_values};
