@@ -1,0 +1,5 @@
+mod Lines
+mod Rising
+mod Places
+mod Around
+mod Tables

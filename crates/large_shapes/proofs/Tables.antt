@@ -1,0 +1,1 @@
+-- Rows that stand one behind the other in one list.
