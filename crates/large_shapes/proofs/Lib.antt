@@ -3,3 +3,4 @@ mod Rising
 mod Places
 mod Around
 mod Tables
+mod EachShape
