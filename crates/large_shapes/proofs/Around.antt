@@ -64,6 +64,7 @@ module _ (s : Spot) where
               | inl same ↦ let is : x ≡ c = grind (arith, nat_tests) in rw (is, keeps) (grind (arith, nat_tests))
               | inr other ↦ rw other (grind (arith, nat_tests))
             ]
+
         dropped : (y x : ℕ) (k : Bool) → is_kept s c b ≡ false → (y == b && (k && is_kept s x b)) ≡ (y == b && ((x == c || k) && is_kept s x b))
         dropped y x k drops =
             elim (cases_Bool (x == c)) [
@@ -162,10 +163,10 @@ module _ (f : Frame) (is : IsFrame f) (u : ℕ) (low : u < frame_nodes f) where
       let under = recursion_from_All (λ b. b < f.rows.places) bs rows.below in
       rising-filter (frame_nodes f) 0 (around spot cs bs) (frame_joins f u) (around_rises spot cs wide below bs columns.rising rows.rising) (around_below spot cs wide below f.rows.places bs under)
       (λ q from high.
-        let x_low = column_below w wide u in
-        let y_low = row_below w wide f.rows.places u low in
-        let a_low = column_below w wide q in
-        let b_low = row_below w wide f.rows.places q (omega arith) in
-        sorted_out (column w q == column w u) (row w q == row w u) f.diagonals (are_beside f.rows (row w u) (row w q)) (are_beside f.columns (column w u) (column w q))
-            (beside_other f.columns (column w u) (column w q) is.columns x_low a_low)
-        ∙ rw (← columns.all (column w q) a_low, ← rows.all (row w q) b_low) (sym (around_has spot cs wide below bs q)))
+      let x_low = column_below w wide u in
+      let y_low = row_below w wide f.rows.places u low in
+      let a_low = column_below w wide q in
+      let b_low = row_below w wide f.rows.places q (omega arith) in
+      sorted_out (column w q == column w u) (row w q == row w u) f.diagonals (are_beside f.rows (row w u) (row w q)) (are_beside f.columns (column w u) (column w q))
+      (beside_other f.columns (column w u) (column w q) is.columns x_low a_low)
+      ∙ rw (← columns.all (column w q) a_low, ← rows.all (row w q) b_low) (sym (around_has spot cs wide below bs q)))

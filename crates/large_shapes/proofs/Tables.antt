@@ -182,7 +182,7 @@ module _ (joins : ℕ → ℕ → Bool) (n : ℕ) where
       let nodes : length offsets - 1 ≡ n = omega (arith, length_starts rows n) in
       ap (λ k. map (part offsets (zip items (replicate (length items) 1))) (numbers_below k)) nodes
       ∙ map_agrees (part offsets (zip items (replicate (length items) 1))) (λ u. map one (rows u)) 0 n (λ u from low.
-        ap (λ xs. part offsets xs u) (with_weights items) ∙ map_part one offsets items u ∙ ap (map one) (part_is rows n u (omega arith)))
+      ap (λ xs. part offsets xs u) (with_weights items) ∙ map_part one offsets items u ∙ ap (map one) (part_is rows n u (omega arith)))
 
   pub laid_out : 1 ≤ n → n ≤ most_rows → AreLaidOut (starts (joined_with joins n) n) (ends_before (joined_with joins n) n) (replicate (length (ends_before (joined_with joins n) n)) 1)
   laid_out some small = record {

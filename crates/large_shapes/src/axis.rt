@@ -38,6 +38,26 @@ fn near_on_ring(places: u32, place: u32) -> Near
 }
 
 impl Axis {
+    /// A line.
+    pub(crate) fn line(places: u32) -> Axis
+        ensures { result ≡ record { places = places; closed = false } }
+    {
+        Axis {
+            places,
+            closed: false,
+        }
+    }
+
+    /// A ring.
+    pub(crate) fn ring(places: u32) -> Axis
+        ensures { result ≡ record { places = places; closed = true } }
+    {
+        Axis {
+            places,
+            closed: true,
+        }
+    }
+
     /// The places near one.
     pub(crate) fn near(self, place: u32) -> Near
         requires axis { IsAxis self }

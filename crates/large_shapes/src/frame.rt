@@ -1,5 +1,5 @@
 //! Nodes in rows and columns.
-ghost use Rattle.std.specs.Prelude.{◌≡◌, ◌<◌, ◌++◌, OnOk};
+ghost use Rattle.std.specs.Prelude.{◌≡◌, ◌*◌, ◌<◌, ◌≤◌, ◌++◌, OnOk};
 ghost use Rattle.large_shapes.specs.Frames.{IsFrame, frame_joins, frame_nodes, frame_of};
 ghost use Rattle.large_shapes.specs.Rows.{joined_with};
 
@@ -24,26 +24,31 @@ impl Frame {
     pub(crate) fn of(shape: LargeShape) -> Frame
         ensures { result ≡ frame_of shape }
     {
-        let (width, height, closed, diagonals) = match shape {
-            LargeShape::Path { nodes } => (nodes, 1, (false, false), false),
-            LargeShape::Ring { nodes } => (nodes, 1, (true, false), false),
-            LargeShape::Grid { width, height } => (width, height, (false, false), false),
+        match shape {
+            LargeShape::Path { nodes } => Frame {
+                columns: Axis::line(nodes),
+                rows: Axis::line(1),
+                diagonals: false,
+            },
+            LargeShape::Ring { nodes } => Frame {
+                columns: Axis::ring(nodes),
+                rows: Axis::line(1),
+                diagonals: false,
+            },
+            LargeShape::Grid { width, height } => Frame {
+                columns: Axis::line(width),
+                rows: Axis::line(height),
+                diagonals: false,
+            },
             LargeShape::Torus {
                 width,
                 height,
                 diagonals,
-            } => (width, height, (true, true), diagonals),
-        };
-        Frame {
-            columns: Axis {
-                places: width,
-                closed: closed.0,
+            } => Frame {
+                columns: Axis::ring(width),
+                rows: Axis::ring(height),
+                diagonals,
             },
-            rows: Axis {
-                places: height,
-                closed: closed.1,
-            },
-            diagonals,
         }
     }
 
@@ -53,6 +58,23 @@ impl Frame {
         ensures { result ≡ frame_nodes self.now }
     {
         self.columns.places * self.rows.places
+    }
+
+    /// How many neighbours the nodes have together, or somewhat more: 2 for each node in its row and 2 in its column, where
+    /// there are others, and 4 diagonally.
+    pub(crate) fn room(&self) -> usize
+        requires frame { IsFrame self.now }
+        ensures { result ≤ 8 * frame_nodes self.now }
+    {
+        let nodes = self.nodes() as usize;
+        let in_rows = if self.columns.places > 1 {
+            2 * nodes
+        } else {
+            0
+        };
+        let in_columns = if self.rows.places > 1 { 2 * nodes } else { 0 };
+        let diagonally = if self.diagonals { 4 * nodes } else { 0 };
+        in_rows + in_columns + diagonally
     }
 
     /// Puts the neighbours of a node, by rising number.

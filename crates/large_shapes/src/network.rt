@@ -26,7 +26,7 @@ fn lay_out(alloc: Global, frame: &Frame) -> Result<Table, AllocError>
     ensures offsets { IfOk result (λ t. t.offsets.items ≡ starts (joined_with (frame_joins frame.now) (frame_nodes frame.now)) (frame_nodes frame.now)) }
 {
     let nodes = frame.nodes();
-    let mut neighbours = Vec::new(alloc);
+    let mut neighbours = Vec::with_capacity(alloc, frame.room())?;
     let mut offsets = Vec::with_capacity(alloc, nodes as usize + 1)?;
     offsets.push(0)?;
     for node in 0..nodes {
