@@ -12,12 +12,7 @@ use Rattle.large_shapes.specs.declared.spot.Spot.{Spot}
 use Rattle.large_shapes.specs.Frames.{Rises, AreNear, IsAxis, IsFrame, are_beside, spots_joined, frame_joins, frame_nodes, is_kept, in_row, around}
 use Rattle.large_shapes.specs.Rows.{joined_with}
 use Rattle.large_shapes.proofs.Places.{column_below, row_below, place_test}
-use Rattle.large_shapes.proofs.Rising.{AllBetween, rises-append, rising-filter}
-
--- what holds of each of two lists
-all-append : (P : ℕ → Type 0) (xs ys : List ℕ) → AllByRecursion P xs → AllByRecursion P ys → AllByRecursion P (xs ++ ys)
-all-append P [] ys a b = b
-all-append P (x ∷ xs) ys a b = (a.0, all-append P xs ys a.1 b)
+use Rattle.large_shapes.proofs.Rising.{AllBetween, all-append, rises-append, rising-filter}
 
 module _ (s : Spot) where
   row_above : (cs : List ℕ) (a b : ℕ) → AllByRecursion (λ c. a < c) cs → AllByRecursion (λ y. b * s.width + a < y) (in_row s cs b)

@@ -52,10 +52,12 @@ rising-filter (suc n) a (y ∷ ys) p up within among =
           rw out (rising-filter n (a + 1) (y ∷ ys) p up ((omega arith, omega (arith, within.0.1)), rest) (λ q h k. among q (omega arith) (omega arith)))
     ]
 
+-- what holds of each of two lists
+pub all-append : (P : ℕ → Type 0) (xs ys : List ℕ) → AllByRecursion P xs → AllByRecursion P ys → AllByRecursion P (xs ++ ys)
+all-append P [] ys a b = b
+all-append P (x ∷ xs) ys a b = (a.0, all-append P xs ys a.1 b)
+
 -- lists that rise one behind the other
 pub rises-append : (xs ys : List ℕ) → Rises xs → Rises ys → AllByRecursion (λ x. AllByRecursion (λ y. x < y) ys) xs → Rises (xs ++ ys)
 rises-append [] ys a b between = b
-rises-append (x ∷ xs) ys a b between = (all-append (λ y. x < y) xs ys a.0 between.0, rises-append xs ys a.1 b between.1) where
-  all-append : (P : ℕ → Type 0) (xs ys : List ℕ) → AllByRecursion P xs → AllByRecursion P ys → AllByRecursion P (xs ++ ys)
-  all-append P [] ys a b = b
-  all-append P (x ∷ xs) ys a b = (a.0, all-append P xs ys a.1 b)
+rises-append (x ∷ xs) ys a b between = (all-append (λ y. x < y) xs ys a.0 between.0, rises-append xs ys a.1 b between.1)

@@ -13,9 +13,6 @@ some_nodes w h a b = search arith
 
 -- the three lists that are made
 module _ (f : Frame) (is : IsFrame f) (offsets ends weights : List ℕ) (k : ℕ) where
-  abbrev rows : ℕ → List ℕ
-  rows = joined_with (frame_joins f) (frame_nodes f)
-
   module _ (first : offsets ≡ starts (joined_with (frame_joins f) (frame_nodes f)) (frame_nodes f)) (second : ends ≡ ends_before (joined_with (frame_joins f) (frame_nodes f)) (frame_nodes f))
       (third : weights ≡ replicate k 1) (many : k ≡ length ends) where
     three_laid_out : AreLaidOut offsets ends weights
