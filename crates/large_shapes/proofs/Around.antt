@@ -1,6 +1,6 @@
 -- The neighbours of a node of a frame: those near it, row by row.
-use Rattle.std.proofs.Common.{◌≡◌, ◌∙◌, ℕ, ◌+◌, ◌*◌, ◌<◌, ◌≤◌, ◌==◌, Bool, true, false, ◌&&◌, ◌||◌, not, nat_lt, List, [], ◌∷◌, ◌++◌, map, refl, sym, ap, arith, inl, inr, if◌then◌else◌}
-use Rattle.std.specs.List.{AllByRecursion, filter, flat_map, list_any}
+use Rattle.std.proofs.Common.{◌≡◌, ◌∙◌, ℕ, ◌+◌, ◌*◌, ◌<◌, ◌≤◌, ◌==◌, Bool, true, false, ◌&&◌, ◌||◌, not, List, [], ◌∷◌, refl, sym, arith, inl, inr, if◌then◌else◌}
+use Rattle.std.specs.List.{AllByRecursion, list_any}
 use Rattle.std.proofs.lemmas.Bool.{cases_Bool}
 use Rattle.std.proofs.lemmas.Bool.Decides.{nat_tests}
 use Rattle.std.proofs.lemmas.List.Elements.{recursion_from_All}
@@ -9,7 +9,7 @@ use Rattle.net_shapes.specs.Shapes.{row, column}
 use Rattle.large_shapes.specs.declared.axis.Axis.{Axis}
 use Rattle.large_shapes.specs.declared.frame.Frame.{Frame}
 use Rattle.large_shapes.specs.declared.spot.Spot.{Spot}
-use Rattle.large_shapes.specs.Frames.{Rises, AreNear, IsAxis, IsFrame, are_beside, spots_joined, frame_joins, frame_nodes, is_kept, in_row, around}
+use Rattle.large_shapes.specs.Frames.{Rises, AreNear, IsAxis, IsFrame, are_beside, frame_joins, frame_nodes, is_kept, in_row, around}
 use Rattle.large_shapes.specs.Rows.{joined_with}
 use Rattle.large_shapes.proofs.Places.{column_below, row_below, place_test}
 use Rattle.large_shapes.proofs.Rising.{AllBetween, all-append, rises-append, rising-filter}

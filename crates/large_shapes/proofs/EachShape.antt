@@ -1,19 +1,17 @@
 -- Each shape joins what its frame joins.
-use Rattle.std.proofs.Common.{◌≡◌, ◌∙◌, ℕ, ◌+◌, ◌*◌, ◌<◌, ◌≤◌, ◌==◌, Bool, true, false, not, ◌&&◌, ◌||◌, nat_le, nat_lt, Option, Some, None, refl, sym, ap, arith, inl, inr, if◌then◌else◌}
+use Rattle.std.proofs.Common.{◌≡◌, ◌∙◌, ℕ, ◌+◌, ◌*◌, ◌<◌, ◌≤◌, ◌==◌, Bool, true, false, ◌&&◌, ◌||◌, nat_le, None, refl, sym, ap, arith, inl, inr, if◌then◌else◌}
 use Rattle.std.proofs.Math.Nat.{mod-eq_of_lt}
 use Rattle.std.proofs.lemmas.Bool.{cases_Bool, and_parts}
 use Rattle.std.proofs.lemmas.Bool.Decides.{nat_tests}
 use Rattle.std.proofs.lemmas.Nat.{div-mul-add}
-use Rattle.link_net.specs.Limits.{most_rows}
 use Rattle.net_shapes.specs.declared.shape.Shape.{Shape}
-use Rattle.net_shapes.specs.Shapes.{next, row, column, node_count, leads, shape_joins}
-use Rattle.large_shapes.specs.declared.fault.LargeShapeFault.{LargeShapeFault}
+use Rattle.net_shapes.specs.Shapes.{next, row, column, node_count, shape_joins}
 use Rattle.large_shapes.specs.declared.shape.LargeShape.{LargeShape}
-use Rattle.large_shapes.specs.Frames.{IsAxis, IsFrame, frame_nodes, frame_joins, frame_of, frame_rows}
+use Rattle.large_shapes.specs.Frames.{frame_nodes, frame_joins, frame_of, frame_rows}
 use Rattle.large_shapes.specs.Rows.{joined_rows}
 use Rattle.large_shapes.specs.Shapes.{shape_of}
 use Rattle.large_shapes.specs.Sizes.{has_enough, refusal_of}
-use Rattle.large_shapes.proofs.Places.{column_below, row_below}
+use Rattle.large_shapes.proofs.Places.{row_below}
 use Rattle.large_shapes.proofs.Tables.{rows_agree}
 
 -- nodes of one row

@@ -1,8 +1,7 @@
 -- Rows that stand one behind the other in one list.
-use Rattle.std.proofs.Common.{◌≡◌, ◌∙◌, ℕ, ◌+◌, ◌-◌, ◌*◌, ◌<◌, ◌≤◌, ◌==◌, Bool, true, false, List, [], ◌∷◌, ◌++◌, length, get_or, zero, suc, nat_lt, refl, sym, ap, map, take, drop, length-append, append_assoc, subst, arith, inl, inr, replicate}
+use Rattle.std.proofs.Common.{◌≡◌, ◌∙◌, ℕ, ◌+◌, ◌-◌, ◌<◌, ◌≤◌, Bool, List, [], ◌∷◌, ◌++◌, length, get_or, zero, suc, nat_lt, refl, sym, ap, map, take, drop, length-append, subst, arith, inl, inr, replicate}
 use Rattle.std.proofs.Math.Seq.{drop-append_seam, take-append_seam}
-use Rattle.std.specs.List.{AllByRecursion, filter, flat_map, list_any, range_with_len, slice_range, zip}
-use Rattle.std.specs.List.Sorted.{IsNonDecreasing}
+use Rattle.std.specs.List.{AllByRecursion, filter, flat_map, range_with_len, slice_range, zip}
 use Rattle.std.proofs.lemmas.Bool.{cases_Bool}
 use Rattle.std.proofs.lemmas.Bool.Decides.{nat_tests}
 use Rattle.std.proofs.lemmas.Grind.{flat_map-append}
@@ -11,11 +10,11 @@ use Rattle.std.proofs.lemmas.List.Elements.{All-from_recursion}
 use Rattle.std.proofs.lemmas.List.FromFn.{length-map-range_with_len, get_or-map-range_with_len, map-range_with_len_more}
 use Rattle.std.proofs.lemmas.List.Sorted.{IsNonDecreasingBy-from_default}
 use Rattle.link_net.specs.Limits.{most_rows}
-use Rattle.link_net.specs.Neighbours.{Neighbours, numbers_below, AreRows}
-use Rattle.link_net.specs.Layout.{part, rows_of, AreOffsets, HoldRows}
+use Rattle.link_net.specs.Neighbours.{numbers_below, AreRows}
+use Rattle.link_net.specs.Layout.{part, rows_of, AreOffsets}
 use Rattle.large_net.specs.Large.{AreLaidOut}
 use Rattle.large_shapes.specs.Rows.{joined_with, joined_rows}
-use Rattle.large_shapes.specs.Tables.{ends_before, starts}
+use Rattle.large_shapes.specs.Tables.{ends_before, starts, HoldBelow}
 
 -- the numbers of a range and those after it
 range_split : (a m k : ℕ) → range_with_len a (m + k) ≡ range_with_len a m ++ range_with_len (a + m) k
@@ -42,6 +41,12 @@ module _ (rows : ℕ → List ℕ) where
   -- one more offset
   pub starts_more : (u : ℕ) → starts rows (u + 1) ≡ starts rows u ++ length (ends_before rows (u + 1)) ∷ []
   starts_more u = map-range_with_len_more (λ v. length (ends_before rows v)) 0 (u + 1) (u + 1) (omega arith)
+
+  -- the table of one more node
+  pub hold_more : (n k : ℕ) (offsets ends pushed later : List ℕ) → HoldBelow rows n offsets ends → later ≡ ends ++ rows n → k ≡ length later → pushed ≡ offsets ++ k ∷ [] → HoldBelow rows (n + 1) pushed later
+  hold_more n k offsets ends pushed later before put many push =
+      let filled : later ≡ ends_before rows (n + 1) = put ∙ ap (λ xs. xs ++ rows n) before.filled ∙ sym (ends_more n) in
+      record { placed = push ∙ rw (before.placed, many, filled) (sym (starts_more n)); filled = filled }
 
   pub length_starts : (n : ℕ) → length (starts rows n) ≡ n + 1
   length_starts n = length-map-range_with_len (λ v. length (ends_before rows v)) 0 (n + 1)

@@ -9,7 +9,7 @@ use Rattle.large_shapes.specs.declared.near.Near.{Near}
 use Rattle.large_shapes.specs.declared.frame.Frame.{Frame}
 use Rattle.large_shapes.specs.declared.shape.LargeShape.{LargeShape}
 use Rattle.large_shapes.specs.declared.spot.Spot.{Spot}
-use Rattle.large_shapes.specs.Rows.{joined_rows}
+use Rattle.large_shapes.specs.Rows.{joined_with, joined_rows}
 
 -- k comes after i
 abbrev pub is_after : Axis → ℕ → ℕ → Bool
@@ -58,6 +58,10 @@ spots_joined f x y a b =
 -- a frame joins u and v
 abbrev pub frame_joins : Frame → ℕ → ℕ → Bool
 frame_joins f u v = spots_joined f (column f.columns.places u) (row f.columns.places u) (column f.columns.places v) (row f.columns.places v)
+
+-- the neighbours of each node of a frame
+abbrev pub frame_neighbours : Frame → ℕ → List ℕ
+frame_neighbours f = joined_with (frame_joins f) (frame_nodes f)
 
 -- the network of a frame
 abbrev pub frame_rows : Frame → Neighbours

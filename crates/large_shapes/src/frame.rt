@@ -1,7 +1,6 @@
 //! Nodes in rows and columns.
 ghost use Rattle.std.specs.Prelude.{◌≡◌, ◌*◌, ◌<◌, ◌≤◌, ◌++◌, OnOk};
-ghost use Rattle.large_shapes.specs.Frames.{IsFrame, frame_joins, frame_nodes, frame_of};
-ghost use Rattle.large_shapes.specs.Rows.{joined_with};
+ghost use Rattle.large_shapes.specs.Frames.{IsFrame, frame_neighbours, frame_nodes, frame_of};
 
 use crate::LargeShape;
 use crate::axis::Axis;
@@ -85,7 +84,7 @@ impl Frame {
     ) -> Result<(), AllocError>
         requires frame { IsFrame self.now }
         requires low { node < frame_nodes self.now }
-        ensures { OnOk result (neighbours.new.items ≡ neighbours.old.items ++ joined_with (frame_joins self.now) (frame_nodes self.now) node) }
+        ensures { OnOk result (neighbours.new.items ≡ neighbours.old.items ++ frame_neighbours self.now node) }
     {
         let width = self.columns.places;
         let spot = Spot {

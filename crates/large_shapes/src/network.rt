@@ -1,10 +1,9 @@
 //! The networks of shapes.
-ghost use Rattle.std.specs.Prelude.{◌≡◌, None, IfOk, IfErr};
-ghost use Rattle.large_shapes.specs.Frames.{IsFrame, frame_joins, frame_nodes, frame_rows};
-ghost use Rattle.large_shapes.specs.Rows.{joined_with};
+ghost use Rattle.std.specs.Prelude.{◌≡◌, ◌+◌, ◌<◌, None, IfOk, OnOk, IfErr};
+ghost use Rattle.large_shapes.specs.Frames.{IsFrame, frame_neighbours, frame_nodes, frame_rows};
 ghost use Rattle.large_shapes.specs.Shapes.{HasShapeRows, shape_of};
 ghost use Rattle.large_shapes.specs.Sizes.{refusal_of, refused_by};
-ghost use Rattle.large_shapes.specs.Tables.{ends_before, starts};
+ghost use Rattle.large_shapes.specs.Tables.{HoldBelow};
 
 use crate::frame::Frame;
 use crate::sizes::refusal;
@@ -12,31 +11,51 @@ use crate::{LargeShape, LargeShapeFault};
 use large_net::LargeNetwork;
 use std::alloc::{AllocError, Global};
 
-/// The neighbours of all nodes, node by node, and where each node's begin, and last where they end.
+/// The neighbours of nodes, node by node, and where each node's begin, and last where they end.
 #[derive(Drop)]
 struct Table {
     offsets: Vec<usize>,
     neighbours: Vec<u32>,
 }
 
-/// Lays out the neighbours of all nodes of a frame.
+impl Table {
+    /// The table of no nodes, with room for those of a frame.
+    fn with_room(alloc: Global, frame: &Frame) -> Result<Table, AllocError>
+        requires frame { IsFrame frame.now }
+        ensures none { IfOk result (λ t. HoldBelow (frame_neighbours frame.now) 0 t.offsets.items t.neighbours.items) }
+    {
+        let mut offsets = Vec::with_capacity(alloc, frame.nodes() as usize + 1)?;
+        offsets.push(0)?;
+        let neighbours = Vec::with_capacity(alloc, frame.room())?;
+        Ok(Table {
+            offsets,
+            neighbours,
+        })
+    }
+
+    /// Puts the neighbours of the next node.
+    fn put_node(&mut self, frame: &Frame, node: u32) -> Result<(), AllocError>
+        requires frame { IsFrame frame.now }
+        requires low { node < frame_nodes frame.now }
+        requires before { HoldBelow (frame_neighbours frame.now) node self.old.offsets.items self.old.neighbours.items }
+        ensures after { OnOk result (HoldBelow (frame_neighbours frame.now) (node + 1) self.new.offsets.items self.new.neighbours.items) }
+    {
+        frame.put_neighbours(&mut self.neighbours, node)?;
+        self.offsets.push(self.neighbours.len())?;
+        Ok(())
+    }
+}
+
+/// The neighbours of all nodes of a frame.
 fn lay_out(alloc: Global, frame: &Frame) -> Result<Table, AllocError>
     requires frame { IsFrame frame.now }
-    ensures neighbours { IfOk result (λ t. t.neighbours.items ≡ ends_before (joined_with (frame_joins frame.now) (frame_nodes frame.now)) (frame_nodes frame.now)) }
-    ensures offsets { IfOk result (λ t. t.offsets.items ≡ starts (joined_with (frame_joins frame.now) (frame_nodes frame.now)) (frame_nodes frame.now)) }
+    ensures all { IfOk result (λ t. HoldBelow (frame_neighbours frame.now) (frame_nodes frame.now) t.offsets.items t.neighbours.items) }
 {
-    let nodes = frame.nodes();
-    let mut neighbours = Vec::with_capacity(alloc, frame.room())?;
-    let mut offsets = Vec::with_capacity(alloc, nodes as usize + 1)?;
-    offsets.push(0)?;
-    for node in 0..nodes {
-        frame.put_neighbours(&mut neighbours, node)?;
-        offsets.push(neighbours.len())?;
+    let mut table = Table::with_room(alloc, frame)?;
+    for node in 0..frame.nodes() {
+        table.put_node(frame, node)?;
     }
-    Ok(Table {
-        offsets,
-        neighbours,
-    })
+    Ok(table)
 }
 
 /// The network of a frame.

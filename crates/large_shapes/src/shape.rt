@@ -1,7 +1,7 @@
 //! Shapes of networks of any size.
 
 /// A shape of a network, with its size. Nodes are numbered from 0.
-#[derive(Clone, Copy, Debug, PartialEq, Eq)]
+#[derive(Clone, Copy)]
 pub enum LargeShape {
     /// Each node is linked with the next one.
     Path {

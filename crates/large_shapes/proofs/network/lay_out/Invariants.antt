@@ -1,10 +1,6 @@
-use Rattle.std.proofs.Common.{◌≡◌}
-use Rattle.large_shapes.specs.Frames.{frame_joins, frame_nodes}
-use Rattle.large_shapes.specs.Rows.{joined_with}
-use Rattle.large_shapes.specs.Tables.{ends_before, starts}
+use Rattle.large_shapes.specs.Frames.{frame_neighbours}
+use Rattle.large_shapes.specs.Tables.{HoldBelow}
 use Rattle.large_shapes.proofs.network.lay_out.Given as goal
 
 abbrev pub invariant-loop-node : goal.invariant-loop-node
-invariant-loop-node l =
-    let rows = joined_with (frame_joins l.frame) (frame_nodes l.frame) in
-    record { neighbours : l.neighbours.items ≡ ends_before rows l.node; offsets : l.offsets.items ≡ starts rows l.node }
+invariant-loop-node l = HoldBelow (frame_neighbours l.frame) l.node l.table.offsets.items l.table.neighbours.items

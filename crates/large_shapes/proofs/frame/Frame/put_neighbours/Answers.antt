@@ -1,5 +1,4 @@
 use Rattle.std.proofs.Common.{◌++◌, ◌∙◌, ap}
-use Rattle.large_shapes.specs.Frames.{around}
 use Rattle.large_shapes.proofs.Around.{around_is}
 use Rattle.large_shapes.proofs.frame.Frame.put_neighbours.Goals as goal
 

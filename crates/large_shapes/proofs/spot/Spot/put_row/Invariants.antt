@@ -1,4 +1,4 @@
-use Rattle.std.proofs.Common.{◌≡◌, ◌+◌, ◌*◌, ◌++◌, drop}
+use Rattle.std.proofs.Common.{◌≡◌, ◌*◌, ◌++◌, drop}
 use Rattle.large_shapes.specs.Frames.{in_row}
 use Rattle.large_shapes.proofs.spot.Spot.put_row.Given as goal
 
