@@ -17,7 +17,7 @@ pub use fields::{all_fields, coloured_field, field_place, shown_fields};
 pub use files::{
     Text, bytes_at, bytes_where, name_at, path_in, read_once, text_at, text_where, unserved,
 };
-pub use lines::{put_place, weight_told, words_told};
+pub use lines::{put_note, put_place, weight_told, words_told};
 pub use networks::file_at;
 pub use output::{print_out, write_file, write_out};
 pub use told::{print_ending, print_fault};

@@ -51,3 +51,17 @@ pub fn put_place(draft: &mut Draft, name: &str, line: Option<u64>) {
         draft.put_count(line);
     }
 }
+
+/// Adds what was done to so many edges or weights, behind what was done to others: `merged 2 edges into an earlier one`.
+pub fn put_note(draft: &mut Draft, done: &str, count: u64, thing: &str, after: &str) {
+    if count > 0 {
+        draft.put(if draft.is_empty() { "" } else { ", " });
+        draft.put(done);
+        draft.put(" ");
+        draft.put_count(count);
+        draft.put(" ");
+        draft.put(thing);
+        draft.put(if count == 1 { "" } else { "s" });
+        draft.put(after);
+    }
+}

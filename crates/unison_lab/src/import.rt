@@ -1,7 +1,7 @@
 //! `import FORMAT FILE`: a network from another format, and the names of its nodes.
 
 use crate::refusals::refusal;
-use app_files::{Ending, bytes_at, name_at, write_file, write_out};
+use app_files::{Ending, bytes_at, name_at, put_note, write_file, write_out};
 use app_requests::{Format, ImportRequest};
 use app_table::Draft;
 use import_network::{TakeFault, Taken, take_dot, take_edges, take_matrix, take_numbers};
@@ -46,38 +46,24 @@ fn keep_names(rt: &HostRuntime, asked: &ImportRequest, taken: &Taken) -> Result<
     }
 }
 
-/// Adds what was done to so many edges or weights, behind what was done to others: `merged 2 edges into an earlier one`.
-fn put_note(draft: &mut Draft, done: &str, count: usize, thing: &str, after: &str) {
-    if count > 0 {
-        draft.put(if draft.is_empty() { "" } else { ", " });
-        draft.put(done);
-        draft.put(" ");
-        draft.put_count(count as u64);
-        draft.put(" ");
-        draft.put(thing);
-        draft.put(if count == 1 { "" } else { "s" });
-        draft.put(after);
-    }
-}
-
 /// How many edges were dropped or merged, and how many weights rounded; nothing where none were.
 fn notes_text(alloc: Global, taken: &Taken) -> Result<String, AllocError> {
     let mut draft = Draft::new(alloc);
     put_note(
         &mut draft,
         "dropped",
-        taken.dropped,
+        taken.dropped as u64,
         "edge",
         " of a node with itself",
     );
     put_note(
         &mut draft,
         "merged",
-        taken.merged,
+        taken.merged as u64,
         "edge",
         " into an earlier one",
     );
-    put_note(&mut draft, "rounded", taken.rounded, "weight", "");
+    put_note(&mut draft, "rounded", taken.rounded as u64, "weight", "");
     draft.end()
 }
 

@@ -1,23 +1,34 @@
 //! `pack`: a network of any size as a binary file.
 
 use crate::refusals::refusal;
-use app_files::{Ending, bytes_at, file_at, name_at, print_out};
+use app_files::{Ending, bytes_at, file_at, name_at, print_out, put_note};
 use app_requests::PackRequest;
+use app_table::Draft;
 use large_net::{LargeNetwork, large_bytes};
 use large_pack::{PackOptions, Packed, pack_edges};
 use large_shapes::{LargeShape, LargeShapeFault, large_shape};
-use std::alloc::Global;
-use std::io;
+use std::alloc::{AllocError, Global};
 use std::io::IsTerminal;
 
-/// What is told of edges that were dropped or merged, where some were.
-fn tell_mended(rt: &HostRuntime, packed: &Packed) -> io::Result<()> {
-    let (dropped, merged) = (packed.dropped_loops, packed.merged);
-    if dropped > 0 {
-        eprintln!(rt; "dropped {dropped} edges of a node with itself")?;
-    }
-    if merged > 0 {
-        eprintln!(rt; "merged {merged} edges into others between the same two nodes")?;
+/// How many edges were dropped or merged; nothing where none were.
+fn notes_text(alloc: Global, packed: &Packed) -> Result<String, AllocError> {
+    let mut draft = Draft::new(alloc);
+    put_note(
+        &mut draft,
+        "dropped",
+        packed.dropped_loops,
+        "edge",
+        " of a node with itself",
+    );
+    put_note(&mut draft, "merged", packed.merged, "edge", " into others");
+    draft.end()
+}
+
+/// Tells on standard error what was dropped or merged.
+fn tell_notes(rt: &HostRuntime, packed: &Packed) -> Result<(), Ending> {
+    let notes = notes_text(rt.alloc(), packed)?;
+    if !notes.is_empty() {
+        let _ = eprintln!(rt; "{notes}");
     }
     Ok(())
 }
@@ -27,7 +38,7 @@ fn edges_at(rt: &HostRuntime, path: &str, options: &PackOptions) -> Result<Large
     let text = bytes_at(rt, path)?;
     match pack_edges(rt.alloc(), &text, options) {
         Ok(packed) => {
-            let _ = tell_mended(rt, &packed);
+            tell_notes(rt, &packed)?;
             Ok(packed.network)
         }
         Err(fault) => Err(Ending::refused(refusal(rt.alloc(), name_at(path), fault))),
