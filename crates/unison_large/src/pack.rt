@@ -24,32 +24,36 @@ fn notes_text(alloc: Global, packed: &Packed) -> Result<String, AllocError> {
     draft.end()
 }
 
-/// Tells on standard error what was dropped or merged.
-fn tell_notes(rt: &HostRuntime, packed: &Packed) -> Result<(), Ending> {
-    let notes = notes_text(rt.alloc(), packed)?;
-    if !notes.is_empty() {
-        let _ = eprintln!(rt; "{notes}");
-    }
-    Ok(())
+/// A binary file, and what is told beside it.
+#[derive(Drop)]
+struct Answer {
+    bytes: Vec<u8>,
+    notes: String,
 }
 
-/// The network of the list of edges at a path.
-fn edges_at(rt: &HostRuntime, path: &str, options: &PackOptions) -> Result<LargeNetwork, Ending> {
+/// The binary file of a network, with these notes.
+fn answer(alloc: Global, network: &LargeNetwork, notes: String) -> Result<Answer, Ending> {
+    let bytes = large_bytes(alloc, network)?;
+    Ok(Answer { bytes, notes })
+}
+
+/// The binary file of the list of edges at a path.
+fn edges_at(rt: &HostRuntime, path: &str, options: &PackOptions) -> Result<Answer, Ending> {
     let text = bytes_at(rt, path)?;
     match pack_edges(rt.alloc(), &text, options) {
         Ok(packed) => {
-            tell_notes(rt, &packed)?;
-            Ok(packed.network)
+            let notes = notes_text(rt.alloc(), &packed)?;
+            answer(rt.alloc(), &packed.network, notes)
         }
         Err(fault) => Err(Ending::refused(refusal(rt.alloc(), name_at(path), fault))),
     }
 }
 
-/// The network of the network file at a path.
-fn copied_at(rt: &HostRuntime, path: &str) -> Result<LargeNetwork, Ending> {
+/// The binary file of the network file at a path.
+fn copied_at(rt: &HostRuntime, path: &str) -> Result<Answer, Ending> {
     let file = file_at(rt, path)?;
     let network = LargeNetwork::of_network(rt.alloc(), file.network())?;
-    Ok(network)
+    answer(rt.alloc(), &network, String::new(rt.alloc()))
 }
 
 /// The ending where a shape has no network.
@@ -64,28 +68,21 @@ fn no_shape(alloc: Global, fault: LargeShapeFault) -> Ending {
     Ending::usage(String::from_str(alloc, text))
 }
 
-/// The network of a shape.
-fn shape_of(alloc: Global, shape: LargeShape) -> Result<LargeNetwork, Ending> {
+/// The binary file of a shape.
+fn shape_of(alloc: Global, shape: LargeShape) -> Result<Answer, Ending> {
     match large_shape(alloc, shape) {
-        Ok(network) => Ok(network),
+        Ok(network) => answer(alloc, &network, String::new(alloc)),
         Err(fault) => Err(no_shape(alloc, fault)),
     }
 }
 
-/// The network that is asked for.
-fn network_for(rt: &HostRuntime, asked: &PackRequest) -> Result<LargeNetwork, Ending> {
+/// The binary file that is asked for.
+fn answer_for(rt: &HostRuntime, asked: &PackRequest) -> Result<Answer, Ending> {
     match asked {
         PackRequest::Edges { path, options } => edges_at(rt, path.as_str(), options),
         PackRequest::Network { path } => copied_at(rt, path.as_str()),
         PackRequest::Shape(shape) => shape_of(rt.alloc(), *shape),
     }
-}
-
-/// The binary file that is asked for.
-fn file_for(rt: &HostRuntime, asked: &PackRequest) -> Result<Vec<u8>, Ending> {
-    let network = network_for(rt, asked)?;
-    let bytes = large_bytes(rt.alloc(), &network)?;
-    Ok(bytes)
 }
 
 /// Refuses a terminal as standard output, for which a binary file is nothing.
@@ -99,10 +96,19 @@ fn check_output(rt: &HostRuntime) -> Result<(), Ending> {
     Ok(())
 }
 
+/// Prints a binary file, and tells what was dropped or merged. The status with which the program ends.
+fn put_answer(rt: &HostRuntime, answer: &Answer) -> Result<u8, Ending> {
+    let status = print_out(rt, &answer.bytes)?;
+    if !answer.notes.is_empty() {
+        let _ = eprintln!(rt; "{}", answer.notes.as_str());
+    }
+    Ok(status)
+}
+
 /// Prints the binary file of a network. The status with which the program ends.
 pub(crate) fn pack_network(rt: &HostRuntime, words: &[String]) -> Result<u8, Ending> {
     let asked = PackRequest::parse(rt.alloc(), words)?;
     check_output(rt)?;
-    let bytes = file_for(rt, &asked)?;
-    print_out(rt, &bytes)
+    let answer = answer_for(rt, &asked)?;
+    put_answer(rt, &answer)
 }
