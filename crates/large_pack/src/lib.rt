@@ -1,0 +1,8 @@
+//! Lists of edges between numbered nodes, packed into networks of any size that memory holds.
+#![tactic(auto)]
+
+mod edge_line;
+mod fault;
+
+pub use edge_line::{EdgeLine, line_edge};
+pub use fault::{End, LineFault, NodeFault, PackFault};
