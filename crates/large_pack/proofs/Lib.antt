@@ -1,1 +1,4 @@
 mod Numbers
+mod Permuting
+mod Offsets
+mod Laying

@@ -3,6 +3,8 @@
 
 mod edge_line;
 mod fault;
+mod rows;
 
 pub use edge_line::{EdgeLine, line_edge};
 pub use fault::{End, LineFault, NodeFault, PackFault};
+pub use rows::{Arc, network_of_arcs};
