@@ -2,3 +2,4 @@ mod Numbers
 mod Permuting
 mod Offsets
 mod Laying
+mod Surveying

@@ -1,2 +1,4 @@
 pub mod Lines
 pub mod Rows
+pub mod Sound
+pub mod Surveys

@@ -1,8 +1,8 @@
 //! The edge that a line says.
-ghost use Rattle.std.specs.Prelude.{◌≡◌};
+ghost use Rattle.std.specs.Prelude.{◌≡◌, ◌≤◌, IfOk};
 ghost use Rattle.std.specs.Option.{option_copied};
 ghost use Rattle.import_lines.specs.Weights.{is_whole};
-ghost use Rattle.large_pack.specs.Lines.{node_of, end_in, weight_in, edge_in, edge_of};
+ghost use Rattle.large_pack.specs.Lines.{most_node, node_of, end_in, weight_in, edge_in, edge_of};
 
 use crate::fault::{End, LineFault, NodeFault, PackFault};
 use import_lines::{WeightFault, all_digits, line_parts, line_text, read_weight};
@@ -28,7 +28,8 @@ fn is_whole(bytes: &[u8]) -> bool
 
 /// The number of the node that a word says.
 fn read_node(word: &str) -> Result<u32, NodeFault>
-    ensures { result ≡ node_of word.now }
+    ensures node { result ≡ node_of word.now }
+    ensures small { IfOk result (λ node. node ≤ most_node) }
 {
     if !is_whole(word.as_bytes()) {
         return Err(NodeFault::BadNode);
@@ -44,7 +45,8 @@ fn read_node(word: &str) -> Result<u32, NodeFault>
 
 /// The number of the node at an end.
 fn end_node(end: End, word: &str) -> Result<u32, LineFault>
-    ensures { result ≡ end_in end word.now }
+    ensures node { result ≡ end_in end word.now }
+    ensures small { IfOk result (λ node. node ≤ most_node) }
 {
     match read_node(word) {
         Ok(node) => Ok(node),
@@ -72,7 +74,9 @@ fn part_weight(word: Option<&str>, factor: Option<u32>) -> Result<u32, WeightFau
 /// or decimal: the weight, the 1 of an edge without one too, is multiplied by the factor and rounded to the nearest
 /// whole number, the greater one where two are as near.
 pub fn line_edge(number: u64, line: &[u8], factor: Option<u32>) -> Result<EdgeLine, LineFault>
-    ensures { result ≡ edge_in factor number line.now }
+    ensures edge { result ≡ edge_in factor number line.now }
+    ensures first { IfOk result (λ edge. edge.first ≤ most_node) }
+    ensures second { IfOk result (λ edge. edge.second ≤ most_node) }
 {
     let text = line_text(line).map_err(LineFault::Words)?;
     let parts = line_parts(text).map_err(LineFault::Words)?;
@@ -93,7 +97,9 @@ pub(crate) fn read_line(
     line: &[u8],
     factor: Option<u32>,
 ) -> Result<EdgeLine, PackFault>
-    ensures { result ≡ edge_of factor (number, line.now) }
+    ensures edge { result ≡ edge_of factor (number, line.now) }
+    ensures first { IfOk result (λ edge. edge.first ≤ most_node) }
+    ensures second { IfOk result (λ edge. edge.second ≤ most_node) }
 {
     match line_edge(number, line, factor) {
         Ok(edge) => Ok(edge),

@@ -3,8 +3,11 @@
 
 mod edge_line;
 mod fault;
+mod options;
 mod rows;
+mod survey;
 
 pub use edge_line::{EdgeLine, line_edge};
 pub use fault::{End, LineFault, NodeFault, PackFault};
+pub use options::{PackOptions, Parallel, SelfLoops};
 pub use rows::{Arc, network_of_arcs};

@@ -1,0 +1,123 @@
+//! What a list of edges tells before it is kept.
+ghost use Rattle.std.specs.Prelude.{◌≡◌, ◌+◌, ◌<◌, ◌≤◌, ◌^◌, length, Ok};
+ghost use Rattle.import_lines.specs.Texts.{told_from};
+ghost use Rattle.large_pack.specs.Lines.{and_then, edge_lines, edges_in, most_node};
+ghost use Rattle.large_pack.specs.Sound.{outside_fault, loop_fault, node_count, sound_of};
+ghost use Rattle.large_pack.specs.Surveys.{with_edge, survey_in, count_in};
+
+use crate::edge_line::{EdgeLine, read_line};
+use crate::fault::PackFault;
+use crate::options::{PackOptions, SelfLoops};
+use import_lines::Lines;
+
+/// What the edges of a text tell together.
+#[derive(Clone, Copy)]
+pub(crate) struct Survey {
+    /// The least number above those of all ends.
+    reach: u32,
+    /// The fault of the first edge with an end that is no node.
+    outside: Option<PackFault>,
+    /// The fault of the first self-loop that is refused.
+    self_loop: Option<PackFault>,
+}
+
+/// The fault of an edge with an end that is not below the number of nodes, where that is given.
+fn outside_fault(nodes: Option<u32>, edge: &EdgeLine) -> Option<PackFault>
+    ensures { result ≡ outside_fault nodes edge.now }
+{
+    let nodes = nodes?;
+    if edge.first >= nodes {
+        return Some(PackFault::NodeOutside {
+            line: edge.line,
+            node: edge.first,
+        });
+    }
+    if edge.second >= nodes {
+        return Some(PackFault::NodeOutside {
+            line: edge.line,
+            node: edge.second,
+        });
+    }
+    None
+}
+
+/// The fault of a self-loop, where it is refused.
+fn loop_fault(self_loops: SelfLoops, edge: &EdgeLine) -> Option<PackFault>
+    ensures { result ≡ loop_fault self_loops edge.now }
+{
+    if self_loops == SelfLoops::Refuse && edge.first == edge.second {
+        return Some(PackFault::SelfLoop { line: edge.line });
+    }
+    None
+}
+
+/// What edges tell together with one more.
+fn with_edge(survey: Survey, edge: &EdgeLine, options: &PackOptions) -> Survey
+    requires first { edge.now.first ≤ most_node }
+    requires second { edge.now.second ≤ most_node }
+    ensures { result ≡ with_edge options.now survey edge.now }
+{
+    let reach = survey.reach.max(edge.first + 1).max(edge.second + 1);
+    let outside = survey.outside.or(outside_fault(options.nodes, edge));
+    let self_loop = survey.self_loop.or(loop_fault(options.self_loops, edge));
+    Survey {
+        reach,
+        outside,
+        self_loop,
+    }
+}
+
+/// What the edges of the lines that are left tell together.
+fn survey_lines(from: Lines<'_>, options: &PackOptions) -> Result<Survey, PackFault>
+    requires room { from.passed + length from.bytes.now < 2 ^ 64 }
+    ensures { result ≡ survey_in options.now (edges_in options.now.factor (told_from (from.entry.passed + 1) from.entry.bytes.now)) }
+{
+    let mut lines = from;
+    let mut survey = Survey {
+        reach: 0,
+        outside: None,
+        self_loop: None,
+    };
+    while let Some((number, line)) = lines.next_told() {
+        let edge = read_line(number, line, options.factor)?;
+        survey = with_edge(survey, &edge, options);
+    }
+    Ok(survey)
+}
+
+/// How many nodes there are, where edges that tell this are sound.
+fn count_nodes(survey: &Survey, options: &PackOptions) -> Result<u32, PackFault>
+    ensures { result ≡ count_in options.now survey.now }
+{
+    let nodes = options.nodes.unwrap_or(survey.reach);
+    if nodes == 0 {
+        return Err(PackFault::NoNode);
+    }
+    if let Some(fault) = survey.outside {
+        return Err(fault);
+    }
+    if let Some(fault) = survey.self_loop {
+        return Err(fault);
+    }
+    Ok(nodes)
+}
+
+/// The lines of a text that say edges.
+pub(crate) fn edge_lines(text: &[u8], header: bool) -> Lines<'_>
+    ensures room { result.passed + length result.bytes.now < 2 ^ 64 }
+    ensures lines { told_from (result.passed + 1) result.bytes.now ≡ edge_lines header text.now }
+{
+    let mut lines = Lines::of(text);
+    if header {
+        lines.next_told();
+    }
+    lines
+}
+
+/// How many nodes there are, where the edges of a text are sound.
+pub(crate) fn sound_nodes(text: &[u8], options: &PackOptions) -> Result<u32, PackFault>
+    ensures { result ≡ and_then (sound_of options.now text.now) (λ edges. Ok (node_count options.now.nodes edges)) }
+{
+    let survey = survey_lines(edge_lines(text, options.header), options)?;
+    count_nodes(&survey, options)
+}
