@@ -3,3 +3,5 @@ mod Permuting
 mod Offsets
 mod Laying
 mod Surveying
+mod Ranking
+mod Beating

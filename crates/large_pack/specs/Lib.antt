@@ -2,3 +2,5 @@ pub mod Lines
 pub mod Rows
 pub mod Sound
 pub mod Surveys
+pub mod Packing
+pub mod Ranks

@@ -3,11 +3,15 @@
 
 mod edge_line;
 mod fault;
+mod merging;
 mod options;
+mod pack;
+mod ranked;
 mod rows;
 mod survey;
 
 pub use edge_line::{EdgeLine, line_edge};
 pub use fault::{End, LineFault, NodeFault, PackFault};
 pub use options::{PackOptions, Parallel, SelfLoops};
+pub use pack::Packed;
 pub use rows::{Arc, network_of_arcs};

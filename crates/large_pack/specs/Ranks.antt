@@ -1,0 +1,65 @@
+-- Internal: edges as they are compared. No public clause cites it.
+use Rattle.std.specs.Prelude.{◌≡◌, ◌≢◌, ℕ, ◌==◌, ◌<◌, Bool, not, ◌&&◌, ◌||◌, List, [], ◌∷◌, map, nat_lt, Result, Ok, if◌then◌else◌}
+use Rattle.std.specs.List.{list_any, filter, flat_map, AllByRecursion}
+use Rattle.link_net.specs.Arcs.{Arc}
+use Rattle.large_pack.specs.declared.edge_line.EdgeLine.{EdgeLine}
+use Rattle.large_pack.specs.declared.options.PackOptions.{PackOptions}
+use Rattle.large_pack.specs.declared.options.SelfLoops.{SelfLoops}
+use Rattle.large_pack.specs.declared.options.SelfLoops.TheVariants.{Refuse as RefuseLoops, Drop as DropLoops, Keep as KeepLoops}
+use Rattle.large_pack.specs.declared.fault.PackFault.{PackFault}
+use Rattle.large_pack.specs.declared.ranked.Ranked.{Ranked}
+use Rattle.large_pack.specs.Lines.{and_then}
+use Rattle.large_pack.specs.Packing.{rank_of}
+
+-- the two ends, the lower first where edges have no direction
+abbrev pub ends_of : Bool → ℕ → ℕ → ℕ × ℕ
+ends_of is_directed a b = if not is_directed && nat_lt b a then (b, a) else (a, b)
+
+-- an edge as it is compared
+abbrev pub ranked : PackOptions → EdgeLine → Ranked
+ranked options e = record {
+  first = (ends_of options.is_directed e.first e.second).0;
+  second = (ends_of options.is_directed e.first e.second).1;
+  rank = rank_of options.parallel e.weight;
+  line = e.line;
+  weight = e.weight;
+}
+
+-- the edges that are read, as they are compared
+abbrev pub ranked_in : PackOptions → Result (List EdgeLine) PackFault → Result (List Ranked) PackFault
+ranked_in options read = and_then read (λ edges. Ok (map (ranked options) edges))
+
+-- both join the same two nodes
+abbrev pub alike : Ranked → Ranked → Bool
+alike d e = d.first == e.first && d.second == e.second
+
+-- d joins the same two nodes as e and goes before it
+abbrev pub beats : Ranked → Ranked → Bool
+beats d e = alike d e && (nat_lt d.rank e.rank || (d.rank == e.rank && nat_lt d.line e.line))
+
+-- some edge does so
+abbrev pub is_beaten : List Ranked → Ranked → Bool
+is_beaten edges e = list_any (λ d. beats d e) edges
+
+-- the edges that none goes before
+abbrev pub unbeaten : List Ranked → List Ranked
+unbeaten edges = filter (λ e. not (is_beaten edges e)) edges
+
+-- those that are no self-loops, where these are dropped
+abbrev pub straight_ranked : SelfLoops → List Ranked → List Ranked
+straight_ranked DropLoops edges = filter (λ e. not (e.first == e.second)) edges
+straight_ranked RefuseLoops edges = edges
+straight_ranked KeepLoops edges = edges
+
+-- each edge stands in a line before those of the edges behind it
+abbrev pub LinesRise : List Ranked → Type 0
+LinesRise [] = Unit {0}
+LinesRise (e ∷ edges) = AllByRecursion (λ d. e.line < d.line) edges × LinesRise edges
+
+-- the arcs of an edge
+abbrev pub ranked_arcs : Bool → Ranked → List Arc
+ranked_arcs is_directed e = (e.first, e.second, e.weight) ∷ (if is_directed || e.first == e.second then [] else (e.second, e.first, e.weight) ∷ [])
+
+-- both ends of each edge are below n
+abbrev pub RankedWithin : ℕ → List Ranked → Type 0
+RankedWithin n edges = AllByRecursion (λ e. (e.first < n) × (e.second < n)) edges
