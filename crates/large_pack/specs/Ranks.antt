@@ -1,5 +1,5 @@
 -- Internal: edges as they are compared. No public clause cites it.
-use Rattle.std.specs.Prelude.{◌≡◌, ◌≢◌, ℕ, ◌==◌, ◌<◌, Bool, not, ◌&&◌, ◌||◌, List, [], ◌∷◌, map, nat_lt, Result, Ok, if◌then◌else◌}
+use Rattle.std.specs.Prelude.{◌≡◌, ◌≢◌, ℕ, ◌==◌, ◌<◌, Bool, not, ◌&&◌, ◌||◌, List, [], ◌∷◌, map, nat_lt, nat_le, Option, Some, None, option_map, option_and_then, find, Result, Ok, if◌then◌else◌}
 use Rattle.std.specs.List.{list_any, filter, flat_map, AllByRecursion}
 use Rattle.link_net.specs.Arcs.{Arc}
 use Rattle.large_pack.specs.declared.edge_line.EdgeLine.{EdgeLine}
@@ -9,7 +9,9 @@ use Rattle.large_pack.specs.declared.options.SelfLoops.TheVariants.{Refuse as Re
 use Rattle.large_pack.specs.declared.fault.PackFault.{PackFault}
 use Rattle.large_pack.specs.declared.ranked.Ranked.{Ranked}
 use Rattle.large_pack.specs.Lines.{and_then}
-use Rattle.large_pack.specs.Packing.{rank_of}
+use Rattle.large_pack.specs.Packing.{rank_of, merges, refuses}
+use Rattle.large_pack.specs.declared.options.Parallel.{Parallel}
+use Rattle.large_pack.specs.declared.fault.PackFault.TheVariants.{ParallelEdge}
 
 -- the two ends, the lower first where edges have no direction
 abbrev pub ends_of : Bool → ℕ → ℕ → ℕ × ℕ
@@ -44,6 +46,33 @@ is_beaten edges e = list_any (λ d. beats d e) edges
 -- the edges that none goes before
 abbrev pub unbeaten : List Ranked → List Ranked
 unbeaten edges = filter (λ e. not (is_beaten edges e)) edges
+
+-- those that stay
+abbrev pub kept_ranked : Parallel → List Ranked → List Ranked
+kept_ranked parallel edges = if merges parallel then unbeaten edges else edges
+
+-- the line of the first edge that another goes before, and the first line that joins the same two nodes
+abbrev pub repeat_in : List Ranked → Option (ℕ × ℕ)
+repeat_in edges = option_and_then (λ e. option_map (λ d. (e.line, d.line)) (find (λ d. alike d e) edges)) (find (is_beaten edges) edges)
+
+-- its fault, where that is refused
+abbrev pub repeat_ranked : Parallel → List Ranked → Option PackFault
+repeat_ranked parallel edges = if refuses parallel then option_map (λ p. ParallelEdge p.0 p.1) (repeat_in edges) else None
+
+-- the repeat of the lower line
+abbrev pub sooner : Option (ℕ × ℕ) → ℕ × ℕ → Option (ℕ × ℕ)
+sooner None p = Some p
+sooner (Some q) p = if nat_le q.0 p.0 then Some q else Some p
+
+-- of the edges behind the head and of what is known, the least repeat
+abbrev pub repeat_behind : Ranked → Option (ℕ × ℕ) → List Ranked → Option (ℕ × ℕ)
+repeat_behind head known [] = known
+repeat_behind head known (e ∷ edges) =
+    if alike e head then repeat_behind head (sooner known (e.line, head.line)) edges else repeat_behind e known edges
+
+abbrev pub least_repeat : List Ranked → Option (ℕ × ℕ)
+least_repeat [] = None
+least_repeat (e ∷ edges) = repeat_behind e None edges
 
 -- those that are no self-loops, where these are dropped
 abbrev pub straight_ranked : SelfLoops → List Ranked → List Ranked

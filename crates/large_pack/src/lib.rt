@@ -13,5 +13,5 @@ mod survey;
 pub use edge_line::{EdgeLine, line_edge};
 pub use fault::{End, LineFault, NodeFault, PackFault};
 pub use options::{PackOptions, Parallel, SelfLoops};
-pub use pack::Packed;
+pub use pack::{Packed, pack_edges};
 pub use rows::{Arc, network_of_arcs};

@@ -1,9 +1,11 @@
 //! Edges that join the same two nodes.
-ghost use Rattle.std.specs.Prelude.{◌≡◌};
+ghost use Rattle.std.specs.Prelude.{◌≡◌, OnOk};
 ghost use Rattle.std.specs.List.Sorted.{IsPermutation};
-ghost use Rattle.large_pack.specs.Ranks.{alike, unbeaten, straight_ranked, LinesRise};
+ghost use Rattle.std.specs.Result.{result_err};
+ghost use Rattle.large_pack.specs.Ranks.{alike, unbeaten, straight_ranked, kept_ranked, repeat_in, repeat_ranked, sooner, least_repeat, LinesRise};
 
-use crate::options::SelfLoops;
+use crate::fault::PackFault;
+use crate::options::{Parallel, SelfLoops};
 use crate::ranked::Ranked;
 
 /// Leaves out self-loops, where they are dropped.
@@ -30,4 +32,65 @@ pub(crate) fn merge(edges: &mut Vec<Ranked>)
 {
     edges.sort_unstable();
     edges.dedup_by(|later, earlier| join_alike(later, earlier));
+}
+
+/// The repeat of the lower line: its line, and the first line that joins the same two nodes.
+fn sooner(repeat: Option<(u64, u64)>, other: (u64, u64)) -> Option<(u64, u64)>
+    ensures { result ≡ sooner repeat other }
+{
+    match repeat {
+        Some(first) => {
+            if first.0 <= other.0 {
+                Some(first)
+            } else {
+                Some(other)
+            }
+        }
+        None => Some(other),
+    }
+}
+
+/// Of sorted edges the least line of one that joins the same two nodes as one before it, and the first line that does.
+fn least_repeat(edges: &[Ranked]) -> Option<(u64, u64)>
+    ensures { result ≡ least_repeat edges.now }
+{
+    let (first, rest) = edges.split_first()?;
+    let mut head = *first;
+    let mut repeat = None;
+    for edge in rest {
+        if join_alike(edge, &head) {
+            repeat = sooner(repeat, (edge.line, head.line));
+        } else {
+            head = *edge;
+        }
+    }
+    repeat
+}
+
+/// The line of the first edge that joins the same two nodes as an earlier one, and the first line that does.
+fn first_repeat(edges: &mut Vec<Ranked>) -> Option<(u64, u64)>
+    requires { LinesRise edges.old.items }
+    ensures repeat { result ≡ repeat_in edges.old.items }
+    ensures moved { IsPermutation edges.old.items edges.new.items }
+{
+    edges.sort_unstable();
+    least_repeat(edges.as_slice())
+}
+
+/// Does with edges that join the same two nodes what is done with them.
+pub(crate) fn settle(edges: &mut Vec<Ranked>, parallel: Parallel) -> Result<(), PackFault>
+    requires { LinesRise edges.old.items }
+    ensures kept { OnOk result (IsPermutation (kept_ranked parallel edges.old.items) edges.new.items) }
+    ensures refused { result_err result ≡ repeat_ranked parallel edges.old.items }
+{
+    match parallel {
+        Parallel::Refuse => {
+            if let Some((line, earlier)) = first_repeat(edges) {
+                return Err(PackFault::ParallelEdge { line, earlier });
+            }
+        }
+        Parallel::Keep => {}
+        Parallel::Least | Parallel::Greatest | Parallel::First => merge(edges),
+    }
+    Ok(())
 }

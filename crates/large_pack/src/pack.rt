@@ -1,6 +1,25 @@
 //! Lists of edges packed into networks.
+ghost use Rattle.std.specs.Prelude.{◌≡◌, ◌≢◌, ◌<◌, ◌≤◌, List, length, map, IfErr, Err, MatchResult};
+ghost use Rattle.std.specs.List.{flat_map};
+ghost use Rattle.link_net.specs.Limits.{most_rows};
+ghost use Rattle.large_pack.specs.declared.edge_line.EdgeLine.{EdgeLine};
+ghost use Rattle.large_pack.specs.declared.fault.PackFault.TheVariants.{TooManyEdges, Memory};
+ghost use Rattle.large_pack.specs.Rows.{HasArcs};
+ghost use Rattle.large_pack.specs.Sound.{node_count, sound_of};
+ghost use Rattle.large_pack.specs.Packing.{packing_in, packing_of, IsAnswer};
+ghost use Rattle.large_pack.specs.Ranks.{ranked, ranked_arcs, RankedWithin, LinesRise};
 
+use crate::fault::PackFault;
+use crate::merging::{settle, straighten};
+use crate::options::PackOptions;
+use crate::ranked::{Ranked, arcs, ranked_edges};
+use crate::rows::network_of_arcs;
+use crate::survey::{edge_lines, sound_nodes};
 use large_net::LargeNetwork;
+use std::alloc::Global;
+
+/// The most neighbours that all nodes have together.
+const MOST_ARCS: usize = 4_294_967_295;
 
 /// A list of edges that is packed.
 #[derive(Drop)]
@@ -13,4 +32,74 @@ pub struct Packed {
     pub dropped_loops: u64,
     /// How many were merged into another.
     pub merged: u64,
+}
+
+/// The network that edges make, where their arcs are not too many.
+fn network_of_edges(
+    alloc: Global,
+    nodes: u32,
+    edges: Vec<Ranked>,
+    is_directed: bool,
+) -> Result<LargeNetwork, PackFault>
+    requires some { 1 ≤ nodes }
+    requires within { RankedWithin nodes edges.items }
+    ensures network { MatchResult result (λ network. HasArcs nodes (flat_map (ranked_arcs is_directed) edges.items) network) (λ fault. fault ≢ Memory → fault ≡ TooManyEdges) }
+    ensures few { MatchResult result (λ _. length (flat_map (ranked_arcs is_directed) edges.items) ≤ most_rows) (λ fault. fault ≢ Memory → most_rows < length (flat_map (ranked_arcs is_directed) edges.items)) }
+{
+    let arcs = arcs(alloc, edges, is_directed)?;
+    if arcs.len() > MOST_ARCS {
+        return Err(PackFault::TooManyEdges);
+    }
+    let network = network_of_arcs(alloc, nodes, arcs)?;
+    Ok(network)
+}
+
+/// What sound edges are packed into.
+fn pack(
+    alloc: Global,
+    nodes: u32,
+    edges: Vec<Ranked>,
+    options: &PackOptions,
+) -> Result<Packed, PackFault>
+    requires some { 1 ≤ nodes }
+    requires within { RankedWithin nodes edges.items }
+    requires rising { LinesRise edges.items }
+    ensures { (es : List EdgeLine) → edges.items ≡ map (ranked options.now) es → nodes ≡ node_count options.now.nodes es → IsAnswer (packing_in options.now es) result }
+{
+    let mut edges = edges;
+    let lines = edges.len() as u64;
+    straighten(&mut edges, options.self_loops);
+    let straight = edges.len() as u64;
+    settle(&mut edges, options.parallel)?;
+    let kept = edges.len() as u64;
+    let network = network_of_edges(alloc, nodes, edges, options.is_directed)?;
+    Ok(Packed {
+        network,
+        lines,
+        dropped_loops: lines - straight,
+        merged: straight - kept,
+    })
+}
+
+/// The network that a list of edges between numbered nodes makes.
+///
+/// A line says an edge as `line_edge` says: `a b` or `a b weight`. Lines without words, or whose first word begins with
+/// `#` or `%`, are passed over, and so is the first other one where it is a header. An edge makes b a neighbour of a, and
+/// where edges have no direction also a one of b. How many nodes there are, and what is done with self-loops and with
+/// edges that join the same two nodes, is as the options say.
+///
+/// Where several things are wrong the fault is the first in the order of [`PackFault`]. `BadLine`, `NoNode`,
+/// `NodeOutside` and `SelfLoop` come whether memory runs out or not; `Memory` comes only where it does.
+pub fn pack_edges(
+    alloc: Global,
+    text: &[u8],
+    options: &PackOptions,
+) -> Result<Packed, PackFault>
+    ensures answer { IsAnswer (packing_of options.now text.now) result }
+    ensures refused { IfErr (sound_of options.now text.now) (λ fault. result ≡ Err fault) }
+{
+    let nodes = sound_nodes(text, options)?;
+    let edges = ranked_edges(alloc, edge_lines(text, options.header), options)?;
+    let packed = pack(alloc, nodes, edges, options)?;
+    Ok(packed)
 }

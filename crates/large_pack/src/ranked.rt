@@ -1,7 +1,8 @@
 //! Edges as they are compared.
-ghost use Rattle.std.specs.Prelude.{◌≡◌, ◌+◌, ◌++◌, ◌<◌, ◌^◌, length, IfOk, OnOk, Ok};
+ghost use Rattle.std.specs.Prelude.{◌≡◌, ◌≢◌, ◌+◌, ◌++◌, ◌<◌, ◌^◌, length, IfOk, OnOk, Ok, Err, MatchResult};
 ghost use Rattle.std.specs.List.{flat_map};
 ghost use Rattle.import_lines.specs.Texts.{told_from};
+ghost use Rattle.large_pack.specs.declared.fault.PackFault.TheVariants.{Memory};
 ghost use Rattle.large_pack.specs.Lines.{edges_in};
 ghost use Rattle.large_pack.specs.Packing.{rank_of};
 ghost use Rattle.large_pack.specs.Ranks.{ends_of, ranked, ranked_in, ranked_arcs};
@@ -69,7 +70,7 @@ pub(crate) fn ranked_edges(
     options: &PackOptions,
 ) -> Result<Vec<Ranked>, PackFault>
     requires room { from.passed + length from.bytes.now < 2 ^ 64 }
-    ensures { IfOk result (λ v. ranked_in options.now (edges_in options.now.factor (told_from (from.entry.passed + 1) from.entry.bytes.now)) ≡ Ok v.items) }
+    ensures { MatchResult result (λ v. ranked_in options.now (edges_in options.now.factor (told_from (from.entry.passed + 1) from.entry.bytes.now)) ≡ Ok v.items) (λ fault. fault ≢ Memory → edges_in options.now.factor (told_from (from.entry.passed + 1) from.entry.bytes.now) ≡ Err fault) }
 {
     let mut lines = from;
     let mut edges = Vec::new(alloc);
