@@ -5,3 +5,5 @@ mod Laying
 mod Surveying
 mod Ranking
 mod Beating
+mod Mapped
+mod Packs
