@@ -43,10 +43,10 @@ lt_test a b h = grind (arith, nat_tests)
 not_lt : (a b : ℕ) → b ≤ a → nat_lt a b ≡ false
 not_lt a b h = grind (arith, nat_tests)
 
-le_of : (a b : ℕ) → nat_lt a b ≡ false → b ≤ a
+pub le_of : (a b : ℕ) → nat_lt a b ≡ false → b ≤ a
 le_of a b h = grind (arith, nat_tests)
 
-alike_ends : (x y : Ranked) → alike x y ≡ true → SameEnds x y
+pub alike_ends : (x y : Ranked) → alike x y ≡ true → SameEnds x y
 alike_ends x y h =
     let (one, two) = and_parts (x.first == y.first) (x.second == y.second) h in
     (eq_of x.first y.first one, eq_of x.second y.second two)
@@ -54,17 +54,17 @@ alike_ends x y h =
 alike_test : (x y : Ranked) → SameEnds x y → alike x y ≡ true
 alike_test x y ends = rw (eq_test x.first y.first ends.0, eq_test x.second y.second ends.1) refl
 
-alike_flips : (x y : Ranked) → alike x y ≡ true → alike y x ≡ true
+pub alike_flips : (x y : Ranked) → alike x y ≡ true → alike y x ≡ true
 alike_flips x y h = let ends = alike_ends x y h in alike_test y x (sym ends.0, sym ends.1)
 
-alike_chain : (x y z : Ranked) → alike x y ≡ true → alike y z ≡ true → alike x z ≡ true
+pub alike_chain : (x y z : Ranked) → alike x y ≡ true → alike y z ≡ true → alike x z ≡ true
 alike_chain x y z h g =
     let one = alike_ends x y h in
     let two = alike_ends y z g in
     alike_test x z (one.0 ∙ two.0, one.1 ∙ two.1)
 
 -- an edge beats those of its ends that stand behind it
-beats_behind : (x y : Ranked) → Precedes x y → alike x y ≡ true → beats x y ≡ true
+pub beats_behind : (x y : Ranked) → Precedes x y → alike x y ≡ true → beats x y ≡ true
 beats_behind x y before same =
     let ends = alike_ends x y same in
     let low : x.rank ≤ y.rank = before.rank ends.0 ends.1 in
@@ -92,12 +92,12 @@ unbeaten_by x y before =
       | inr other ↦ rw other refl
     ]
 
-unbeaten_by_itself : (x : Ranked) → beats x x ≡ false
+pub unbeaten_by_itself : (x : Ranked) → beats x x ≡ false
 unbeaten_by_itself x =
     rw (alike_test x x (refl, refl), not_lt x.rank x.rank (omega arith), eq_test x.rank x.rank refl) (not_lt x.line x.line (omega arith))
 
 -- what stands between edges of the same ends has these ends
-between : (k x y : Ranked) → Precedes k x → Precedes x y → alike k y ≡ true → alike x k ≡ true
+pub between : (k x y : Ranked) → Precedes k x → Precedes x y → alike k y ≡ true → alike x k ≡ true
 between k x y low high same =
     let ends = alike_ends k y same in
     let e : k.first ≡ y.first = ends.0 in
@@ -105,38 +105,38 @@ between k x y low high same =
     let second : x.second ≡ k.second = omega (arith, ends.1, low.second (sym first), high.second (first ∙ e)) in
     alike_test x k (first, second)
 
-beats_alike : (x y : Ranked) → beats x y ≡ true → alike x y ≡ true
+pub beats_alike : (x y : Ranked) → beats x y ≡ true → alike x y ≡ true
 beats_alike x y h = (and_parts (alike x y) (nat_lt x.rank y.rank || (x.rank == y.rank && nat_lt x.line y.line)) h).0
 
 -- ---- tests
 
-or_second : (a b c : Bool) → b ≡ true → not (a || (b || c)) ≡ false
+pub or_second : (a b c : Bool) → b ≡ true → (a || (b || c)) ≡ true
 or_second true b c h = refl
 or_second false true c h = refl
 or_second false false c h = cc
 
-or_none : (a b c d : Bool) → a ≡ false → b ≡ false → c ≡ false → d ≡ false → not (a || (b || (c || d))) ≡ true
+pub or_none : (a b c d : Bool) → a ≡ false → b ≡ false → c ≡ false → d ≡ false → (a || (b || (c || d))) ≡ false
 or_none a b c d p q r s = rw (p, q, r, s) refl
 
-turn : (a b c d : Bool) → not ((a || c) || (b || d)) ≡ not (a || (b || (c || d)))
+pub turn : (a b c d : Bool) → ((a || c) || (b || d)) ≡ (a || (b || (c || d)))
 turn true b c d = refl
 turn false true true d = refl
 turn false false true d = refl
 turn false b false d = refl
 
-shift : (a b c d : Bool) → not ((a || b) || (c || d)) ≡ not (a || (b || (c || d)))
+pub shift : (a b c d : Bool) → ((a || b) || (c || d)) ≡ (a || (b || (c || d)))
 shift true b c d = refl
 shift false true c d = refl
 shift false false c d = refl
 
-clash : {A : Type 0} (b : Bool) → b ≡ true → b ≡ false → A
+pub clash : {A : Type 0} (b : Bool) → b ≡ true → b ≡ false → A
 clash b t f = cc
 
-not_true : (b : Bool) → (b ≡ true → ⊥) → b ≡ false
+pub not_true : (b : Bool) → (b ≡ true → ⊥) → b ≡ false
 not_true true h = absurd (h refl)
 not_true false h = refl
 
-both_weaker : {P Q R : Ranked → Type 0} (ys : List Ranked) → AllByRecursion P ys → AllByRecursion Q ys → ((y : Ranked) → P y → Q y → R y) → AllByRecursion R ys
+pub both_weaker : {P Q R : Ranked → Type 0} (ys : List Ranked) → AllByRecursion P ys → AllByRecursion Q ys → ((y : Ranked) → P y → Q y → R y) → AllByRecursion R ys
 both_weaker [] p q step = tt
 both_weaker {P} {Q} {R} (y ∷ ys) p q step = (step y p.0 q.0, both_weaker {P = P} {Q = Q} {R = R} ys p.1 q.1 step)
 
@@ -150,7 +150,7 @@ none_passes p (x ∷ xs) h = rw (h.0) (none_passes p xs h.1)
 abbrev stays : (Ranked → Bool) → Ranked → List Ranked → Ranked → Bool
 stays P k xs y = not (P y || list_any (λ d. beats d y) (k ∷ xs))
 
-none_behind : (x : Ranked) (xs : List Ranked) → AllByRecursion (Precedes x) xs → list_any (λ d. beats d x) xs ≡ false
+pub none_behind : (x : Ranked) (xs : List Ranked) → AllByRecursion (Precedes x) xs → list_any (λ d. beats d x) xs ≡ false
 none_behind x xs up = none_passes (λ d. beats d x) xs (both_weaker {P = Precedes x} {Q = Precedes x} {R = λ d. beats d x ≡ false} xs up up (λ y p q. unbeaten_by x y p))
 
 -- P speaks of edges before k: what they beat behind k has the ends of k
@@ -167,9 +167,9 @@ firsts_stay P k (x ∷ rest) near up =
             | inl before ↦ old before
             | inr here ↦ alike_chain k x y (alike_flips x k same) (beats_alike x y here)
           ]) in
-          let drops : stays P k (x ∷ rest) x ≡ false = or_second (P x) (beats k x) (list_any (λ d. beats d x) (x ∷ rest)) (beats_behind k x up.0.0 (alike_flips x k same)) in
+          let drops : stays P k (x ∷ rest) x ≡ false = ap not (or_second (P x) (beats k x) (list_any (λ d. beats d x) (x ∷ rest)) (beats_behind k x up.0.0 (alike_flips x k same))) in
           let tests : filter (stays P' k rest) rest ≡ filter (stays P k (x ∷ rest)) rest =
-          filter_agree (stays P' k rest) (stays P k (x ∷ rest)) (λ y. turn (P y) (beats k y) (beats x y) (list_any (λ d. beats d y) rest)) rest in
+          filter_agree (stays P' k rest) (stays P k (x ∷ rest)) (λ y. ap not (turn (P y) (beats k y) (beats x y) (list_any (λ d. beats d y) rest))) rest in
           rw (same, drops) (firsts_stay P' k rest near' (up.0.1, up.1.1) ∙ ap (λ t. k ∷ t) tests)
       | inr other ↦
           let P' : Ranked → Bool = λ y. P y || beats k y in
@@ -181,21 +181,25 @@ firsts_stay P k (x ∷ rest) near up =
           ]) in
           let apart : P x ≡ false = not_true (P x) (λ h. clash (alike x k) (alike_flips k x (near.0 h)) other) in
           let free : beats k x ≡ false = not_true (beats k x) (λ h. clash (alike x k) (alike_flips k x (beats_alike k x h)) other) in
-          let keeps : stays P k (x ∷ rest) x ≡ true = or_none (P x) (beats k x) (beats x x) (list_any (λ d. beats d x) rest) apart free (unbeaten_by_itself x) (none_behind x rest up.1.0) in
+          let keeps : stays P k (x ∷ rest) x ≡ true = ap not (or_none (P x) (beats k x) (beats x x) (list_any (λ d. beats d x) rest) apart free (unbeaten_by_itself x) (none_behind x rest up.1.0)) in
           let tests : filter (stays P' x rest) rest ≡ filter (stays P k (x ∷ rest)) rest =
-          filter_agree (stays P' x rest) (stays P k (x ∷ rest)) (λ y. shift (P y) (beats k y) (beats x y) (list_any (λ d. beats d y) rest)) rest in
+          filter_agree (stays P' x rest) (stays P k (x ∷ rest)) (λ y. ap not (shift (P y) (beats k y) (beats x y) (list_any (λ d. beats d y) rest))) rest in
           rw (other, keeps) (ap (λ t. k ∷ t) (firsts_stay P' x rest near' up.1 ∙ ap (λ t. x ∷ t) tests))
     ]
 
-no_one_near : (k : Ranked) (xs : List Ranked) → AllByRecursion (λ y. false ≡ true → alike k y ≡ true) xs
+pub no_one_near : (k : Ranked) (xs : List Ranked) → AllByRecursion (λ y. false ≡ true → alike k y ≡ true) xs
 no_one_near k [] = tt
 no_one_near k (x ∷ xs) = ((λ h. clash false h refl), no_one_near k xs)
+
+-- no edge goes before the first
+pub head_free : (k : Ranked) (xs : List Ranked) → AllRise (k ∷ xs) → is_beaten (k ∷ xs) k ≡ false
+head_free k xs up = or_none false (beats k k) false (list_any (λ d. beats d k) xs) refl (unbeaten_by_itself k) refl (none_behind k xs up.0)
 
 -- of edges in order those stay that none goes before
 pub dedup_unbeaten : (edges : List Ranked) → AllRise edges → dedup alike edges ≡ unbeaten edges
 dedup_unbeaten [] up = refl
 dedup_unbeaten (k ∷ xs) up =
-    let keeps : not (is_beaten (k ∷ xs) k) ≡ true = or_none false (beats k k) false (list_any (λ d. beats d k) xs) refl (unbeaten_by_itself k) refl (none_behind k xs up.0) in
+    let keeps : not (is_beaten (k ∷ xs) k) ≡ true = ap not (head_free k xs up) in
     rw keeps (firsts_stay (λ _. false) k xs (no_one_near k xs) up)
 
 -- ---- the order of a sort
@@ -278,12 +282,12 @@ module _ (given sorted : List Ranked) (up : LinesRise given) (moved : IsPermutat
   pub in_order : AllRise sorted
   in_order = sorted_rise sorted order (IsDistinct-IsPermutation same_line same_line_flips given sorted moved (rising_apart given up))
 
-  beaten_alike : (e : Ranked) → not (is_beaten given e) ≡ not (is_beaten sorted e)
-  beaten_alike e = ap not (list_any-IsPermutation (λ d. beats d e) given sorted moved)
+  pub beaten_alike : (e : Ranked) → is_beaten given e ≡ is_beaten sorted e
+  beaten_alike e = list_any-IsPermutation (λ d. beats d e) given sorted moved
 
   unbeaten_moved : IsPermutation (unbeaten given) (unbeaten sorted)
   unbeaten_moved =
-      let agree = filter_agree (λ e. not (is_beaten given e)) (λ e. not (is_beaten sorted e)) beaten_alike given in
+      let agree = filter_agree (λ e. not (is_beaten given e)) (λ e. not (is_beaten sorted e)) (λ e. ap not (beaten_alike e)) given in
       rw agree (filter_moved (λ e. not (is_beaten sorted e)) given sorted moved)
 
   -- of them those that none goes before

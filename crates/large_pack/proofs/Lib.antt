@@ -7,3 +7,4 @@ mod Ranking
 mod Beating
 mod Mapped
 mod Packs
+mod Repeats

@@ -85,6 +85,10 @@ abbrev pub LinesRise : List Ranked → Type 0
 LinesRise [] = Unit {0}
 LinesRise (e ∷ edges) = AllByRecursion (λ d. e.line < d.line) edges × LinesRise edges
 
+-- no edge is ranked before another
+abbrev pub AreTied : List Ranked → Type 0
+AreTied edges = AllByRecursion (λ e. e.rank ≡ 0) edges
+
 -- the arcs of an edge
 abbrev pub ranked_arcs : Bool → Ranked → List Arc
 ranked_arcs is_directed e = (e.first, e.second, e.weight) ∷ (if is_directed || e.first == e.second then [] else (e.second, e.first, e.weight) ∷ [])

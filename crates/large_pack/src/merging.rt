@@ -1,8 +1,9 @@
 //! Edges that join the same two nodes.
-ghost use Rattle.std.specs.Prelude.{◌≡◌, OnOk};
+ghost use Rattle.std.specs.Prelude.{◌≡◌, true, OnOk};
 ghost use Rattle.std.specs.List.Sorted.{IsPermutation};
 ghost use Rattle.std.specs.Result.{result_err};
-ghost use Rattle.large_pack.specs.Ranks.{alike, unbeaten, straight_ranked, kept_ranked, repeat_in, repeat_ranked, sooner, least_repeat, LinesRise};
+ghost use Rattle.large_pack.specs.Ranks.{alike, unbeaten, straight_ranked, kept_ranked, repeat_in, repeat_ranked, sooner, least_repeat, LinesRise, AreTied};
+ghost use Rattle.large_pack.specs.Packing.{refuses};
 
 use crate::fault::PackFault;
 use crate::options::{Parallel, SelfLoops};
@@ -69,7 +70,8 @@ fn least_repeat(edges: &[Ranked]) -> Option<(u64, u64)>
 
 /// The line of the first edge that joins the same two nodes as an earlier one, and the first line that does.
 fn first_repeat(edges: &mut Vec<Ranked>) -> Option<(u64, u64)>
-    requires { LinesRise edges.old.items }
+    requires rising { LinesRise edges.old.items }
+    requires tied { AreTied edges.old.items }
     ensures repeat { result ≡ repeat_in edges.old.items }
     ensures moved { IsPermutation edges.old.items edges.new.items }
 {
@@ -79,7 +81,8 @@ fn first_repeat(edges: &mut Vec<Ranked>) -> Option<(u64, u64)>
 
 /// Does with edges that join the same two nodes what is done with them.
 pub(crate) fn settle(edges: &mut Vec<Ranked>, parallel: Parallel) -> Result<(), PackFault>
-    requires { LinesRise edges.old.items }
+    requires rising { LinesRise edges.old.items }
+    requires tied { refuses parallel ≡ true → AreTied edges.old.items }
     ensures kept { OnOk result (IsPermutation (kept_ranked parallel edges.old.items) edges.new.items) }
     ensures refused { result_err result ≡ repeat_ranked parallel edges.old.items }
 {

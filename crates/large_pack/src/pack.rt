@@ -1,13 +1,13 @@
 //! Lists of edges packed into networks.
-ghost use Rattle.std.specs.Prelude.{◌≡◌, ◌≢◌, ◌<◌, ◌≤◌, List, length, map, IfErr, Err, MatchResult};
+ghost use Rattle.std.specs.Prelude.{◌≡◌, ◌≢◌, ◌<◌, ◌≤◌, List, true, length, map, IfErr, Err, MatchResult};
 ghost use Rattle.std.specs.List.{flat_map};
 ghost use Rattle.link_net.specs.Limits.{most_rows};
 ghost use Rattle.large_pack.specs.declared.edge_line.EdgeLine.{EdgeLine};
 ghost use Rattle.large_pack.specs.declared.fault.PackFault.TheVariants.{TooManyEdges, Memory};
 ghost use Rattle.large_pack.specs.Rows.{HasArcs};
 ghost use Rattle.large_pack.specs.Sound.{node_count, sound_of};
-ghost use Rattle.large_pack.specs.Packing.{packing_in, packing_of, IsAnswer};
-ghost use Rattle.large_pack.specs.Ranks.{ranked, ranked_arcs, RankedWithin, LinesRise};
+ghost use Rattle.large_pack.specs.Packing.{refuses, packing_in, packing_of, IsAnswer};
+ghost use Rattle.large_pack.specs.Ranks.{ranked, ranked_arcs, RankedWithin, LinesRise, AreTied};
 
 use crate::fault::PackFault;
 use crate::merging::{settle, straighten};
@@ -64,6 +64,7 @@ fn pack(
     requires some { 1 ≤ nodes }
     requires within { RankedWithin nodes edges.items }
     requires rising { LinesRise edges.items }
+    requires tied { refuses options.now.parallel ≡ true → AreTied edges.items }
     ensures { (es : List EdgeLine) → edges.items ≡ map (ranked options.now) es → nodes ≡ node_count options.now.nodes es → IsAnswer (packing_in options.now es) result }
 {
     let mut edges = edges;
