@@ -7,4 +7,5 @@ mod Ranking
 mod Beating
 mod Mapped
 mod Packs
+mod Sounds
 mod Repeats

@@ -25,7 +25,7 @@ use Rattle.large_pack.specs.declared.pack.Packed.{Packed}
 use Rattle.large_pack.specs.Rows.{ends_from, HasArcs}
 use Rattle.large_pack.specs.Sound.{node_count, unless}
 use Rattle.large_pack.specs.Packing.{straight_edges, kept_edges, merges, arcs_of, repeat_fault, crowd_fault, packing_in, Packing, IsPackedAs, IsAnswer}
-use Rattle.large_pack.specs.Ranks.{ranked, is_beaten, unbeaten, kept_ranked, repeat_ranked, straight_ranked, ranked_arcs, LinesRise, RankedWithin}
+use Rattle.large_pack.specs.Ranks.{ranked, is_beaten, unbeaten, kept_ranked, repeat_ranked, straight_ranked, ranked_arcs, LinesRise, AreTied, RankedWithin}
 use Rattle.large_pack.proofs.Permuting.{flat_map_moved, filter_moved}
 use Rattle.large_pack.proofs.Mapped.{arcs_permuted, kept_mapped, straight_mapped, repeat_mapped}
 
@@ -87,6 +87,15 @@ pub straight_rise : (self_loops : SelfLoops) (es : List Ranked) → LinesRise es
 straight_rise RefuseLoops es up = up
 straight_rise KeepLoops es up = up
 straight_rise DropLoops es up = rise_filter (λ e. not (e.first == e.second)) es up
+
+ranks_filter : (p : Ranked → Bool) (es : List Ranked) → AreTied es → AreTied (filter p es)
+ranks_filter p es tied = recursion_from_All (λ (e : Ranked). e.rank ≡ 0) (filter p es) (All-filter p (λ (e : Ranked). e.rank ≡ 0) es (All-from_recursion (λ (e : Ranked). e.rank ≡ 0) es tied))
+
+-- and ranks tie as they did
+pub straight_tied : (self_loops : SelfLoops) (es : List Ranked) → AreTied es → AreTied (straight_ranked self_loops es)
+straight_tied RefuseLoops es tied = tied
+straight_tied KeepLoops es tied = tied
+straight_tied DropLoops es tied = ranks_filter (λ e. not (e.first == e.second)) es tied
 
 -- ---- lengths
 

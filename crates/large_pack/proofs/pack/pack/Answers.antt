@@ -2,11 +2,14 @@ use Rattle.std.proofs.Common.{◌∙◌, ap, length, refl, arith}
 use Rattle.std.proofs.lemmas.List.Sorted.{length_permutation}
 use Rattle.large_pack.specs.Ranks.{kept_ranked}
 use Rattle.large_pack.specs.Packing.{packing_in}
-use Rattle.large_pack.proofs.Packs.{answers_by_fault, settled_within, straight_rise, straight_shorter, kept_shorter, repeat_answers, crowd_answers, network_answers}
+use Rattle.large_pack.proofs.Packs.{answers_by_fault, settled_within, straight_rise, straight_tied, straight_shorter, kept_shorter, repeat_answers, crowd_answers, network_answers}
 use Rattle.large_pack.proofs.pack.pack.Goals as goal
 
-pub settle-requires : goal.settle-requires
-settle-requires c = rw c.straighten.ensures (straight_rise c.args.options.now.self_loops c.args.edges.items c.requires.rising)
+pub settle-requires-clause-tied : goal.settle-requires-clause-tied
+settle-requires-clause-tied c h = rw c.straighten.ensures (straight_tied c.args.options.now.self_loops c.args.edges.items (c.requires.tied h))
+
+pub settle-requires-clause-rising : goal.settle-requires-clause-rising
+settle-requires-clause-rising c = rw c.straighten.ensures (straight_rise c.args.options.now.self_loops c.args.edges.items c.requires.rising)
 
 pub returns-in_err-settle : goal.returns-in_err-settle
 returns-in_err-settle c es are count =

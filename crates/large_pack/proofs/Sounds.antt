@@ -1,0 +1,243 @@
+-- What is known of edges that are sound.
+use Rattle.std.proofs.Common.{◌≡◌, ◌∙◌, ℕ, ◌+◌, ◌<◌, ◌≤◌, ◌==◌, Bool, true, false, not, List, [], ◌∷◌, map, max, drop, nat_lt, nat_le, zero, suc, refl, sym, ap, Option, Some, None, Result, Ok, Err, arith, inl, inr}
+use Rattle.std.proofs.lemmas.Bool.{cases_Bool}
+use Rattle.std.proofs.lemmas.Bool.Decides.{nat_tests}
+use Rattle.std.specs.List.{filter, filter_map, cons_option, slice_get, fold, slice_split, enumerate_from, AllByRecursion}
+use Rattle.std.specs.Result.{result_map_both}
+use Rattle.import_lines.specs.Texts.{is_line_feed, say_nothing, words_of, told_from}
+use Rattle.import_lines.specs.Parts.{shown, parts_of}
+use Rattle.large_pack.specs.declared.edge_line.EdgeLine.{EdgeLine}
+use Rattle.large_pack.specs.declared.options.PackOptions.{PackOptions}
+use Rattle.large_pack.specs.declared.options.Parallel.{Parallel}
+use Rattle.large_pack.specs.declared.options.Parallel.TheVariants.{Refuse, Keep, Least, Greatest, First as Earliest}
+use Rattle.large_pack.specs.declared.fault.End.TheVariants.{First, Second}
+use Rattle.large_pack.specs.declared.fault.LineFault.TheVariants.{Words as BadWords, Weight as BadWeight}
+use Rattle.large_pack.specs.declared.fault.PackFault.TheVariants.{BadLine}
+use Rattle.large_pack.specs.declared.fault.PackFault.{PackFault}
+use Rattle.large_pack.specs.declared.fault.LineFault.{LineFault}
+use Rattle.large_pack.specs.declared.ranked.Ranked.{Ranked}
+use Rattle.large_pack.specs.Lines.{and_then, fault_as, end_in, weight_in, edge_in, edge_of, edges_in, edge_lines, edges_of}
+use Rattle.large_pack.specs.Sound.{reach, node_count, outside_fault, loop_fault, first_fault, node_fault, unless, sound_in, sound_of}
+use Rattle.large_pack.specs.Packing.{rank_of, refuses}
+use Rattle.large_pack.specs.Ranks.{ends_of, ranked, ranked_in, LinesRise, AreTied, RankedWithin}
+
+-- ---- steps that succeed
+
+step_given : {A B E : Type 0} (r : Result A E) (next : A → Result B E) (y : B) → and_then r next ≡ Ok y → (x : A) × (r ≡ Ok x) × (next x ≡ Ok y)
+step_given (Ok x) next y h = (x, refl, h)
+step_given (Err fault) next y h = cc
+
+kind_given : {A E F : Type 0} (kind : E → F) (r : Result A E) (y : A) → fault_as kind r ≡ Ok y → r ≡ Ok y
+kind_given kind (Ok x) y h = let same : x ≡ y = cc in ap Ok same
+kind_given kind (Err fault) y h = cc
+
+-- ---- lines
+
+-- each number is below those behind it
+abbrev Rise : List ℕ → Type 0
+Rise [] = Unit {0}
+Rise (k ∷ ks) = AllByRecursion (λ j. k < j) ks × Rise ks
+
+abbrev numbers : List (ℕ × List ℕ) → List ℕ
+numbers lines = map (λ l. l.0) lines
+
+counted_from : (k n : ℕ) (xs : List (List ℕ)) → k < n → AllByRecursion (λ j. k < j) (numbers (enumerate_from n xs))
+counted_from k n [] low = tt
+counted_from k n (x ∷ xs) low = (low, counted_from k (n + 1) xs (omega arith))
+
+counted_rise : (n : ℕ) (xs : List (List ℕ)) → Rise (numbers (enumerate_from n xs))
+counted_rise n [] = tt
+counted_rise n (x ∷ xs) = (counted_from n (n + 1) xs (omega arith), counted_rise (n + 1) xs)
+
+later_kept : (k : ℕ) (p : ℕ × List ℕ → Bool) (ls : List (ℕ × List ℕ)) → AllByRecursion (λ j. k < j) (numbers ls) → AllByRecursion (λ j. k < j) (numbers (filter p ls))
+later_kept k p [] up = tt
+later_kept k p (l ∷ ls) up =
+    elim (cases_Bool (p l)) [
+      | inl keeps ↦ rw keeps (up.0, later_kept k p ls up.1)
+      | inr drops ↦ rw drops (later_kept k p ls up.1)
+    ]
+
+rise_kept : (p : ℕ × List ℕ → Bool) (ls : List (ℕ × List ℕ)) → Rise (numbers ls) → Rise (numbers (filter p ls))
+rise_kept p [] up = tt
+rise_kept p (l ∷ ls) up =
+    elim (cases_Bool (p l)) [
+      | inl keeps ↦ rw keeps (later_kept l.0 p ls up.0, rise_kept p ls up.1)
+      | inr drops ↦ rw drops (rise_kept p ls up.1)
+    ]
+
+told_rise : (n : ℕ) (bytes : List ℕ) → Rise (numbers (told_from n bytes))
+told_rise n bytes = rise_kept (λ l. not (say_nothing (words_of l.1))) (enumerate_from n (slice_split is_line_feed bytes)) (counted_rise n (slice_split is_line_feed bytes))
+
+rest_rise : (ls : List (ℕ × List ℕ)) → Rise (numbers ls) → Rise (numbers (drop 1 ls))
+rest_rise [] up = tt
+rest_rise (l ∷ ls) up = up.1
+
+edge_lines_rise : (header : Bool) (text : List ℕ) → Rise (numbers (edge_lines header text))
+edge_lines_rise true text = rest_rise (told_from 1 text) (told_rise 1 text)
+edge_lines_rise false text = told_rise 1 text
+
+abbrev made : ℕ → ℕ → ℕ → ℕ → EdgeLine
+made a b w n = record { first = a; second = b; weight = w; line = n }
+
+abbrev read_as : {A E : Type 0} → A → Result A E
+read_as x = Ok x
+
+of_made : (a b w n : ℕ) (x : EdgeLine) → read_as {E = LineFault} (made a b w n) ≡ Ok x → x.line ≡ n
+of_made a b w n x is = let same : made a b w n ≡ x = cc in ap (λ (y : EdgeLine). y.line) (sym same)
+
+abbrev Words : Type 0
+Words = List ℕ × List ℕ × Option (List ℕ)
+
+at_numbers : (first second weight : Result ℕ LineFault) (n : ℕ) (e : EdgeLine)
+    → and_then first (λ a. and_then second (λ b. and_then weight (λ w. read_as (made a b w n)))) ≡ Ok e → e.line ≡ n
+at_numbers (Ok a) (Ok b) (Ok w) n e h = of_made a b w n e h
+at_numbers (Ok a) (Ok b) (Err fault) n e h = cc
+at_numbers (Ok a) (Err fault) weight n e h = cc
+at_numbers (Err fault) second weight n e h = cc
+
+at_parts : (parts : Result Words LineFault) (first second weight : Words → Result ℕ LineFault) (n : ℕ) (e : EdgeLine)
+    → and_then parts (λ p. and_then (first p) (λ a. and_then (second p) (λ b. and_then (weight p) (λ w. read_as (made a b w n))))) ≡ Ok e → e.line ≡ n
+at_parts (Ok p) first second weight n e h = at_numbers (first p) (second p) (weight p) n e h
+at_parts (Err fault) first second weight n e h = cc
+
+at_text : (text : Result (List ℕ) LineFault) (parts : List ℕ → Result Words LineFault) (first second weight : Words → Result ℕ LineFault) (n : ℕ) (e : EdgeLine)
+    → and_then text (λ t. and_then (parts t) (λ p. and_then (first p) (λ a. and_then (second p) (λ b. and_then (weight p) (λ w. read_as (made a b w n)))))) ≡ Ok e → e.line ≡ n
+at_text (Ok t) parts first second weight n e h = at_parts (parts t) first second weight n e h
+at_text (Err fault) parts first second weight n e h = cc
+
+line_is : (factor : Option ℕ) (l : ℕ × List ℕ) (e : EdgeLine) → edge_of factor l ≡ Ok e → e.line ≡ l.0
+line_is factor l e h =
+    at_text (fault_as BadWords (shown l.1)) (λ t. fault_as BadWords (parts_of (words_of t))) (λ p. end_in First p.0) (λ p. end_in Second p.1) (λ p. fault_as BadWeight (weight_in factor p.2)) l.0 e
+    (kind_given (λ fault. BadLine l.0 fault) (edge_in factor l.0 l.1) e h)
+
+lines_are : (factor : Option ℕ) (lines : List (ℕ × List ℕ)) (es : List EdgeLine) → edges_in factor lines ≡ Ok es → map (λ e. e.line) es ≡ numbers lines
+lines_are factor [] es h = let none : [] ≡ es = cc in rw (← none) refl
+lines_are factor (l ∷ ls) es h =
+    let first = step_given (edge_of factor l) _ es h in
+    let rest = step_given (edges_in factor ls) _ es first.2 in
+    joined first.0 rest.0 rest.2 (line_is factor l first.0 first.1) (lines_are factor ls rest.0 rest.1) where
+      joined : (e : EdgeLine) (later : List EdgeLine) → read_as {E = PackFault} (e ∷ later) ≡ Ok es → e.line ≡ l.0 → map (λ x. x.line) later ≡ numbers ls → map (λ x. x.line) es ≡ l.0 ∷ numbers ls
+      joined e later is here there = let same : e ∷ later ≡ es = cc in rw (← same, here, there) refl
+
+later_lines : (o : PackOptions) (k : ℕ) (es : List EdgeLine) → AllByRecursion (λ j. k < j) (map (λ e. e.line) es) → AllByRecursion (λ (d : Ranked). k < d.line) (map (ranked o) es)
+later_lines o k [] up = tt
+later_lines o k (e ∷ es) up = (up.0, later_lines o k es up.1)
+
+lines_rise : (o : PackOptions) (es : List EdgeLine) → Rise (map (λ e. e.line) es) → LinesRise (map (ranked o) es)
+lines_rise o [] up = tt
+lines_rise o (e ∷ es) up = (later_lines o e.line es up.0, lines_rise o es up.1)
+
+-- ---- ends
+
+abbrev EndsBelow : ℕ → EdgeLine → Type 0
+EndsBelow n e = (e.first < n) × (e.second < n)
+
+abbrev above : ℕ → EdgeLine → ℕ
+above n e = max (max n (e.first + 1)) (e.second + 1)
+
+reach_more : (n : ℕ) (es : List EdgeLine) → n ≤ fold above n es
+reach_more n [] = omega arith
+reach_more n (e ∷ es) = omega (arith, reach_more (above n e) es)
+
+reach_all : (n : ℕ) (es : List EdgeLine) → AllByRecursion (EndsBelow (fold above n es)) es
+reach_all n [] = tt
+reach_all n (e ∷ es) =
+    let more : above n e ≤ fold above (above n e) es = reach_more (above n e) es in
+    ((omega (arith, more), omega (arith, more)), reach_all (above n e) es)
+
+first_none : {Y : Type 0} (here : Option Y) (later : List Y) → slice_get (cons_option here later) 0 ≡ None → (here ≡ None) × (slice_get later 0 ≡ None)
+first_none None later h = (refl, h)
+first_none (Some y) later h = cc
+
+gt_test : (a b : ℕ) → nat_le a b ≡ false → b < a
+gt_test a b h = grind (arith, nat_tests)
+
+below_given : (n : ℕ) (e : EdgeLine) → outside_fault (Some n) e ≡ None → EndsBelow n e
+below_given n e none =
+    elim (cases_Bool (nat_le n e.first)) [
+      | inl out ↦ (let bad = rw out at none in cc)
+      | inr one ↦
+          elim (cases_Bool (nat_le n e.second)) [
+            | inl out ↦ (let bad = rw (one, out) at none in cc)
+            | inr two ↦ (gt_test n e.first one, gt_test n e.second two)
+          ]
+    ]
+
+all_given : (n : ℕ) (es : List EdgeLine) → first_fault (outside_fault (Some n)) es ≡ None → AllByRecursion (EndsBelow n) es
+all_given n [] none = tt
+all_given n (e ∷ es) none =
+    let parts = first_none (outside_fault (Some n) e) (filter_map (outside_fault (Some n)) es) none in
+    (below_given n e parts.0, all_given n es parts.1)
+
+ends_below : (given : Option ℕ) (es : List EdgeLine) → first_fault (outside_fault given) es ≡ None → AllByRecursion (EndsBelow (node_count given es)) es
+ends_below None es none = reach_all 0 es
+ends_below (Some n) es none = all_given n es none
+
+turned_below : (dir : Bool) (a b n : ℕ) → a < n → b < n → ((ends_of dir a b).0 < n) × ((ends_of dir a b).1 < n)
+turned_below true a b n one two = (one, two)
+turned_below false a b n one two =
+    elim (cases_Bool (nat_lt b a)) [
+      | inl less ↦ rw less (two, one)
+      | inr more ↦ rw more (one, two)
+    ]
+
+ranked_below : (o : PackOptions) (n : ℕ) (es : List EdgeLine) → AllByRecursion (EndsBelow n) es → RankedWithin n (map (ranked o) es)
+ranked_below o n [] within = tt
+ranked_below o n (e ∷ es) within = (turned_below o.is_directed e.first e.second n within.0.0 within.0.1, ranked_below o n es within.1)
+
+-- ---- ranks
+
+no_rank : (parallel : Parallel) (w : ℕ) → refuses parallel ≡ true → rank_of parallel w ≡ 0
+no_rank Refuse w h = refl
+no_rank Keep w h = refl
+no_rank Earliest w h = refl
+no_rank Least w h = cc
+no_rank Greatest w h = cc
+
+all_tied : (o : PackOptions) (es : List EdgeLine) → refuses o.parallel ≡ true → AreTied (map (ranked o) es)
+all_tied o [] h = tt
+all_tied o (e ∷ es) h = (no_rank o.parallel e.weight h, all_tied o es h)
+
+-- ---- the whole
+
+all_passed : (a b c : Option PackFault) (es : List EdgeLine) (count : List EdgeLine → ℕ) (n : ℕ) → Ok n ≡ and_then (unless a (unless b (unless c (Ok es)))) (λ x. Ok (count x)) → (a ≡ None) × (b ≡ None) × (n ≡ count es)
+all_passed None None None es count n h = (refl, refl, (let same : n ≡ count es = cc in same))
+all_passed (Some x) b c es count n h = cc
+all_passed None (Some x) c es count n h = cc
+all_passed None None (Some x) es count n h = cc
+
+some_nodes : (n : ℕ) → node_fault n ≡ None → 1 ≤ n
+some_nodes zero none = cc
+some_nodes (suc n) none = omega arith
+
+-- edges whose nodes are counted are sound
+record AreSound (o : PackOptions) (es : List EdgeLine) (n : ℕ) : Type 0 where
+  count : n ≡ node_count o.nodes es
+  some : 1 ≤ n
+  within : AllByRecursion (EndsBelow n) es
+
+sound_edges : (o : PackOptions) (es : List EdgeLine) (n : ℕ) → Ok n ≡ and_then (sound_in o es) (λ x. Ok (node_count o.nodes x)) → AreSound o es n
+sound_edges o es n h =
+    let passed = all_passed (node_fault (node_count o.nodes es)) (first_fault (outside_fault o.nodes) es) (first_fault (loop_fault o.self_loops) es) es (node_count o.nodes) n h in
+    record {
+      count = passed.2;
+      some = rw (passed.2) (some_nodes (node_count o.nodes es) passed.0);
+      within = rw (passed.2) (ends_below o.nodes es passed.1);
+    }
+
+-- what is known of edges as they are compared, where n nodes are counted
+abbrev pub Known : PackOptions → ℕ → List Ranked → Type 0
+Known o n items = (1 ≤ n) × RankedWithin n items × LinesRise items × (refuses o.parallel ≡ true → AreTied items)
+
+module _ (o : PackOptions) (text : List ℕ) (n : ℕ) (items : List Ranked) (counted : Ok n ≡ and_then (sound_of o text) (λ es. Ok (node_count o.nodes es))) (read : ranked_in o (edges_of o.header o.factor text) ≡ Ok items) where
+  known_of : (r : Result (List EdgeLine) PackFault) → edges_of o.header o.factor text ≡ r → Ok n ≡ and_then (and_then r (sound_in o)) (λ es. Ok (node_count o.nodes es)) → ranked_in o r ≡ Ok items → Known o n items
+  known_of (Err fault) is c h = cc
+  known_of (Ok es) is c h =
+      let same : map (ranked o) es ≡ items = cc in
+      let sound = sound_edges o es n c in
+      let up : Rise (map (λ e. e.line) es) = rw (lines_are o.factor (edge_lines o.header text) es is) (edge_lines_rise o.header text) in
+      rw (← same) (sound.some, ranked_below o n es sound.within, lines_rise o es up, all_tied o es)
+
+  -- what is known of the edges that are read
+  pub known : Known o n items
+  known = known_of (edges_of o.header o.factor text) refl counted read

@@ -1,0 +1,23 @@
+use Rattle.std.proofs.Common.{◌≡◌, Ok}
+use Rattle.large_pack.specs.Lines.{edges_of}
+use Rattle.large_pack.specs.Ranks.{ranked_in}
+use Rattle.large_pack.proofs.Sounds.{Known, known}
+use Rattle.large_pack.proofs.pack.pack_edges.Goals as goal
+use Rattle.large_pack.proofs.pack.pack_edges.Goals.{In_ok-edges}
+
+known_here : (c : In_ok-edges) → Known c.args.options.now c.in_ok-nodes.nodes c.in_ok-edges.edges.items
+known_here c =
+    known c.args.options.now c.args.text.now c.in_ok-nodes.nodes c.in_ok-edges.edges.items c.in_ok-nodes.ensures
+    (rw c.edge_lines.ensures.lines at c.in_ok-edges.ensures)
+
+pub pack-requires-clause-some : goal.pack-requires-clause-some
+pack-requires-clause-some c = (known_here c).0
+
+pub pack-requires-clause-within : goal.pack-requires-clause-within
+pack-requires-clause-within c = (known_here c).1
+
+pub pack-requires-clause-rising : goal.pack-requires-clause-rising
+pack-requires-clause-rising c = (known_here c).2
+
+pub pack-requires-clause-tied : goal.pack-requires-clause-tied
+pack-requires-clause-tied c = (known_here c).3
