@@ -1,5 +1,5 @@
 -- Of sorted edges the first of those that join the same two nodes is the one that none goes before.
-use Rattle.std.proofs.Common.{◌≡◌, ◌≢◌, ◌∙◌, ℕ, ◌+◌, ◌<◌, ◌≤◌, ◌==◌, Bool, true, false, not, ◌&&◌, ◌||◌, List, [], ◌∷◌, length, get_or, zero, suc, nat_lt, refl, sym, ap, Ordering, Less, Equal, Greater, nat_cmp, arith, inl, inr}
+use Rattle.std.proofs.Common.{◌≡◌, ◌≢◌, ◌∙◌, ℕ, ◌+◌, ◌<◌, ◌≤◌, ◌==◌, Bool, true, false, not, ◌&&◌, ◌||◌, List, [], ◌∷◌, get_or, suc, nat_lt, refl, sym, ap, Ordering, Less, Equal, nat_cmp, arith, inl, inr}
 use Rattle.std.proofs.lemmas.Bool.{cases_Bool, or_cases, and_parts}
 use Rattle.std.proofs.lemmas.Bool.Decides.{nat_tests}
 use Rattle.std.specs.Cmp.{IsTotalOrder, tied_itself, then_total, on_total, nat_eq_equiv}
@@ -8,8 +8,8 @@ use Rattle.std.specs.Ordering.{is_lt, ordering_then}
 use Rattle.std.specs.List.{list_any, filter, dedup, dedup_from, AllByRecursion, IsDistinct}
 use Rattle.std.specs.List.Sorted.{IsPermutation, IsSorted}
 use Rattle.std.proofs.lemmas.List.Elements.{All-from_recursion, recursion_from_All, filter_agree}
-use Rattle.std.proofs.lemmas.List.Sorted.{IsPermutation-sym, list_any-IsPermutation, sorted_far, ranks_by}
-use Rattle.std.proofs.lemmas.Map.Keys.{IsDistinct-head, IsDistinct-tail, IsDistinct-IsPermutation, ge_from_not_lt}
+use Rattle.std.proofs.lemmas.List.Sorted.{list_any-IsPermutation, sorted_far, ranks_by}
+use Rattle.std.proofs.lemmas.Map.Keys.{IsDistinct-head, IsDistinct-tail, IsDistinct-IsPermutation}
 use Rattle.large_pack.specs.declared.ranked.Ranked.{Ranked}
 use Rattle.large_pack.specs.Ranks.{alike, beats, is_beaten, unbeaten, LinesRise}
 use Rattle.large_pack.proofs.Permuting.{filter_moved}
@@ -233,8 +233,8 @@ precedes x y h apart = record {
   second = λ p. head_le x.second y.second _ (then_later x.first y.first _ p h);
   rank = λ p q. head_le x.rank y.rank _ (then_later x.second y.second _ q (then_later x.first y.first _ p h));
   line = λ p q r.
-  let low : x.line ≤ y.line = head_le x.line y.line _ (then_later x.rank y.rank _ r (then_later x.second y.second _ q (then_later x.first y.first _ p h))) in
-  omega (arith, apart);
+      let low : x.line ≤ y.line = head_le x.line y.line _ (then_later x.rank y.rank _ r (then_later x.second y.second _ q (then_later x.first y.first _ p h))) in
+      omega (arith, apart);
 }
 
 abbrev pub same_line : Ranked → Ranked → Bool
@@ -254,14 +254,13 @@ lines_apart x y h same = clash (same_line x y) (eq_test x.line y.line same) h
 -- sorted edges of different lines are in order
 sorted_rise : (xs : List Ranked) → IsSorted full_cmp xs → IsDistinct same_line xs → AllRise xs
 sorted_rise [] sorted apart = tt
-sorted_rise (x ∷ xs) sorted apart =
-    (
-      recursion_from_All (Precedes x) xs
-          (λ k d low. precedes x (get_or xs k d)
-          (sorted_far (λ (a : Ranked) (b : Ranked). is_lt (full_cmp a b)) (ranks_by full_total (λ (a : Ranked). a)) (x ∷ xs) sorted 0 (suc k) d (omega arith) (omega arith))
-          (lines_apart x (get_or xs k d) (All-from_recursion (λ y. same_line x y ≡ false) xs (IsDistinct-head same_line x xs apart) k d low))),
-      sorted_rise xs (rest_sorted x xs sorted) (IsDistinct-tail same_line x xs apart),
-    )
+sorted_rise (x ∷ xs) sorted apart = (
+  recursion_from_All (Precedes x) xs
+      (λ k d low. precedes x (get_or xs k d)
+      (sorted_far (λ (a : Ranked) (b : Ranked). is_lt (full_cmp a b)) (ranks_by full_total (λ (a : Ranked). a)) (x ∷ xs) sorted 0 (suc k) d (omega arith) (omega arith))
+      (lines_apart x (get_or xs k d) (All-from_recursion (λ y. same_line x y ≡ false) xs (IsDistinct-head same_line x xs apart) k d low))),
+  sorted_rise xs (rest_sorted x xs sorted) (IsDistinct-tail same_line x xs apart),
+)
 
 same_line_flips : (x y : Ranked) → same_line x y ≡ same_line y x
 same_line_flips x y = nat_eq_equiv.symm x.line y.line

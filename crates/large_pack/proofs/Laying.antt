@@ -1,11 +1,11 @@
 -- The lists made of the sorted arcs hold a network that has the arcs.
-use Rattle.std.proofs.Common.{◌≡◌, ◌∙◌, ℕ, ◌+◌, ◌-◌, ◌<◌, ◌≤◌, ◌==◌, Bool, true, false, List, [], ◌∷◌, length, get_or, not, nat_lt, refl, sym, ap, map, take, drop, subst, Ordering, Less, Equal, Greater, nat_cmp, arith, inl, inr}
+use Rattle.std.proofs.Common.{◌≡◌, ◌∙◌, ℕ, ◌+◌, ◌-◌, ◌<◌, ◌≤◌, ◌==◌, true, false, List, [], ◌∷◌, length, get_or, not, nat_lt, refl, sym, ap, map, take, drop, subst, Ordering, Less, Equal, Greater, nat_cmp, arith, inl, inr}
 use Rattle.std.proofs.lemmas.Bool.{cases_Bool}
 use Rattle.std.proofs.lemmas.Bool.Decides.{nat_tests}
 use Rattle.std.specs.Cmp.{IsTotalOrder, tied_itself, then_total, on_total}
 use Rattle.std.proofs.lemmas.Cmp.{nat_cmp_total}
 use Rattle.std.specs.Ordering.{is_lt, ordering_then}
-use Rattle.std.specs.List.{All, filter, zip}
+use Rattle.std.specs.List.{All, zip}
 use Rattle.std.specs.List.Sorted.{IsPermutation, IsSorted, IsNonDecreasingBy}
 use Rattle.std.proofs.lemmas.List.{length-map, get_or_past, get_or-map, take-map, drop-map}
 use Rattle.std.proofs.lemmas.List.Elements.{All-from_recursion, recursion_from_All, All-filter, filter_passes}
@@ -14,10 +14,10 @@ use Rattle.std.proofs.lemmas.List.FromFn.{length-map-range_with_len, get_or-map-
 use Rattle.std.proofs.lemmas.List.Kept.{IsSortedBy-filter}
 use Rattle.std.proofs.lemmas.List.Sorted.{All-permutation, IsPermutation-map, IsNonDecreasingBy-from_sort, ranks_by, length_permutation}
 use Rattle.link_net.specs.Limits.{most_rows}
-use Rattle.link_net.specs.Neighbours.{Neighbours, AreRows, numbers_below, row, neighbour}
+use Rattle.link_net.specs.Neighbours.{Neighbours, AreRows, row, neighbour}
 use Rattle.link_net.specs.Links.{AllWithin}
 use Rattle.link_net.specs.Arcs.{Arc, arc_cmp, IsFirst}
-use Rattle.link_net.specs.Layout.{part, rows_of, AreOffsets, HoldRows}
+use Rattle.link_net.specs.Layout.{part, rows_of, AreOffsets}
 use Rattle.large_net.specs.Large.{AreLaidOut}
 use Rattle.large_pack.specs.Rows.{ends_from, end_cmp, HasArcs}
 use Rattle.large_pack.proofs.Permuting.{filter_moved}
@@ -124,8 +124,14 @@ module _ (n : ℕ) (given arcs : List Arc) (offsets : List ℕ) (made : AreTable
 
   short : (u : ℕ) → u < n → length (row network u) ≤ most_rows
   short u low =
-      omega (arith, ap length (row_is u low), length-map (from_node u arcs) shown, length-filter_both (λ (a : Arc). a.0 == u) (λ (a : Arc). not (a.0 == u)) (λ a. refl) arcs,
-      length_permutation given arcs made.moved, made.few)
+      omega (
+        arith,
+        ap length (row_is u low),
+        length-map (from_node u arcs) shown,
+        length-filter_both (λ (a : Arc). a.0 == u) (λ (a : Arc). not (a.0 == u)) (λ a. refl) arcs,
+        length_permutation given arcs made.moved,
+        made.few,
+      )
 
   none : (u : ℕ) → n ≤ u → length (row network u) ≡ 0
   none u high = ap length (get_or_past network u [] (omega (arith, counted)))
@@ -142,15 +148,15 @@ module _ (n : ℕ) (given arcs : List Arc) (offsets : List ℕ) (made : AreTable
   are_rows some = record {
     nodes = rw counted some;
     degrees = λ u.
-    elim (cases_Bool (nat_lt u n)) [
-      | inl low ↦ short u (grind (arith, nat_tests))
-      | inr high ↦ omega (arith, none u (grind (arith, nat_tests)))
-    ];
+        elim (cases_Bool (nat_lt u n)) [
+          | inl low ↦ short u (grind (arith, nat_tests))
+          | inr high ↦ omega (arith, none u (grind (arith, nat_tests)))
+        ];
     within = λ u j high.
-    elim (cases_Bool (nat_lt u n)) [
-      | inl low ↦ rw counted (leads_within u j (grind (arith, nat_tests)) high)
-      | inr past ↦ absurd (omega (arith, none u (grind (arith, nat_tests))))
-    ];
+        elim (cases_Bool (nat_lt u n)) [
+          | inl low ↦ rw counted (leads_within u j (grind (arith, nat_tests)) high)
+          | inr past ↦ absurd (omega (arith, none u (grind (arith, nat_tests))))
+        ];
   }
 
   -- the lists hold a network

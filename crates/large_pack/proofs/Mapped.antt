@@ -1,9 +1,9 @@
 -- Edges and these edges as they are compared.
-use Rattle.std.proofs.Common.{◌≡◌, ◌∙◌, ℕ, ◌+◌, ◌-◌, ◌<◌, ◌≤◌, ◌==◌, Bool, true, false, not, ◌&&◌, ◌||◌, List, [], ◌∷◌, ◌++◌, map, nat_lt, refl, ap, Option, Some, None, option_map, arith, inl, inr, if◌then◌else◌}
+use Rattle.std.proofs.Common.{◌≡◌, ◌∙◌, ℕ, ◌<◌, ◌≤◌, ◌==◌, Bool, true, false, not, ◌&&◌, ◌||◌, List, [], ◌∷◌, map, nat_lt, refl, ap, Option, Some, None, option_map, arith, inl, inr, if◌then◌else◌}
 use Rattle.std.proofs.lemmas.Bool.{cases_Bool, and_parts}
 use Rattle.std.proofs.lemmas.Bool.Decides.{nat_tests}
 use Rattle.std.specs.Cmp.{nat_eq_equiv}
-use Rattle.std.specs.List.{list_any, filter, find, flat_map, AllByRecursion}
+use Rattle.std.specs.List.{list_any, filter, find, flat_map}
 use Rattle.std.specs.List.Sorted.{IsPermutation}
 use Rattle.std.specs.Option.{option_and_then}
 use Rattle.std.proofs.lemmas.List.Elements.{filter_agree}
@@ -14,12 +14,11 @@ use Rattle.large_pack.specs.declared.edge_line.EdgeLine.{EdgeLine}
 use Rattle.large_pack.specs.declared.options.PackOptions.{PackOptions}
 use Rattle.large_pack.specs.declared.options.SelfLoops.{SelfLoops}
 use Rattle.large_pack.specs.declared.options.SelfLoops.TheVariants.{Refuse as RefuseLoops, Drop as DropLoops, Keep as KeepLoops}
-use Rattle.large_pack.specs.declared.fault.PackFault.{PackFault}
 use Rattle.large_pack.specs.declared.fault.PackFault.TheVariants.{ParallelEdge}
 use Rattle.large_pack.specs.declared.ranked.Ranked.{Ranked}
 use Rattle.large_pack.specs.Sound.{is_loop}
 use Rattle.large_pack.specs.Packing.{straight_edges, join_alike, goes_before, is_behind, merges, refuses, kept_edges, edge_arcs, arcs_of, repeat_of, repeat_fault}
-use Rattle.large_pack.specs.Ranks.{ends_of, ranked, alike, beats, is_beaten, unbeaten, kept_ranked, repeat_in, repeat_ranked, straight_ranked, ranked_arcs}
+use Rattle.large_pack.specs.Ranks.{ends_of, ranked, alike, beats, is_beaten, unbeaten, kept_ranked, repeat_ranked, straight_ranked, ranked_arcs}
 
 -- ---- lists of images
 

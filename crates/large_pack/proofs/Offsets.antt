@@ -31,8 +31,8 @@ is_first arcs u i up bound before here = record {
   bound = bound;
   before = before;
   after = λ k d low high.
-  let same : get_or arcs i d ≡ get_or arcs i (0, 0, 0) = get_or_default arcs i d (0, 0, 0) (omega arith) in
-  omega (arith, ap (λ (a : Arc). a.0) same, here, up i k d low high);
+      let same : get_or arcs i d ≡ get_or arcs i (0, 0, 0) = get_or_default arcs i d (0, 0, 0) (omega arith) in
+      omega (arith, ap (λ (a : Arc). a.0) same, here, up i k d low high);
 }
 
 -- one more node's place

@@ -1,5 +1,5 @@
 -- What edges are packed into.
-use Rattle.std.proofs.Common.{◌≡◌, ◌≢◌, ◌∙◌, ℕ, ◌+◌, ◌-◌, ◌<◌, ◌≤◌, ◌==◌, Bool, true, false, not, ◌||◌, List, [], ◌∷◌, ◌++◌, map, length, nat_lt, refl, sym, ap, Option, Some, None, Result, Ok, Err, arith, inl, inr}
+use Rattle.std.proofs.Common.{◌≡◌, ◌≢◌, ◌∙◌, ℕ, ◌-◌, ◌<◌, ◌≤◌, ◌==◌, Bool, true, false, not, ◌||◌, List, [], ◌∷◌, ◌++◌, map, length, nat_lt, refl, sym, ap, Option, Some, None, Result, Ok, Err, arith, inl, inr}
 use Rattle.std.proofs.lemmas.Bool.{cases_Bool}
 use Rattle.std.proofs.lemmas.Bool.Decides.{nat_tests}
 use Rattle.std.specs.List.{filter, flat_map, AllByRecursion}
@@ -23,9 +23,9 @@ use Rattle.large_pack.specs.declared.fault.PackFault.TheVariants.{TooManyEdges, 
 use Rattle.large_pack.specs.declared.ranked.Ranked.{Ranked}
 use Rattle.large_pack.specs.declared.pack.Packed.{Packed}
 use Rattle.large_pack.specs.Rows.{ends_from, HasArcs}
-use Rattle.large_pack.specs.Sound.{node_count, unless}
-use Rattle.large_pack.specs.Packing.{straight_edges, kept_edges, merges, arcs_of, repeat_fault, crowd_fault, packing_in, Packing, IsPackedAs, IsAnswer}
-use Rattle.large_pack.specs.Ranks.{ranked, is_beaten, unbeaten, kept_ranked, repeat_ranked, straight_ranked, ranked_arcs, LinesRise, AreTied, RankedWithin}
+use Rattle.large_pack.specs.Sound.{node_count}
+use Rattle.large_pack.specs.Packing.{straight_edges, kept_edges, merges, arcs_of, repeat_fault, packing_in, Packing, IsAnswer}
+use Rattle.large_pack.specs.Ranks.{ranked, is_beaten, kept_ranked, repeat_ranked, straight_ranked, ranked_arcs, LinesRise, AreTied, RankedWithin}
 use Rattle.large_pack.proofs.Permuting.{flat_map_moved, filter_moved}
 use Rattle.large_pack.proofs.Mapped.{arcs_permuted, kept_mapped, straight_mapped, repeat_mapped}
 
@@ -121,8 +121,8 @@ arcs_moved : (n : ℕ) (arcs given : List Arc) (network : Neighbours) → IsPerm
 arcs_moved n arcs given network moved has = record {
   count = has.count;
   rows = λ u low.
-  IsPermutation-trans (ends_from u arcs) (ends_from u given) (row network u)
-  (IsPermutation-map (λ (a : Arc). (a.1, a.2)) (filter (λ a. a.0 == u) arcs) (filter (λ a. a.0 == u) given) (filter_moved (λ (a : Arc). a.0 == u) arcs given moved)) (has.rows u low);
+      IsPermutation-trans (ends_from u arcs) (ends_from u given) (row network u)
+      (IsPermutation-map (λ (a : Arc). (a.1, a.2)) (filter (λ a. a.0 == u) arcs) (filter (λ a. a.0 == u) given) (filter_moved (λ (a : Arc). a.0 == u) arcs given moved)) (has.rows u low);
   rising = has.rising;
 }
 

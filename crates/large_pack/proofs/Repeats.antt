@@ -1,8 +1,8 @@
 -- The first edge that repeats another, found in sorted edges.
-use Rattle.std.proofs.Common.{◌≡◌, ◌∙◌, ℕ, ◌+◌, ◌<◌, ◌≤◌, ◌==◌, Bool, true, false, ◌&&◌, ◌||◌, List, [], ◌∷◌, length, get_or, zero, suc, nat_lt, nat_le, refl, sym, ap, Option, Some, None, arith, inl, inr, ◌⊎◌, if◌then◌else◌}
+use Rattle.std.proofs.Common.{◌≡◌, ◌∙◌, ℕ, ◌<◌, ◌≤◌, ◌==◌, Bool, true, false, ◌||◌, List, [], ◌∷◌, length, get_or, zero, suc, nat_lt, nat_le, refl, sym, ap, Option, Some, None, arith, inl, inr, ◌⊎◌, if◌then◌else◌}
 use Rattle.std.proofs.lemmas.Bool.{cases_Bool, or_cases, or_parts}
 use Rattle.std.proofs.lemmas.Bool.Decides.{nat_tests}
-use Rattle.std.specs.List.{list_any, find, All, AllByRecursion, Contains}
+use Rattle.std.specs.List.{list_any, find, AllByRecursion, Contains}
 use Rattle.std.specs.List.Sorted.{IsPermutation, IsSorted}
 use Rattle.std.proofs.lemmas.List.Elements.{All-from_recursion, recursion_from_All, All-contains, All-contains_itself}
 use Rattle.std.proofs.lemmas.List.Sorted.{All-permutation, Contains-permutation, IsPermutation-sym, length_permutation}
@@ -71,27 +71,25 @@ chosen q (p ∷ ps) =
     elim (cases_Bool (nat_le q.0 p.0.line)) [
       | inl stays ↦
           let rest = chosen q ps in
-          let below : q.0 ≤ p.0.line = le_test q.0 p.0.line stays in
-          (
+          let below : q.0 ≤ p.0.line = le_test q.0 p.0.line stays in (
             rest.0,
             rw stays (rest.1),
             record {
-                  from = elim rest.2.from [ inl here ↦ inl here | inr later ↦ inr (inr later) ];
-                  low = rest.2.low;
-                  all = (omega (arith, rest.2.low), rest.2.all);
-                },
+              from = elim rest.2.from [ inl here ↦ inl here | inr later ↦ inr (inr later) ];
+              low = rest.2.low;
+              all = (omega (arith, rest.2.low), rest.2.all);
+            },
           )
       | inr goes ↦
           let rest = chosen (p.0.line, p.1.line) ps in
-          let below : p.0.line < q.0 = gt_test q.0 p.0.line goes in
-          (
+          let below : p.0.line < q.0 = gt_test q.0 p.0.line goes in (
             rest.0,
             rw goes (rest.1),
             record {
-                  from = elim rest.2.from [ inl here ↦ inr (inl here) | inr later ↦ inr (inr later) ];
-                  low = omega (arith, rest.2.low);
-                  all = (rest.2.low, rest.2.all);
-                },
+              from = elim rest.2.from [ inl here ↦ inr (inl here) | inr later ↦ inr (inr later) ];
+              low = omega (arith, rest.2.low);
+              all = (rest.2.low, rest.2.all);
+            },
           )
     ]
 
@@ -116,10 +114,10 @@ module _ (all : List Ranked) where
   on_same : (P : Ranked → Bool) (k x : Ranked) (rest : List Ranked) → alike x k ≡ true → IsPlaced P k (x ∷ rest) → IsPlaced (λ y. P y || beats x y) k rest
   on_same P k x rest same at = record {
     near = both_weaker {P = λ y. P y ≡ true → alike k y ≡ true} {Q = Precedes x} {R = λ y. (P y || beats x y) ≡ true → alike k y ≡ true} rest at.near.1 at.up.1.0
-    (λ y old high h. elim (or_cases (P y) (beats x y) h) [
-      | inl before ↦ old before
-      | inr here ↦ alike_chain k x y (alike_flips x k same) (beats_alike x y here)
-    ]);
+        (λ y old high h. elim (or_cases (P y) (beats x y) h) [
+          | inl before ↦ old before
+          | inr here ↦ alike_chain k x y (alike_flips x k same) (beats_alike x y here)
+        ]);
     up = (at.up.0.1, at.up.1.1);
     test = λ y. at.test y ∙ sym (turn (P y) (beats k y) (beats x y) (list_any (λ d. beats d y) rest));
     free = at.free;
@@ -136,10 +134,10 @@ module _ (all : List Ranked) where
   on_other : (P : Ranked → Bool) (k x : Ranked) (rest : List Ranked) → alike x k ≡ false → IsPlaced P k (x ∷ rest) → IsPlaced (λ y. P y || beats k y) x rest
   on_other P k x rest other at = record {
     near = both_weaker {P = λ y. P y ≡ true → alike k y ≡ true} {Q = Precedes x} {R = λ y. (P y || beats k y) ≡ true → alike x y ≡ true} rest at.near.1 at.up.1.0
-    (λ y old high h. elim (or_cases (P y) (beats k y) h) [
-      | inl before ↦ clash (alike x k) (between k x y at.up.0.0 high (old before)) other
-      | inr here ↦ clash (alike x k) (between k x y at.up.0.0 high (beats_alike k y here)) other
-    ]);
+        (λ y old high h. elim (or_cases (P y) (beats k y) h) [
+          | inl before ↦ clash (alike x k) (between k x y at.up.0.0 high (old before)) other
+          | inr here ↦ clash (alike x k) (between k x y at.up.0.0 high (beats_alike k y here)) other
+        ]);
     up = at.up.1;
     test = λ y. at.test y ∙ sym (shift (P y) (beats k y) (beats x y) (list_any (λ d. beats d y) rest));
     free = next_free P k x rest other at;

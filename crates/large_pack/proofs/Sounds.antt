@@ -1,9 +1,8 @@
 -- What is known of edges that are sound.
-use Rattle.std.proofs.Common.{◌≡◌, ◌∙◌, ℕ, ◌+◌, ◌<◌, ◌≤◌, ◌==◌, Bool, true, false, not, List, [], ◌∷◌, map, max, drop, nat_lt, nat_le, zero, suc, refl, sym, ap, Option, Some, None, Result, Ok, Err, arith, inl, inr}
+use Rattle.std.proofs.Common.{◌≡◌, ℕ, ◌+◌, ◌<◌, ◌≤◌, Bool, true, false, not, List, [], ◌∷◌, map, max, drop, nat_lt, nat_le, zero, suc, refl, sym, ap, Option, Some, None, Result, Ok, Err, arith, inl, inr}
 use Rattle.std.proofs.lemmas.Bool.{cases_Bool}
 use Rattle.std.proofs.lemmas.Bool.Decides.{nat_tests}
 use Rattle.std.specs.List.{filter, filter_map, cons_option, slice_get, fold, slice_split, enumerate_from, AllByRecursion}
-use Rattle.std.specs.Result.{result_map_both}
 use Rattle.import_lines.specs.Texts.{is_line_feed, say_nothing, words_of, told_from}
 use Rattle.import_lines.specs.Parts.{shown, parts_of}
 use Rattle.large_pack.specs.declared.edge_line.EdgeLine.{EdgeLine}
@@ -17,7 +16,7 @@ use Rattle.large_pack.specs.declared.fault.PackFault.{PackFault}
 use Rattle.large_pack.specs.declared.fault.LineFault.{LineFault}
 use Rattle.large_pack.specs.declared.ranked.Ranked.{Ranked}
 use Rattle.large_pack.specs.Lines.{and_then, fault_as, end_in, weight_in, edge_in, edge_of, edges_in, edge_lines, edges_of}
-use Rattle.large_pack.specs.Sound.{reach, node_count, outside_fault, loop_fault, first_fault, node_fault, unless, sound_in, sound_of}
+use Rattle.large_pack.specs.Sound.{node_count, outside_fault, loop_fault, first_fault, node_fault, unless, sound_in, sound_of}
 use Rattle.large_pack.specs.Packing.{rank_of, refuses}
 use Rattle.large_pack.specs.Ranks.{ends_of, ranked, ranked_in, LinesRise, AreTied, RankedWithin}
 

@@ -1,5 +1,5 @@
 -- What edges tell, read line by line.
-use Rattle.std.proofs.Common.{◌≡◌, ℕ, ◌+◌, max, List, [], ◌∷◌, refl, sym, ap, ◌∙◌, Option, Some, None, Result, Ok, Err}
+use Rattle.std.proofs.Common.{◌≡◌, ℕ, ◌+◌, max, List, ◌∷◌, refl, sym, ap, ◌∙◌, Option, Some, None, Result, Ok, Err}
 use Rattle.std.specs.List.{fold, filter_map, cons_option, slice_get}
 use Rattle.std.specs.Option.{option_or}
 use Rattle.large_pack.specs.declared.edge_line.EdgeLine.{EdgeLine}

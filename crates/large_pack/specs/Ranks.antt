@@ -1,6 +1,6 @@
 -- Internal: edges as they are compared. No public clause cites it.
-use Rattle.std.specs.Prelude.{◌≡◌, ◌≢◌, ℕ, ◌==◌, ◌<◌, Bool, not, ◌&&◌, ◌||◌, List, [], ◌∷◌, map, nat_lt, nat_le, Option, Some, None, option_map, option_and_then, find, Result, Ok, if◌then◌else◌}
-use Rattle.std.specs.List.{list_any, filter, flat_map, AllByRecursion}
+use Rattle.std.specs.Prelude.{◌≡◌, ℕ, ◌==◌, ◌<◌, Bool, not, ◌&&◌, ◌||◌, List, [], ◌∷◌, map, nat_lt, nat_le, Option, Some, None, option_map, option_and_then, find, Result, Ok, if◌then◌else◌}
+use Rattle.std.specs.List.{list_any, filter, AllByRecursion}
 use Rattle.link_net.specs.Arcs.{Arc}
 use Rattle.large_pack.specs.declared.edge_line.EdgeLine.{EdgeLine}
 use Rattle.large_pack.specs.declared.options.PackOptions.{PackOptions}

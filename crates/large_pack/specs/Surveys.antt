@@ -1,5 +1,5 @@
 -- Internal: what a look at each edge in turn tells. No public clause cites it.
-use Rattle.std.specs.Prelude.{ℕ, ◌+◌, max, List, Option, None, Result, Ok}
+use Rattle.std.specs.Prelude.{ℕ, ◌+◌, max, List, Result, Ok}
 use Rattle.std.specs.Option.{unwrap_or, option_or}
 use Rattle.large_pack.specs.declared.edge_line.EdgeLine.{EdgeLine}
 use Rattle.large_pack.specs.declared.options.PackOptions.{PackOptions}

@@ -91,11 +91,7 @@ fn pack(
 ///
 /// Where several things are wrong the fault is the first in the order of [`PackFault`]. `BadLine`, `NoNode`,
 /// `NodeOutside` and `SelfLoop` come whether memory runs out or not; `Memory` comes only where it does.
-pub fn pack_edges(
-    alloc: Global,
-    text: &[u8],
-    options: &PackOptions,
-) -> Result<Packed, PackFault>
+pub fn pack_edges(alloc: Global, text: &[u8], options: &PackOptions) -> Result<Packed, PackFault>
     ensures answer { IsAnswer (packing_of options.now text.now) result }
     ensures refused { IfErr (sound_of options.now text.now) (λ fault. result ≡ Err fault) }
 {

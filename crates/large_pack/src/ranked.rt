@@ -101,7 +101,12 @@ pub(crate) fn arcs(
 ) -> Result<Vec<Arc>, AllocError>
     ensures { IfOk result (λ v. v.items ≡ flat_map (ranked_arcs is_directed) edges.items) }
 {
-    let mut arcs = Vec::with_capacity(alloc, edges.len())?;
+    let room = if is_directed {
+        edges.len()
+    } else {
+        2 * edges.len()
+    };
+    let mut arcs = Vec::with_capacity(alloc, room)?;
     for edge in &edges {
         push_arcs(&mut arcs, edge, is_directed)?;
     }

@@ -1,4 +1,4 @@
-use Rattle.std.proofs.Common.{◌≡◌, ◌==◌, not, rules}
+use Rattle.std.proofs.Common.{◌==◌, not, rules}
 use Rattle.std.proofs.lemmas.Fn.{filter_same}
 use Rattle.large_pack.specs.declared.ranked.Ranked.{Ranked}
 use Rattle.large_pack.proofs.merging.straighten.Goals as goal

@@ -1,4 +1,4 @@
-use Rattle.std.proofs.Common.{◌∙◌, ap, length, refl, arith}
+use Rattle.std.proofs.Common.{ap, length, arith}
 use Rattle.std.proofs.lemmas.List.Sorted.{length_permutation}
 use Rattle.large_pack.specs.Ranks.{kept_ranked}
 use Rattle.large_pack.specs.Packing.{packing_in}

@@ -1,6 +1,3 @@
-use Rattle.std.proofs.Common.{◌≡◌, Ok}
-use Rattle.large_pack.specs.Lines.{edges_of}
-use Rattle.large_pack.specs.Ranks.{ranked_in}
 use Rattle.large_pack.proofs.Sounds.{Known, known}
 use Rattle.large_pack.proofs.pack.pack_edges.Goals as goal
 use Rattle.large_pack.proofs.pack.pack_edges.Goals.{In_ok-edges}

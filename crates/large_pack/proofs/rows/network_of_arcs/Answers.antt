@@ -1,4 +1,4 @@
-use Rattle.std.proofs.Common.{◌≡◌, ◌<◌, ℕ, length, get_or, arith}
+use Rattle.std.proofs.Common.{◌<◌, ℕ, length, arith}
 use Rattle.link_net.specs.Arcs.{IsFirst}
 use Rattle.large_pack.proofs.Laying.{AreTables, by_node, within_moved, laid, has_arcs}
 use Rattle.large_pack.proofs.rows.network_of_arcs.Goals as goal
@@ -27,8 +27,8 @@ new-network-requires c =
     let b = (goal.at.new-network-requires c).After-as_slice-2 in
     record {
       laid_out =
-      rw (c.in_ok-targets.ensures, c.in_ok-weights.ensures, c.as_slice-2.ensures.value, c.as_slice-3.ensures.value)
-      (laid c.args.nodes c.args.arcs.items c.sort_unstable.new.self.items c.in_ok-offsets.offsets.items (made b) c.requires.some (omega (arith, c.ranges.nodes.fits)));
+          rw (c.in_ok-targets.ensures, c.in_ok-weights.ensures, c.as_slice-2.ensures.value, c.as_slice-3.ensures.value)
+          (laid c.args.nodes c.args.arcs.items c.sort_unstable.new.self.items c.in_ok-offsets.offsets.items (made b) c.requires.some (omega (arith, c.ranges.nodes.fits)));
     }
 
 pub returns : goal.returns
@@ -36,6 +36,6 @@ returns c =
     let b = (goal.at.returns c).After-as_slice-2 in
     record {
       rows =
-      rw (c.new-network.ensures.rows, c.in_ok-targets.ensures, c.in_ok-weights.ensures, c.as_slice-2.ensures.value, c.as_slice-3.ensures.value)
-      (has_arcs c.args.nodes c.args.arcs.items c.sort_unstable.new.self.items c.in_ok-offsets.offsets.items (made b));
+          rw (c.new-network.ensures.rows, c.in_ok-targets.ensures, c.in_ok-weights.ensures, c.as_slice-2.ensures.value, c.as_slice-3.ensures.value)
+          (has_arcs c.args.nodes c.args.arcs.items c.sort_unstable.new.self.items c.in_ok-offsets.offsets.items (made b));
     }
