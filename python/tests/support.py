@@ -57,7 +57,7 @@ def source(path, name):
 
 
 def reference():
-    """The interpreter in `reference`, and the texts that its `compare` draws. It needs Python 3.11."""
+    """The interpreter in `reference`, and its `compare`, which makes random texts. It needs Python 3.11."""
     wanted("tomllib")
     here = sys.modules["unison"]
     interpreter = source(ROOT / "reference" / "unison.py", "unison")

@@ -112,7 +112,7 @@ def test_room_is_made_where_there_is_too_little():
     assert _calls.watch(texts, [], 0).words.tolist() == []
 
 
-def test_want_of_memory_is_a_memory_error():
+def test_out_of_memory_is_a_memory_error():
     """In a process that may have little more memory than it has: calls end with MemoryError, or well."""
     ring = 65536
     printed = run_python(

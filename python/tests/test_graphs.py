@@ -127,7 +127,7 @@ def test_values_go_into_the_graph():
     raised(ValueError, lambda: unison.Network(2, []).to_networkx(watched.at(1)))
 
 
-def test_attributes_of_nodes_are_opening_values():
+def test_attributes_of_nodes_are_initial_values():
     nx = wanted("networkx")
     graph = nx.path_graph(["x", "y", "z"])
     nx.set_node_attributes(graph, {"x": 5, "z": 2}, "s")
@@ -137,18 +137,20 @@ def test_attributes_of_nodes_are_opening_values():
 
 def test_what_a_network_cannot_be_is_told():
     nx = wanted("networkx")
-    loop = nx.Graph([("a", "a"), ("a", "b")])
-    assert "'a' with itself" in str(raised(ValueError, lambda: unison.Network.from_networkx(loop)))
-    assert unison.Network.from_networkx(loop, drop_loops=True).links == ((0, 1, 1),)
+    self_loop = nx.Graph([("a", "a"), ("a", "b")])
+    assert "'a' with itself" in str(raised(ValueError, lambda: unison.Network.from_networkx(self_loop)))
+    assert unison.Network.from_networkx(self_loop, drop_loops=True).links == ((0, 1, 1),)
     both = nx.DiGraph([("a", "b", {"weight": 2}), ("b", "a", {"weight": 5})])
     assert "directed" in str(raised(ValueError, lambda: unison.Network.from_networkx(both)))
     assert "'a' and 'b'" in str(raised(ValueError, lambda: unison.Network.from_networkx(both, undirected=True)).args[0].replace("'b' and 'a'", "'a' and 'b'"))
     several = nx.MultiGraph([("a", "b", {"weight": 4}), ("b", "c", {"weight": 1}), ("b", "a", {"weight": 9}), ("a", "b", {"weight": 2})])
     raised(ValueError, lambda: unison.Network.from_networkx(several))
-    for kept, weight in [("least", 2), ("most", 9), ("first", 4)]:
-        assert unison.Network.from_networkx(several, merge_doubles=kept).links == ((0, 1, weight), (1, 2, 1)), kept
-    assert unison.Network.from_networkx(both, undirected=True, merge_doubles="most").links == ((0, 1, 5),)
-    raised(ValueError, lambda: unison.Network.from_networkx(several, merge_doubles="sum"))
+    for kept, old, weight in [("min", "least", 2), ("max", "most", 9), ("first", "first", 4)]:
+        assert unison.Network.from_networkx(several, parallel=kept).links == ((0, 1, weight), (1, 2, 1)), kept
+        assert unison.Network.from_networkx(several, merge_doubles=old).links == ((0, 1, weight), (1, 2, 1)), f"{old}, by an old name"
+    assert unison.Network.from_networkx(both, undirected=True, parallel="max").links == ((0, 1, 5),)
+    for wrong in ({"parallel": "sum"}, {"parallel": "least"}, {"merge_doubles": "sum"}, {"merge_doubles": "min"}, {"parallel": "min", "merge_doubles": "least"}):
+        raised(ValueError, lambda: unison.Network.from_networkx(several, **wrong))
     half = nx.Graph([("a", "b", {"weight": 0.5})])
     assert "no whole number" in str(raised(ValueError, lambda: unison.Network.from_networkx(half)))
     assert unison.Network.from_networkx(half, scale=100).links == ((0, 1, 50),)

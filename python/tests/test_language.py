@@ -14,7 +14,7 @@ def after(text, links, rounds):
     return [tuple(states.state(node).values()) for node in range(states.nodes)]
 
 
-def test_the_opening_example():
+def test_the_first_example():
     path = unison.Network(3, [(0, 1), (1, 2)], set={"dist": {0: 0}})
     states = unison.lockstep(unison.Program(DISTANCE), path, 2)
     assert states.report() == "round 2\n0 dist=0\n1 dist=1\n2 dist=2\n"
@@ -53,10 +53,11 @@ def test_canonical_spelling():
     assert unison.Program(longer.canonical).canonical == longer.canonical
 
 
-def test_fields_openings_and_the_round():
+def test_fields_initial_values_and_the_round():
     program = unison.Program("next b = a; field a = 3; field b = 9; next a = b;")
     assert program.fields == ("a", "b")
-    assert program.openings == {"a": 3, "b": 9}
+    assert program.initial_values == {"a": 3, "b": 9}
+    assert program.openings == program.initial_values  # an old name
     assert not program.reads_round
     assert unison.Program("field rounds = 0; next rounds = (rounds + 1);").reads_round is False
     assert unison.Program("field s = 0; next s = any (n.s + round);").reads_round is True

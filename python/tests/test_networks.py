@@ -21,7 +21,7 @@ def test_the_text_of_a_network():
     assert repr(net) == "<Network of 3 nodes and 2 links>"
 
 
-def test_opening_values_of_each_form():
+def test_initial_values_of_each_form():
     swap = unison.Program(SWAP)
     for given, expected in [({1: 5}, [0, 5, 0]), ([3, 1, 2], [3, 1, 2]), ((3, 1, 2), [3, 1, 2]), (9, [9, 9, 9]), ({}, [0, 0, 0])]:
         states = unison.lockstep(swap, unison.Network(3, [], set={"s": given}), 0)
@@ -70,7 +70,7 @@ def test_numbers_are_names_where_there_are_none():
         raised(unison.faults.Missing, lambda: net.number(number))
 
 
-def test_with_other_opening_values():
+def test_with_other_initial_values():
     net = CLUB.with_set({"dist": {"cid": 0}})
     assert unison.lockstep(unison.Program(DISTANCE), net, 2).by_name("dist") == {"ann": 2, "bob": 1, "cid": 0, "dan": 2}
     assert (net.links, net.names, net.set, CLUB.set) == (CLUB.links, CLUB.names, {"dist": {2: 0}}, {})
@@ -112,11 +112,11 @@ def test_keys_in_quotes():
 
 def test_texts_are_read_as_tomllib_reads_them():
     toml = wanted("tomllib")
-    interpreter, lots = reference()
+    interpreter, compare = reference()
     seen = 0
     for number in range(400):
-        lot = lots.Lot(f"networks {number}")
-        text = lots.network_text(lot, ["s", "t", "dist"], [])
+        draws = compare.Draws(f"networks {number}")
+        text = compare.network_text(draws, ["s", "t", "dist"], [])
         net = unison.Network.from_text(text)
         whole = toml.loads(text)
         links = [tuple(link) if len(link) == 3 else (*link, 1) for link in whole["links"]]

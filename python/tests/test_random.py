@@ -1,4 +1,4 @@
-"""Texts drawn by a seed, sound and not, beside the interpreter in `reference`, which knows the pages alone."""
+"""Random texts, sound and not, beside the interpreter in `reference`, which knows the pages alone."""
 
 import re
 
@@ -73,10 +73,10 @@ def sound_numbers(case):
 
 
 def test_random_texts_beside_the_interpreter():
-    interpreter, lots = reference()
+    interpreter, compare = reference()
     done, faults = 0, set()
     for number in range(CASES):
-        case = sound_numbers(lots.Case("python", number))
+        case = sound_numbers(compare.Case("python", number))
         right = theirs(interpreter, case)
         fault = fault_of_texts(case)
         if fault is None:
@@ -96,17 +96,17 @@ def test_random_texts_beside_the_interpreter():
 
 def test_random_networks_by_hand_and_by_the_interpreter():
     """Networks made of numbers, with names in another order, and settling found by looking at all rounds."""
-    interpreter, lots = reference()
+    interpreter, compare = reference()
     rules = ["field s = 0; next s = (total n.s % 3);", "field s = 7; next s = (s max most (n.s + n.weight));", "field s = 0; next s = ((id + most n.s) & 5);"]
     for number in range(120):
-        lot = lots.Lot(f"made {number}")
-        nodes = lot.randrange(1, 9)
-        pairs = [(one, other) for one in range(nodes) for other in range(one) if lot.is_rare(2)]
-        weights = [lot.choice([0, 1, 2, 3, 4294967295]) for _ in pairs]
-        openings = {node: lot.number() for node in range(nodes) if lot.is_rare(2)}
-        names = [f"n{lot.random()}" for _ in range(nodes)]
-        network = unison.Network(names, [(names[one], names[other]) for one, other in pairs], weights, set={"s": {names[node]: value for node, value in openings.items()}})
-        program = unison.Program(lot.choice(rules))
+        draws = compare.Draws(f"made {number}")
+        nodes = draws.randrange(1, 9)
+        pairs = [(one, other) for one in range(nodes) for other in range(one) if draws.is_rare(2)]
+        weights = [draws.choice([0, 1, 2, 3, 4294967295]) for _ in pairs]
+        initial = {node: draws.number() for node in range(nodes) if draws.is_rare(2)}
+        names = [f"n{draws.random()}" for _ in range(nodes)]
+        network = unison.Network(names, [(names[one], names[other]) for one, other in pairs], weights, set={"s": {names[node]: value for node, value in initial.items()}})
+        program = unison.Program(draws.choice(rules))
         plan = interpreter.plan_of({"program": program.text, "network": network.text.encode()})
         rounds = [interpreter.lockstep(plan, round) for round in range(40)]
         watched = unison.watch(program, network, range(40))

@@ -6,7 +6,7 @@
     print(unison.lockstep(program, network, rounds=2).by_name("dist"))
 
 Values are whole numbers from 0 to 4294967295, which is `unison.NONE`. Rounds are counted from round 0, at which the states are the
-opening ones. Calls give the interpreter's lock back: several threads may call at once.
+initial ones. Calls give the interpreter's lock back: several threads may call at once.
 """
 
 from . import schedule

@@ -1,14 +1,15 @@
-"""Graphs of NetworkX, to and fro. NetworkX is not needed to take a graph in, and is imported to give one back."""
+"""Graphs of NetworkX, to and fro. NetworkX is not needed for the way here, and is loaded for the way back."""
 
 from __future__ import annotations
 
 from fractions import Fraction
 from typing import Any, Dict, FrozenSet, List, Mapping, Optional, Tuple, Type
 
-from .network import Network, Openings
+from .network import InitialValues, Network
 from .results import Table
 
-KEPT = {"least": min, "most": max, "first": lambda first, _: first}
+KEPT = {"min": min, "max": max, "first": lambda first, _: first}
+OLD_WORDS = {"least": "min", "most": "max", "first": "first"}  # of `merge_doubles`, an old name of `parallel`
 
 
 def weight_of(data: Mapping[str, Any], weight: Optional[str], ends: str, scale: Any) -> int:
@@ -25,22 +26,31 @@ def weight_of(data: Mapping[str, Any], weight: Optional[str], ends: str, scale: 
     return int(number)
 
 
-def merged(edges: List[Tuple[Any, Any, int]], merge_doubles: Optional[str]) -> List[Tuple[Any, Any, int]]:
-    """The edges, where of those between the same two nodes the first one stays, with the weight that is asked for."""
-    if merge_doubles not in (None, *KEPT):
-        raise ValueError(f"merge_doubles is 'least', 'most' or 'first', and not {merge_doubles!r}")
+def parallel_of(parallel: Optional[str], merge_doubles: Optional[str]) -> Optional[str]:
+    """What is asked for of parallel edges, by either name."""
+    if parallel not in (None, *KEPT):
+        raise ValueError(f"parallel is 'min', 'max' or 'first', and not {parallel!r}")
+    if merge_doubles is None:
+        return parallel
+    if parallel is not None or merge_doubles not in OLD_WORDS:
+        raise ValueError(f"merge_doubles, an old name of parallel, is 'least', 'most' or 'first' where there is no parallel, and not {merge_doubles!r}")
+    return OLD_WORDS[merge_doubles]
+
+
+def merged(edges: List[Tuple[Any, Any, int]], parallel: Optional[str]) -> List[Tuple[Any, Any, int]]:
+    """The edges, where of parallel ones the first stays, with the weight that is asked for."""
     kept: Dict[FrozenSet[Any], Tuple[Any, Any, int]] = {}
     for one, other, weight in edges:
         ends = frozenset((one, other))
         if ends not in kept:
             kept[ends] = (one, other, weight)
-        elif merge_doubles is None:
+        elif parallel is None:
             raise ValueError(
                 f"two edges join {one!r} and {other!r}, and a network has one link between two nodes: "
-                "merge_doubles='least', 'most' or 'first' keeps one of them"
+                "parallel='min', 'max' or 'first' keeps one of them"
             )
         else:
-            kept[ends] = (*kept[ends][:2], KEPT[merge_doubles](kept[ends][2], weight))
+            kept[ends] = (*kept[ends][:2], KEPT[parallel](kept[ends][2], weight))
     return list(kept.values())
 
 
@@ -48,11 +58,12 @@ def from_networkx(
     graph: Any,
     weight: Optional[str] = "weight",
     *,
-    set: Optional[Mapping[str, Openings]] = None,
+    set: Optional[Mapping[str, InitialValues]] = None,
     phase: int = 0,
     scale: Any = None,
     undirected: bool = False,
     drop_loops: bool = False,
+    parallel: Optional[str] = None,
     merge_doubles: Optional[str] = None,
     kind: Type[Network] = Network,
 ) -> Network:
@@ -64,9 +75,9 @@ def from_networkx(
     - `scale`: weights are multiplied by this number and rounded to the nearest whole number, half up; floats count as what they
       are in binary: `Fraction("0.1")` and `Decimal("0.1")` are exact.
     - `undirected`: a directed graph is taken, its edges as links; else it is refused.
-    - `drop_loops`: edges of a node with itself are left out; else they are refused.
-    - `merge_doubles`: of edges between the same two nodes (in a multigraph, or both ways in a directed one) the first stays, with
-      the `least` or the `most` of their weights, or its own (`first`); else they are refused.
+    - `drop_loops`: self-loops are left out; else they are refused.
+    - `parallel`: of parallel edges (in a multigraph, or both ways in a directed graph) the first stays, with the least of their
+      weights (`min`), the greatest (`max`), or its own (`first`); else they are refused.
 
     Raises ValueError for what is refused here, NetworkError for what the library refuses.
 
@@ -75,13 +86,14 @@ def from_networkx(
     """
     if graph.is_directed() and not undirected:
         raise ValueError("the graph is directed, and links have no direction: undirected=True takes its edges as links")
+    parallel = parallel_of(parallel, merge_doubles)
     edges = []
     for one, other, data in graph.edges(data=True):
         if one == other and not drop_loops:
-            raise ValueError(f"an edge joins {one!r} with itself, and no link does: drop_loops=True leaves it out")
+            raise ValueError(f"an edge joins {one!r} with itself, a self-loop, and no link does: drop_loops=True leaves it out")
         if one != other:
             edges.append((one, other, weight_of(data, weight, f"({one!r}, {other!r})", scale)))
-    return kind(list(graph), merged(edges, merge_doubles), set=set, phase=phase)
+    return kind(list(graph), merged(edges, parallel), set=set, phase=phase)
 
 
 def to_networkx(network: Network, values: Optional[Table] = None) -> Any:

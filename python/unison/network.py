@@ -12,7 +12,7 @@ from ._document import Document, Link, Sets, read, write
 
 Name = Hashable
 #: Initial values of a field: one for all nodes, one for each node by rising number, or some by the names of their nodes.
-Openings = Union[int, Sequence[int], Mapping[Any, int]]
+InitialValues = Union[int, Sequence[int], Mapping[Any, int]]
 
 LONGEST = 2**63
 
@@ -48,7 +48,7 @@ class Network:
     - `weights`: one for all links, or one for each link in their order; then links are pairs.
     - `set`: for each field its initial values: one for all nodes, one for each node in order, or a dict from nodes to values.
       Nodes and fields that are not named open as the program says. A network without `set` serves all programs.
-    - `phase`: the opening phase of the nodes' registers, 0, 1 or 2; no result depends on it.
+    - `phase`: the initial phase of the nodes' registers, 0, 1 or 2; no result depends on it.
 
     Raises `NetworkError` or `PlanError` where the library refuses it, KeyError for a node that has no such name.
 
@@ -81,7 +81,7 @@ class Network:
         links: Iterable[Sequence[Any]],
         weights: Union[None, int, Iterable[int]] = None,
         *,
-        set: Optional[Mapping[str, Openings]] = None,
+        set: Optional[Mapping[str, InitialValues]] = None,
         phase: int = 0,
     ) -> None:
         self._call_nodes(None if is_number(nodes) else tuple(plain(nodes)))
@@ -116,17 +116,17 @@ class Network:
         """The number of a node, which the library looks at where nodes have no names."""
         return whole(node, "the number of a node") if self._numbers is None else self.number(node)
 
-    def _sets(self, sets: Mapping[str, Openings], count: int) -> Sets:
-        return {str(field): self._pairs(field, openings, count) for field, openings in sets.items()}
+    def _sets(self, sets: Mapping[str, InitialValues], count: int) -> Sets:
+        return {str(field): self._pairs(field, given, count) for field, given in sets.items()}
 
-    def _pairs(self, field: str, openings: Any, count: int) -> List[Tuple[int, int]]:
+    def _pairs(self, field: str, given: Any, count: int) -> List[Tuple[int, int]]:
         """The entries of a field, by rising number."""
         what = f"an initial value of {field}"
-        if isinstance(openings, Mapping):
-            return sorted((self._end(node), whole(value, what)) for node, value in openings.items())
-        if is_number(openings):
-            return [(node, whole(openings, what)) for node in range(count)]
-        values = [whole(value, what) for value in plain(openings)]
+        if isinstance(given, Mapping):
+            return sorted((self._end(node), whole(value, what)) for node, value in given.items())
+        if is_number(given):
+            return [(node, whole(given, what)) for node in range(count)]
+        values = [whole(value, what) for value in plain(given)]
         if len(values) != count:
             raise ValueError(f"{field} has {len(values)} initial values, and there are {count} nodes")
         return list(enumerate(values))
@@ -177,7 +177,7 @@ class Network:
 
         return to_networkx(self, values)
 
-    def with_set(self, set: Mapping[str, Openings]) -> Network:
+    def with_set(self, set: Mapping[str, InitialValues]) -> Network:
         """The same nodes and links with these initial values, and no others.
 
         >>> import unison
@@ -216,7 +216,7 @@ class Network:
 
     @property
     def phase(self) -> int:
-        """The opening phase of the nodes' registers."""
+        """The initial phase of the nodes' registers."""
         return self._read().phase
 
     @property

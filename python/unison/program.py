@@ -29,7 +29,7 @@ class Program:
     def __init__(self, text: Union[str, bytes]) -> None:
         self._text = text.encode() if isinstance(text, str) else bytes(text)
         self._canonical = _calls.check(self._text).decode("ascii")
-        self._openings = {name: int(value) for name, value in FIELD.findall(self._canonical)}
+        self._initial = {name: int(value) for name, value in FIELD.findall(self._canonical)}
 
     @classmethod
     def from_file(cls, path: Union[str, os.PathLike[str]]) -> Program:
@@ -52,12 +52,14 @@ class Program:
     @property
     def fields(self) -> Tuple[str, ...]:
         """The names of the fields, in order of declaration: at most eight."""
-        return tuple(self._openings)
+        return tuple(self._initial)
 
     @property
-    def openings(self) -> Dict[str, int]:
+    def initial_values(self) -> Dict[str, int]:
         """The initial value of each field, which a network's `set` replaces node by node."""
-        return dict(self._openings)
+        return dict(self._initial)
+
+    openings = initial_values  # an old name
 
     @property
     def reads_round(self) -> bool:

@@ -136,7 +136,7 @@ class States(Table):
 
     @property
     def round(self) -> int:
-        """The round, counted from round 0, at which the states are the opening ones."""
+        """The round, counted from round 0, at which the states are the initial ones."""
         return self._round
 
     def report(self) -> str:
