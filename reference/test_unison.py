@@ -190,7 +190,7 @@ class Values(unittest.TestCase):
 
 
 class Worked(unittest.TestCase):
-    """language.md, the opening example and Worked examples; formats.md and docs/commands, their reports."""
+    """language.md, the first example and Worked examples; formats.md and docs/commands, their reports."""
 
     def test_language_page(self):
         two = PAIR + "[set]\ns = [[0, 5], [1, 7]]\n"
@@ -500,7 +500,7 @@ class CommandLine(unittest.TestCase):
         status, printed, told = unison.answer([str(word) for word in words])
         return status, printed, told.split("\n")[0]
 
-    def test_wrong_words(self):
+    def test_invalid_arguments(self):
         for words in [
             [], ["chekc"], ["check"], ["check", "a", "b"], ["lockstep", "a", "b"], ["lockstep", "a", "b", "--rounds"], ["check", "a", "--from", "b"],
             ["lockstep", "a", "b", "--rounds", "1", "--stop", "1"], ["run", "a", "b", "--rounds", "1"], ["replay", "a", "b", "--stop", "1"],

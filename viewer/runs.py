@@ -56,12 +56,12 @@ def torus(width, height, diagonals=False):
     ]
 
 
-def scattered(nodes, links, seed=1):
-    """So many different links, drawn by a seed."""
-    lot = random.Random(seed)
+def random_links(nodes, links, seed=1):
+    """So many different random links, by a seed."""
+    draws = random.Random(seed)
     found = set()
     while len(found) < links:
-        found.add(tuple(sorted(lot.sample(range(nodes), 2))))
+        found.add(tuple(sorted(draws.sample(range(nodes), 2))))
     return sorted(found)
 
 
@@ -111,31 +111,31 @@ def lines(steps):
 
 def starved(nodes, links, still, stop, refused=15, seed=4):
     """A random schedule in which one node makes no step, up to rest; so many in a hundred of the others' steps are refused."""
-    lot = random.Random(seed)
+    draws = random.Random(seed)
     counts = Counts(rows_of(nodes, links), stop)
     others = [step for node in range(nodes) if node != still for step in counts.steps_of(node)]
     steps = []
     while possible := [step for step in others if counts.is_open(step)]:
-        if lot.randrange(100) < refused:
-            step = lot.choice(others)
+        if draws.randrange(100) < refused:
+            step = draws.choice(others)
             steps += [] if counts.is_open(step) else [step]
         else:
-            steps.append(lot.choice(possible))
+            steps.append(draws.choice(possible))
             counts.make(steps[-1])
     return lines(steps)
 
 
-def by_lot(nodes, links, many, stop, seed=1):
+def random_steps(nodes, links, many, stop, seed=1):
     """A schedule of so many random steps, refused ones among them, some of nodes and slots that are not there."""
-    lot = random.Random(seed)
+    draws = random.Random(seed)
     counts = Counts(rows_of(nodes, links), stop)
     steps = []
     while len(steps) < many:
-        node = lot.randrange(nodes)
-        if lot.randrange(60) == 0:
-            steps.append(lot.choice([(nodes + lot.randrange(3),), (nodes, 0), (node, len(counts.rows[node]) + lot.randrange(2))]))
+        node = draws.randrange(nodes)
+        if draws.randrange(60) == 0:
+            steps.append(draws.choice([(nodes + draws.randrange(3),), (nodes, 0), (node, len(counts.rows[node]) + draws.randrange(2))]))
             continue
-        steps.append(lot.choice(counts.steps_of(node)))
+        steps.append(draws.choice(counts.steps_of(node)))
         if counts.is_open(steps[-1]):
             counts.make(steps[-1])
     return lines(steps)

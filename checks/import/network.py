@@ -7,14 +7,15 @@ import types
 
 MOST = 4294967295
 NUMBER = re.compile(rb"(?:([0-9]+)(?:\.([0-9]*))?|\.([0-9]+))(?:[eE]([+-]?)([0-9]+))?")
-MERGED = {"least": min, "most": max, "first": lambda old, new: old}
+MERGED = {"min": min, "max": max, "first": lambda old, new: old}
+OLD_WORDS = {"least": "min", "most": "max", "first": "first"}  # of `--merge-doubles`, an old name of `--parallel`
 
 # A node, which has one end, or an edge, which has two. An end is a name, or a number of a node.
 Item = collections.namedtuple("Item", "lines ends weight rounded", defaults=(1, False))
 
 
 class Fault(Exception):
-    """A refusal: the kinds that it may have, `?WHAT` where docs/commands/import.md names none, and the lines that may be told, 0 for none; of a double also the lines of
+    """A refusal: the kinds that it may have, `?WHAT` where docs/commands/import.md names none, and the lines that may be told, 0 for none; of a parallel edge also the lines of
     the earlier edge."""
 
     def __init__(self, kinds, *lines, earlier=()):
@@ -52,7 +53,8 @@ def options_of(words):
     flags = {key: f"--{word}" in words for key, word in
              {"header": "header", "numbers": "numbers", "undirected": "undirected", "drop": "drop-loops"}.items()}
     scale = int(value["--scale"]) if "--scale" in value else None
-    return types.SimpleNamespace(scale=scale, merge=value.get("--merge-doubles"), **flags)
+    parallel = value.get("--parallel", OLD_WORDS.get(value.get("--merge-doubles")))
+    return types.SimpleNamespace(scale=scale, parallel=parallel, **flags)
 
 
 def number_of(digits):
@@ -89,7 +91,7 @@ def weighed(word, scale, *lines):
 
 
 class Join:
-    """Numbers the nodes, and settles loops and doubles. Of each sort of fault the first is kept."""
+    """Numbers the nodes, and settles self-loops and parallel edges. Of each sort of fault the first is kept."""
 
     def __init__(self, options):
         self.options, self.count, self.names, self.pairs = options, 0, {}, {}
@@ -123,13 +125,13 @@ class Join:
         if len(pair) == 1:
             self.counts["dropped"] += 1
             if not self.options.drop:
-                self.faults.setdefault("loop", Fault("?loop", *item.lines))
+                self.faults.setdefault("self-loop", Fault("?self-loop", *item.lines))
         elif pair in self.pairs:
             self.counts["merged"] += 1
             link = self.pairs[pair]
-            link[2] = MERGED[self.options.merge or "first"](link[2], item.weight)
-            if not self.options.merge:
-                self.faults.setdefault("double", Fault("?double", *item.lines, earlier=link[3]))
+            link[2] = MERGED[self.options.parallel or "first"](link[2], item.weight)
+            if not self.options.parallel:
+                self.faults.setdefault("parallel", Fault("?parallel", *item.lines, earlier=link[3]))
         else:
             self.pairs[pair] = [*ends, item.weight, item.lines]
 
@@ -142,13 +144,13 @@ class Join:
 
 
 def outcome_of(items, options, named):
-    """What becomes of the items that a reader yields: a fault of the text comes first, then one of names, of loops, of doubles, of the bounds."""
+    """What becomes of the items that a reader yields: a fault of the text comes first, then one of names, of self-loops, of parallel edges, of the bounds."""
     join = Join(options)
     try:
         for item in items:
             join.add(item)
     except Fault as fault:
         return fault
-    fault = next((join.faults[sort] for sort in ("name", "loop", "double") if sort in join.faults), None) or join.bounds()
+    fault = next((join.faults[sort] for sort in ("name", "self-loop", "parallel") if sort in join.faults), None) or join.bounds()
     names = list(join.names) if named and not options.numbers else None
     return fault or Taken(join.count, names, join.pairs.values(), join.counts)

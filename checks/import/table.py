@@ -1,9 +1,9 @@
 """Texts by hand with their outcome, written without the readers: (words, text, outcome).
 
 An outcome is `NAMES: LINKS` or `#NODES: LINKS`, with `; dropped 1` and the like; or `KINDS LINES`, of which any may be told: `?WHAT` where docs/commands/import.md names no
-kind, 0 where no line is told. Other texts, with the whole of what is told, and wrong words stand in cases/take_*.toml."""
+kind, 0 where no line is told. Other texts, with the whole of what is told, and invalid arguments stand in cases/take_*.toml."""
 
-MERGE = "edges --merge-doubles "
+PARALLEL = "edges --parallel "
 MATRIX, LARGE = "matrix-market", "0 1 4294967295"
 SYMMETRIC, GENERAL = b"%%MatrixMarket matrix coordinate real symmetric\n", b"%%MatrixMarket matrix coordinate pattern general\n"
 KINDS = "Zoë é e\u0301 東京 אב नी 🐝 \u200b \ufeffb \u00a0 \u2028 \U0010ffff \x80 ﬁ".replace(" ", "|")
@@ -37,10 +37,10 @@ EDGES = [
     ("edges", b"a b\x7f", "ControlCharacter 1"), ("edges", b"a\x0bb", "ControlCharacter 1"),
     ("edges", b"a b 1.0\n", "Decimal 1"),
     ("edges", b"a b 1x", "BadWeight 1"), ("edges", b"a b +1", "BadWeight 1"),
-    ("edges", b"a b\nc c 2\n", "?loop 2"), ("edges --drop-loops", b"a b\nc c 2\n", "a|b|c: 0 1; dropped 1"),
-    ("edges --drop-loops", b"a a", "a: ; dropped 1"), ("edges", b"a b\nc d\nb a 2\n", "?double 3"), ("edges", b"a b\nb a\nc c\nd", "OneWord 4"),
-    (MERGE + "least", b"a b 5\nc d\nb a 2\na b 9", "a|b|c|d: 0 1 2, 2 3; merged 2"),
-    (MERGE + "most", b"a b 5\nb a 2\na b 9", "a|b: 0 1 9; merged 2"), (MERGE + "first", b"b a 5\na b 2\na b 9", "b|a: 0 1 5; merged 2"),
+    ("edges", b"a b\nc c 2\n", "?self-loop 2"), ("edges --drop-loops", b"a b\nc c 2\n", "a|b|c: 0 1; dropped 1"),
+    ("edges --drop-loops", b"a a", "a: ; dropped 1"), ("edges", b"a b\nc d\nb a 2\n", "?parallel 3"), ("edges", b"a b\nb a\nc c\nd", "OneWord 4"),
+    (PARALLEL + "min", b"a b 5\nc d\nb a 2\na b 9", "a|b|c|d: 0 1 2, 2 3; merged 2"),
+    (PARALLEL + "max", b"a b 5\nb a 2\na b 9", "a|b: 0 1 9; merged 2"), (PARALLEL + "first", b"b a 5\na b 2\na b 9", "b|a: 0 1 5; merged 2"),
     ("edges --scale 10", b"a b\nb c .05\nc d 0.049\nd e 2.\ne f 15e-1\nf a 1E2", "a|b|c|d|e|f: 0 1 10, 1 2, 2 3 0, 3 4 20, 4 5 15, 5 0 1000; rounded 2"),
     ("edges --scale 1", b"a b 4294967295.4", f"a|b: {LARGE}; rounded 1"), ("edges --scale 1", b"a b 4294967295.5", "WeightTooLarge 1"),
     ("edges --scale 2", b"a b 2147483648", "WeightTooLarge 1"), ("edges --scale 4294967295", b"a b", "a|b: " + LARGE),
@@ -67,8 +67,8 @@ MATRICES = [
     (MATRIX, SYMMETRIC + b"65536 65536 1\n65536 1 1", "#65536: 65535 0"), (MATRIX, SYMMETRIC + b"65537 65537 0", "TooManyNodes 2"),
     (MATRIX, SYMMETRIC + b"2 2 1\n0 1 1", "BadIndex 3"), (MATRIX, SYMMETRIC + b"2 2 1\n3 1 1", "BadIndex 3"), (MATRIX, SYMMETRIC + b"2 2 1\n2 1\n", "NoValue 3"),
     (MATRIX + " --undirected", GENERAL + b"2 2 1\n2 1 1\n", "ValueInPattern 3"), (MATRIX, SYMMETRIC + b"2 2 0\n\n2 1 1\n", "TooManyEntries 4"),
-    (MATRIX, SYMMETRIC + b"2 2 2\n2 1 1\n", "TooFewEntries 0|2|3|4"), (MATRIX + " --undirected", GENERAL + b"2 2 2\n1 2\n2 1", "?double 4"),
-    (MATRIX, SYMMETRIC + b"2 2 1\n2 2 1\n", "?loop 3"), (MATRIX, SYMMETRIC + b"2 2 1\n\xff", "BadIndex|NotUtf8|OneWord 3"), (MATRIX, SYMMETRIC + b"2 2 1\n2 1 1\0", "BadWeight|ControlCharacter 3"),
+    (MATRIX, SYMMETRIC + b"2 2 2\n2 1 1\n", "TooFewEntries 0|2|3|4"), (MATRIX + " --undirected", GENERAL + b"2 2 2\n1 2\n2 1", "?parallel 4"),
+    (MATRIX, SYMMETRIC + b"2 2 1\n2 2 1\n", "?self-loop 3"), (MATRIX, SYMMETRIC + b"2 2 1\n\xff", "BadIndex|NotUtf8|OneWord 3"), (MATRIX, SYMMETRIC + b"2 2 1\n2 1 1\0", "BadWeight|ControlCharacter 3"),
     (MATRIX, SYMMETRIC + b"%" + b"x" * 10_000_000 + b"\n1 1 0", "#1: "),
 ]
 GRAPHS = [
@@ -82,12 +82,12 @@ GRAPHS = [
     ("dot", b"graph{edge[weight=2]}", "DefaultWeight 1"), ("dot", b"graph{a[x]}", "NoValue 1"), ("dot", b'graph{"a\\n"}', "Escape 1"), ("dot", b"graph{\n<b>--c}", "HtmlName 2"),
     ("dot", b'graph{a\n"b\n}', "UnclosedString 2|3"), ("dot", b"graph{}\n/*", "UnclosedComment 1|2"), ("dot", b"graph{a[l=<<b>", "UnclosedHtml 1"),
     ("dot", b"graph{\na", "UnclosedGraph 1|2"), ("dot", b"graph{a--b[weight=x]}", "BadWeight 1"), ("dot", b"graph{a--b[weight=-2]}", "Negative 1"),
-    ("dot", b"graph{a--b[weight=0.5]}", "Decimal 1"), ("dot", b"graph{\na--a}", "?loop 2"), ("dot", b"graph{a--b\nb--a}", "?double 2"),
-    ("dot --drop-loops --merge-doubles most", b"graph{a--a--b--a[weight=7]b--a}", "a|b: 0 1 7; dropped 1; merged 2"),
+    ("dot", b"graph{a--b[weight=0.5]}", "Decimal 1"), ("dot", b"graph{\na--a}", "?self-loop 2"), ("dot", b"graph{a--b\nb--a}", "?parallel 2"),
+    ("dot --drop-loops --parallel max", b"graph{a--a--b--a[weight=7]b--a}", "a|b: 0 1 7; dropped 1; merged 2"),
     ("dot", b"graph{a--}", "?syntax 1"), ("dot", b"graph{}\n{}", "?syntax 2"), ("dot", b"graph{a\n--node}", "?syntax 2"), ("dot", b"graph{a\0}", "?syntax 1"),
     ("dot", b"\xef\xbb\xbfgraph{}", "?syntax 1"), ("dot", b"graph{\xff}", "NotUtf8 1"), ("dot", b'graph{"a\nb"}', "ControlCharacter 1|2"), ("dot", b"graph{a;;}", "?syntax 1"), ("dot", b"graph{1a}", "BadNumeral 1"),
     ("dot", b'graph{\n""--""--""}', "BadName 2"), ("dot", b'graph{""\n"\n"}', "ControlCharacter 2|3"), ("dot", b"graph{a\n #\n}", "?syntax 2"), ("dot", b'graph{"a"+"b"}', "?syntax 1"), ("dot", b"graph{a\f}", "?syntax 1"), ("dot", b"graph{/*\xff*/a}", "a: "),
-    ("dot", b"graph{a--b[weight=x weight=2]}", "BadWeight 1"), ("dot", b"graph{a--b\nb--a\nc--c}", "?loop 3"), ("dot", b"graph{a[l=<\xff>]}", "NotUtf8 1"), ("dot", b"graph{{a}[x=1]}", "?syntax 1"),
+    ("dot", b"graph{a--b[weight=x weight=2]}", "BadWeight 1"), ("dot", b"graph{a--b\nb--a\nc--c}", "?self-loop 3"), ("dot", b"graph{a[l=<\xff>]}", "NotUtf8 1"), ("dot", b"graph{{a}[x=1]}", "?syntax 1"),
     ("dot", b"graph{a//" + b"x" * 10_000_000 + b"\n}", "a: "), ("dot", b"graph{" + b" -- ".join(b"%d" % at for at in range(65_537)) + b"}", "TooManyNodes 1"),
 ]
 CASES = EDGES + MATRICES + GRAPHS
