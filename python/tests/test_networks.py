@@ -22,6 +22,7 @@ def test_the_text_of_a_network():
 
 
 def test_initial_values_of_each_form():
+    assert unison.network.Openings is unison.network.InitialValues  # an old name
     swap = unison.Program(SWAP)
     for given, expected in [({1: 5}, [0, 5, 0]), ([3, 1, 2], [3, 1, 2]), ((3, 1, 2), [3, 1, 2]), (9, [9, 9, 9]), ({}, [0, 0, 0])]:
         states = unison.lockstep(swap, unison.Network(3, [], set={"s": given}), 0)

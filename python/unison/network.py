@@ -13,6 +13,7 @@ from ._document import Document, Link, Sets, read, write
 Name = Hashable
 #: Initial values of a field: one for all nodes, one for each node by rising number, or some by the names of their nodes.
 InitialValues = Union[int, Sequence[int], Mapping[Any, int]]
+Openings = InitialValues  # an old name
 
 LONGEST = 2**63
 
