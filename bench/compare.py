@@ -45,7 +45,7 @@ def is_drawn(node):
 
 
 def little_program(name):
-    """The text of a program that does not read the round, and its opening values."""
+    """The text of a program that does not read the round, and its initial values."""
     if name == "distance":
         return DISTANCE.format(1), SETS["distance"]
     if name == "life":
@@ -94,8 +94,8 @@ def rounds_of(job, program, network, rounds):
     return taken - seconds_of(job, program, network, 0)[0], answer
 
 
-def by_turns(*calls):
-    """What each of these calls prints in each turn, and its seconds. By turns all have the same share of what disturbs the machine."""
+def interleaved(*calls):
+    """What each of these calls prints in each turn, and its seconds. Interleaved, all have the same share of what disturbs the machine."""
     start, turns = time.perf_counter(), []
     while len(turns) < TURNS and (not turns or time.perf_counter() - start < ENOUGH):
         turns.append([called(call)[:2] for call in calls])
@@ -113,7 +113,7 @@ def least(made):
 
 
 def network_of(kind, sets):
-    """The file of a network with these opening values."""
+    """The file of a network with these initial values."""
     with open(f"{work}/{kind}.toml", encoding="ascii") as file:
         return written("network.toml", file.read() + (f"[set]\n{sets}\n" if sets else ""))
 
@@ -136,7 +136,7 @@ def long(seconds):
 
 def beside(job, name, kind, network, program, rounds):
     """Sequential rounds and rounds by threads, beside a loop that is written by hand and tells its own seconds, all interleaved: the cells of a line."""
-    by_hand, one, shared, none = by_turns([f"{work}/loops", job, name, network, str(rounds)], *ours(program, network, rounds))
+    by_hand, one, shared, none = interleaved([f"{work}/loops", job, name, network, str(rounds)], *ours(program, network, rounds))
     told = [output.split() for output, _ in by_hand]
     if not int(told[0][1]) == int(one[0][0]) == int(shared[0][0]):
         sys.exit(f"{name} on {kind}: the product and the loop differ")
@@ -185,7 +185,7 @@ def small():
     for name in ("distance", "heavy"):
         for side, rounds in ((16, 4000), (32, 2000), (64, 1000), (96, 500)):
             network = written("small.toml", torus(side))
-            one, shared, none = by_turns(*ours(f"{work}/{name}.rules", network, rounds))
+            one, shared, none = interleaved(*ours(f"{work}/{name}.rules", network, rounds))
             if one[0][0] != shared[0][0]:
                 sys.exit(f"{name} on {side * side} nodes: threads differ")
             seconds, seconds_shared = least(one) - least(none), least(shared) - least(none)

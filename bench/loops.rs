@@ -222,7 +222,7 @@ fn column(word: impl Fn(u32) -> u32) -> Vec<Vec<u32>> {
 }
 
 /// The columns at first: as the programs of compare.py make them in round 0, from the numbers of the nodes.
-fn opening(program: &str) -> Vec<Vec<u32>> {
+fn initial(program: &str) -> Vec<Vec<u32>> {
     match program {
         "distance" => column(|node| if node == 0 { 0 } else { M }),
         "rule_110" => column(|node| (node == 0 || node == 65_534) as u32),
@@ -259,7 +259,7 @@ fn sum(columns: &[Vec<u32>]) -> u64 {
 fn run(program: &str, file: &str, rounds: u32, may_settle: bool) {
     let round = round_of(program);
     let (offsets, near) = read(file);
-    let mut now = opening(program);
+    let mut now = initial(program);
     let mut next = now.clone();
     let mut made = 0;
     let start = Instant::now();

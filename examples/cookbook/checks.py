@@ -40,7 +40,7 @@ class Net:
             self.near[other][one] = weight
         self.sets = {name: dict(pairs) for name, pairs in document.get("set", {}).items()}
 
-    def opening(self, name, default):
+    def initial(self, name, default):
         """The initial values of a field."""
         return [self.sets.get(name, {}).get(node, default) for node in range(self.nodes)]
 
@@ -188,7 +188,7 @@ def components(net):
 
 
 def leader(net):
-    key = net.opening("key", 65535)
+    key = net.initial("key", 65535)
     far = between(net)
     bids = [[NONE] * net.nodes]
     for now in count():
@@ -344,14 +344,14 @@ def cells(rows, beside, rule):
 
 def majority(net):
     is_grid(net, 6, 6, FOUR, wraps=True)
-    for rows in cells(table(net.opening("s", 0), 6), FOUR, lambda own, near: own if sum(near) == 2 else int(sum(near) > 2)):
+    for rows in cells(table(net.initial("s", 0), 6), FOUR, lambda own, near: own if sum(near) == 2 else int(sum(near) > 2)):
         yield columns(s=flat(rows))
 
 
 def threshold(net):
     """In rounds by a table with a border of cells that are never active; and by a list of work, in any order, for the end."""
     is_grid(net, 7, 6, FOUR, wraps=False)
-    active, need = net.opening("active", 0), net.opening("need", 2)
+    active, need = net.initial("active", 0), net.initial("need", 2)
     end = {node for node in range(net.nodes) if active[node]}
     work = list(range(net.nodes))
     while work:
@@ -433,7 +433,7 @@ def rule_90(net):
 def rule_110(net):
     is_ring(net)
     assert all(lasts_as_on_a_row(110, size) == size - 1 for size in range(3, 40)), "how long the ring must be"
-    row = net.opening("s", 0)
+    row = net.initial("s", 0)
     while True:
         yield columns(s=row)
         row = by_table(110, row)
@@ -441,13 +441,13 @@ def rule_110(net):
 
 def life(net):
     is_grid(net, 11, 11, EIGHT, wraps=True)
-    for rows in cells(table(net.opening("live", 0), 11), EIGHT, lambda own, near: int(sum(near) + own == 3 or (own and sum(near) == 3))):
+    for rows in cells(table(net.initial("live", 0), 11), EIGHT, lambda own, near: int(sum(near) + own == 3 or (own and sum(near) == 3))):
         yield columns(live=flat(rows))
 
 
 def brians_brain(net):
     is_grid(net, 8, 8, EIGHT, wraps=True)
-    for rows in cells(table(net.opening("s", 0), 8), EIGHT, lambda own, near: {1: 2, 2: 0}.get(own, int(near.count(1) == 2))):
+    for rows in cells(table(net.initial("s", 0), 8), EIGHT, lambda own, near: {1: 2, 2: 0}.get(own, int(near.count(1) == 2))):
         yield columns(s=flat(rows))
 
 
@@ -472,7 +472,7 @@ def firing_squad(net):
 
 
 def sorting(net):
-    value = net.opening("value", 0)
+    value = net.initial("value", 0)
     right = sorted(value)
     for now in count():
         if now >= net.nodes:
@@ -503,7 +503,7 @@ def is_even():
 
 def epidemic(net):
     is_even()
-    state, dice = net.opening("state", 0), [0] * net.nodes
+    state, dice = net.initial("state", 0), [0] * net.nodes
     for now in count():
         yield columns(state=state, dice=dice, chance=[20] * net.nodes, recovery=[25] * net.nodes, seed=[1] * net.nodes)
         infected = {node for node in range(net.nodes) if state[node] == 1}
@@ -516,7 +516,7 @@ def epidemic(net):
 
 def game(net):
     is_grid(net, 8, 8, EIGHT, wraps=True)
-    coop, score = table(net.opening("coop", 1), 8), [[0] * 8 for _ in range(8)]
+    coop, score = table(net.initial("coop", 1), 8), [[0] * 8 for _ in range(8)]
     for now in count():
         yield columns(coop=flat(coop), score=flat(score), gain=[16] * 64)
         together = [[(coop[r][c], around(coop, r, c, EIGHT)) for c in range(8)] for r in range(8)]
@@ -531,7 +531,7 @@ def game(net):
 
 
 def argmin(net):
-    value = net.opening("value", 0)
+    value = net.initial("value", 0)
     low = [min((value[other] for other in near), default=NONE) for near in net.near]
     best = [min(((value[other], other) for other in near), default=None) for near in net.near]
     for now in count():

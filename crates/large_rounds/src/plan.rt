@@ -112,7 +112,7 @@ impl<'a> LargePlan<'a> {
         Ok(LargeWalk::from_start(self, states))
     }
 
-    /// A walk that stands at the start, whose rounds `step_shared` and `go_to_shared` share among as many threads as
+    /// A walk that stands at the start, whose rounds `go_to_shared` shares among as many threads as
     /// there are processors, where they have enough work.
     pub fn shared_walk(
         &'a self,
