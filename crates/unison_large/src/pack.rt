@@ -26,34 +26,34 @@ fn notes_text(alloc: Global, packed: &Packed) -> Result<String, AllocError> {
 
 /// A binary file, and what is told beside it.
 #[derive(Drop)]
-struct Answer {
+struct Output {
     bytes: Vec<u8>,
     notes: String,
 }
 
 /// The binary file of a network, with these notes.
-fn answer(alloc: Global, network: &LargeNetwork, notes: String) -> Result<Answer, Ending> {
+fn output_of(alloc: Global, network: &LargeNetwork, notes: String) -> Result<Output, Ending> {
     let bytes = large_bytes(alloc, network)?;
-    Ok(Answer { bytes, notes })
+    Ok(Output { bytes, notes })
 }
 
 /// The binary file of the list of edges at a path.
-fn edges_at(rt: &HostRuntime, path: &str, options: &PackOptions) -> Result<Answer, Ending> {
+fn edges_at(rt: &HostRuntime, path: &str, options: &PackOptions) -> Result<Output, Ending> {
     let text = bytes_at(rt, path)?;
     match pack_edges(rt.alloc(), &text, options) {
         Ok(packed) => {
             let notes = notes_text(rt.alloc(), &packed)?;
-            answer(rt.alloc(), &packed.network, notes)
+            output_of(rt.alloc(), &packed.network, notes)
         }
         Err(fault) => Err(Ending::refused(refusal(rt.alloc(), name_at(path), fault))),
     }
 }
 
 /// The binary file of the network file at a path.
-fn copied_at(rt: &HostRuntime, path: &str) -> Result<Answer, Ending> {
+fn copied_at(rt: &HostRuntime, path: &str) -> Result<Output, Ending> {
     let file = file_at(rt, path)?;
     let network = LargeNetwork::of_network(rt.alloc(), file.network())?;
-    answer(rt.alloc(), &network, String::new(rt.alloc()))
+    output_of(rt.alloc(), &network, String::new(rt.alloc()))
 }
 
 /// The ending where a shape has no network.
@@ -69,15 +69,15 @@ fn no_shape(alloc: Global, fault: LargeShapeFault) -> Ending {
 }
 
 /// The binary file of a shape.
-fn shape_of(alloc: Global, shape: LargeShape) -> Result<Answer, Ending> {
+fn shape_of(alloc: Global, shape: LargeShape) -> Result<Output, Ending> {
     match large_shape(alloc, shape) {
-        Ok(network) => answer(alloc, &network, String::new(alloc)),
+        Ok(network) => output_of(alloc, &network, String::new(alloc)),
         Err(fault) => Err(no_shape(alloc, fault)),
     }
 }
 
 /// The binary file that is asked for.
-fn answer_for(rt: &HostRuntime, asked: &PackRequest) -> Result<Answer, Ending> {
+fn output_for(rt: &HostRuntime, asked: &PackRequest) -> Result<Output, Ending> {
     match asked {
         PackRequest::Edges { path, options } => edges_at(rt, path.as_str(), options),
         PackRequest::Network { path } => copied_at(rt, path.as_str()),
@@ -97,10 +97,10 @@ fn check_output(rt: &HostRuntime) -> Result<(), Ending> {
 }
 
 /// Prints a binary file, and tells what was dropped or merged. The status with which the program ends.
-fn put_answer(rt: &HostRuntime, answer: &Answer) -> Result<u8, Ending> {
-    let status = print_out(rt, &answer.bytes)?;
-    if !answer.notes.is_empty() {
-        let _ = eprintln!(rt; "{}", answer.notes.as_str());
+fn put_output(rt: &HostRuntime, output: &Output) -> Result<u8, Ending> {
+    let status = print_out(rt, &output.bytes)?;
+    if !output.notes.is_empty() {
+        let _ = eprintln!(rt; "{}", output.notes.as_str());
     }
     Ok(status)
 }
@@ -109,6 +109,6 @@ fn put_answer(rt: &HostRuntime, answer: &Answer) -> Result<u8, Ending> {
 pub(crate) fn pack_network(rt: &HostRuntime, words: &[String]) -> Result<u8, Ending> {
     let asked = PackRequest::parse(rt.alloc(), words)?;
     check_output(rt)?;
-    let answer = answer_for(rt, &asked)?;
-    put_answer(rt, &answer)
+    let output = output_for(rt, &asked)?;
+    put_output(rt, &output)
 }

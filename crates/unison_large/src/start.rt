@@ -96,31 +96,34 @@ fn put_values(states: &mut [State], program: &Program, nodes: &[u32], field: u32
     }
 }
 
-/// Gives the values that a word of `--set-random` names. It draws the nodes that `unison init` draws by the same words.
+/// Gives the values that a word of `--set-random` names, of so many nodes. It draws the nodes that `unison init` draws by the
+/// same words.
 fn put_random(
     states: &mut [State],
     alloc: Global,
     program: &Program,
+    nodes: u32,
     word: &RandomWord,
     seed: u64,
 ) -> Result<(), Ending> {
     let field = field_place(alloc, program, "--set-random", word.field.as_str())?;
-    let nodes = drawn(alloc, states.len() as u32, word, seed)?;
-    put_values(states, program, &nodes, field, word.value);
+    let chosen = drawn(alloc, nodes, word, seed)?;
+    put_values(states, program, &chosen, field, word.value);
     Ok(())
 }
 
-/// Gives the values that the words of `--set-random` name, in their order.
+/// Gives the values that the words of `--set-random` name, of so many nodes, in their order.
 fn put_randoms(
     states: &mut [State],
     alloc: Global,
     program: &Program,
+    nodes: u32,
     words: &StartWords,
 ) -> Result<(), Ending> {
     let mut seed = words.seed as u64;
     for word in &words.random {
         seed = seed.wrapping_add(4_294_967_296);
-        put_random(states, alloc, program, word, seed)?;
+        put_random(states, alloc, program, nodes, word, seed)?;
     }
     Ok(())
 }
@@ -133,7 +136,7 @@ fn states_of(
     words: &StartWords,
 ) -> Result<Vec<State>, Ending> {
     let mut states = openings(alloc, program, nodes)?;
-    put_randoms(&mut states, alloc, program, words)?;
+    put_randoms(&mut states, alloc, program, nodes, words)?;
     put_sets(&mut states, alloc, program, words.sets.as_slice())?;
     Ok(states)
 }

@@ -67,6 +67,13 @@ fn put_round(
     }
 }
 
+/// Moves a walk on to a round, unless it is there or beyond.
+fn move_to(threads: &(impl Threads + Sync), walk: &mut LargeWalk<'_>, round: u32) {
+    if walk.round() < round {
+        walk.go_to_shared(threads, round);
+    }
+}
+
 /// The lines of all rounds of a span. The walk stands at round 0.
 fn put_rounds(
     rt: &HostRuntime,
@@ -76,11 +83,11 @@ fn put_rounds(
     span: &Span,
     show: Show,
 ) -> Result<(), AllocError> {
-    walk.go_to_shared(threads, span.first());
+    move_to(threads, walk, span.first());
     let mut before = walk.states(rt.alloc())?;
     for step in 0..=span.steps() {
         let round = span.round_at(step);
-        walk.go_to_shared(threads, round);
+        move_to(threads, walk, round);
         let states = walk.states(rt.alloc())?;
         put_round(text, rt.alloc(), show, round, &before, &states)?;
         tell_reached(rt, round, span.last());
