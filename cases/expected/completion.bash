@@ -6,7 +6,7 @@ _unison() {
   if [ "$COMP_CWORD" -gt "$at" ]; then command=${COMP_WORDS[at]}; fi
   if [ "$COMP_CWORD" -gt $((at + 1)) ]; then form=${COMP_WORDS[at + 1]}; fi
   case $command:$form in
-  :) words="check lockstep run replay compare watch settle schedule explain page image dot generate import init info csv why completion manual" ;;
+  :) words="check lockstep run replay compare watch settle schedule explain page image dot generate import init info csv pack large why completion manual" ;;
   check:*) options="" ;;
   lockstep:*) options="--rounds --from" ;;
   run:*) options="--rounds --workers --trace --from" ;;
@@ -133,6 +133,42 @@ _unison() {
   csv:* | names:*)
     words=""
     options="--names --node-field"
+    ;;
+  pack:edges)
+    options="--nodes --directed --scale --drop-loops --keep-loops --parallel --header"
+    [ "$previous" = --parallel ] && words="min max first keep"
+    ;;
+  pack:network)
+    options=""
+    ;;
+  pack:path)
+    options=""
+    ;;
+  pack:ring)
+    options=""
+    ;;
+  pack:grid)
+    options=""
+    ;;
+  pack:torus)
+    options="--diagonals"
+    ;;
+  pack:*)
+    words="edges network path ring grid torus"
+    options=""
+    ;;
+  large:info)
+    options=""
+    ;;
+  large:lockstep)
+    options="--rounds --set --set-random --seed --count --sequential"
+    ;;
+  large:watch)
+    options="--rounds --every --set --set-random --seed --count --sequential"
+    ;;
+  large:*)
+    words="info lockstep watch"
+    options=""
     ;;
   why:*)
     words=""

@@ -81,7 +81,7 @@ static LARGE: Command = Command {
     aliases: &[],
     called: "unison large",
     about: "Rounds on a network of any size that memory holds, from a binary file",
-    notes: "The rounds are those of unison lockstep. Rounds with much to compute are shared among the processors.\nAn example: unison pack network examples/path.toml > path.net\n            unison large lockstep examples/distance.rules path.net --rounds 2 --set 'dist=*:9' --set dist=0:0\n",
+    notes: "The rounds are those of unison lockstep. Rounds with much to compute are shared among the processors.\nAn example, on a file that unison pack network examples/path.toml > path.net makes: unison large lockstep examples/distance.rules path.net --rounds 2 --set dist=0:0\n",
     arguments: &[],
     subcommands: &WAYS,
 };

@@ -12,8 +12,13 @@ use large_pack::{PackOptions, Parallel, SelfLoops};
 use large_shapes::LargeShape;
 use std::alloc::Global;
 
-/// `TEXT`, as it is read.
-static TEXT_ARGUMENT: Argument = TEXT;
+const EDGES: Argument = Argument {
+    help: "The list of edges, or - for standard input",
+    ..TEXT
+};
+
+/// `EDGES`, as it is read.
+static EDGES_ARGUMENT: Argument = EDGES;
 
 /// `DROP_LOOPS`, as it is read.
 static DROP_LOOPS_ARGUMENT: Argument = DROP_LOOPS;
@@ -87,7 +92,7 @@ const FORMATS: [Subcommand; 6] = [
         about: "Lines of two numbers of nodes, from 0, and a weight, which may be left out; blanks, tabs or commas between, comments behind # or %",
         notes: "",
         arguments: &[
-            TEXT, COUNT, DIRECTED, SCALE, DROP_LOOPS, KEEP_LOOPS, PARALLEL, HEADER,
+            EDGES, COUNT, DIRECTED, SCALE, DROP_LOOPS, KEEP_LOOPS, PARALLEL, HEADER,
         ],
     },
     Subcommand {
@@ -206,7 +211,7 @@ fn options_in(reading: &mut Reading) -> PackOptions
 /// The list of edges that the words name.
 fn edges_in(reading: &mut Reading) -> PackRequest {
     let options = options_in(reading);
-    let path = reading.needed_text(&TEXT_ARGUMENT);
+    let path = reading.needed_text(&EDGES_ARGUMENT);
     PackRequest::Edges { path, options }
 }
 
