@@ -8,7 +8,6 @@ mod initial;
 mod laws;
 mod parts;
 mod plan;
-mod report;
 mod rounds;
 mod walk;
 
@@ -17,7 +16,6 @@ pub use fault::{LargePlanFault, SetFault};
 pub use initial::{openings, set_all_values, set_value};
 pub use laws::goes_on_from_states;
 pub use plan::LargePlan;
-pub use report::large_report;
 pub use rounds::large_lockstep;
 pub use rounds_plan::{MOST_ROUNDS, RoundFault};
 pub use walk::LargeWalk;

@@ -12,5 +12,5 @@ pub use fault::ReportFault;
 pub use fields_reader::read_state;
 pub use number::{behind, read_number};
 pub use report_reader::{read_report, read_round};
-pub use report_writer::{put_field, put_fields, report};
+pub use report_writer::{put_field, put_fields, report, report_states};
 pub use tally::{Cut, DeviceFault, Tally, write_text};

@@ -37,13 +37,36 @@ pub fn put_fields(out: &mut String, program: &Program, state: &State) -> Result<
     Ok(())
 }
 
-/// The line of a node.
-fn put_node(out: &mut String, program: &Program, node: u32, state: &State) -> Result<(), AllocError>
+/// Writes the line of a node behind what stands in the text.
+fn put_node(
+    out: &mut String,
+    program: &Program,
+    node: usize,
+    state: &State,
+) -> Result<(), AllocError>
     ensures { OnOk result (string_bytes out.new ≡ string_bytes out.old ++ node_line (names_of program.now) node state.now) }
 {
     write!(out, "{node}")?;
     put_fields(out, program, state)?;
     out.push_str("\n")
+}
+
+/// The report of states at a round: the round, and for each node by rising number its fields with their values. It is
+/// the text that `report` gives of a configuration with these states.
+pub fn report_states(
+    alloc: Global,
+    program: &Program,
+    rounds: u32,
+    states: &[State],
+) -> Result<Vec<u8>, AllocError>
+    ensures text { IfOk result (λ v. v.items ≡ report_text (names_of program.now) (record { rounds = rounds; fields = length program.now.fields; states = states.now })) }
+{
+    let mut out = String::new(alloc);
+    write!(out, "round {rounds}\n")?;
+    for (node, state) in states.iter().enumerate() {
+        put_node(&mut out, program, node, state)?;
+    }
+    Ok(out.into_bytes())
 }
 
 /// The report of a configuration: its round, and for each node by rising number its fields with their values.
@@ -52,11 +75,6 @@ pub fn report(alloc: Global, plan: &Plan, config: &Config) -> Result<Vec<u8>, Al
     requires fields { config.now.fields ≡ length plan.now.program.fields }
     ensures text { IfOk result (λ v. v.items ≡ report_text (names_of plan.now.program) config.now) }
 {
-    let mut out = String::new(alloc);
     let rounds = config.rounds();
-    write!(out, "round {rounds}\n")?;
-    for (node, state) in config.states().iter().enumerate() {
-        put_node(&mut out, plan.program(), node as u32, state)?;
-    }
-    Ok(out.into_bytes())
+    report_states(alloc, plan.program(), rounds, config.states())
 }

@@ -5,7 +5,8 @@ use crate::start::{Start, start_at};
 use app_files::{Ending, print_out};
 use app_jobs::ServeFault;
 use app_requests::LargeTexts;
-use large_rounds::{LargePlan, LargePlanFault, large_lockstep, large_report};
+use large_rounds::{LargePlan, LargePlanFault, large_lockstep};
+use report_text::report_states;
 use rounds_plan::RoundFault;
 use rule_check::State;
 use std::alloc::Global;
@@ -51,7 +52,7 @@ fn text_of(
     states: &[State],
 ) -> Result<Vec<u8>, Ending> {
     match &texts.count {
-        None => Ok(large_report(alloc, &start.program, rounds, states)?),
+        None => Ok(report_states(alloc, &start.program, rounds, states)?),
         Some(name) => {
             let field = counted(alloc, &start.program, name.as_str())?;
             let mut text = String::from_str(alloc, "round,value,nodes\n")?;

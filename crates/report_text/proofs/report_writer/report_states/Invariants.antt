@@ -1,7 +1,7 @@
 use Rattle.std.proofs.Common.{◌≡◌, ◌++◌, drop, length, string_bytes}
 use Rattle.rule_check.specs.Value.{names_of}
 use Rattle.report_text.specs.Report.{node_lines, report_text}
-use Rattle.large_rounds.proofs.report.large_report.Given as goal
+use Rattle.report_text.proofs.report_writer.report_states.Given as goal
 
 abbrev pub invariant-loop-node : goal.invariant-loop-node
 invariant-loop-node l =
