@@ -1,7 +1,9 @@
-//! What the programs for people share: files and standard input, standard output, and how a program ends.
+//! What the programs for people share: files and standard input, standard output, how a program ends, fields by their
+//! names, and nodes that are drawn.
 #![tactic(auto)]
 
 mod command_line;
+mod draws;
 mod ending;
 mod fields;
 mod files;
@@ -12,6 +14,7 @@ mod told;
 mod usage;
 
 pub use command_line::words_of;
+pub use draws::{drawn_for, next_draw};
 pub use ending::{Ending, refused};
 pub use fields::{all_fields, coloured_field, field_place, shown_fields};
 pub use files::{

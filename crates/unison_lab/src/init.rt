@@ -2,11 +2,11 @@
 
 use crate::cells::put_cells;
 use crate::names::names_at;
-use app_files::{Ending, file_at, path_in, print_out, read_once};
+use app_files::{Ending, drawn_for, file_at, next_draw, path_in, print_out, read_once};
 use app_requests::{InitRequest, RandomWord, SetWord};
 use app_table::number;
 use link_net::{MOST_NODES, Name, NetFile};
-use net_initial::{Chosen, DrawFault, OpenFault, Opening, drawn_nodes, opened_text};
+use net_initial::{Chosen, OpenFault, Opening, opened_text};
 use net_names::NodeNames;
 use std::alloc::{AllocError, Global};
 
@@ -96,19 +96,7 @@ fn put_set(
     Ok(())
 }
 
-/// The ending where no nodes are drawn.
-fn no_draw(alloc: Global, fault: DrawFault) -> Ending {
-    match fault {
-        DrawFault::TooManyNodes => Ending::usage(String::from_str(
-            alloc,
-            "--set-random: more nodes are asked for than the network has",
-        )),
-        DrawFault::Memory => Ending::Memory,
-    }
-}
-
-/// Puts the opening that a word of `--set-random` asks for. The first word draws by the generator's seed that is 2 to the
-/// power of 32 greater than the one that is named, the next one by that which is so much greater again.
+/// Puts the opening that a word of `--set-random` asks for, of nodes that are drawn by this seed.
 fn put_drawn_word(
     openings: &mut Vec<Opening>,
     alloc: Global,
@@ -116,16 +104,14 @@ fn put_drawn_word(
     word: &RandomWord,
     seed: u64,
 ) -> Result<(), Ending> {
-    match drawn_nodes(alloc, nodes, word.count, seed) {
-        Ok(drawn) => put_opening(
-            openings,
-            alloc,
-            word.field.as_str(),
-            Chosen::These(drawn),
-            word.value,
-        ),
-        Err(fault) => Err(no_draw(alloc, fault)),
-    }
+    let drawn = drawn_for(alloc, nodes, word.count, seed)?;
+    put_opening(
+        openings,
+        alloc,
+        word.field.as_str(),
+        Chosen::These(drawn),
+        word.value,
+    )
 }
 
 /// Puts the openings that the words of `--set-random` ask for.
@@ -137,7 +123,7 @@ fn put_drawn(
 ) -> Result<(), Ending> {
     let mut seed = asked.seed as u64;
     for word in &asked.random {
-        seed = seed.wrapping_add(4_294_967_296);
+        seed = next_draw(seed);
         put_drawn_word(openings, alloc, nodes, word, seed)?;
     }
     Ok(())

@@ -1,13 +1,12 @@
 //! What rounds on a network of any size begin with: a program, a network, and the initial state of each node.
 
 use crate::network::network_at;
-use app_files::{Ending, bytes_at, field_place, read_once};
+use app_files::{Ending, bytes_at, drawn_for, field_place, next_draw, read_once};
 use app_jobs::program_of;
 use app_requests::{LargeTexts, RandomWord, SetWord, StartWords};
 use app_table::number;
 use large_net::LargeNetwork;
 use large_rounds::{openings, set_all_values, set_value};
-use net_initial::{DrawFault, drawn_nodes};
 use rule_check::{Program, State};
 use std::alloc::Global;
 
@@ -70,25 +69,6 @@ fn put_sets(
     Ok(())
 }
 
-/// The ending where no nodes are drawn.
-fn no_draw(alloc: Global, fault: DrawFault) -> Ending {
-    match fault {
-        DrawFault::TooManyNodes => Ending::usage(String::from_str(
-            alloc,
-            "--set-random: more nodes are asked for than the network has",
-        )),
-        DrawFault::Memory => Ending::Memory,
-    }
-}
-
-/// The nodes that a word of `--set-random` draws.
-fn drawn(alloc: Global, nodes: u32, word: &RandomWord, seed: u64) -> Result<Vec<u32>, Ending> {
-    match drawn_nodes(alloc, nodes, word.count, seed) {
-        Ok(drawn) => Ok(drawn),
-        Err(fault) => Err(no_draw(alloc, fault)),
-    }
-}
-
 /// Gives a field of these nodes a value.
 fn put_values(states: &mut [State], program: &Program, nodes: &[u32], field: u32, value: u32) {
     for node in nodes {
@@ -107,7 +87,7 @@ fn put_random(
     seed: u64,
 ) -> Result<(), Ending> {
     let field = field_place(alloc, program, "--set-random", word.field.as_str())?;
-    let chosen = drawn(alloc, nodes, word, seed)?;
+    let chosen = drawn_for(alloc, nodes, word.count, seed)?;
     put_values(states, program, &chosen, field, word.value);
     Ok(())
 }
@@ -122,7 +102,7 @@ fn put_randoms(
 ) -> Result<(), Ending> {
     let mut seed = words.seed as u64;
     for word in &words.random {
-        seed = seed.wrapping_add(4_294_967_296);
+        seed = next_draw(seed);
         put_random(states, alloc, program, nodes, word, seed)?;
     }
     Ok(())
