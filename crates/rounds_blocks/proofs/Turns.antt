@@ -8,9 +8,10 @@ use Rattle.link_net.specs.Neighbours.{Neighbours}
 use Rattle.rounds_code.specs.Block.{state_at}
 use Rattle.rounds_blocks.specs.declared.activity.Activity.{Activity}
 use Rattle.rounds_blocks.specs.declared.batch.Batch.{Batch}
+use Rattle.rounds_blocks.specs.declared.near.Near.{Near}
 use Rattle.rounds_blocks.specs.declared.share.Share.{Share}
 use Rattle.rounds_blocks.specs.declared.task.Task.{Task}
-use Rattle.rounds_blocks.specs.Nears.{HaveNear, IsDue, Sleeps}
+use Rattle.rounds_blocks.specs.Nears.{HaveNear, IsDue, SleepNear, Sleeps}
 use Rattle.rounds_blocks.specs.Rounds.{HaveWords, IsNext, round_from}
 use Rattle.rounds_blocks.specs.Walks.{AreShares, HasNext, HoldsOfDue, HasMoved, IsAsBefore, IsShare, IsShared, IsWalk, SleepersRest}
 use Rattle.rounds_blocks.proofs.Walks.{all_next, mark_cases, same_all, still_rest}
@@ -30,7 +31,7 @@ pub record IsLookedAt (batches : List Batch) (old new : Activity) (from to : Lis
   pub changes : length new.changed.items ≡ length batches
   pub all : old.settles ≡ false → (i : ℕ) → i < length batches → IsDue new.due.items i
   pub noted : old.settles ≡ true → (i : ℕ) (d : Batch) → i < length batches → Sleeps new.changed.items i → IsDue old.due.items i → All (IsAsBefore from to) (slice_index_or batches i d).nodes
-  pub awake : old.settles ≡ true → (i : ℕ) (d : Vec ℕ) → i < length batches → Sleeps new.due.items i → All (Sleeps new.changed.items) (slice_index_or old.nears.now i d).items
+  pub awake : old.settles ≡ true → (i : ℕ) (d : Near) → i < length batches → Sleeps new.due.items i → SleepNear new.changed.items (slice_index_or old.nears.now i d)
   pub some : moved ≡ true → old.settles ≡ true → HasMoved batches from to
   pub none : moved ≡ false → (old.settles ≡ true) × ((i : ℕ) → i < length batches → Sleeps new.changed.items i)
 
@@ -67,7 +68,7 @@ module _ (rules : Rules) (network : Neighbours) (batches : List Batch) (active n
   sleepers : ((active.settles ≡ true) ⊎ (active.settles ≡ false)) → SleepersRest rules network batches next.due.items new from
   sleepers (inl reads_not) =
       still_rest rules network batches active.due.items round from old new walk.few walk.next_wide written.wide walk.layout walk.rest written.done written.kept
-      next.changed.items (looked.noted reads_not) active.nears.now next.due.items walk.active.near (walk.unread reads_not) (looked.awake reads_not)
+      next.changed.items (looked.noted reads_not) active.nears.now next.due.items looked.changes walk.active.near (walk.unread reads_not) (looked.awake reads_not)
   sleepers (inr reads) = λ i d h not. absurd (let e : true ≡ false = sym (looked.all reads i h) ∙ not in cc)
 
   -- the walk behind the round

@@ -12,8 +12,10 @@ use Rattle.rounds_code.specs.Steps.{lane}
 use Rattle.rounds_code.specs.Block.{column_words, state_at}
 use Rattle.rounds_code.proofs.Nodes.{range_at}
 use Rattle.rounds_blocks.specs.declared.batch.Batch.{Batch}
+use Rattle.rounds_blocks.specs.declared.near.Near.{Near}
+use Rattle.rounds_blocks.specs.declared.near.Near.TheVariants as nears_of
 use Rattle.rounds_blocks.specs.Batches.{IsLayout, nodes_of}
-use Rattle.rounds_blocks.specs.Nears.{IsDue, Sleeps, IsAmong, HaveNear}
+use Rattle.rounds_blocks.specs.Nears.{IsDue, Sleeps, SleepNear, IsAmong, HaveNear}
 use Rattle.rounds_blocks.specs.Rounds.{IsNext, round_from}
 use Rattle.rounds_blocks.specs.Walks.{HasMoved, IsAsBefore, Moved, SleepersRest}
 use Rattle.rounds_blocks.proofs.Ranges.{each_number}
@@ -79,28 +81,28 @@ module _ (rules : Rules) (network : Neighbours) (batches : List Batch) (due : Li
         each_number (IsAsBefore from new) (length network) (nodes_of batches) layout.once
         (all_batches (IsAsBefore from new) batches (λ i d h. same_batch i d h (none i h))) u inside
 
-    same_among : (near : List ℕ) (u : ℕ) (d : Batch) → All (Sleeps changed) near → IsAmong batches near u → IsAsBefore from new u
-    same_among near u d still among =
+    same_among : (near : Near) (u : ℕ) (d : Batch) → length changed ≡ length batches → SleepNear changed near → IsAmong batches near u → IsAsBefore from new u
+    same_among near u d count still among =
         All-contains (IsAsBefore from new) (slice_index_or batches among.home d).nodes u
-        (same_batch among.home d among.stands.there (All-contains (Sleeps changed) near among.home still among.listed))
+        (same_batch among.home d among.stands.there (still among.home (omega (arith, among.stands.there, count)) among.listed))
         (among.stands.stands d)
 
     -- a batch near which nothing changed rests
-    pub still_rest : (nears : List (Vec ℕ)) (next : List Bool) → HaveNear network batches nears → reads_round rules ≡ false
-        → ((i : ℕ) (d : Vec ℕ) → i < length batches → Sleeps next i → All (Sleeps changed) (slice_index_or nears i d).items)
+    pub still_rest : (nears : List Near) (next : List Bool) → length changed ≡ length batches → HaveNear network batches nears → reads_round rules ≡ false
+        → ((i : ℕ) (d : Near) → i < length batches → Sleeps next i → SleepNear changed (slice_index_or nears i d))
         → SleepersRest rules network batches next new from
-    still_rest nears next near unread awake i d h not = λ k e inside.
+    still_rest nears next count near unread awake i d h not = λ k e inside.
         let u = slice_index_or (slice_index_or batches i d).nodes k e in
-        let here = (slice_index_or nears i d.degrees).items in
-        let still = awake i d.degrees h not in
-        let are = near.each i d d.degrees h in
-        let same : state_at new u ≡ state_at from u = same_among here u d still (are.own k e inside) in
+        let here = slice_index_or nears i nears_of.Any in
+        let still = awake i nears_of.Any h not in
+        let are = near.each i d nears_of.Any h in
+        let same : state_at new u ≡ state_at from u = same_among here u d count still (are.own k e inside) in
         record {
           same = sym same;
           next = λ later.
               sym same
               ∙ sym (rests rules network round later (state_at from) (state_at new) u unread (all_next u ((layout.each i d h).within k e inside)) same
-              (λ j low. same_among here (neighbour network u j) d still (are.neighbours k e inside j low)));
+              (λ j low. same_among here (neighbour network u j) d count still (are.neighbours k e inside j low)));
         }
 
 -- a node of this batch moved

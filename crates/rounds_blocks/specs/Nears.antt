@@ -1,9 +1,10 @@
 -- In which batches the nodes of a batch and their neighbours stand.
 use Rattle.std.specs.Prelude.{ℕ, ◌≡◌, ◌<◌, List, length, All, Bool, true, false, slice_index, slice_index_or}
 use Rattle.std.specs.List.{Contains}
-use Rattle.std.specs.Global.{Vec}
 use Rattle.link_net.specs.Neighbours.{Neighbours, degree, neighbour}
 use Rattle.rounds_blocks.specs.declared.batch.Batch.{Batch}
+use Rattle.rounds_blocks.specs.declared.near.Near.{Near}
+use Rattle.rounds_blocks.specs.declared.near.Near.TheVariants as nears
 
 -- a batch is marked
 abbrev pub IsDue : List Bool → ℕ → Type 0
@@ -22,19 +23,37 @@ pub record StandsIn (batches : List Batch) (u i : ℕ) : Type 0 where
 abbrev pub AreHomes : List Batch → ℕ → List ℕ → Type 0
 AreHomes batches nodes homes = (u : ℕ) → u < nodes → StandsIn batches u (slice_index homes u)
 
--- one of these batches has the node
-pub record IsAmong (batches : List Batch) (near : List ℕ) (u : ℕ) : Type 0 where
+-- a batch bears this stamp
+abbrev pub IsStamped : List ℕ → ℕ → ℕ → Type 0
+IsStamped stamps stamp i = slice_index stamps i ≡ stamp
+
+-- the batch of this number may have to do with a batch: one that is listed, or any
+abbrev pub IsNear : Near → ℕ → Type 0
+IsNear nears.Any i = Unit {0}
+IsNear (nears.Listed places) i = Contains places.items i
+
+-- those that are listed are among so many batches
+abbrev pub IsWithin : ℕ → Near → Type 0
+IsWithin count nears.Any = Unit {0}
+IsWithin count (nears.Listed places) = All (λ i. i < count) places.items
+
+-- none of the batches near is marked
+abbrev pub SleepNear : List Bool → Near → Type 0
+SleepNear marks near = (i : ℕ) → i < length marks → IsNear near i → Sleeps marks i
+
+-- a batch near has the node
+pub record IsAmong (batches : List Batch) (near : Near) (u : ℕ) : Type 0 where
   pub home : ℕ
-  pub listed : Contains near home
+  pub listed : IsNear near home
   pub stands : StandsIn batches u home
 
--- these batches have the nodes of a batch, and all their neighbours
-pub record AreNear (network : Neighbours) (batches : List Batch) (batch : Batch) (near : List ℕ) : Type 0 where
+-- the batches near have the nodes of a batch, and all their neighbours
+pub record AreNear (network : Neighbours) (batches : List Batch) (batch : Batch) (near : Near) : Type 0 where
   pub own : All (IsAmong batches near) batch.nodes
   pub neighbours : All (λ u. (j : ℕ) → j < degree network u → IsAmong batches near (neighbour network u j)) batch.nodes
 
 -- for each batch those that are near it
-pub record HaveNear (network : Neighbours) (batches : List Batch) (nears : List (Vec ℕ)) : Type 0 where
+pub record HaveNear (network : Neighbours) (batches : List Batch) (nears : List Near) : Type 0 where
   pub count : length nears ≡ length batches
-  pub within : All (λ near. All (λ i. i < length batches) near.items) nears
-  pub each : (i : ℕ) (d : Batch) (e : Vec ℕ) → i < length batches → AreNear network batches (slice_index_or batches i d) (slice_index_or nears i e).items
+  pub within : All (IsWithin (length batches)) nears
+  pub each : (i : ℕ) (d : Batch) (e : Near) → i < length batches → AreNear network batches (slice_index_or batches i d) (slice_index_or nears i e)

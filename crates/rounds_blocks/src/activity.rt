@@ -1,23 +1,24 @@
 //! Which batches a round has to compute.
 ghost use Rattle.std.specs.Prelude.{◌≡◌, ◌≢◌, ◌<◌, ◌≤◌, ℕ, All, IfOk, false, true, length, slice_index, slice_index_or};
-ghost use Rattle.std.specs.Global.{Vec};
 ghost use Rattle.std.specs.List.{Contains};
 ghost use Rattle.link_net.specs.Neighbours.{Neighbours};
 ghost use Rattle.rounds_code.specs.Block.{state_at, Covers};
 ghost use Rattle.rounds_blocks.specs.declared.batch.Batch.{Batch};
+ghost use Rattle.rounds_blocks.specs.declared.near.Near.{Near};
 ghost use Rattle.rounds_blocks.specs.Batches.{IsBatch};
-ghost use Rattle.rounds_blocks.specs.Nears.{HaveNear, IsDue, Sleeps};
+ghost use Rattle.rounds_blocks.specs.Nears.{HaveNear, IsDue, IsWithin, SleepNear, Sleeps};
 ghost use Rattle.rounds_blocks.specs.Rounds.{HaveWords};
 ghost use Rattle.rounds_blocks.specs.Walks.{IsAsBefore, Moved, HasMoved, IsActivity};
 
 use crate::batch::Batch;
+use crate::near::Near;
 use std::alloc::{AllocError, Global};
 
 /// Which batches the next round has to compute. Where the program doesn't read the number of the round, these are
 /// those in which a node, or a neighbour of one, changed in the last round; else all of them.
 #[derive(Drop)]
 pub struct Activity<'a> {
-    pub nears: &'a [Vec<usize>],
+    pub nears: &'a [Near],
     pub settles: bool,
     pub due: Vec<bool>,
     pub changed: Vec<bool>,
@@ -96,11 +97,11 @@ fn note(
 }
 
 /// Whether one of these batches changed.
-fn is_any_changed(near: &[usize], changed: &[bool]) -> bool
-    requires within { All (λ i. i < length changed.now) near.now }
-    ensures none { result ≡ false → All (Sleeps changed.now) near.now }
+fn is_any_changed(places: &[usize], changed: &[bool]) -> bool
+    requires within { All (λ i. i < length changed.now) places.now }
+    ensures none { result ≡ false → All (Sleeps changed.now) places.now }
 {
-    for batch in near {
+    for batch in places {
         if changed[*batch] {
             return true;
         }
@@ -108,23 +109,32 @@ fn is_any_changed(near: &[usize], changed: &[bool]) -> bool
     false
 }
 
-/// Marks the batches near which a batch changed.
-fn wake(due: &mut [bool], nears: &[Vec<usize>], changed: &[bool])
+/// Whether one of the batches near a batch changed, or may have, where it is known whether any did.
+fn is_near_changed(near: &Near, changed: &[bool], moved: bool) -> bool
+    requires within { IsWithin (length changed.now) near.now }
+    requires still { moved ≡ false → (i : ℕ) → i < length changed.now → Sleeps changed.now i }
+    ensures none { result ≡ false → SleepNear changed.now near.now }
+{
+    match near {
+        Near::Any => moved,
+        Near::Listed(places) => is_any_changed(places, changed),
+    }
+}
+
+/// Marks the batches near which a batch changed, where it is known whether any did.
+fn wake(due: &mut [bool], nears: &[Near], changed: &[bool], moved: bool)
     requires count { length nears.now ≡ length due.old }
-    requires within { All (λ near. All (λ i. i < length changed.now) near.items) nears.now }
-    ensures awake { (i : ℕ) (d : Vec ℕ) → i < length due.old → Sleeps due.new i → All (Sleeps changed.now) (slice_index_or nears.now i d).items }
+    requires within { All (IsWithin (length changed.now)) nears.now }
+    requires still { moved ≡ false → (i : ℕ) → i < length changed.now → Sleeps changed.now i }
+    ensures awake { (i : ℕ) (d : Near) → i < length due.old → Sleeps due.new i → SleepNear changed.now (slice_index_or nears.now i d) }
 {
     for i in 0..due.len() {
-        due[i] = is_any_changed(&nears[i], changed);
+        due[i] = is_near_changed(&nears[i], changed, moved);
     }
 }
 
 /// All batches have to be computed.
-pub fn all_due(
-    alloc: Global,
-    nears: &[Vec<usize>],
-    settles: bool,
-) -> Result<Activity<'_>, AllocError>
+pub fn all_due(alloc: Global, nears: &[Near], settles: bool) -> Result<Activity<'_>, AllocError>
     ensures nears { IfOk result (λ activity. activity.nears.now ≡ nears.now) }
     ensures settles { IfOk result (λ activity. activity.settles ≡ settles) }
     ensures flags { IfOk result (λ activity. length activity.due.items ≡ length nears.now) }
@@ -156,7 +166,7 @@ impl Activity<'_> {
         ensures changes { length self.new.changed.items ≡ length batches.now }
         ensures all { self.old.settles ≡ false → (i : ℕ) → i < length batches.now → IsDue self.new.due.items i }
         ensures noted { self.old.settles ≡ true → (i : ℕ) (d : Batch) → i < length batches.now → Sleeps self.new.changed.items i → IsDue self.old.due.items i → All (IsAsBefore from.now to.now) (slice_index_or batches.now i d).nodes }
-        ensures awake { self.old.settles ≡ true → (i : ℕ) (d : Vec ℕ) → i < length batches.now → Sleeps self.new.due.items i → All (Sleeps self.new.changed.items) (slice_index_or self.old.nears.now i d).items }
+        ensures awake { self.old.settles ≡ true → (i : ℕ) (d : Near) → i < length batches.now → Sleeps self.new.due.items i → SleepNear self.new.changed.items (slice_index_or self.old.nears.now i d) }
         ensures some { result ≡ true → self.old.settles ≡ true → HasMoved batches.now from.now to.now }
         ensures none { result ≡ false → (self.old.settles ≡ true) × ((i : ℕ) → i < length batches.now → Sleeps self.new.changed.items i) }
     {
@@ -164,7 +174,7 @@ impl Activity<'_> {
             return true;
         }
         let moved = note(&mut self.changed, &self.due, batches, from, to);
-        wake(&mut self.due, self.nears, &self.changed);
+        wake(&mut self.due, self.nears, &self.changed, moved);
         moved
     }
 }

@@ -3,7 +3,7 @@ ghost use Rattle.std.specs.Prelude.{◌≡◌, ◌<◌, ◌≤◌, ◌++◌, All
 ghost use Rattle.rounds_blocks.specs.Batches.{AreFalling, IsBatch, IsLayout, nodes_of};
 
 use crate::batch::{Batch, batch_of};
-use crate::near::nears_of;
+use crate::near::{Near, nears_of};
 use crate::nodes::degree_of;
 use crate::order::by_falling_degree;
 use link_net::NetRows;
@@ -26,7 +26,7 @@ pub struct Layout<'a> {
     pub(crate) network: NetRows<'a>,
     pub(crate) batches: Vec<Batch>,
     /// For each batch those in which its nodes and their neighbours stand.
-    pub(crate) nears: Vec<Vec<usize>>,
+    pub(crate) nears: Vec<Near>,
 }
 
 impl<'a> Model for Layout<'a> {

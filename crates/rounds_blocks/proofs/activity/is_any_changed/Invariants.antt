@@ -4,4 +4,4 @@ use Rattle.rounds_blocks.proofs.activity.is_any_changed.Given as goal
 
 -- the first of them did not change
 abbrev pub invariant-loop-batch : goal.invariant-loop-batch
-invariant-loop-batch l = (p d : ℕ) → p < l.batch-index → Sleeps l.changed (slice_index_or l.near p d)
+invariant-loop-batch l = (p d : ℕ) → p < l.batch-index → Sleeps l.changed (slice_index_or l.places p d)

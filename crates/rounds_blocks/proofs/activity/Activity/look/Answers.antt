@@ -1,7 +1,10 @@
-use Rattle.std.proofs.Common.{arith, ap, length}
+use Rattle.std.proofs.Common.{◌≡◌, ◌∙◌, arith, ap, length, sym, subst, ℕ, List, Bool, All}
+use Rattle.rounds_code.proofs.Nodes.{refilled}
+use Rattle.rounds_blocks.specs.Nears.{IsWithin}
 use Rattle.rounds_blocks.proofs.activity.Activity.look.Goals as goal
 
 pub wake-requires-clause-within : goal.wake-requires-clause-within
-wake-requires-clause-within c = λ k d h j e inside.
+wake-requires-clause-within c =
     let active = c.requires.activity.1 in
-    omega (arith, active.near.within k d h j e inside, active.changes, ap length c.deref-2.ensures.value, c.note-moved.auto.changed, c.deref_mut.ensures.len)
+    subst (λ (n : ℕ). All (IsWithin n) c.args.self.now.nears.now)
+    (omega (arith, active.changes, ap length c.deref-2.ensures.value, c.note-moved.auto.changed, c.deref_mut.ensures.len)) active.near.within

@@ -1,11 +1,11 @@
 use Rattle.std.proofs.Common.{◌≡◌, ◌<◌, ◌∙◌, ℕ, All, ap, sym, subst, arith, length, slice_index_or}
 use Rattle.rounds_blocks.specs.Batches.{IsSlot}
 use Rattle.rounds_blocks.proofs.Slots.{slot_within}
-use Rattle.rounds_blocks.proofs.near.mark_batch.Goals as goal
+use Rattle.rounds_blocks.proofs.near.list_batch.Goals as goal
 
-pub mark_homes-requires-in-loop-slot-clause-within :
-    goal.mark_homes-requires-in-loop-slot-clause-within
-mark_homes-requires-in-loop-slot-clause-within c =
+pub list_homes-requires-in-loop-slot-clause-within_homes :
+    goal.list_homes-requires-in-loop-slot-clause-within_homes
+list_homes-requires-in-loop-slot-clause-within_homes c =
     let batch = c.args.batch.now in
     let network = c.args.network.now in
     let j = c.loop-slot.slot-index in
