@@ -1,6 +1,5 @@
 -- What a node's next state depends on.
-use Rattle.std.proofs.Common.{◌≡◌, ◌<◌, ℕ, suc, List, [], ◌∷◌, length, map, get_or, refl, sym, ap, ◌∙◌, arith}
-use Rattle.rule_check.specs.declared.state.State.{State}
+use Rattle.std.proofs.Common.{sym, ap, ◌∙◌}
 use Rattle.rule_check.specs.Value.{next_state}
 use Rattle.rule_check.proofs.AnyRound.{next_state-any_round}
 use Rattle.link_net.specs.Neighbours.{row}

@@ -1,7 +1,6 @@
 -- A round over states that stand in columns.
-use Rattle.std.specs.Prelude.{ℕ, ◌≡◌, ◌<◌, ◌≤◌, List, length, map, slice_index, All}
+use Rattle.std.specs.Prelude.{ℕ, ◌≡◌, ◌<◌, List, length, slice_index, All}
 use Rattle.std.specs.Global.{Vec}
-use Rattle.rule_check.specs.declared.state.State.{State}
 use Rattle.rule_check.specs.Value.{Rules}
 use Rattle.link_net.specs.Neighbours.{Neighbours}
 pub use Rattle.rounds_plan.specs.Rounds.{near_at, nears_in, round_from, IsPlain}

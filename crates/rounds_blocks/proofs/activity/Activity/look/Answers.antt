@@ -1,5 +1,4 @@
-use Rattle.std.proofs.Common.{◌≡◌, ◌∙◌, arith, ap, length, sym, subst, ℕ, List, Bool, All}
-use Rattle.rounds_code.proofs.Nodes.{refilled}
+use Rattle.std.proofs.Common.{arith, ap, length, subst, ℕ, All}
 use Rattle.rounds_blocks.specs.Nears.{IsWithin}
 use Rattle.rounds_blocks.proofs.activity.Activity.look.Goals as goal
 
