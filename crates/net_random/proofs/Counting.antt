@@ -12,7 +12,7 @@ filter_same p q a (suc k) same =
     rw (same a (omega arith) (omega arith), filter_same p q (a + 1) k (λ x low high. same x (omega arith) (omega arith))) refl
 
 -- two tests that never both pass
-either_is : (p q : ℕ → Bool) → ((x : ℕ) → p x ≡ true → q x ≡ false) → (xs : List ℕ)
+pub either_is : (p q : ℕ → Bool) → ((x : ℕ) → p x ≡ true → q x ≡ false) → (xs : List ℕ)
     → length (filter (λ x. p x || q x) xs) ≡ length (filter p xs) + length (filter q xs)
 either_is p q apart [] = refl
 either_is p q apart (x ∷ xs) =
@@ -36,7 +36,7 @@ past x a (suc k) low =
     let other : (x == a) ≡ false = grind (arith, nat_tests) in
     rw other (past x (a + 1) k (omega arith))
 
-once_in : (x a k : ℕ) → a ≤ x → x < a + k → length (filter (λ w. x == w) (range_with_len a k)) ≡ 1
+pub once_in : (x a k : ℕ) → a ≤ x → x < a + k → length (filter (λ w. x == w) (range_with_len a k)) ≡ 1
 once_in x a zero low high = absurd (omega arith)
 once_in x a (suc k) low high =
     elim (cases_Bool (x == a)) [

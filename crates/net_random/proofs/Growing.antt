@@ -1,5 +1,5 @@
 -- One more node, which is linked with some of those before it.
-use Rattle.std.proofs.Common.{◌≡◌, ℕ, ◌+◌, ◌-◌, ◌<◌, ◌≤◌, ◌==◌, min, Bool, false, ◌||◌, ◌&&◌, List, [], ◌∷◌, ◌++◌, map, length, length-append, refl, ap, subst, ◌∙◌, inl, inr, arith, zero, suc}
+use Rattle.std.proofs.Common.{◌≡◌, ℕ, ◌+◌, ◌-◌, ◌<◌, ◌≤◌, ◌==◌, ◌*◌, nat_lt, min, Bool, false, ◌||◌, ◌&&◌, List, [], ◌∷◌, ◌++◌, map, length, length-append, refl, ap, subst, ◌∙◌, inl, inr, arith, zero, suc}
 use Rattle.std.specs.List.{list_any, range_with_len, sum_by, AllByRecursion}
 use Rattle.std.proofs.lemmas.Bool.{cases_Bool}
 use Rattle.std.proofs.lemmas.Bool.Decides.{nat_tests}
@@ -14,7 +14,7 @@ use Rattle.net_random.specs.Growth.{IsGrown, link_to, has, has_twice, IsChoice}
 use Rattle.net_random.proofs.Counting.{filter_same, count_in}
 use Rattle.net_random.proofs.Walks.{all_reach}
 
-all-append : (P : Link → Type 0) (xs ys : List Link) → AllByRecursion P xs → AllByRecursion P ys → AllByRecursion P (xs ++ ys)
+pub all-append : (P : Link → Type 0) (xs ys : List Link) → AllByRecursion P xs → AllByRecursion P ys → AllByRecursion P (xs ++ ys)
 all-append P [] ys a b = b
 all-append P (x ∷ xs) ys a b = (a.0, all-append P xs ys a.1 b)
 
@@ -102,7 +102,7 @@ module _ (n : ℕ) where
         ]
 
 -- one more number in a row
-range_more : (a k : ℕ) → range_with_len a (suc k) ≡ range_with_len a k ++ (a + k) ∷ []
+pub range_more : (a k : ℕ) → range_with_len a (suc k) ≡ range_with_len a k ++ (a + k) ∷ []
 range_more a zero = let same : a + 0 ≡ a = omega arith in rw same refl
 range_more a (suc k) = let same : a + 1 + k ≡ a + suc k = omega arith in ap (λ xs. a ∷ xs) (range_more (a + 1) k ∙ rw same refl)
 
@@ -114,6 +114,25 @@ count_more each n =
     let up : n + 1 ≡ suc n = omega arith in
     let both = sum_by-append (λ u. min each u) (range_with_len 0 n) (n ∷ []) in
     rw (up, range_more 0 n, zero_plus n) (omega arith)
+
+-- twice as many, without a sum
+pub doubled : (each n : ℕ) → grown_count each n * 2 + min each n * (min each n + 1) ≡ 2 * (min each n * n)
+doubled each zero = let none : min each 0 ≡ 0 = omega arith in rw none refl
+doubled each (suc n) =
+    let up : n + 1 ≡ suc n = omega arith in
+    let more : grown_count each (suc n) ≡ grown_count each n + min each n = rw up at (count_more each n) in
+    elim (cases_Bool (nat_lt n each)) [
+      | inl few ↦
+          let before : min each n ≡ n = grind (arith, nat_tests) in
+          let now : min each (suc n) ≡ suc n = grind (arith, nat_tests) in
+          let known : grown_count each n * 2 + n * (n + 1) ≡ 2 * (n * n) = rw before at (doubled each n) in
+          rw (now, more, before) (omega arith)
+      | inr all ↦
+          let before : min each n ≡ each = grind (arith, nat_tests) in
+          let now : min each (suc n) ≡ each = grind (arith, nat_tests) in
+          let known : grown_count each n * 2 + each * (each + 1) ≡ 2 * (each * n) = rw before at (doubled each n) in
+          rw (now, more, before) (omega arith)
+    ]
 
 pub none_grown : (each : ℕ) → IsGrown each 0 []
 none_grown each = record {

@@ -6,3 +6,6 @@ mod Growing
 mod Choices
 mod TrialLinks
 mod SameEnds
+mod Changing
+mod Ring
+mod Degrees

@@ -4,3 +4,4 @@ pub mod Sizes
 pub mod Pairs
 pub mod Growth
 pub mod Weights
+pub mod Changed

@@ -35,10 +35,9 @@ abbrev pub has_odd_ends : RandomNetwork → Bool
 has_odd_ends (RandomNetwork.Regular n d) = n % 2 == 1 && d % 2 == 1
 has_odd_ends wanted = false
 
--- the random network's links are drawn by trial: they are changed one by one
+-- the random network's links are drawn by trial: whether each node has as many neighbours as it is to have is seen at the end
 abbrev pub is_by_trial : RandomNetwork → Bool
 is_by_trial (RandomNetwork.Regular n d) = true
-is_by_trial (RandomNetwork.SmallWorld n k p) = true
 is_by_trial wanted = false
 
 -- each link has weight 1 and joins two different nodes below n, and no two links join the same nodes

@@ -4,17 +4,31 @@ use Rattle.link_net.specs.Limits.{most_nodes, most_links}
 use Rattle.link_net.specs.Reading.{is_crowded}
 use Rattle.net_text.specs.Listing.{Link}
 use Rattle.net_random.specs.declared.random_network.RandomNetwork.{RandomNetwork}
+use Rattle.net_random.specs.declared.bounds.NetworkBounds.{NetworkBounds}
 use Rattle.net_random.specs.declared.fault.RandomFault.{RandomFault}
 use Rattle.net_random.specs.declared.fault.RandomFault.TheVariants.{NodeCount, TooManyLinks, OddEnds, TooManyNeighbours, Undrawn, Memory}
 use Rattle.net_random.specs.RandomNetworks.{node_count, pair_count, link_count, has_odd_ends, is_by_trial, IsOutcome}
 
--- why a random network cannot be drawn, whatever the seed
-abbrev pub refusal_of : RandomNetwork → Option RandomFault
-refusal_of wanted =
-    if nat_lt (node_count wanted) 1 || nat_lt most_nodes (node_count wanted) then Some NodeCount
-    else if nat_lt most_links (link_count wanted) || nat_lt (pair_count (node_count wanted)) (link_count wanted) then Some TooManyLinks
+-- why no such random network within the bounds can be drawn, whatever the seed
+abbrev pub refusal_in : NetworkBounds → RandomNetwork → Option RandomFault
+refusal_in bounds wanted =
+    if nat_lt (node_count wanted) 1 || nat_lt bounds.nodes (node_count wanted) then Some NodeCount
+    else if nat_lt bounds.links (link_count wanted) || nat_lt (pair_count (node_count wanted)) (link_count wanted) then Some TooManyLinks
     else if has_odd_ends wanted then Some OddEnds
     else None
+
+-- the refusal that a fault tells: running out of memory refuses nothing
+abbrev pub refused_by : RandomFault → Option RandomFault
+refused_by Memory = None
+refused_by fault = Some fault
+
+-- the bounds of a network file
+abbrev pub file_bounds : NetworkBounds
+file_bounds = record { nodes = most_nodes; links = most_links }
+
+-- why a random network has no network file, whatever the seed
+abbrev pub refusal_of : RandomNetwork → Option RandomFault
+refusal_of wanted = refusal_in file_bounds wanted
 
 -- links that the random network may draw leave some node with more neighbours than are allowed
 abbrev pub MayCrowd : RandomNetwork → Type 0

@@ -1,9 +1,10 @@
 //! Different nodes before a node, drawn in proportion to the links that they have.
 ghost use Rattle.std.specs.Prelude.{◌≡◌, ◌≤◌, ◌<◌, ℕ, min, length, OnOk, IfOk, IfSome};
-ghost use Rattle.link_net.specs.Limits.{most_nodes};
 ghost use Rattle.link_net.specs.Links.{AllWithin};
+ghost use Rattle.link_net.specs.Limits.{most_rows};
 ghost use Rattle.net_random.specs.Growth.{IsChoice, with_choice};
 
+use indexmap::IndexSet;
 use link_net::Link;
 use rand::RngExt;
 use rand::seq::IndexedRandom;
@@ -24,12 +25,10 @@ fn drawn_end(rng: &mut Pcg64, links: &[Link]) -> Option<u32>
 }
 
 /// Adds a node to the chosen ones, where it is not among them yet.
-fn choose(chosen: &mut Vec<u32>, node: u32) -> Result<(), AllocError>
-    ensures { OnOk result (chosen.new.items ≡ with_choice node chosen.old.items) }
+fn choose(chosen: &mut IndexSet<u32>, node: u32) -> Result<(), AllocError>
+    ensures { OnOk result (chosen.new.keys ≡ with_choice node chosen.old.keys) }
 {
-    if !chosen.contains(&node) {
-        chosen.push(node)?;
-    }
+    chosen.insert(node)?;
     Ok(())
 }
 
@@ -39,12 +38,12 @@ fn drawn_nodes(
     rng: &mut Pcg64,
     links: &[Link],
     count: usize,
-) -> Result<Vec<u32>, AllocError>
-    requires { count ≤ most_nodes }
-    ensures different { IfOk result (λ v. (n : ℕ) → AllWithin n links.now → IsChoice n v.items) }
-    ensures few { IfOk result (λ v. length v.items ≤ count) }
+) -> Result<IndexSet<u32>, AllocError>
+    requires { count ≤ most_rows }
+    ensures different { IfOk result (λ v. (n : ℕ) → AllWithin n links.now → IsChoice n v.keys) }
+    ensures few { IfOk result (λ v. length v.keys ≤ count) }
 {
-    let mut chosen = Vec::with_capacity(alloc, count)?;
+    let mut chosen = IndexSet::with_capacity(alloc, count)?;
     for _ in 0..MOST_DRAWS * count {
         if chosen.len() >= count {
             return Ok(chosen);
@@ -57,12 +56,12 @@ fn drawn_nodes(
 }
 
 /// Adds the lowest-numbered nodes before a node that are not chosen yet, until there are so many.
-fn fill(chosen: &mut Vec<u32>, node: u32, count: usize) -> Result<(), AllocError>
-    requires different { IsChoice node chosen.old.items }
-    requires few { length chosen.old.items ≤ count }
+fn fill(chosen: &mut IndexSet<u32>, node: u32, count: usize) -> Result<(), AllocError>
+    requires different { IsChoice node chosen.old.keys }
+    requires few { length chosen.old.keys ≤ count }
     requires enough { count ≤ node }
-    ensures different { OnOk result (IsChoice node chosen.new.items) }
-    ensures count { OnOk result (length chosen.new.items ≡ count) }
+    ensures different { OnOk result (IsChoice node chosen.new.keys) }
+    ensures count { OnOk result (length chosen.new.keys ≡ count) }
 {
     for other in 0..node {
         if chosen.len() >= count {
@@ -81,11 +80,10 @@ pub(crate) fn chosen_nodes(
     links: &[Link],
     node: u32,
     each: u32,
-) -> Result<Vec<u32>, AllocError>
-    requires small { node ≤ most_nodes }
+) -> Result<IndexSet<u32>, AllocError>
     requires within { AllWithin node links.now }
-    ensures different { IfOk result (λ v. IsChoice node v.items) }
-    ensures count { IfOk result (λ v. length v.items ≡ min each node) }
+    ensures different { IfOk result (λ v. IsChoice node v.keys) }
+    ensures count { IfOk result (λ v. length v.keys ≡ min each node) }
 {
     let count = each.min(node) as usize;
     let draws = if each < node { count } else { 0 };

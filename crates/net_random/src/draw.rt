@@ -1,7 +1,7 @@
 //! Networks drawn at random.
 ghost use Rattle.std.specs.Prelude.{◌≡◌, None, false, IfOk, IfErr};
 ghost use Rattle.net_random.specs.RandomNetworks.{node_count, is_by_trial, IsOutcome};
-ghost use Rattle.net_random.specs.Sizes.{refusal_of, IsFaultOf};
+ghost use Rattle.net_random.specs.Sizes.{file_bounds, refusal_in, refusal_of, refused_by, IsFaultOf};
 
 use crate::growth::{preferential_links, tree_links};
 use crate::listed::listed;
@@ -9,7 +9,7 @@ use crate::pairs::random_links;
 use crate::sizes::{is_by_trial, node_count, refusal};
 use crate::trial_check::tried;
 use crate::trials::{regular_links, small_world_links};
-use crate::{RandomFault, RandomNetwork};
+use crate::{NetworkBounds, RandomFault, RandomNetwork};
 use link_net::Link;
 use net_text::LinkList;
 use rand_core::SeedableRng;
@@ -17,12 +17,13 @@ use rand_pcg::Pcg64;
 use std::alloc::{AllocError, Global};
 
 /// Links that are drawn for a random network; those that are not drawn by trial make it.
-fn drawn_links(
+fn links_by(
     alloc: Global,
     wanted: &RandomNetwork,
+    bounds: NetworkBounds,
     rng: &mut Pcg64,
 ) -> Result<Vec<Link>, AllocError>
-    requires { refusal_of wanted.now ≡ None }
+    requires { refusal_in bounds wanted.now ≡ None }
     ensures { IfOk result (λ v. is_by_trial wanted.now ≡ false → IsOutcome wanted.now v.items) }
 {
     match *wanted {
@@ -38,23 +39,40 @@ fn drawn_links(
     }
 }
 
+/// The links of weight 1 that a seed draws for a random network within the bounds, or why there are none: they make the
+/// network, or for a regular network may make it, whose nodes' numbers of neighbours are to be looked at. What the sizes
+/// refuse is refused before anything is drawn and before memory is taken; `Memory` comes only where memory runs out.
+/// The bounds play no part in what is drawn.
+pub fn drawn_links(
+    alloc: Global,
+    wanted: &RandomNetwork,
+    bounds: NetworkBounds,
+    seed: u64,
+) -> Result<Vec<Link>, RandomFault>
+    ensures links { IfOk result (λ v. is_by_trial wanted.now ≡ false → IsOutcome wanted.now v.items) }
+    ensures fits { IfOk result (λ _. refusal_in bounds wanted.now ≡ None) }
+    ensures refused { IfErr result (λ fault. refusal_in bounds wanted.now ≡ refused_by fault) }
+{
+    if let Some(fault) = refusal(wanted, bounds) {
+        return Err(fault);
+    }
+    let links = links_by(alloc, wanted, bounds, &mut Pcg64::seed_from_u64(seed))?;
+    Ok(links)
+}
+
 /// The random network that a seed draws, each link with weight 1, or why there is none. What the sizes refuse is
 /// refused before anything is drawn; `TooManyNeighbours` comes where a node of the links that were drawn has more than
-/// 4,096 neighbours, `Undrawn` where a regular network or a small world was not found by trial, and `Memory` only where
-/// memory runs out.
+/// 4,096 neighbours, `Undrawn` where a regular network was not found by trial, and `Memory` only where memory runs out.
 ///
-/// No clause says which seeds find such a network, nor that any does: a body that always answers `Undrawn` for them is
-/// proved, too. Cases draw both kinds, and compare what is forced whatever is drawn.
+/// No clause says which seeds find a regular network, nor that any does: a body that always answers `Undrawn` for one is
+/// proved, too. Cases draw such networks, and compare what is forced whatever is drawn.
 pub fn drawn(alloc: Global, wanted: &RandomNetwork, seed: u64) -> Result<LinkList, RandomFault>
     ensures nodes { IfOk result (λ list. list.nodes ≡ node_count wanted.now) }
     ensures links { IfOk result (λ list. IsOutcome wanted.now list.links) }
     ensures fits { IfOk result (λ _. refusal_of wanted.now ≡ None) }
     ensures refused { IfErr result (IsFaultOf wanted.now) }
 {
-    if let Some(fault) = refusal(wanted) {
-        return Err(fault);
-    }
-    let links = drawn_links(alloc, wanted, &mut Pcg64::seed_from_u64(seed))?;
+    let links = drawn_links(alloc, wanted, NetworkBounds::of_files(), seed)?;
     if is_by_trial(wanted) {
         tried(alloc, wanted, links)
     } else {

@@ -8,10 +8,10 @@ use thiserror::Error;
 /// Why a random network is not drawn. Where several hold, the first in this order.
 #[derive(Clone, Copy, Debug, PartialEq, Eq, Error)]
 pub enum RandomFault {
-    /// The number of nodes is not from 1 to 65,536.
+    /// There is no node, or there are more than the bounds allow: of a network file, 65,536.
     #[error("NodeCount")]
     NodeCount,
-    /// There are to be more than 262,144 links, or more than there are pairs of nodes.
+    /// There are to be more links than the bounds allow, of a network file 262,144, or than there are pairs of nodes.
     #[error("TooManyLinks")]
     TooManyLinks,
     /// A regular network of an odd number of nodes, each with an odd number of neighbours: links have two ends.
@@ -20,7 +20,7 @@ pub enum RandomFault {
     /// A node of the links that were drawn has more than 4,096 neighbours.
     #[error("TooManyNeighbours")]
     TooManyNeighbours,
-    /// Links that were drawn by trial make no such network; another seed may draw such ones.
+    /// Links that were drawn by trial make no regular network; another seed may draw such ones.
     #[error("Undrawn")]
     Undrawn,
     /// Memory ran out.

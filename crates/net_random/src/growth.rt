@@ -1,6 +1,5 @@
 //! Links that are drawn node by node.
 ghost use Rattle.std.specs.Prelude.{◌≡◌, ◌≤◌, ◌++◌, map, OnOk, IfOk};
-ghost use Rattle.link_net.specs.Limits.{most_nodes};
 ghost use Rattle.net_random.specs.Growth.{IsGrown, link_to};
 
 use crate::choice::chosen_nodes;
@@ -17,7 +16,6 @@ pub(crate) fn tree_links(
     nodes: u32,
 ) -> Result<Vec<Link>, AllocError>
     requires some { 1 ≤ nodes }
-    requires small { nodes ≤ most_nodes }
     ensures { IfOk result (λ v. IsGrown 1 nodes v.items) }
 {
     let mut links = Vec::with_capacity(alloc, nodes as usize - 1)?;
@@ -46,7 +44,6 @@ pub(crate) fn preferential_links(
     nodes: u32,
     each: u32,
 ) -> Result<Vec<Link>, AllocError>
-    requires { nodes ≤ most_nodes }
     ensures { IfOk result (λ v. IsGrown each nodes v.items) }
 {
     let mut links = Vec::with_capacity(alloc, grown_count(nodes, each) as usize)?;

@@ -1,6 +1,7 @@
 //! Random networks, and random weights of links. The same seed gives the same network on every machine.
 #![tactic(auto)]
 
+mod bounds;
 mod changed;
 mod choice;
 mod draw;
@@ -18,7 +19,8 @@ mod weight_draw;
 mod weight_fault;
 mod weight_file;
 
-pub use draw::drawn;
+pub use bounds::NetworkBounds;
+pub use draw::{drawn, drawn_links};
 pub use fault::RandomFault;
 pub use random_network::RandomNetwork;
 pub use text::drawn_text;

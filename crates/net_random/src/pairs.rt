@@ -1,6 +1,5 @@
 //! Links at places among all pairs of nodes.
 ghost use Rattle.std.specs.Prelude.{◌≡◌, ◌≤◌, ◌<◌, All, length, map, IfOk};
-ghost use Rattle.link_net.specs.Limits.{most_nodes};
 ghost use Rattle.net_random.specs.RandomNetworks.{pair_count, AreSimpleLinks};
 ghost use Rattle.net_random.specs.Pairs.{row_width, place_count, link_at};
 
@@ -12,7 +11,6 @@ use std::alloc::{AllocError, Global};
 /// How many pairs a row of the rectangle has.
 fn row_width(nodes: u32) -> u32
     requires some { 1 ≤ nodes }
-    requires small { nodes ≤ most_nodes }
     ensures value { result ≡ row_width nodes }
     ensures bound { result ≤ nodes }
 {
@@ -20,18 +18,16 @@ fn row_width(nodes: u32) -> u32
 }
 
 /// How many places the rectangle has: as many as there are pairs of nodes.
-fn place_count(nodes: u32) -> u32
+fn place_count(nodes: u32) -> usize
     requires some { 1 ≤ nodes }
-    requires small { nodes ≤ most_nodes }
     ensures { result ≡ place_count nodes }
 {
-    nodes / 2 * row_width(nodes)
+    (nodes / 2) as usize * row_width(nodes) as usize
 }
 
 /// The link at a place of the rectangle.
 fn link_at(nodes: u32, place: usize) -> Link
     requires some { 1 ≤ nodes }
-    requires small { nodes ≤ most_nodes }
     requires low { place < place_count nodes }
     ensures { result ≡ link_at nodes place }
 {
@@ -42,7 +38,7 @@ fn link_at(nodes: u32, place: usize) -> Link
     if column < above {
         (row, row + 1 + column, 1)
     } else {
-        let other = 2 * (nodes - 1) - width - row;
+        let other = above + (nodes - width) - 1;
         (other, other + 1 + (column - above), 1)
     }
 }
@@ -50,7 +46,6 @@ fn link_at(nodes: u32, place: usize) -> Link
 /// The links at some places of the rectangle.
 fn links_at(alloc: Global, nodes: u32, places: &[usize]) -> Result<Vec<Link>, AllocError>
     requires some { 1 ≤ nodes }
-    requires small { nodes ≤ most_nodes }
     requires low { All (λ place. place < place_count nodes) places.now }
     ensures { IfOk result (λ v. v.items ≡ map (link_at nodes) places.now) }
 {
@@ -69,11 +64,10 @@ pub(crate) fn random_links(
     count: u32,
 ) -> Result<Vec<Link>, AllocError>
     requires some { 1 ≤ nodes }
-    requires small { nodes ≤ most_nodes }
     requires room { count ≤ pair_count nodes }
     ensures count { IfOk result (λ v. length v.items ≡ count) }
     ensures simple { IfOk result (λ v. AreSimpleLinks nodes v.items) }
 {
-    let places = sample(alloc, rng, place_count(nodes) as usize, count as usize)?;
+    let places = sample(alloc, rng, place_count(nodes), count as usize)?;
     links_at(alloc, nodes, places.into_vec().as_slice())
 }

@@ -1,16 +1,13 @@
 //! How large random networks are.
 ghost use Rattle.std.specs.Prelude.{◌≡◌, ◌≤◌};
-ghost use Rattle.link_net.specs.Limits.{most_nodes};
 ghost use Rattle.net_random.specs.RandomNetworks.{node_count, pair_count, grown_count, link_count, has_odd_ends, is_by_trial};
-ghost use Rattle.net_random.specs.Sizes.{refusal_of};
+ghost use Rattle.net_random.specs.Sizes.{refusal_in};
 
-use crate::{RandomFault, RandomNetwork};
-use link_net::{MOST_LINKS, MOST_NODES};
+use crate::{NetworkBounds, RandomFault, RandomNetwork};
 
 /// How many pairs of nodes there are.
 fn pair_count(nodes: u32) -> u64
     requires some { 1 ≤ nodes }
-    requires small { nodes ≤ most_nodes }
     ensures { result ≡ pair_count nodes }
 {
     nodes as u64 * (nodes as u64 - 1) / 2
@@ -31,20 +28,15 @@ pub(crate) fn node_count(wanted: &RandomNetwork) -> u32
 
 /// How many links there are where each node is linked with so many before it, or with all of them where they are fewer.
 pub(crate) fn grown_count(nodes: u32, each: u32) -> u64
-    requires { nodes ≤ most_nodes }
     ensures { result ≡ grown_count each nodes }
 {
-    let mut links = 0;
-    for node in 0..nodes {
-        links += each.min(node) as u64;
-    }
-    links
+    let most = each.min(nodes) as u64;
+    most * nodes as u64 - most * (most + 1) / 2
 }
 
 /// How many links the random network has.
 pub(crate) fn link_count(wanted: &RandomNetwork) -> u64
     requires some { 1 ≤ node_count wanted.now }
-    requires small { node_count wanted.now ≤ most_nodes }
     ensures { result ≡ link_count wanted.now }
 {
     match *wanted {
@@ -60,10 +52,7 @@ pub(crate) fn link_count(wanted: &RandomNetwork) -> u64
 pub(crate) fn is_by_trial(wanted: &RandomNetwork) -> bool
     ensures { result ≡ is_by_trial wanted.now }
 {
-    matches!(
-        *wanted,
-        RandomNetwork::Regular { .. } | RandomNetwork::SmallWorld { .. }
-    )
+    matches!(*wanted, RandomNetwork::Regular { .. })
 }
 
 /// Whether the random network has an odd number of ends of links.
@@ -76,16 +65,16 @@ fn has_odd_ends(wanted: &RandomNetwork) -> bool
     }
 }
 
-/// Why the random network cannot be drawn, whatever the seed.
-pub(crate) fn refusal(wanted: &RandomNetwork) -> Option<RandomFault>
-    ensures { result ≡ refusal_of wanted.now }
+/// Why no such random network within the bounds can be drawn, whatever the seed.
+pub(crate) fn refusal(wanted: &RandomNetwork, bounds: NetworkBounds) -> Option<RandomFault>
+    ensures { result ≡ refusal_in bounds wanted.now }
 {
     let nodes = node_count(wanted);
-    if nodes < 1 || nodes > MOST_NODES {
+    if nodes < 1 || nodes > bounds.nodes {
         return Some(RandomFault::NodeCount);
     }
     let links = link_count(wanted);
-    if links > MOST_LINKS as u64 || links > pair_count(nodes) {
+    if links > bounds.links || links > pair_count(nodes) {
         return Some(RandomFault::TooManyLinks);
     }
     if has_odd_ends(wanted) {

@@ -1,5 +1,8 @@
 //! Links that are drawn by changing those round a ring.
-ghost use Rattle.std.specs.Prelude.{◌≤◌};
+ghost use Rattle.std.specs.Prelude.{◌≡◌, ◌≤◌, ◌<◌, ◌*◌, ℕ, IfOk, OnOk};
+ghost use Rattle.net_random.specs.declared.random_network.RandomNetwork.TheVariants.{SmallWorld};
+ghost use Rattle.net_random.specs.Changed.{AreKnown, starts};
+ghost use Rattle.net_random.specs.RandomNetworks.{pair_count, IsOutcome};
 
 use crate::changed::Changed;
 use crate::lattice::{put_opposite, ring_links};
@@ -50,6 +53,9 @@ fn lead_elsewhere(
     nodes: u32,
 ) -> Result<(), AllocError>
     requires { 1 ≤ nodes }
+    ensures known { OnOk result (AreKnown nodes changed.old.links.items changed.old.pairs.keys
+        → AreKnown nodes changed.new.links.items changed.new.pairs.keys) }
+    ensures starts { OnOk result (starts changed.new.links.items ≡ starts changed.old.links.items) }
 {
     for _ in 0..MOST_LEADS {
         let node = rng.random_range(0..nodes);
@@ -68,7 +74,9 @@ pub(crate) fn small_world_links(
     near: u32,
     rewire: u32,
 ) -> Result<Vec<Link>, AllocError>
-    requires { 1 ≤ nodes }
+    requires some { 1 ≤ nodes }
+    requires room { nodes * near ≤ pair_count nodes }
+    ensures { IfOk result (λ v. IsOutcome (SmallWorld nodes near rewire) v.items) }
 {
     let mut changed = Changed::new(alloc, ring_links(alloc, nodes, near)?)?;
     for place in 0..changed.len() {

@@ -5,7 +5,7 @@ use Rattle.net_random.proofs.choice.drawn_nodes.Goals.{in-Some+in_ok-choose, in_
 
 pub loop-preserved : goal.loop-preserved
 loop-preserved c =
-    let before = c.loop.chosen.items in
+    let before = c.loop.chosen.keys in
     elim c.match-drawn_end.branch [
       | in-Some+in_ok-choose w ↦
           rw (w.chosen-is, w.in_ok-choose.ensures) (record {

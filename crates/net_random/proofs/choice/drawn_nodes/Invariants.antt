@@ -5,6 +5,6 @@ use Rattle.net_random.proofs.choice.drawn_nodes.Given as goal
 
 abbrev pub invariant-loop : goal.invariant-loop
 invariant-loop l = record {
-  different : (n : ℕ) → AllWithin n l.links → IsChoice n l.chosen.items;
-  few : length l.chosen.items ≤ l.count;
+  different : (n : ℕ) → AllWithin n l.links → IsChoice n l.chosen.keys;
+  few : length l.chosen.keys ≤ l.count;
 }

@@ -4,7 +4,7 @@ use Rattle.net_random.proofs.choice.fill.Given as goal
 
 abbrev pub invariant-loop-other : goal.invariant-loop-other
 invariant-loop-other l = record {
-  different : IsChoice l.node l.chosen.items;
-  few : length l.chosen.items ≤ l.count;
-  lowest : (w : ℕ) → w < l.other → has w l.chosen.items ≡ true;
+  different : IsChoice l.node l.chosen.keys;
+  few : length l.chosen.keys ≤ l.count;
+  lowest : (w : ℕ) → w < l.other → has w l.chosen.keys ≡ true;
 }
