@@ -125,7 +125,7 @@ pub(crate) const DIAGONALS: Argument = Argument {
 /// `DIAGONALS`, as it is read.
 pub(crate) static DIAGONALS_ARGUMENT: Argument = DIAGONALS;
 
-const LINKS: Argument = Argument {
+pub(crate) const LINKS: Argument = Argument {
     name: "links",
     value_name: "M",
     help: "The number of links, 262144 at most",
@@ -133,9 +133,9 @@ const LINKS: Argument = Argument {
 };
 
 /// `LINKS`, as it is read.
-static LINKS_ARGUMENT: Argument = LINKS;
+pub(crate) static LINKS_ARGUMENT: Argument = LINKS;
 
-const LINKS_EACH: Argument = Argument {
+pub(crate) const LINKS_EACH: Argument = Argument {
     name: "links-each",
     value_name: "K",
     help: "The number of nodes before it with which a node is linked",
@@ -143,7 +143,7 @@ const LINKS_EACH: Argument = Argument {
 };
 
 /// `LINKS_EACH`, as it is read.
-static LINKS_EACH_ARGUMENT: Argument = LINKS_EACH;
+pub(crate) static LINKS_EACH_ARGUMENT: Argument = LINKS_EACH;
 
 const DEGREE: Argument = Argument {
     name: "degree",
@@ -155,7 +155,7 @@ const DEGREE: Argument = Argument {
 /// `DEGREE`, as it is read.
 static DEGREE_ARGUMENT: Argument = DEGREE;
 
-const NEAR: Argument = Argument {
+pub(crate) const NEAR: Argument = Argument {
     name: "near",
     value_name: "K",
     help: "The number of nodes that follow it round the ring with which a node is linked at first",
@@ -163,9 +163,9 @@ const NEAR: Argument = Argument {
 };
 
 /// `NEAR`, as it is read.
-static NEAR_ARGUMENT: Argument = NEAR;
+pub(crate) static NEAR_ARGUMENT: Argument = NEAR;
 
-const REWIRE: Argument = Argument {
+pub(crate) const REWIRE: Argument = Argument {
     name: "rewire",
     value: Value::Number {
         least: 0,
@@ -177,10 +177,10 @@ const REWIRE: Argument = Argument {
 };
 
 /// `REWIRE`, as it is read.
-static REWIRE_ARGUMENT: Argument = REWIRE;
+pub(crate) static REWIRE_ARGUMENT: Argument = REWIRE;
 
 /// The seed by which links are drawn.
-const SEED: Argument = Argument {
+pub(crate) const SEED: Argument = Argument {
     name: "seed",
     value_name: "S",
     help: "The same seed gives the same network on every machine",
@@ -188,7 +188,7 @@ const SEED: Argument = Argument {
 };
 
 /// `SEED`, as it is read.
-static SEED_ARGUMENT: Argument = SEED;
+pub(crate) static SEED_ARGUMENT: Argument = SEED;
 
 /// The weights of links that are drawn.
 const WEIGHTS: Argument = Argument {

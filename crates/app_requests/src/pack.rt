@@ -4,11 +4,14 @@ ghost use Rattle.std.specs.Prelude.{◌≤◌, IfOk, IfSome};
 use crate::arguments::{FLAG, NETWORK, NETWORK_ARGUMENT};
 use crate::generate::{
     DIAGONALS, DIAGONALS_ARGUMENT, GRID_HEIGHT, GRID_HEIGHT_ARGUMENT, GRID_WIDTH,
-    GRID_WIDTH_ARGUMENT, NODES, NODES_ARGUMENT, RING_NODES, TORUS_HEIGHT, TORUS_WIDTH,
+    GRID_WIDTH_ARGUMENT, LINKS, LINKS_ARGUMENT, LINKS_EACH, LINKS_EACH_ARGUMENT, NEAR,
+    NEAR_ARGUMENT, NODES, NODES_ARGUMENT, REWIRE, REWIRE_ARGUMENT, RING_NODES, SEED, SEED_ARGUMENT,
+    TORUS_HEIGHT, TORUS_WIDTH,
 };
 use crate::import::{DROP_LOOPS, HEADER, SCALE, TEXT, factor_in};
 use app_table::{Argument, Choice, Command, OPTION, Reading, Subcommand, Value, WordsFault};
 use large_pack::{PackOptions, Parallel, SelfLoops};
+use large_random::LargeRandom;
 use large_shapes::LargeShape;
 use std::alloc::Global;
 
@@ -86,7 +89,13 @@ const PARALLEL: Argument = Argument {
 /// `PARALLEL`, as it is read.
 static PARALLEL_ARGUMENT: Argument = PARALLEL;
 
-const FORMATS: [Subcommand; 6] = [
+/// The number of links of a random network, of which there may be more than in a network file.
+const MANY_LINKS: Argument = Argument {
+    help: "The number of links, 2147483647 at most",
+    ..LINKS
+};
+
+const FORMATS: [Subcommand; 9] = [
     Subcommand {
         name: "edges",
         about: "Lines of two numbers of nodes, from 0, and a weight, which may be left out; blanks, tabs or commas between, comments behind # or %",
@@ -125,6 +134,24 @@ const FORMATS: [Subcommand; 6] = [
         notes: "",
         arguments: &[TORUS_WIDTH, TORUS_HEIGHT, DIAGONALS],
     },
+    Subcommand {
+        name: "random",
+        about: "M links, all sets of so many links equally likely",
+        notes: "",
+        arguments: &[NODES, MANY_LINKS, SEED],
+    },
+    Subcommand {
+        name: "preferential",
+        about: "Each node is linked with K before it, rather with those that have many links",
+        notes: "",
+        arguments: &[NODES, LINKS_EACH, SEED],
+    },
+    Subcommand {
+        name: "small-world",
+        about: "A ring whose nodes are linked with the K that follow them; then some links are led elsewhere",
+        notes: "",
+        arguments: &[NODES, NEAR, REWIRE, SEED],
+    },
 ];
 
 /// `pack` and what it takes.
@@ -152,6 +179,8 @@ pub enum PackRequest {
     Network { path: String },
     /// A shape.
     Shape(LargeShape),
+    /// A random network, and the seed by which it is drawn.
+    Random { wanted: LargeRandom, seed: u32 },
 }
 
 /// What becomes of edges between the same two nodes.
@@ -247,6 +276,30 @@ fn shape_in(reading: &mut Reading) -> LargeShape {
     }
 }
 
+/// The random network that the words name.
+fn random_in(reading: &mut Reading) -> LargeRandom {
+    let nodes = reading.number_or(&NODES_ARGUMENT, 0);
+    match reading.subcommand() {
+        "random" => LargeRandom::Random {
+            nodes,
+            links: reading.number_or(&LINKS_ARGUMENT, 0),
+        },
+        "preferential" => LargeRandom::Preferential {
+            nodes,
+            each: reading.number_or(&LINKS_EACH_ARGUMENT, 0),
+        },
+        _ => {
+            let near = reading.number_or(&NEAR_ARGUMENT, 0);
+            let rewire = reading.number_or(&REWIRE_ARGUMENT, 0);
+            LargeRandom::SmallWorld {
+                nodes,
+                near,
+                rewire,
+            }
+        }
+    }
+}
+
 /// What plain words ask for.
 fn request_in(reading: &mut Reading) -> PackRequest {
     match reading.subcommand() {
@@ -254,6 +307,11 @@ fn request_in(reading: &mut Reading) -> PackRequest {
         "network" => PackRequest::Network {
             path: reading.needed_text(&NETWORK_ARGUMENT),
         },
+        "random" | "preferential" | "small-world" => {
+            let wanted = random_in(reading);
+            let seed = reading.number_or(&SEED_ARGUMENT, 0);
+            PackRequest::Random { wanted, seed }
+        }
         _ => PackRequest::Shape(shape_in(reading)),
     }
 }

@@ -6,6 +6,7 @@ use app_requests::PackRequest;
 use app_table::Draft;
 use large_net::{LargeNetwork, large_bytes};
 use large_pack::{PackOptions, Packed, pack_edges};
+use large_random::{LargeRandom, LargeRandomFault, large_random};
 use large_shapes::{LargeShape, LargeShapeFault, large_shape};
 use std::alloc::{AllocError, Global};
 use std::io::IsTerminal;
@@ -76,12 +77,33 @@ fn shape_of(alloc: Global, shape: LargeShape) -> Result<Output, Ending> {
     }
 }
 
+/// The ending where no random network is drawn.
+fn no_random(alloc: Global, fault: LargeRandomFault) -> Ending {
+    let text = match fault {
+        LargeRandomFault::NodeCount => "there are 1 to 4294967295 nodes",
+        LargeRandomFault::TooManyLinks => {
+            "a network has 2147483647 links at most, and no more than there are pairs of nodes: take more nodes, or fewer links at each"
+        }
+        LargeRandomFault::Memory => return Ending::Memory,
+    };
+    Ending::usage(String::from_str(alloc, text))
+}
+
+/// The binary file of the random network that a seed draws.
+fn random_of(alloc: Global, wanted: LargeRandom, seed: u32) -> Result<Output, Ending> {
+    match large_random(alloc, wanted, seed as u64) {
+        Ok(network) => output_of(alloc, &network, String::new(alloc)),
+        Err(fault) => Err(no_random(alloc, fault)),
+    }
+}
+
 /// The binary file that is asked for.
 fn output_for(rt: &HostRuntime, asked: &PackRequest) -> Result<Output, Ending> {
     match asked {
         PackRequest::Edges { path, options } => edges_at(rt, path.as_str(), options),
         PackRequest::Network { path } => copied_at(rt, path.as_str()),
         PackRequest::Shape(shape) => shape_of(rt.alloc(), *shape),
+        PackRequest::Random { wanted, seed } => random_of(rt.alloc(), *wanted, *seed),
     }
 }
 

@@ -1,0 +1,37 @@
+-- Which random networks of any size can be drawn.
+use Rattle.std.specs.Prelude.{ℕ, ◌||◌, nat_lt, Option, Some, None, if◌then◌else◌}
+use Rattle.link_net.specs.Limits.{most_rows}
+use Rattle.net_random.specs.declared.bounds.NetworkBounds.{NetworkBounds}
+use Rattle.net_random.specs.declared.fault.RandomFault.{RandomFault}
+use Rattle.net_random.specs.declared.fault.RandomFault.TheVariants.{NodeCount as NoCount, TooManyLinks as ManyLinks}
+use Rattle.net_random.specs.RandomNetworks.{node_count, link_count, pair_count}
+use Rattle.large_random.specs.declared.fault.LargeRandomFault.{LargeRandomFault}
+use Rattle.large_random.specs.declared.fault.LargeRandomFault.TheVariants.{NodeCount, TooManyLinks, Memory}
+use Rattle.large_random.specs.declared.kind.LargeRandom.{LargeRandom}
+use Rattle.large_random.specs.Drawn.{random_of}
+
+-- links of a network: each has two ends
+abbrev pub most_large_links : ℕ
+most_large_links = 2147483647
+
+-- the bounds of a network of any size
+abbrev pub large_bounds : NetworkBounds
+large_bounds = record { nodes = most_rows; links = most_large_links }
+
+-- why a random network of any size cannot be drawn, whatever the seed
+abbrev pub refusal_of : LargeRandom → Option LargeRandomFault
+refusal_of wanted =
+    if nat_lt (node_count (random_of wanted)) 1 || nat_lt most_rows (node_count (random_of wanted)) then Some NodeCount
+    else if nat_lt most_large_links (link_count (random_of wanted)) || nat_lt (pair_count (node_count (random_of wanted))) (link_count (random_of wanted)) then Some TooManyLinks
+    else None
+
+-- the refusal that a fault tells: running out of memory refuses nothing
+abbrev pub refused_by : LargeRandomFault → Option LargeRandomFault
+refused_by Memory = None
+refused_by fault = Some fault
+
+-- Internal: a fault as one of a network of any size. No public clause cites it.
+abbrev pub fault_as : RandomFault → LargeRandomFault
+fault_as NoCount = NodeCount
+fault_as ManyLinks = TooManyLinks
+fault_as fault = Memory

@@ -1,0 +1,11 @@
+//! Networks of any size that memory holds, drawn at random. The same seed gives the same network on every machine.
+#![tactic(auto)]
+
+mod arcs;
+mod fault;
+mod kind;
+mod network;
+
+pub use fault::LargeRandomFault;
+pub use kind::LargeRandom;
+pub use network::large_random;
