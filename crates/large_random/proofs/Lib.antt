@@ -1,2 +1,4 @@
 mod Directions
-mod Refused
+mod Fits
+mod Ordered
+mod Exact

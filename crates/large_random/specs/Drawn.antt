@@ -1,11 +1,10 @@
 -- Networks of any size, drawn at random.
-use Rattle.std.specs.Prelude.{List}
-use Rattle.link_net.specs.Arcs.{arcs_of}
+use Rattle.std.specs.Prelude.{◌≡◌, List}
+use Rattle.link_net.specs.Links.{network_of}
 use Rattle.link_net.specs.Neighbours.{Neighbours}
 use Rattle.net_text.specs.Listing.{Link}
 use Rattle.net_random.specs.declared.random_network.RandomNetwork.{RandomNetwork}
 use Rattle.net_random.specs.RandomNetworks.{node_count, IsOutcome}
-use Rattle.large_pack.specs.Rows.{HasArcs}
 use Rattle.large_random.specs.declared.kind.LargeRandom.{LargeRandom}
 
 -- the same as one of the networks of which text is made
@@ -14,8 +13,8 @@ random_of (LargeRandom.Random n k) = RandomNetwork.Random n k
 random_of (LargeRandom.Preferential n e) = RandomNetwork.Preferential n e
 random_of (LargeRandom.SmallWorld n k p) = RandomNetwork.SmallWorld n k p
 
--- the network has just the arcs, both ways, of links that may be drawn for the random network
+-- the network is that of links which may be drawn for the random network: in the row of each node stand, by rising number, the nodes that are linked with it, once and with weight 1
 pub record IsDrawn (wanted : RandomNetwork) (network : Neighbours) : Type 0 where
   pub links : List Link
   pub outcome : IsOutcome wanted links
-  pub arcs : HasArcs (node_count wanted) (arcs_of links) network
+  pub rows : network ≡ network_of (node_count wanted) links

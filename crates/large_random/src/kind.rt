@@ -25,7 +25,10 @@ impl LargeRandom {
     {
         match self {
             LargeRandom::Random { nodes, links } => RandomNetwork::Random { nodes, links },
-            LargeRandom::Preferential { nodes, each } => RandomNetwork::Preferential { nodes, each },
+            LargeRandom::Preferential { nodes, each } => RandomNetwork::Preferential {
+                nodes,
+                each,
+            },
             LargeRandom::SmallWorld {
                 nodes,
                 near,

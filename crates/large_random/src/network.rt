@@ -32,11 +32,7 @@ fn links_of(alloc: Global, wanted: LargeRandom, seed: u64) -> Result<Vec<Link>, 
 }
 
 /// The network of links that were drawn.
-fn linked(
-    alloc: Global,
-    wanted: LargeRandom,
-    links: Vec<Link>,
-) -> Result<LargeNetwork, AllocError>
+fn linked(alloc: Global, wanted: LargeRandom, links: Vec<Link>) -> Result<LargeNetwork, AllocError>
     requires links { IsOutcome (random_of wanted) links.items }
     requires fits { refusal_of wanted ≡ None }
     ensures { IfOk result (IsDrawn (random_of wanted)) }

@@ -1,6 +1,12 @@
-use Rattle.std.proofs.Common.{◌≡◌, ◌∙◌, ap, length, arith}
+use Rattle.std.proofs.Common.{arith, subst}
+use Rattle.std.proofs.lemmas.Result.{IfOk-weaker}
+use Rattle.net_random.specs.RandomNetworks.{node_count}
+use Rattle.large_pack.specs.Rows.{HasArcs}
+use Rattle.link_net.specs.Arcs.{arcs_of}
+use Rattle.large_random.specs.Drawn.{random_of}
 use Rattle.large_random.proofs.Directions.{arcs_count, arcs_within}
-use Rattle.large_random.proofs.Refused.{fit}
+use Rattle.large_random.proofs.Exact.{network_is}
+use Rattle.large_random.proofs.Fits.{fit}
 use Rattle.large_random.proofs.network.linked.Goals as goal
 
 pub network_of_arcs-requires-clause-within : goal.network_of_arcs-requires-clause-within
@@ -14,3 +20,13 @@ network_of_arcs-requires-clause-few c =
     let count = c.requires.links.count in
     let both = arcs_count c.args.links.items in
     rw (c.in_ok-arcs.ensures, c.as_slice.ensures.value) (omega arith)
+
+pub returns : goal.returns
+returns c =
+    let n = node_count (random_of c.args.wanted) in
+    let links = c.args.links.items in
+    IfOk-weaker c.network_of_arcs.result _ _ (λ network has. record {
+      links = links;
+      outcome = c.requires.links;
+      rows = network_is n links c.requires.links.simple network (rw (c.nodes.ensures, c.in_ok-arcs.ensures, c.as_slice.ensures.value) at has);
+    }) c.network_of_arcs.ensures.rows
