@@ -48,11 +48,6 @@ without_set zero v (x ∷ ls) = refl
 without_set (suc k) v (x ∷ ls) = ap (λ r. x ∷ r) (without_set k v ls)
 
 -- what stands at a place
-pub got : (k : ℕ) (l d : Link) (ls : List Link) → slice_get ls k ≡ Some l → slice_index_or ls k d ≡ l
-got k l d [] at = cc
-got zero l d (x ∷ ls) at = cc
-got (suc k) l d (x ∷ ls) at = got k l d ls at
-
 pub stands : (k : ℕ) (l d : Link) (ls : List Link) → k < length ls → l ≡ slice_index_or ls k d → slice_get ls k ≡ Some l
 stands k l d [] low is = absurd (omega arith)
 stands zero l d (x ∷ ls) low is = rw is refl

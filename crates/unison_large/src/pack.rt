@@ -82,7 +82,7 @@ fn no_random(alloc: Global, fault: LargeRandomFault) -> Ending {
     let text = match fault {
         LargeRandomFault::NodeCount => "there are 1 to 4294967295 nodes",
         LargeRandomFault::TooManyLinks => {
-            "a network has 2147483647 links at most, and no more than there are pairs of nodes: take more nodes, or fewer links at each"
+            "a network has 2147483647 links at most, and no more than there are pairs of nodes: take more nodes, or fewer links"
         }
         LargeRandomFault::Memory => return Ending::Memory,
     };
