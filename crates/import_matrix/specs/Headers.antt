@@ -6,6 +6,8 @@ use Rattle.import_lines.specs.Parts.{shown}
 use Rattle.import_matrix.specs.declared.fault.MatrixLineFault.{MatrixLineFault}
 use Rattle.import_matrix.specs.declared.fault.MatrixLineFault.TheVariants.{Words, NoHeader, ArrayFormat, UnknownField, UnknownSymmetry, Directed}
 use Rattle.import_matrix.specs.declared.header.Header.{Header}
+use Rattle.import_matrix.specs.declared.matrix.Direction.{Direction}
+use Rattle.import_matrix.specs.declared.matrix.Direction.TheVariants.{Refused, LeftAside, Kept}
 use Rattle.import_matrix.specs.Steps.{and_then, told_as}
 
 -- the word is this one, in letters of any case
@@ -38,13 +40,14 @@ header_of (banner ∷ object ∷ format ∷ field ∷ symmetry ∷ []) =
     Ok (record { has_values = values; is_directed = directed })))
 header_of words = Err NoHeader
 
--- whether the entries have values; edges with a direction only where that is left aside
-abbrev pub allowed : Bool → Header → Result Bool MatrixLineFault
-allowed undirected header = if header.is_directed && not undirected then Err Directed else Ok header.has_values
+-- what is taken of a header: edges with a direction are refused, or it is left aside, or kept
+abbrev pub allowed : Direction → Header → Result Header MatrixLineFault
+allowed Refused header = if header.is_directed then Err Directed else Ok header
+allowed LeftAside header = Ok (record { has_values = header.has_values; is_directed = false })
+allowed Kept header = Ok header
 
--- whether the entries below this line have values
-abbrev pub header_in : Bool → List ℕ → Result Bool MatrixLineFault
-header_in undirected line =
+-- what is taken of the header that a line says
+abbrev pub header_in : Direction → List ℕ → Result Header MatrixLineFault
+header_in direction line =
     and_then (told_as Words (shown line)) (λ text.
-    and_then (header_of (words_of text)) (λ header.
-    allowed undirected header))
+    and_then (header_of (words_of text)) (allowed direction))

@@ -1,9 +1,14 @@
 -- The network that a text says.
-use Rattle.std.specs.Prelude.{◌≡◌, ◌≢◌, ℕ, Bool, List, [], ◌∷◌, nat_lt, length, take, drop, map, MatchResult, Option, Result, Ok, Err, if◌then◌else◌}
+use Rattle.std.specs.Prelude.{◌≡◌, ◌≢◌, ℕ, ◌+◌, ◌-◌, Bool, List, [], ◌∷◌, nat_lt, length, take, drop, map, MatchResult, Option, Some, None, Result, Ok, Err, if◌then◌else◌}
 use Rattle.std.specs.List.{before_first, after_first}
+use Rattle.link_net.specs.Limits.{most_nodes}
 use Rattle.import_lines.specs.Texts.{is_line_feed, told_from}
 use Rattle.import_links.specs.declared.placed.PlacedLink.{PlacedLink}
+use Rattle.import_matrix.specs.declared.entries.Entries.{Entries}
 use Rattle.import_matrix.specs.declared.entry.EntryForm.{EntryForm}
+use Rattle.import_matrix.specs.declared.header.Header.{Header}
+use Rattle.import_matrix.specs.declared.matrix.Direction.TheVariants.{Refused, LeftAside}
+use Rattle.import_matrix.specs.declared.matrix.EntryReading.{EntryReading}
 use Rattle.import_matrix.specs.declared.fault.MatrixFault.{MatrixFault}
 use Rattle.import_matrix.specs.declared.fault.MatrixFault.TheVariants.{NoSize, TooManyEntries, TooFewEntries, Memory}
 use Rattle.import_matrix.specs.Headers.{header_in}
@@ -20,23 +25,57 @@ abbrev pub counted : ℕ → ℕ → List (ℕ × List ℕ) → List PlacedLink 
 counted said found [] links = if nat_lt found said then Err (TooFewEntries said found) else Ok links
 counted said found (l ∷ beyond) links = Err (TooManyEntries l.0 said)
 
--- the links of as many lines as were said
-abbrev pub links_in : EntryForm → ℕ → List (ℕ × List ℕ) → Result (List PlacedLink) MatrixFault
-links_in form said lines = and_then (all_of (map (link_of form) (take said lines))) (counted said (length lines) (drop said lines))
+-- the links of the lines behind those of so many entries: of as many of them as make up what was said
+abbrev pub links_in : EntryForm → ℕ → ℕ → List (ℕ × List ℕ) → Result (List PlacedLink) MatrixFault
+links_in form said found lines = and_then (all_of (map (link_of form) (take (said - found) lines))) (counted said (found + length lines) (drop (said - found) lines))
 
--- the nodes and links of the lines behind the header: the first says how many there are, the others are entries
-abbrev pub matrix_in : Bool → Option ℕ → List (ℕ × List ℕ) → Result (ℕ × List PlacedLink) MatrixFault
-matrix_in has_values factor [] = Err NoSize
-matrix_in has_values factor (l ∷ lines) =
-    and_then (at_line l.0 (size_in l.1)) (λ size.
-    and_then (links_in (record { nodes = size.nodes; has_values = has_values; factor = factor }) size.entries lines) (λ links.
-    Ok (size.nodes, links)))
+-- the lines of entries that are not read yet, and their links
+abbrev pub lines_left : Entries → List (ℕ × List ℕ)
+lines_left e = told_from (e.lines.passed + 1) e.lines.bytes.now
 
--- the nodes and links of a text: the first line is the header, then come the lines behind it that say something
+abbrev pub links_left : Entries → Result (List PlacedLink) MatrixFault
+links_left e = links_in e.form e.said e.found (lines_left e)
+
+-- one link more before the others; none where there is no next one
+abbrev pub with_next : Option PlacedLink → Result (List PlacedLink) MatrixFault → Result (List PlacedLink) MatrixFault
+with_next None later = Ok []
+with_next (Some link) later = and_then later (λ links. Ok (link ∷ links))
+
+-- what a matrix says: how many nodes there are, whether the edges have a direction, the links of its entries
+pub record MatrixLinks : Type 0 where
+  pub nodes : ℕ
+  pub is_directed : Bool
+  pub links : List PlacedLink
+
+-- what entries of this form say that have these links
+abbrev pub matrix_links : EntryForm → List PlacedLink → MatrixLinks
+matrix_links form links = record { nodes = form.nodes; is_directed = form.is_directed; links = links }
+
+-- what entries are like, below this header, between so many nodes
+abbrev pub form_of : EntryReading → Header → ℕ → EntryForm
+form_of reading header nodes = record { nodes = nodes; is_directed = header.is_directed; has_values = header.has_values; factor = reading.factor }
+
+-- what the lines behind the header say: the first how many nodes and entries there are, the others are entries
+abbrev pub matrix_in : EntryReading → Header → List (ℕ × List ℕ) → Result MatrixLinks MatrixFault
+matrix_in reading header [] = Err NoSize
+matrix_in reading header (l ∷ lines) =
+    and_then (at_line l.0 (size_in reading.most_nodes l.1)) (λ size.
+    and_then (links_in (form_of reading header size.nodes) size.entries 0 lines) (λ links.
+    Ok (matrix_links (form_of reading header size.nodes) links)))
+
+-- what a text says: the first line is the header, then come the lines behind it that say something
+abbrev pub entries_of : EntryReading → List ℕ → Result MatrixLinks MatrixFault
+entries_of reading text =
+    and_then (at_line 1 (header_in reading.direction (before_first is_line_feed text))) (λ header.
+    matrix_in reading header (told_from 2 (after_first is_line_feed text)))
+
+-- how the entries of a network without directions are read
+abbrev pub small_reading : Bool → Option ℕ → EntryReading
+small_reading undirected factor = record { most_nodes = most_nodes; direction = if undirected then LeftAside else Refused; factor = factor }
+
+-- the nodes and links of a text
 abbrev pub matrix_of : Bool → Option ℕ → List ℕ → Result (ℕ × List PlacedLink) MatrixFault
-matrix_of undirected factor text =
-    and_then (at_line 1 (header_in undirected (before_first is_line_feed text))) (λ has_values.
-    matrix_in has_values factor (told_from 2 (after_first is_line_feed text)))
+matrix_of undirected factor text = and_then (entries_of (small_reading undirected factor) text) (λ m. Ok (m.nodes, m.links))
 
 -- what was returned, seen by view, is the defined result, or stands for running out of memory
 abbrev pub IsAnswer : {A B : Type 0} → (B → A) → Result A MatrixFault → Result B MatrixFault → Type 0

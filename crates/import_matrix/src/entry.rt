@@ -1,5 +1,5 @@
 //! The link that a line says.
-ghost use Rattle.std.specs.Prelude.{◌≡◌};
+ghost use Rattle.std.specs.Prelude.{◌≡◌, ◌<◌, IfOk};
 ghost use Rattle.std.specs.Option.{option_copied};
 ghost use Rattle.import_matrix.specs.Entries.{index_in, value_in, entry_in};
 
@@ -9,19 +9,22 @@ use import_lines::{Weight, line_parts, line_text, read_weight};
 use import_links::PlacedLink;
 
 /// What the entries of a text are like.
-#[derive(Clone, Copy)]
-pub(crate) struct EntryForm {
+#[derive(Clone, Copy, Debug)]
+pub struct EntryForm {
     /// How many rows there are, and as many columns.
-    pub(crate) nodes: u32,
+    pub nodes: u32,
+    /// Whether the edges have a direction.
+    pub is_directed: bool,
     /// Whether each entry has a value.
-    pub(crate) has_values: bool,
+    pub has_values: bool,
     /// What values are multiplied by.
-    pub(crate) factor: Option<u32>,
+    pub factor: Option<u32>,
 }
 
 /// The node of a row or a column.
 fn read_index(nodes: u32, word: &str) -> Result<u32, MatrixLineFault>
-    ensures { result ≡ index_in nodes word.now }
+    ensures index { result ≡ index_in nodes word.now }
+    ensures node { IfOk result (λ node. node < nodes) }
 {
     match read_number(word) {
         Some(number) if 1 <= number && number <= nodes as u64 => Ok((number - 1) as u32),
@@ -52,7 +55,10 @@ pub(crate) fn read_entry(
     number: u64,
     line: &[u8],
 ) -> Result<PlacedLink, MatrixLineFault>
-    ensures { result ≡ entry_in form number line.now }
+    ensures link { result ≡ entry_in form number line.now }
+    ensures first { IfOk result (λ link. link.link.0 < form.nodes) }
+    ensures second { IfOk result (λ link. link.link.1 < form.nodes) }
+    ensures line { IfOk result (λ link. link.line ≡ number) }
 {
     let text = line_text(line)?;
     let parts = line_parts(text)?;

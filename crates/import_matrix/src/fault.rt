@@ -37,7 +37,7 @@ pub enum MatrixLineFault {
     /// The size line says 0 rows.
     #[error("NoNodes")]
     NoNodes,
-    /// The size line says more than 65,536 rows.
+    /// The size line says more rows than the most nodes that are read.
     #[error("TooManyNodes")]
     TooManyNodes,
     /// The row or the column of an entry is no number from 1 to the number of nodes.

@@ -1,19 +1,20 @@
 //! The first line, which says what stands in the others.
 ghost use Rattle.std.specs.Prelude.{◌≡◌, ◌∷◌, [], MatchOption, Err};
 ghost use Rattle.import_lines.specs.Texts.{words_of};
-ghost use Rattle.import_matrix.specs.Headers.{says, values_in, direction_in, header_of, header_in};
+ghost use Rattle.import_matrix.specs.Headers.{says, values_in, direction_in, header_of, allowed, header_in};
 ghost use Rattle.import_matrix.specs.declared.fault.MatrixLineFault.TheVariants.{NoHeader};
 
 use crate::fault::MatrixLineFault;
+use crate::matrix::Direction;
 use import_lines::{line_text, next_word};
 
 /// What a header says of the entries.
 #[derive(Clone, Copy, Debug)]
-struct Header {
+pub(crate) struct Header {
     /// Whether each entry has a value.
-    has_values: bool,
+    pub(crate) has_values: bool,
     /// Whether the edges have a direction.
-    is_directed: bool,
+    pub(crate) is_directed: bool,
 }
 
 /// The words of a line that has five.
@@ -111,14 +112,30 @@ fn text_header(text: &str) -> Result<Header, MatrixLineFault>
     }
 }
 
-/// Whether the entries below a header have values.
-pub(crate) fn read_header(line: &[u8], undirected: bool) -> Result<bool, MatrixLineFault>
-    ensures { result ≡ header_in undirected line.now }
+/// What is taken of a header where a direction of edges is treated so.
+fn allowed(direction: Direction, header: Header) -> Result<Header, MatrixLineFault>
+    ensures { result ≡ allowed direction header }
+{
+    match direction {
+        Direction::Refused => {
+            if header.is_directed {
+                return Err(MatrixLineFault::Directed);
+            }
+            Ok(header)
+        }
+        Direction::LeftAside => Ok(Header {
+            has_values: header.has_values,
+            is_directed: false,
+        }),
+        Direction::Kept => Ok(header),
+    }
+}
+
+/// What a header says of the entries below it.
+pub(crate) fn read_header(line: &[u8], direction: Direction) -> Result<Header, MatrixLineFault>
+    ensures { result ≡ header_in direction line.now }
 {
     let text = line_text(line)?;
     let header = text_header(text)?;
-    if header.is_directed && !undirected {
-        return Err(MatrixLineFault::Directed);
-    }
-    Ok(header.has_values)
+    allowed(direction, header)
 }

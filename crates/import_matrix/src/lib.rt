@@ -1,6 +1,7 @@
 //! Networks that stand in Matrix Market files, of the coordinate format.
 #![tactic(auto)]
 
+mod entries;
 mod entry;
 mod fault;
 mod header;
@@ -10,6 +11,9 @@ mod opening;
 mod reader;
 mod size;
 
+pub use entries::Entries;
+pub use entry::EntryForm;
 pub use fault::{MatrixFault, MatrixLineFault};
-pub use matrix::{Matrix, Reading};
+pub use matrix::{Direction, EntryReading, Matrix, Reading};
+pub use opening::find_entries;
 pub use reader::read_matrix;

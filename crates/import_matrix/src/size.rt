@@ -1,12 +1,11 @@
 //! The line that says how many nodes and entries there are.
-ghost use Rattle.std.specs.Prelude.{◌≡◌};
+ghost use Rattle.std.specs.Prelude.{◌≡◌, ◌≤◌, IfOk};
 ghost use Rattle.import_lines.specs.Texts.{words_of};
 ghost use Rattle.import_matrix.specs.Sizes.{number_in, sized, size_of, size_in};
 
 use crate::fault::MatrixLineFault;
 use crate::number::read_number;
 use import_lines::{line_parts, line_text};
-use link_net::MOST_NODES;
 
 /// How many nodes and entries a text says that it has.
 #[derive(Clone, Copy)]
@@ -25,9 +24,15 @@ fn size_number(word: &str) -> Result<u64, MatrixLineFault>
     }
 }
 
-/// The size of so many rows, columns and entries.
-fn checked_size(rows: u64, columns: u64, entries: u64) -> Result<Size, MatrixLineFault>
-    ensures { result ≡ sized rows columns entries }
+/// The size of so many rows, columns and entries, where there are no more nodes than the most.
+fn checked_size(
+    most_nodes: u32,
+    rows: u64,
+    columns: u64,
+    entries: u64,
+) -> Result<Size, MatrixLineFault>
+    ensures size { result ≡ sized most_nodes rows columns entries }
+    ensures some { IfOk result (λ size. 1 ≤ size.nodes) }
 {
     if rows != columns {
         return Err(MatrixLineFault::NotSquare);
@@ -35,7 +40,7 @@ fn checked_size(rows: u64, columns: u64, entries: u64) -> Result<Size, MatrixLin
     if rows == 0 {
         return Err(MatrixLineFault::NoNodes);
     }
-    if rows > MOST_NODES as u64 {
+    if rows > most_nodes as u64 {
         return Err(MatrixLineFault::TooManyNodes);
     }
     Ok(Size {
@@ -45,8 +50,9 @@ fn checked_size(rows: u64, columns: u64, entries: u64) -> Result<Size, MatrixLin
 }
 
 /// The size that a text of a line says.
-fn text_size(text: &str) -> Result<Size, MatrixLineFault>
-    ensures { result ≡ size_of (words_of text.now) }
+fn text_size(most_nodes: u32, text: &str) -> Result<Size, MatrixLineFault>
+    ensures size { result ≡ size_of most_nodes (words_of text.now) }
+    ensures some { IfOk result (λ size. 1 ≤ size.nodes) }
 {
     let Ok(parts) = line_parts(text) else {
         return Err(MatrixLineFault::BadSize);
@@ -57,13 +63,14 @@ fn text_size(text: &str) -> Result<Size, MatrixLineFault>
     let rows = size_number(parts.first)?;
     let columns = size_number(parts.second)?;
     let entries = size_number(third)?;
-    checked_size(rows, columns, entries)
+    checked_size(most_nodes, rows, columns, entries)
 }
 
-/// The size that a line says.
-pub(crate) fn read_size(line: &[u8]) -> Result<Size, MatrixLineFault>
-    ensures { result ≡ size_in line.now }
+/// The size that a line says, where there are no more nodes than the most.
+pub(crate) fn read_size(most_nodes: u32, line: &[u8]) -> Result<Size, MatrixLineFault>
+    ensures size { result ≡ size_in most_nodes line.now }
+    ensures some { IfOk result (λ size. 1 ≤ size.nodes) }
 {
     let text = line_text(line)?;
-    text_size(text)
+    text_size(most_nodes, text)
 }

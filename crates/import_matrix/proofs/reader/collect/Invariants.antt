@@ -1,15 +1,14 @@
 use Rattle.std.proofs.Common.{◌≡◌, ◌+◌, ◌<◌, ◌≤◌, ◌^◌, length}
-use Rattle.import_lines.specs.Texts.{told_from}
-use Rattle.import_matrix.specs.Matrices.{links_in}
-use Rattle.import_matrix.proofs.EntrySteps.{rest_of, with_front}
+use Rattle.import_matrix.specs.Matrices.{lines_left, links_left}
+use Rattle.import_matrix.proofs.EntrySteps.{with_front}
 use Rattle.import_matrix.proofs.reader.collect.Given as goal
 
-abbrev pub invariant-loop-number : goal.invariant-loop-number
-invariant-loop-number l = record {
-  room : l.lines.passed + length l.lines.bytes.now < 2 ^ 64;
-  most : l.found ≤ l.fn.from.said;
-  read : with_front l.links.items (rest_of l.fn.from.form l.fn.from.said l.found (told_from (l.lines.passed + 1) l.lines.bytes.now)) ≡ links_in l.fn.from.form l.fn.from.said (told_from (l.fn.from.lines.passed + 1) l.fn.from.lines.bytes.now);
+abbrev pub invariant-loop-links : goal.invariant-loop-links
+invariant-loop-links l = record {
+  room : l.entries.lines.passed + length l.entries.lines.bytes.now < 2 ^ 64;
+  most : l.entries.found ≤ l.entries.said;
+  read : with_front l.links.items (links_left l.entries) ≡ links_left l.fn.from;
 }
 
-abbrev pub decreases-loop-number : goal.decreases-loop-number
-decreases-loop-number l = length (told_from (l.lines.passed + 1) l.lines.bytes.now)
+abbrev pub decreases-loop-links : goal.decreases-loop-links
+decreases-loop-links l = length (lines_left l.entries)
