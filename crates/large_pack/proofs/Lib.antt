@@ -7,5 +7,6 @@ mod Ranking
 mod Beating
 mod Mapped
 mod Packs
+pub mod Rising
 mod Sounds
 mod Repeats

@@ -1,14 +1,12 @@
 -- What is known of edges that are sound.
-use Rattle.std.proofs.Common.{◌≡◌, ℕ, ◌+◌, ◌<◌, ◌≤◌, Bool, true, false, not, List, [], ◌∷◌, map, max, drop, nat_lt, nat_le, zero, suc, refl, sym, ap, Option, Some, None, Result, Ok, Err, arith, inl, inr}
+use Rattle.std.proofs.Common.{◌≡◌, ℕ, ◌+◌, ◌<◌, ◌≤◌, Bool, true, false, List, [], ◌∷◌, map, max, drop, nat_le, zero, suc, refl, sym, ap, Option, Some, None, Result, Ok, Err, arith, inl, inr}
 use Rattle.std.proofs.lemmas.Bool.{cases_Bool}
 use Rattle.std.proofs.lemmas.Bool.Decides.{nat_tests}
-use Rattle.std.specs.List.{filter, filter_map, cons_option, slice_get, fold, slice_split, enumerate_from, AllByRecursion}
-use Rattle.import_lines.specs.Texts.{is_line_feed, say_nothing, words_of, told_from}
+use Rattle.std.specs.List.{filter_map, cons_option, slice_get, fold, AllByRecursion}
+use Rattle.import_lines.specs.Texts.{words_of, told_from}
 use Rattle.import_lines.specs.Parts.{shown, parts_of}
 use Rattle.large_pack.specs.declared.edge_line.EdgeLine.{EdgeLine}
 use Rattle.large_pack.specs.declared.options.PackOptions.{PackOptions}
-use Rattle.large_pack.specs.declared.options.Parallel.{Parallel}
-use Rattle.large_pack.specs.declared.options.Parallel.TheVariants.{Refuse, Keep, Least, Greatest, First as Earliest}
 use Rattle.large_pack.specs.declared.fault.End.TheVariants.{First, Second}
 use Rattle.large_pack.specs.declared.fault.LineFault.TheVariants.{Words as BadWords, Weight as BadWeight}
 use Rattle.large_pack.specs.declared.fault.PackFault.TheVariants.{BadLine}
@@ -17,8 +15,9 @@ use Rattle.large_pack.specs.declared.fault.LineFault.{LineFault}
 use Rattle.large_pack.specs.declared.ranked.Ranked.{Ranked}
 use Rattle.large_pack.specs.Lines.{and_then, fault_as, end_in, weight_in, edge_in, edge_of, edges_in, edge_lines, edges_of}
 use Rattle.large_pack.specs.Sound.{node_count, outside_fault, loop_fault, first_fault, node_fault, unless, sound_in, sound_of}
-use Rattle.large_pack.specs.Packing.{rank_of, refuses}
-use Rattle.large_pack.specs.Ranks.{ends_of, ranked, ranked_in, LinesRise, AreTied, RankedWithin}
+use Rattle.large_pack.specs.Packing.{refuses}
+use Rattle.large_pack.specs.Ranks.{ranked, ranked_in, LinesRise, AreTied, RankedWithin}
+use Rattle.large_pack.proofs.Rising.{Rise, numbers, told_rise, lines_rise, EndsBelow, ranked_below, all_tied}
 
 -- ---- steps that succeed
 
@@ -31,41 +30,6 @@ kind_given kind (Ok x) y h = let same : x ≡ y = cc in ap Ok same
 kind_given kind (Err fault) y h = cc
 
 -- ---- lines
-
--- each number is below those behind it
-abbrev Rise : List ℕ → Type 0
-Rise [] = Unit {0}
-Rise (k ∷ ks) = AllByRecursion (λ j. k < j) ks × Rise ks
-
-abbrev numbers : List (ℕ × List ℕ) → List ℕ
-numbers lines = map (λ l. l.0) lines
-
-counted_from : (k n : ℕ) (xs : List (List ℕ)) → k < n → AllByRecursion (λ j. k < j) (numbers (enumerate_from n xs))
-counted_from k n [] low = tt
-counted_from k n (x ∷ xs) low = (low, counted_from k (n + 1) xs (omega arith))
-
-counted_rise : (n : ℕ) (xs : List (List ℕ)) → Rise (numbers (enumerate_from n xs))
-counted_rise n [] = tt
-counted_rise n (x ∷ xs) = (counted_from n (n + 1) xs (omega arith), counted_rise (n + 1) xs)
-
-later_kept : (k : ℕ) (p : ℕ × List ℕ → Bool) (ls : List (ℕ × List ℕ)) → AllByRecursion (λ j. k < j) (numbers ls) → AllByRecursion (λ j. k < j) (numbers (filter p ls))
-later_kept k p [] up = tt
-later_kept k p (l ∷ ls) up =
-    elim (cases_Bool (p l)) [
-      | inl keeps ↦ rw keeps (up.0, later_kept k p ls up.1)
-      | inr drops ↦ rw drops (later_kept k p ls up.1)
-    ]
-
-rise_kept : (p : ℕ × List ℕ → Bool) (ls : List (ℕ × List ℕ)) → Rise (numbers ls) → Rise (numbers (filter p ls))
-rise_kept p [] up = tt
-rise_kept p (l ∷ ls) up =
-    elim (cases_Bool (p l)) [
-      | inl keeps ↦ rw keeps (later_kept l.0 p ls up.0, rise_kept p ls up.1)
-      | inr drops ↦ rw drops (rise_kept p ls up.1)
-    ]
-
-told_rise : (n : ℕ) (bytes : List ℕ) → Rise (numbers (told_from n bytes))
-told_rise n bytes = rise_kept (λ l. not (say_nothing (words_of l.1))) (enumerate_from n (slice_split is_line_feed bytes)) (counted_rise n (slice_split is_line_feed bytes))
 
 rest_rise : (ls : List (ℕ × List ℕ)) → Rise (numbers ls) → Rise (numbers (drop 1 ls))
 rest_rise [] up = tt
@@ -118,18 +82,7 @@ lines_are factor (l ∷ ls) es h =
       joined : (e : EdgeLine) (later : List EdgeLine) → read_as {E = PackFault} (e ∷ later) ≡ Ok es → e.line ≡ l.0 → map (λ x. x.line) later ≡ numbers ls → map (λ x. x.line) es ≡ l.0 ∷ numbers ls
       joined e later is here there = let same : e ∷ later ≡ es = cc in rw (← same, here, there) refl
 
-later_lines : (o : PackOptions) (k : ℕ) (es : List EdgeLine) → AllByRecursion (λ j. k < j) (map (λ e. e.line) es) → AllByRecursion (λ (d : Ranked). k < d.line) (map (ranked o) es)
-later_lines o k [] up = tt
-later_lines o k (e ∷ es) up = (up.0, later_lines o k es up.1)
-
-lines_rise : (o : PackOptions) (es : List EdgeLine) → Rise (map (λ e. e.line) es) → LinesRise (map (ranked o) es)
-lines_rise o [] up = tt
-lines_rise o (e ∷ es) up = (later_lines o e.line es up.0, lines_rise o es up.1)
-
 -- ---- ends
-
-abbrev EndsBelow : ℕ → EdgeLine → Type 0
-EndsBelow n e = (e.first < n) × (e.second < n)
 
 abbrev above : ℕ → EdgeLine → ℕ
 above n e = max (max n (e.first + 1)) (e.second + 1)
@@ -171,31 +124,6 @@ all_given n (e ∷ es) none =
 ends_below : (given : Option ℕ) (es : List EdgeLine) → first_fault (outside_fault given) es ≡ None → AllByRecursion (EndsBelow (node_count given es)) es
 ends_below None es none = reach_all 0 es
 ends_below (Some n) es none = all_given n es none
-
-turned_below : (dir : Bool) (a b n : ℕ) → a < n → b < n → ((ends_of dir a b).0 < n) × ((ends_of dir a b).1 < n)
-turned_below true a b n one two = (one, two)
-turned_below false a b n one two =
-    elim (cases_Bool (nat_lt b a)) [
-      | inl less ↦ rw less (two, one)
-      | inr more ↦ rw more (one, two)
-    ]
-
-ranked_below : (o : PackOptions) (n : ℕ) (es : List EdgeLine) → AllByRecursion (EndsBelow n) es → RankedWithin n (map (ranked o) es)
-ranked_below o n [] within = tt
-ranked_below o n (e ∷ es) within = (turned_below o.is_directed e.first e.second n within.0.0 within.0.1, ranked_below o n es within.1)
-
--- ---- ranks
-
-no_rank : (parallel : Parallel) (w : ℕ) → refuses parallel ≡ true → rank_of parallel w ≡ 0
-no_rank Refuse w h = refl
-no_rank Keep w h = refl
-no_rank Earliest w h = refl
-no_rank Least w h = cc
-no_rank Greatest w h = cc
-
-all_tied : (o : PackOptions) (es : List EdgeLine) → refuses o.parallel ≡ true → AreTied (map (ranked o) es)
-all_tied o [] h = tt
-all_tied o (e ∷ es) h = (no_rank o.parallel e.weight h, all_tied o es h)
 
 -- ---- the whole
 

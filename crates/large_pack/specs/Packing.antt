@@ -115,8 +115,11 @@ pub record IsPackedAs (packing : Packing) (packed : Packed) : Type 0 where
   pub dropped_loops : packed.dropped_loops ≡ packing.dropped_loops
   pub merged : packed.merged ≡ packing.merged
 
--- what was returned is the defined packing or its fault, or stands for running out of memory
+-- what was returned is the defined packing or its fault, or stands for running out of memory, whose fault this is
+abbrev pub IsAnswerOr : {E : Type 0} → E → Result Packing E → Result Packed E → Type 0
+IsAnswerOr memory (Ok packing) (Ok packed) = IsPackedAs packing packed
+IsAnswerOr memory (Err fault) (Ok packed) = ⊥
+IsAnswerOr memory defined (Err fault) = fault ≢ memory → defined ≡ Err fault
+
 abbrev pub IsAnswer : Result Packing PackFault → Result Packed PackFault → Type 0
-IsAnswer (Ok packing) (Ok packed) = IsPackedAs packing packed
-IsAnswer (Err fault) (Ok packed) = ⊥
-IsAnswer defined (Err fault) = fault ≢ Memory → defined ≡ Err fault
+IsAnswer = IsAnswerOr Memory

@@ -1,4 +1,4 @@
--- Internal: edges as they are compared. No public clause cites it.
+-- Edges as they are compared. Public clauses cite ranked, LinesRise, RankedWithin and AreTied; the rest is internal.
 use Rattle.std.specs.Prelude.{◌≡◌, ℕ, ◌==◌, ◌<◌, Bool, not, ◌&&◌, ◌||◌, List, [], ◌∷◌, map, nat_lt, nat_le, Option, Some, None, option_map, option_and_then, find, Result, Ok, if◌then◌else◌}
 use Rattle.std.specs.List.{list_any, filter, AllByRecursion}
 use Rattle.link_net.specs.Arcs.{Arc}

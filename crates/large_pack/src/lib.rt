@@ -13,5 +13,7 @@ mod survey;
 pub use edge_line::{EdgeLine, line_edge};
 pub use fault::{End, LineFault, NodeFault, PackFault};
 pub use options::{PackOptions, Parallel, SelfLoops};
-pub use pack::{Packed, pack_edges};
+pub use pack::{Packed, pack_edges, pack_ranked};
+pub use ranked::{Ranked, rank_edge};
 pub use rows::{Arc, network_of_arcs};
+pub use survey::loop_fault;

@@ -54,8 +54,11 @@ fn network_of_edges(
     Ok(network)
 }
 
-/// What sound edges are packed into.
-fn pack(
+/// What edges are packed into, as they are compared by these options, whose lines rise and whose ends are nodes.
+///
+/// `ParallelEdge` and `TooManyEdges` come as in [`pack_edges`]; `Memory` comes only where memory runs out. No other fault
+/// comes.
+pub fn pack_ranked(
     alloc: Global,
     nodes: u32,
     edges: Vec<Ranked>,
@@ -65,7 +68,7 @@ fn pack(
     requires within { RankedWithin nodes edges.items }
     requires rising { LinesRise edges.items }
     requires tied { refuses options.now.parallel ≡ true → AreTied edges.items }
-    ensures { (es : List EdgeLine) → edges.items ≡ map (ranked options.now) es → nodes ≡ node_count options.now.nodes es → IsAnswer (packing_in options.now es) result }
+    ensures answer { (es : List EdgeLine) → edges.items ≡ map (ranked options.now) es → nodes ≡ node_count options.now.nodes es → IsAnswer (packing_in options.now es) result }
 {
     let mut edges = edges;
     let lines = edges.len() as u64;
@@ -97,6 +100,6 @@ pub fn pack_edges(alloc: Global, text: &[u8], options: &PackOptions) -> Result<P
 {
     let nodes = sound_nodes(text, options)?;
     let edges = ranked_edges(alloc, edge_lines(text, options.header), options)?;
-    let packed = pack(alloc, nodes, edges, options)?;
+    let packed = pack_ranked(alloc, nodes, edges, options)?;
     Ok(packed)
 }

@@ -16,12 +16,17 @@ use std::alloc::{AllocError, Global};
 
 /// An edge as it is compared: by its ends, the lower first where edges have no direction, by its rank among those of
 /// the same ends, and by its line.
-#[derive(Clone, Copy, PartialEq, Eq, PartialOrd, Ord)]
-pub(crate) struct Ranked {
+#[derive(Clone, Copy, Debug, PartialEq, Eq, PartialOrd, Ord)]
+pub struct Ranked {
+    /// One end, the lower one where edges have no direction.
     pub first: u32,
+    /// The other end.
     pub second: u32,
+    /// Of edges of the same ends one of the lowest rank stays.
     pub rank: u32,
+    /// The line where the edge stands, counted from 1.
     pub line: u64,
+    /// The weight.
     pub weight: u32,
 }
 
@@ -49,9 +54,9 @@ fn rank(parallel: Parallel, weight: u32) -> u32
     }
 }
 
-/// An edge as it is compared.
-fn rank_edge(edge: &EdgeLine, options: &PackOptions) -> Ranked
-    ensures { result ≡ ranked options.now edge.now }
+/// An edge as it is compared by these options.
+pub fn rank_edge(edge: &EdgeLine, options: &PackOptions) -> Ranked
+    ensures ranked { result ≡ ranked options.now edge.now }
 {
     let (first, second) = ends(options.is_directed, edge.first, edge.second);
     Ranked {

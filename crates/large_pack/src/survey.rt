@@ -41,9 +41,9 @@ fn outside_fault(nodes: Option<u32>, edge: &EdgeLine) -> Option<PackFault>
     None
 }
 
-/// The fault of a self-loop, where it is refused.
-fn loop_fault(self_loops: SelfLoops, edge: &EdgeLine) -> Option<PackFault>
-    ensures { result ≡ loop_fault self_loops edge.now }
+/// The fault of an edge that is a self-loop, where these are refused.
+pub fn loop_fault(self_loops: SelfLoops, edge: &EdgeLine) -> Option<PackFault>
+    ensures fault { result ≡ loop_fault self_loops edge.now }
 {
     if self_loops == SelfLoops::Refuse && edge.first == edge.second {
         return Some(PackFault::SelfLoop { line: edge.line });

@@ -7,14 +7,14 @@ known_here c =
     known c.args.options.now c.args.text.now c.in_ok-nodes.nodes c.in_ok-edges.edges.items c.in_ok-nodes.ensures
     (rw c.edge_lines.ensures.lines at c.in_ok-edges.ensures)
 
-pub pack-requires-clause-some : goal.pack-requires-clause-some
-pack-requires-clause-some c = (known_here c).0
+pub pack_ranked-requires-clause-some : goal.pack_ranked-requires-clause-some
+pack_ranked-requires-clause-some c = (known_here c).0
 
-pub pack-requires-clause-within : goal.pack-requires-clause-within
-pack-requires-clause-within c = (known_here c).1
+pub pack_ranked-requires-clause-within : goal.pack_ranked-requires-clause-within
+pack_ranked-requires-clause-within c = (known_here c).1
 
-pub pack-requires-clause-rising : goal.pack-requires-clause-rising
-pack-requires-clause-rising c = (known_here c).2
+pub pack_ranked-requires-clause-rising : goal.pack_ranked-requires-clause-rising
+pack_ranked-requires-clause-rising c = (known_here c).2
 
-pub pack-requires-clause-tied : goal.pack-requires-clause-tied
-pack-requires-clause-tied c = (known_here c).3
+pub pack_ranked-requires-clause-tied : goal.pack_ranked-requires-clause-tied
+pack_ranked-requires-clause-tied c = (known_here c).3
