@@ -10,6 +10,7 @@ mod files;
 mod lines;
 mod networks;
 mod output;
+mod texts;
 mod told;
 mod usage;
 
@@ -23,4 +24,5 @@ pub use files::{
 pub use lines::{put_note, put_place, weight_told, words_told};
 pub use networks::file_at;
 pub use output::{print_out, write_file, write_out};
+pub use texts::{Told, edges_told, matrix_told, on_line, put_matrix_detail};
 pub use told::{print_ending, print_fault};

@@ -90,7 +90,7 @@ const NUMBERS: Argument = Argument {
 /// `NUMBERS`, as it is read.
 static NUMBERS_ARGUMENT: Argument = NUMBERS;
 
-const UNDIRECTED: Argument = Argument {
+pub(crate) const UNDIRECTED: Argument = Argument {
     name: "undirected",
     help: "Take directed edges as undirected ones",
     ..FLAG

@@ -1,15 +1,16 @@
 //! `pack`: networks of any size, as binary files.
 ghost use Rattle.std.specs.Prelude.{◌≤◌, IfOk, IfSome};
 
-use crate::arguments::{FLAG, NETWORK, NETWORK_ARGUMENT};
+use crate::arguments::{FILE_OPTION, FLAG, NETWORK, NETWORK_ARGUMENT};
 use crate::generate::{
     DIAGONALS, DIAGONALS_ARGUMENT, GRID_HEIGHT, GRID_HEIGHT_ARGUMENT, GRID_WIDTH,
     GRID_WIDTH_ARGUMENT, LINKS, LINKS_ARGUMENT, LINKS_EACH, LINKS_EACH_ARGUMENT, NEAR,
     NEAR_ARGUMENT, NODES, NODES_ARGUMENT, REWIRE, REWIRE_ARGUMENT, RING_NODES, SEED, SEED_ARGUMENT,
     TORUS_HEIGHT, TORUS_WIDTH,
 };
-use crate::import::{DROP_LOOPS, HEADER, SCALE, TEXT, factor_in};
+use crate::import::{DROP_LOOPS, HEADER, SCALE, TEXT, UNDIRECTED, factor_in};
 use app_table::{Argument, Choice, Command, OPTION, Reading, Subcommand, Value, WordsFault};
+use large_matrix::MatrixOptions;
 use large_pack::{PackOptions, Parallel, SelfLoops};
 use large_random::LargeRandom;
 use large_shapes::LargeShape;
@@ -22,6 +23,26 @@ const EDGES: Argument = Argument {
 
 /// `EDGES`, as it is read.
 static EDGES_ARGUMENT: Argument = EDGES;
+
+const MATRIX: Argument = Argument {
+    help: "The Matrix Market file, or - for standard input",
+    ..TEXT
+};
+
+/// `MATRIX`, as it is read.
+static MATRIX_ARGUMENT: Argument = MATRIX;
+
+const NAMES: Argument = Argument {
+    name: "names",
+    help: "The ends of edges are names, numbered as they first appear: where to write them, a line each, node 0 first",
+    ..FILE_OPTION
+};
+
+/// `NAMES`, as it is read.
+static NAMES_ARGUMENT: Argument = NAMES;
+
+/// `UNDIRECTED`, as it is read.
+static UNDIRECTED_ARGUMENT: Argument = UNDIRECTED;
 
 /// `DROP_LOOPS`, as it is read.
 static DROP_LOOPS_ARGUMENT: Argument = DROP_LOOPS;
@@ -95,14 +116,20 @@ const MANY_LINKS: Argument = Argument {
     ..LINKS
 };
 
-const FORMATS: [Subcommand; 9] = [
+const FORMATS: [Subcommand; 10] = [
     Subcommand {
         name: "edges",
-        about: "Lines of two numbers of nodes, from 0, and a weight, which may be left out; blanks, tabs or commas between, comments behind # or %",
+        about: "Lines of two numbers of nodes, from 0, or with --names of two names, and a weight, which may be left out; blanks, tabs or commas between, comments behind # or %",
         notes: "",
         arguments: &[
-            EDGES, COUNT, DIRECTED, SCALE, DROP_LOOPS, KEEP_LOOPS, PARALLEL, HEADER,
+            EDGES, COUNT, DIRECTED, SCALE, DROP_LOOPS, KEEP_LOOPS, PARALLEL, HEADER, NAMES,
         ],
+    },
+    Subcommand {
+        name: "matrix-market",
+        about: "Matrix Market's coordinate format: pattern, integer or real, general or symmetric; row 1 is node 0",
+        notes: "",
+        arguments: &[MATRIX, SCALE, DROP_LOOPS, KEEP_LOOPS, PARALLEL, UNDIRECTED],
     },
     Subcommand {
         name: "network",
@@ -160,7 +187,7 @@ static PACK: Command = Command {
     aliases: &[],
     called: "unison pack",
     about: "Pack a network of any size into a binary file, for unison large",
-    notes: "Prints the binary file; docs/formats.md says what stands in it.\nAn example: unison pack edges friends.txt --drop-loops --parallel min > friends.net\nAnother one: unison pack torus 1000 1000 --diagonals > torus.net\n",
+    notes: "Prints the binary file; docs/formats.md says what stands in it.\nAn example: unison pack edges friends.txt --names friends.names --parallel min > friends.net\nAnother one: unison pack torus 1000 1000 --diagonals > torus.net\n",
     arguments: &[],
     subcommands: &FORMATS,
 };
@@ -173,8 +200,17 @@ pub(crate) fn pack() -> &'static Command {
 /// What `pack` is asked for.
 #[derive(Drop)]
 pub enum PackRequest {
-    /// A list of edges at a path.
-    Edges { path: String, options: PackOptions },
+    /// A list of edges at a path. Where there is a path for names, the ends of edges are names, which are written there.
+    Edges {
+        path: String,
+        options: PackOptions,
+        names: Option<String>,
+    },
+    /// A Matrix Market file at a path.
+    Matrix {
+        path: String,
+        options: MatrixOptions,
+    },
     /// The network file at a path.
     Network { path: String },
     /// A shape.
@@ -237,11 +273,41 @@ fn options_in(reading: &mut Reading) -> PackOptions
     }
 }
 
+/// Refuses `--nodes` beside `--names`: there are as many nodes as names.
+fn check_names(reading: &mut Reading) {
+    if reading.has(&COUNT_ARGUMENT) && reading.has(&NAMES_ARGUMENT) {
+        reading.refuse_words(
+            "--nodes cannot stand beside --names, where there are as many nodes as names",
+        );
+    }
+}
+
 /// The list of edges that the words name.
 fn edges_in(reading: &mut Reading) -> PackRequest {
+    check_names(reading);
     let options = options_in(reading);
+    let names = reading.text(&NAMES_ARGUMENT);
     let path = reading.needed_text(&EDGES_ARGUMENT);
-    PackRequest::Edges { path, options }
+    PackRequest::Edges {
+        path,
+        options,
+        names,
+    }
+}
+
+/// The Matrix Market file that the words name.
+fn matrix_in(reading: &mut Reading) -> PackRequest {
+    let factor = factor_in(reading);
+    let self_loops = self_loops_in(reading);
+    let parallel = parallel_in(reading);
+    let options = MatrixOptions {
+        undirected: reading.has(&UNDIRECTED_ARGUMENT),
+        factor,
+        self_loops,
+        parallel,
+    };
+    let path = reading.needed_text(&MATRIX_ARGUMENT);
+    PackRequest::Matrix { path, options }
 }
 
 /// The columns and rows that the words name.
@@ -304,6 +370,7 @@ fn random_in(reading: &mut Reading) -> LargeRandom {
 fn request_in(reading: &mut Reading) -> PackRequest {
     match reading.subcommand() {
         "edges" => edges_in(reading),
+        "matrix-market" => matrix_in(reading),
         "network" => PackRequest::Network {
             path: reading.needed_text(&NETWORK_ARGUMENT),
         },
@@ -317,8 +384,8 @@ fn request_in(reading: &mut Reading) -> PackRequest {
 }
 
 impl PackRequest {
-    /// What the words ask for, the command's name first. Words that no format has, and `--keep-loops` beside `--drop-loops`
-    /// are `Usage`.
+    /// What the words ask for, the command's name first. Words that no format has, `--keep-loops` beside
+    /// `--drop-loops`, and `--nodes` beside `--names` are `Usage`.
     pub fn parse(alloc: Global, line: &[String]) -> Result<PackRequest, WordsFault> {
         let mut reading = Reading::of(alloc, pack(), line)?;
         let asked = request_in(&mut reading);

@@ -7,4 +7,5 @@ mod reader;
 
 pub use fault::{EdgeFault, LineFault};
 pub use import_lines::Edge;
-pub use reader::{Reading, read_edges};
+pub use line_edge::read_line;
+pub use reader::{Reading, edge_lines, read_edges};

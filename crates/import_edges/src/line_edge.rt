@@ -1,5 +1,5 @@
 //! The edge that a line says.
-ghost use Rattle.std.specs.Prelude.{◌≡◌};
+ghost use Rattle.std.specs.Prelude.{◌≡◌, IfOk};
 ghost use Rattle.std.specs.Option.{option_copied};
 ghost use Rattle.import_edges.specs.Edges.{weight_in, edge_in, edge_of};
 
@@ -21,7 +21,8 @@ fn part_weight(word: Option<&str>, factor: Option<u32>) -> Result<Weight, Weight
 
 /// The edge that a line says.
 fn line_edge(number: u64, line: &[u8], factor: Option<u32>) -> Result<Edge<'_>, LineFault>
-    ensures { result ≡ edge_in factor number line.now }
+    ensures edge { result ≡ edge_in factor number line.now }
+    ensures line { IfOk result (λ edge. edge.line ≡ number) }
 {
     let text = line_text(line).map_err(LineFault::Words)?;
     let parts = line_parts(text).map_err(LineFault::Words)?;
@@ -29,13 +30,15 @@ fn line_edge(number: u64, line: &[u8], factor: Option<u32>) -> Result<Edge<'_>, 
     Ok(Edge::new(parts.first, parts.second, weight, number))
 }
 
-/// The edge that a line says, or its fault with its number.
-pub(crate) fn read_line(
+/// The edge that the line of this number says: `a b` or `a b weight`, as [`read_edges`](crate::read_edges) reads it; or
+/// what is wrong with it, as `BadLine` with its number. It is the fault that comes first in the order of [`LineFault`].
+pub fn read_line(
     number: u64,
     line: &[u8],
     factor: Option<u32>,
 ) -> Result<Edge<'_>, EdgeFault>
-    ensures { result ≡ edge_of factor (number, line.now) }
+    ensures edge { result ≡ edge_of factor (number, line.now) }
+    ensures line { IfOk result (λ edge. edge.line ≡ number) }
 {
     match line_edge(number, line, factor) {
         Ok(edge) => Ok(edge),

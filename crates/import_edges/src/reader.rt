@@ -21,8 +21,8 @@ pub struct Reading {
     pub factor: Option<u32>,
 }
 
-/// The lines of a text that say edges.
-fn edge_lines(text: &[u8], header: bool) -> Lines<'_>
+/// The lines of a text that say edges: those that say something, but for the first of them where it is a header.
+pub fn edge_lines(text: &[u8], header: bool) -> Lines<'_>
     ensures room { result.passed + length result.bytes.now < 2 ^ 64 }
     ensures lines { told_from (result.passed + 1) result.bytes.now ≡ edge_lines header text.now }
 {

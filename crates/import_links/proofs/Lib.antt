@@ -1,7 +1,7 @@
 mod NameFaults
 mod NumberSteps
 mod Refused
-mod Stable
+pub mod Stable
 mod JoinSteps
 mod Fewer
 mod Firsts

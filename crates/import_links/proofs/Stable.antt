@@ -61,7 +61,7 @@ all_grown names (e ∷ es) =
     (one.0 ++ two.0, two.1 ∙ ap (λ ns. ns ++ two.0) one.1 ∙ append_assoc names one.0 two.0)
 
 module _ (names : List (List ℕ)) (e : NamedEdge) where
-  first_there : has_name (with_ends names e) e.first ≡ true
+  pub first_there : has_name (with_ends names e) e.first ≡ true
   first_there =
       let two = grown (with_name names e.first) e.second in
       rw (two.1) (has_kept (with_name names e.first) e.first two.0 (has_with names e.first))

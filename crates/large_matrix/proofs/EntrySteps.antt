@@ -1,7 +1,6 @@
 -- The edges of entries, read one after another.
-use Rattle.std.proofs.Common.{◌≡◌, ℕ, ◌<◌, true, List, [], ◌∷◌, ◌++◌, map, Option, Result, Ok, Err}
+use Rattle.std.proofs.Common.{◌≡◌, true, List, ◌++◌, map, Option, Result, Ok, Err}
 use Rattle.std.specs.Option.{option_or}
-use Rattle.std.specs.List.{AllByRecursion}
 use Rattle.import_links.specs.declared.placed.PlacedLink.{PlacedLink}
 use Rattle.import_matrix.specs.declared.fault.MatrixFault.{MatrixFault}
 use Rattle.import_matrix.specs.Steps.{and_then}
@@ -11,8 +10,8 @@ use Rattle.large_pack.specs.declared.fault.PackFault.{PackFault}
 use Rattle.large_pack.specs.declared.ranked.Ranked.{Ranked}
 use Rattle.large_pack.specs.Sound.{loop_fault, first_fault}
 use Rattle.large_pack.specs.Packing.{refuses}
-use Rattle.large_pack.specs.Ranks.{ranked, LinesRise, AreTied}
-use Rattle.large_pack.proofs.Rising.{Rise, numbers, all_tied}
+use Rattle.large_pack.specs.Ranks.{ranked, AreTied}
+use Rattle.large_pack.proofs.Rising.{all_tied}
 use Rattle.large_matrix.specs.Entries.{edges_of}
 use Rattle.large_matrix.specs.Steps.{ranked_in}
 
@@ -30,28 +29,3 @@ tied options (Ok links) items read h =
     let same : map (ranked options) (edges_of links) ≡ items = cc in
     rw (← same) (all_tied options (edges_of links) h)
 tied options (Err fault) items read h = cc
-
--- ---- lines
-
-abbrev pub lines_of : List Ranked → List ℕ
-lines_of edges = map (λ (e : Ranked). e.line) edges
-
-front_below : (k : ℕ) (xs ys : List ℕ) → AllByRecursion (λ j. k < j) (xs ++ ys) → AllByRecursion (λ j. k < j) xs
-front_below k [] ys up = tt
-front_below k (x ∷ xs) ys up = (up.0, front_below k xs ys up.1)
-
-front_rises : (xs ys : List ℕ) → Rise (xs ++ ys) → Rise xs
-front_rises [] ys up = tt
-front_rises (x ∷ xs) ys up = (front_below x xs ys up.0, front_rises xs ys up.1)
-
-edges_below : (k : ℕ) (es : List Ranked) → AllByRecursion (λ j. k < j) (lines_of es) → AllByRecursion (λ (d : Ranked). k < d.line) es
-edges_below k [] up = tt
-edges_below k (e ∷ es) up = (up.0, edges_below k es up.1)
-
-edges_rise : (es : List Ranked) → Rise (lines_of es) → LinesRise es
-edges_rise [] up = tt
-edges_rise (e ∷ es) up = (edges_below e.line es up.0, edges_rise es up.1)
-
--- edges that stand in lines at the front
-pub lines_rise : (es : List Ranked) (left all : List (ℕ × List ℕ)) → lines_of es ++ numbers left ≡ numbers all → Rise (numbers all) → LinesRise es
-lines_rise es left all so_far up = edges_rise es (front_rises (lines_of es) (numbers left) (rw (← so_far) at up))

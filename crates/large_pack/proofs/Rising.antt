@@ -1,5 +1,5 @@
 -- Edges whose lines rise, as they are compared.
-use Rattle.std.proofs.Common.{◌≡◌, ℕ, ◌+◌, ◌<◌, Bool, true, false, not, List, [], ◌∷◌, map, nat_lt, refl, arith, inl, inr}
+use Rattle.std.proofs.Common.{◌≡◌, ℕ, ◌+◌, ◌<◌, Bool, true, false, not, List, [], ◌∷◌, ◌++◌, map, nat_lt, refl, arith, inl, inr}
 use Rattle.std.proofs.lemmas.Bool.{cases_Bool}
 use Rattle.std.specs.List.{filter, slice_split, enumerate_from, AllByRecursion}
 use Rattle.import_lines.specs.Texts.{is_line_feed, say_nothing, words_of, told_from}
@@ -58,13 +58,38 @@ pub lines_rise : (o : PackOptions) (es : List EdgeLine) → Rise (map (λ e. e.l
 lines_rise o [] up = tt
 lines_rise o (e ∷ es) up = (later_lines o e.line es up.0, lines_rise o es up.1)
 
+-- the lines of edges
+abbrev pub lines_of : List Ranked → List ℕ
+lines_of edges = map (λ (e : Ranked). e.line) edges
+
+front_below : (k : ℕ) (xs ys : List ℕ) → AllByRecursion (λ j. k < j) (xs ++ ys) → AllByRecursion (λ j. k < j) xs
+front_below k [] ys up = tt
+front_below k (x ∷ xs) ys up = (up.0, front_below k xs ys up.1)
+
+front_rises : (xs ys : List ℕ) → Rise (xs ++ ys) → Rise xs
+front_rises [] ys up = tt
+front_rises (x ∷ xs) ys up = (front_below x xs ys up.0, front_rises xs ys up.1)
+
+edges_below : (k : ℕ) (es : List Ranked) → AllByRecursion (λ j. k < j) (lines_of es) → AllByRecursion (λ (d : Ranked). k < d.line) es
+edges_below k [] up = tt
+edges_below k (e ∷ es) up = (up.0, edges_below k es up.1)
+
+edges_rise : (es : List Ranked) → Rise (lines_of es) → LinesRise es
+edges_rise [] up = tt
+edges_rise (e ∷ es) up = (edges_below e.line es up.0, edges_rise es up.1)
+
+-- edges that stand in the first of such lines
+pub front_rise : (es : List Ranked) (left all : List (ℕ × List ℕ)) → lines_of es ++ numbers left ≡ numbers all → Rise (numbers all) → LinesRise es
+front_rise es left all so_far up = edges_rise es (front_rises (lines_of es) (numbers left) (rw (← so_far) at up))
+
 -- ---- ends
 
 -- both ends are below n
 abbrev pub EndsBelow : ℕ → EdgeLine → Type 0
 EndsBelow n e = (e.first < n) × (e.second < n)
 
-turned_below : (dir : Bool) (a b n : ℕ) → a < n → b < n → ((ends_of dir a b).0 < n) × ((ends_of dir a b).1 < n)
+-- the ends, whichever comes first
+pub turned_below : (dir : Bool) (a b n : ℕ) → a < n → b < n → ((ends_of dir a b).0 < n) × ((ends_of dir a b).1 < n)
 turned_below true a b n one two = (one, two)
 turned_below false a b n one two =
     elim (cases_Bool (nat_lt b a)) [

@@ -8,8 +8,8 @@ use Rattle.std.proofs.lemmas.List.Sums.{prefix_len-le-length}
 use Rattle.std.proofs.lemmas.List.Quantifiers.{position-Some}
 use Rattle.std.proofs.lemmas.Option.{slice_get-get_or}
 use Rattle.std.proofs.lemmas.Slice.Eq.{bytes_eq-Decides}
-use Rattle.link_net.specs.Limits.{most_nodes}
-use Rattle.net_names.specs.Naming.{AreNames, most_name_bytes, is_control, is_name, place_in, has_name, number_in}
+use Rattle.link_net.specs.Limits.{most_nodes, most_rows}
+use Rattle.net_names.specs.Naming.{AreNames, AreListed, most_name_bytes, is_control, is_name, place_in, has_name, with_name, number_in}
 
 -- text of the right length is a name where it has no control character
 pub name_when : (bytes : List ℕ) → is_utf8 bytes ≡ true → 0 < length bytes → length bytes ≤ most_name_bytes → not (list_any is_control bytes) ≡ is_name bytes
@@ -24,6 +24,13 @@ each-push P (y ∷ ys) x all here = (all.0, each-push P ys x all.1 here)
 pub names-push : (names : List (List ℕ)) (name : List ℕ) → AreNames names → is_name name ≡ true → length names < most_nodes → IsDistinct bytes_eq (names ++ name ∷ []) → AreNames (names ++ name ∷ [])
 names-push names name are named room distinct = record {
   each = each-push (λ n. is_name n ≡ true) names name are.each named;
+  distinct = distinct;
+  few = omega (arith, length-append names (name ∷ []));
+}
+
+-- one more name of a list
+pub listed-push : (names : List (List ℕ)) (name : List ℕ) → length names < most_rows → IsDistinct bytes_eq (names ++ name ∷ []) → AreListed (names ++ name ∷ [])
+listed-push names name room distinct = record {
   distinct = distinct;
   few = omega (arith, length-append names (name ∷ []));
 }
@@ -68,3 +75,13 @@ module _ (names : List (List ℕ)) (name : List ℕ) where
 
   pub get_new : slice_get (names ++ name ∷ []) (length names) ≡ Some name
   get_new = last-get names name
+
+  -- names of a list
+  pub place_there : (i : ℕ) → Some i ≡ position (bytes_eq name) names → i ≡ place_in names name
+  place_there i at = sym ((placed (has_name names name) (place_in names name) i at).1)
+
+  pub with_there : (i : ℕ) → Some i ≡ position (bytes_eq name) names → with_name names name ≡ names
+  with_there i at = (let there = (placed (has_name names name) (place_in names name) i at).0 in rw there refl)
+
+  pub with_new : None ≡ position (bytes_eq name) names → with_name names name ≡ names ++ name ∷ []
+  with_new none = (let new = is_new none in rw new refl)

@@ -2,7 +2,7 @@
 use Rattle.std.specs.Prelude.{◌≡◌, ◌≤◌, ℕ, ◌==◌, Bool, true, ◌&&◌, ◌||◌, not, List, [], ◌∷◌, ◌++◌, length, nat_lt, nat_le, Result, Ok, Err, if◌then◌else◌}
 use Rattle.std.specs.List.{list_any, position_or_len, IsDistinct, AllByRecursion}
 use Rattle.std.specs.Str.{is_utf8, bytes_eq}
-use Rattle.link_net.specs.Limits.{most_nodes}
+use Rattle.link_net.specs.Limits.{most_nodes, most_rows}
 use Rattle.net_names.specs.declared.fault.NamesFault.{NamesFault}
 use Rattle.net_names.specs.declared.fault.NamesFault.TheVariants.{BadName, TooManyNames}
 
@@ -23,6 +23,11 @@ pub record AreNames (names : List (List ℕ)) : Type 0 where
   pub each : AllByRecursion (λ name. is_name name ≡ true) names
   pub distinct : IsDistinct bytes_eq names
   pub few : length names ≤ most_nodes
+
+-- these are the names of nodes of a network of any size: no two are equal, and they are no more than it has nodes
+pub record AreListed (names : List (List ℕ)) : Type 0 where
+  pub distinct : IsDistinct bytes_eq names
+  pub few : length names ≤ most_rows
 
 -- the place of the name, and how many names there are where it is not among them
 abbrev pub place_in : List (List ℕ) → List ℕ → ℕ

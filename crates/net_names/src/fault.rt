@@ -2,6 +2,7 @@
 ghost use Rattle.std.specs.Prelude.{◌≡◌};
 ghost use Rattle.net_names.specs.declared.fault.NamesFault.TheVariants.{Memory as NamesMemory};
 ghost use Rattle.net_names.specs.declared.fault.NamesFileFault.TheVariants.{Memory as FileMemory};
+ghost use Rattle.net_names.specs.declared.fault.NameListFault.TheVariants.{Memory as ListMemory};
 
 use std::alloc::{AllocError, AllocFailed};
 use thiserror::Error;
@@ -59,5 +60,24 @@ impl From<AllocError> for NamesFileFault {
 
     fn from(_error: AllocError) -> NamesFileFault {
         NamesFileFault::Memory
+    }
+}
+
+/// Why a name has no number in a list of names.
+#[derive(Clone, Copy, Debug, PartialEq, Eq, Error)]
+pub enum NameListFault {
+    /// It is new, and there are 4,294,967,295 names.
+    #[error("there are 4294967295 names, and no more may be")]
+    TooManyNames,
+    /// Memory ran out.
+    #[error("not enough memory")]
+    Memory,
+}
+
+impl From<AllocError> for NameListFault {
+    ghost from_gives = { λ _ e. e ≡ ListMemory };
+
+    fn from(_error: AllocError) -> NameListFault {
+        NameListFault::Memory
     }
 }

@@ -1,145 +1,15 @@
 //! What is told of a text of another format that has no network.
 
-use app_files::{put_place, weight_told, words_told};
+use app_files::{
+    Told, edges_told, matrix_told, on_line, put_matrix_detail, put_place, weight_told,
+};
 use app_requests::Format;
 use app_table::Draft;
 use import_dot::{DotFault, DotLineFault, TokenKind};
-use import_edges::{EdgeFault, LineFault};
-use import_lines::WordsFault;
 use import_links::{JoinFault, NumberFault, SettleFault};
-use import_matrix::{MatrixFault, MatrixLineFault};
 use import_network::TakeFault;
 use link_net::NetFault;
 use std::alloc::{AllocError, Global};
-
-/// The line of a fault where it has one, the fault's name, and what is wrong and what to do.
-type Told = (Option<u64>, &'static str, &'static str);
-
-/// A fault of a line.
-fn on_line(line: u64, told: (&'static str, &'static str)) -> Told {
-    (Some(line), told.0, told.1)
-}
-
-/// What is wrong with a list of edges.
-fn edges_told(fault: EdgeFault) -> Told {
-    match fault {
-        EdgeFault::BadLine {
-            line,
-            fault: LineFault::Words(fault),
-        } => on_line(line, words_told(fault)),
-        EdgeFault::BadLine {
-            line,
-            fault: LineFault::Weight(fault),
-        } => on_line(line, weight_told(fault)),
-        EdgeFault::Memory => (None, "Memory", ""),
-    }
-}
-
-/// What is wrong with the header of a Matrix Market file.
-fn header_told(fault: MatrixLineFault) -> (&'static str, &'static str) {
-    match fault {
-        MatrixLineFault::ArrayFormat => (
-            "ArrayFormat",
-            "expected the format `coordinate`; `array` has a value for each two nodes, and is not taken",
-        ),
-        MatrixLineFault::UnknownField => (
-            "UnknownField",
-            "expected the field `pattern`, `integer` or `real`",
-        ),
-        MatrixLineFault::UnknownSymmetry => (
-            "UnknownSymmetry",
-            "expected the symmetry `symmetric` or `general`",
-        ),
-        MatrixLineFault::Directed => (
-            "Directed",
-            "the edges of a general matrix have a direction (--undirected leaves it aside, and --parallel takes both directions as one)",
-        ),
-        _ => (
-            "NoHeader",
-            "expected `%%MatrixMarket matrix coordinate FIELD SYMMETRY`",
-        ),
-    }
-}
-
-/// What is wrong with the size line of a Matrix Market file.
-fn size_told(fault: MatrixLineFault) -> (&'static str, &'static str) {
-    match fault {
-        MatrixLineFault::NotSquare => (
-            "NotSquare",
-            "the matrix of a network has as many columns as rows",
-        ),
-        MatrixLineFault::NoNodes => ("NoNodes", "a network has a node or more"),
-        MatrixLineFault::TooManyNodes => ("TooManyNodes", "a network has 65536 nodes at most"),
-        _ => (
-            "BadSize",
-            "expected the numbers of rows, columns and entries",
-        ),
-    }
-}
-
-/// What is wrong with an entry of a Matrix Market file.
-fn entry_told(fault: MatrixLineFault) -> (&'static str, &'static str) {
-    match fault {
-        MatrixLineFault::Words(WordsFault::OneWord) => (
-            "OneWord",
-            "expected a row and a column; found one word",
-        ),
-        MatrixLineFault::Words(WordsFault::TooManyWords) => (
-            "TooManyWords",
-            "expected a row, a column and a value; found more than three words",
-        ),
-        MatrixLineFault::Words(fault) => words_told(fault),
-        MatrixLineFault::Value(fault) => weight_told(fault),
-        MatrixLineFault::NoValue => ("NoValue", "expected a value behind the row and the column"),
-        MatrixLineFault::ValueInPattern => (
-            "ValueInPattern",
-            "the entries of a pattern are a row and a column; found a value",
-        ),
-        _ => (
-            "BadIndex",
-            "a row or a column is a number from 1 to the number of rows",
-        ),
-    }
-}
-
-/// What is wrong with a line of a Matrix Market file.
-fn matrix_line_told(fault: MatrixLineFault) -> (&'static str, &'static str) {
-    match fault {
-        MatrixLineFault::NoHeader
-        | MatrixLineFault::ArrayFormat
-        | MatrixLineFault::UnknownField
-        | MatrixLineFault::UnknownSymmetry
-        | MatrixLineFault::Directed => header_told(fault),
-        MatrixLineFault::BadSize
-        | MatrixLineFault::NotSquare
-        | MatrixLineFault::NoNodes
-        | MatrixLineFault::TooManyNodes => size_told(fault),
-        _ => entry_told(fault),
-    }
-}
-
-/// What is wrong with a Matrix Market file.
-fn matrix_told(fault: MatrixFault) -> Told {
-    match fault {
-        MatrixFault::BadLine { line, fault } => on_line(line, matrix_line_told(fault)),
-        MatrixFault::NoSize => (
-            None,
-            "NoSize",
-            "expected a line with the numbers of rows, columns and entries behind the header",
-        ),
-        MatrixFault::TooManyEntries { line, .. } => (
-            Some(line),
-            "TooManyEntries",
-            "there are more entries than the size line says",
-        ),
-        MatrixFault::TooFewEntries { .. } => (
-            None,
-            "TooFewEntries",
-            "there are fewer entries than the size line says",
-        ),
-        MatrixFault::Memory => (None, "Memory", ""),
-    }
-}
 
 /// What is wrong with the bytes of a text in Graphviz's language.
 fn bytes_told(fault: DotLineFault) -> (&'static str, &'static str) {
@@ -283,7 +153,7 @@ fn settle_told(fault: SettleFault) -> Told {
 fn told_of(fault: TakeFault) -> Told {
     match fault {
         TakeFault::Edges(fault) => edges_told(fault),
-        TakeFault::Matrix(fault) => matrix_told(fault),
+        TakeFault::Matrix(fault) => matrix_told(fault, "a network has 65536 nodes at most"),
         TakeFault::Dot(fault) => dot_told(fault),
         TakeFault::Join(fault) => join_told(fault),
         TakeFault::Numbers(fault) => numbers_told(fault),
@@ -325,17 +195,7 @@ fn put_detail(draft: &mut Draft, fault: TakeFault) {
             draft.put("; it stands on line ");
             draft.put_count(first);
         }
-        TakeFault::Matrix(MatrixFault::TooManyEntries { said, .. }) => {
-            draft.put(": ");
-            draft.put_count(said);
-        }
-        TakeFault::Matrix(MatrixFault::TooFewEntries { said, found }) => {
-            draft.put(": ");
-            draft.put_count(found);
-            draft.put(", and ");
-            draft.put_count(said);
-            draft.put(" were said");
-        }
+        TakeFault::Matrix(fault) => put_matrix_detail(draft, fault),
         TakeFault::Dot(
             DotFault::BadLine {
                 fault: DotLineFault::Syntax { found },

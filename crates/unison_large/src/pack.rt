@@ -1,13 +1,16 @@
 //! `pack`: a network of any size as a binary file.
 
-use crate::refusals::refusal;
-use app_files::{Ending, bytes_at, file_at, name_at, print_out, put_note};
+use crate::refusals::{matrix_refusal, names_refusal, refusal};
+use app_files::{Ending, bytes_at, file_at, name_at, print_out, put_note, write_file};
 use app_requests::PackRequest;
 use app_table::Draft;
+use large_matrix::{MatrixOptions, pack_matrix};
+use large_names::{NamedNetwork, pack_names};
 use large_net::{LargeNetwork, large_bytes};
 use large_pack::{PackOptions, Packed, pack_edges};
 use large_random::{LargeRandom, LargeRandomFault, large_random};
 use large_shapes::{LargeShape, LargeShapeFault, large_shape};
+use net_names::list_text;
 use std::alloc::{AllocError, Global};
 use std::io::IsTerminal;
 
@@ -38,15 +41,53 @@ fn output_of(alloc: Global, network: &LargeNetwork, notes: String) -> Result<Out
     Ok(Output { bytes, notes })
 }
 
+/// The binary file of a network that is packed, with its notes.
+fn packed_output(alloc: Global, packed: &Packed) -> Result<Output, Ending> {
+    let notes = notes_text(alloc, packed)?;
+    output_of(alloc, &packed.network, notes)
+}
+
 /// The binary file of the list of edges at a path.
 fn edges_at(rt: &HostRuntime, path: &str, options: &PackOptions) -> Result<Output, Ending> {
     let text = bytes_at(rt, path)?;
     match pack_edges(rt.alloc(), &text, options) {
-        Ok(packed) => {
-            let notes = notes_text(rt.alloc(), &packed)?;
-            output_of(rt.alloc(), &packed.network, notes)
-        }
+        Ok(packed) => packed_output(rt.alloc(), &packed),
         Err(fault) => Err(Ending::refused(refusal(rt.alloc(), name_at(path), fault))),
+    }
+}
+
+/// The binary file of the Matrix Market file at a path.
+fn matrix_at(rt: &HostRuntime, path: &str, options: &MatrixOptions) -> Result<Output, Ending> {
+    let text = bytes_at(rt, path)?;
+    match pack_matrix(rt.alloc(), &text, options) {
+        Ok(packed) => packed_output(rt.alloc(), &packed),
+        Err(fault) => Err(Ending::refused(matrix_refusal(rt.alloc(), name_at(path), fault))),
+    }
+}
+
+/// The binary file of a network of named nodes, whose names are written into their file once it is made.
+fn named_output(
+    rt: &HostRuntime,
+    named: &NamedNetwork,
+    names_path: &str,
+) -> Result<Output, Ending> {
+    let output = packed_output(rt.alloc(), &named.packed)?;
+    let names = list_text(rt.alloc(), &named.names)?;
+    write_file(rt, names_path, names.as_slice())?;
+    Ok(output)
+}
+
+/// The binary file of the list of edges between named nodes at a path; their names are written at another one.
+fn names_at(
+    rt: &HostRuntime,
+    path: &str,
+    options: &PackOptions,
+    names_path: &str,
+) -> Result<Output, Ending> {
+    let text = bytes_at(rt, path)?;
+    match pack_names(rt.alloc(), &text, options) {
+        Ok(named) => named_output(rt, &named, names_path),
+        Err(fault) => Err(Ending::refused(names_refusal(rt.alloc(), name_at(path), fault))),
     }
 }
 
@@ -100,7 +141,17 @@ fn random_of(alloc: Global, wanted: LargeRandom, seed: u32) -> Result<Output, En
 /// The binary file that is asked for.
 fn output_for(rt: &HostRuntime, asked: &PackRequest) -> Result<Output, Ending> {
     match asked {
-        PackRequest::Edges { path, options } => edges_at(rt, path.as_str(), options),
+        PackRequest::Edges {
+            path,
+            options,
+            names: None,
+        } => edges_at(rt, path.as_str(), options),
+        PackRequest::Edges {
+            path,
+            options,
+            names: Some(names),
+        } => names_at(rt, path.as_str(), options, names.as_str()),
+        PackRequest::Matrix { path, options } => matrix_at(rt, path.as_str(), options),
         PackRequest::Network { path } => copied_at(rt, path.as_str()),
         PackRequest::Shape(shape) => shape_of(rt.alloc(), *shape),
         PackRequest::Random { wanted, seed } => random_of(rt.alloc(), *wanted, *seed),
@@ -127,7 +178,7 @@ fn put_output(rt: &HostRuntime, output: &Output) -> Result<u8, Ending> {
     Ok(status)
 }
 
-/// Prints the binary file of a network. The status with which the program ends.
+/// Prints the binary file of a network, once the names of its nodes are written where that is asked. The status with which the program ends.
 pub(crate) fn pack_network(rt: &HostRuntime, words: &[String]) -> Result<u8, Ending> {
     let asked = PackRequest::parse(rt.alloc(), words)?;
     check_output(rt)?;

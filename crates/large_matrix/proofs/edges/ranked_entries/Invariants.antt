@@ -1,9 +1,9 @@
 use Rattle.std.proofs.Common.{◌≡◌, ◌++◌, ◌+◌, ◌<◌, ◌≤◌, ◌^◌, length}
 use Rattle.import_matrix.specs.Matrices.{lines_left, links_left}
 use Rattle.large_pack.specs.Ranks.{RankedWithin}
-use Rattle.large_pack.proofs.Rising.{numbers}
+use Rattle.large_pack.proofs.Rising.{numbers, lines_of}
 use Rattle.large_matrix.specs.Steps.{ranked_in}
-use Rattle.large_matrix.proofs.EntrySteps.{with_front, lines_of}
+use Rattle.large_matrix.proofs.EntrySteps.{with_front}
 use Rattle.large_matrix.proofs.edges.ranked_entries.Given as goal
 
 abbrev pub invariant-loop-edges : goal.invariant-loop-edges

@@ -1,0 +1,3 @@
+mod Surveying
+mod Numbering
+mod NamedPacks
