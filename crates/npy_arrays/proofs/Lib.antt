@@ -1,0 +1,6 @@
+mod Fronts
+mod Headers
+mod Searches
+mod Elements
+mod Arrays
+mod Writes

@@ -1,0 +1,5 @@
+pub mod Files
+pub mod Headers
+pub mod Arrays
+pub mod Written
+pub mod Parts

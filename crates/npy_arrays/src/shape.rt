@@ -1,0 +1,42 @@
+//! The axes of an array.
+ghost use Rattle.std.specs.Prelude.{◌≡◌, ◌≢◌, ◌<◌, ◌^◌, ℕ, MatchOption, IfOk, string_bytes};
+ghost use Rattle.npy_arrays.specs.Arrays.{shape_text};
+ghost use Rattle.npy_arrays.specs.Written.{axes_text};
+ghost use Rattle.npy_arrays.specs.Parts.{IsSmall};
+
+use report_text::read_number;
+use std::alloc::{AllocError, Global};
+
+/// The axes of an array that is written.
+#[derive(Clone, Copy)]
+pub enum ArrayShape {
+    /// One axis of so many elements.
+    Row { count: u32 },
+    /// Rows of so many columns each; the elements of a row stand together.
+    Table { rows: u32, columns: u32 },
+}
+
+impl ArrayShape {
+    /// The shape as a tuple of Python, without its parentheses.
+    pub(crate) fn text(self, alloc: Global) -> Result<String, AllocError>
+        ensures text { IfOk result (λ text. string_bytes text ≡ axes_text self) }
+        ensures small { IfOk result (λ _. IsSmall self) }
+    {
+        match self {
+            ArrayShape::Row { count } => format!(in alloc; "{count},"),
+            ArrayShape::Table { rows, columns } => format!(in alloc; "{rows}, {columns}"),
+        }
+    }
+}
+
+/// How many elements the shape of one axis has.
+pub(crate) fn count_in(shape: &[u8]) -> Option<u32>
+    ensures { MatchOption result ((n : ℕ) → n < 2 ^ 32 → shape.now ≢ shape_text n) (λ n. shape.now ≡ shape_text n) }
+{
+    let (count, rest) = read_number(shape)?;
+    if rest == b",".as_slice() {
+        Some(count)
+    } else {
+        None
+    }
+}
