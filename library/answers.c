@@ -176,6 +176,74 @@ static void faults(void) {
     round_is("lockstep, a round that is too large", distance, path, 1000000001, 80);
 }
 
+/* The path 0 - 1 - 2 as lists. */
+static const uint64_t path_offsets[] = {0, 1, 3, 4};
+static const uint32_t path_neighbours[] = {1, 0, 2, 1};
+#define PATH_LISTS path_offsets, 4, path_neighbours, 4
+#define NO_WEIGHTS path_neighbours, 0
+
+/* The answer and the place for lists of four offsets and four neighbours; the place is 9 where it is not set. */
+static void lists_are(const char *what, const uint64_t offsets[4], const uint32_t neighbours[4], size_t weights, uint32_t wanted, size_t at) {
+    size_t place = 9;
+    is(what, unison_large_check(offsets, 4, neighbours, 4, neighbours, weights, &place) == wanted && place == at);
+}
+
+static void lists(void) {
+    size_t place = 9;
+    lists_are("large check", path_offsets, path_neighbours, 0, 0, 9);
+    lists_are("large check, with weights", path_offsets, path_neighbours, 4, 0, 9);
+    lists_are("large check, a weight too few", path_offsets, path_neighbours, 3, 148, 3);
+    lists_are("large check, a first offset that is not 0", (uint64_t[]){1, 1, 3, 4}, path_neighbours, 0, 145, 0);
+    lists_are("large check, an offset that is lower", (uint64_t[]){0, 2, 1, 4}, path_neighbours, 0, 145, 1);
+    lists_are("large check, a last offset that is too low", (uint64_t[]){0, 1, 3, 3}, path_neighbours, 0, 145, 3);
+    lists_are("large check, an offset far behind the end", (uint64_t[]){0, 1, UINT64_MAX, 4}, path_neighbours, 0, 145, 2);
+    lists_are("large check, a neighbour that is no node", path_offsets, (uint32_t[]){1, 0, 3, 1}, 0, 147, 2);
+    lists_are("large check, the greatest number as neighbour", path_offsets, (uint32_t[]){1, 0, 2, FAR}, 0, 147, 3);
+    is("large check, no node", unison_large_check(path_offsets, 1, path_neighbours, 0, NO_WEIGHTS, &place) == 144 && place == 0);
+    place = 9;
+    is("large check, no offset", unison_large_check(path_offsets, 0, path_neighbours, 0, NO_WEIGHTS, &place) == 144 && place == 0);
+    place = 9;
+    is("large check, a node without neighbours", unison_large_check((uint64_t[]){0, 0}, 2, path_neighbours, 0, NO_WEIGHTS, &place) == 0 && place == 9);
+}
+
+static void large_rounds(void) {
+    const char weighted[] = "field d = 4294967295; next d = (d min least (n.d + n.weight));", total[] = "field s = 0; next s = total n.s;";
+    const char both[] = "field a = 0; field b = 0; next a = b; next b = total n.a;";
+    const uint64_t ring[] = {0, 1, 2, 3};
+    uint32_t words[] = {0, FAR, FAR, 9}, apart[] = {0, FAR, FAR}, turned[] = {5, 6, 7}, laid[] = {1, 2, 3, 4, 5, 6}, later[] = {7, 3, 9};
+    uint32_t fields = 9, answer;
+    answer = unison_large_rounds(TEXT(distance), PATH_LISTS, NO_WEIGHTS, 0, 2, words, 3, &fields);
+    is("large rounds", answer == 0 && fields == 1 && are(words, (uint32_t[]){0, 1, 2, 9}, 4));
+    answer = unison_large_rounds(TEXT(weighted), PATH_LISTS, (uint32_t[]){3, 3, 4, 4}, 4, 0, 2, apart, 3, &fields);
+    is("large rounds, with weights", answer == 0 && are(apart, (uint32_t[]){0, 3, 7}, 3));
+    answer = unison_large_rounds(TEXT(total), ring, 4, (uint32_t[]){1, 2, 0}, 3, NO_WEIGHTS, 10, 11, turned, 3, &fields);
+    is("large rounds, links one way", answer == 0 && are(turned, (uint32_t[]){6, 7, 5}, 3));
+    answer = unison_large_rounds(TEXT(both), PATH_LISTS, NO_WEIGHTS, 0, 1, laid, 6, &fields);
+    is("large rounds, two fields", answer == 0 && fields == 2 && are(laid, (uint32_t[]){2, 3, 4, 6, 6, 3}, 6));
+    answer = unison_large_rounds(TEXT(distance), PATH_LISTS, NO_WEIGHTS, 5, 6, later, 3, &fields);
+    is("large rounds from a later round", answer == 0 && are(later, (uint32_t[]){4, 3, 4}, 3));
+    answer = unison_large_rounds(TEXT(distance), PATH_LISTS, NO_WEIGHTS, 7, 7, later, 3, &fields);
+    is("large rounds, no round", answer == 0 && are(later, (uint32_t[]){4, 3, 4}, 3));
+}
+
+/* The answer to a round on lists of four offsets and four neighbours, the number of fields, and that the words stay. */
+static void large_fault_is(const char *what, const char *program, const uint32_t neighbours[4], uint32_t start, uint32_t round, size_t count,
+                           uint32_t wanted, uint32_t wanted_fields) {
+    uint32_t words[] = {0, FAR, FAR}, fields = 9;
+    uint32_t answer = unison_large_rounds(TEXT(program), path_offsets, 4, neighbours, 4, NO_WEIGHTS, start, round, words, count, &fields);
+    is(what, answer == wanted && fields == wanted_fields && are(words, (uint32_t[]){0, FAR, FAR}, 3));
+}
+
+static void large_faults(void) {
+    const uint32_t loose_neighbours[] = {1, 0, 3, 1};
+    large_fault_is("large rounds, a program that breaks off", "field", loose_neighbours, 0, 2, 3, 18, 9);
+    large_fault_is("large rounds, a neighbour that is no node", distance, loose_neighbours, 3, 2, 3, 147, 9);
+    large_fault_is("large rounds, a round that is too large", distance, path_neighbours, 0, 1000000001, 2, 80, 9);
+    large_fault_is("large rounds, a round below the start", distance, path_neighbours, 3, 2, 2, 81, 9);
+    large_fault_is("large rounds, a word too few", distance, path_neighbours, 0, 2, 2, 149, 1);
+    large_fault_is("large rounds, no words", "field a = 0; field b = 0; next a = b;", path_neighbours, 0, 2, 0, 149, 2);
+}
+
 int main(void) {
     spelling();
     rounds();
@@ -186,6 +254,9 @@ int main(void) {
     told();
     told_faults();
     faults();
+    lists();
+    large_rounds();
+    large_faults();
     printf("%d passed, %d failed\n", passed, failed);
     return failed != 0;
 }

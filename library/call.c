@@ -5,6 +5,8 @@
  *     call watch PROGRAM NETWORK ROUND..          the same for each round, behind a line with its number
  *     call settle PROGRAM NETWORK LIMIT           settles ROUND, repeats ROUND PERIOD, or open LIMIT
  *     call replay PROGRAM NETWORK SCHEDULE STOP   the replay report, and a line for each node: its number, its count and its words
+ *     call large PROGRAM PACKED ROUND [OPENING]   a line for each node, as of lockstep, on the network of any size that `unison pack` made;
+ *                                                 OPENING is what `call watch` printed of one round, to go on from
  *     call why JOB PROGRAM [NETWORK NUMBER [SCHEDULE]]
  *                                                 the number of the first fault, or 0, and what is told of it
  *
@@ -215,6 +217,61 @@ static int show_why(char **words, size_t count) {
     return 0;
 }
 
+static int wrong(const char *path, const char *what) {
+    fprintf(stderr, "call: %s: %s\n", path, what);
+    return 2;
+}
+
+/* The words that a program's fields open with, and how many these are: those of a network of one node. */
+static uint32_t open_node(struct text program, uint32_t words[8], uint32_t *fields) {
+    static const uint8_t lone[] = "nodes = 1\nlinks = []\n";
+    uint32_t nodes = 0;
+    return unison_lockstep(program.bytes, program.len, lone, sizeof lone - 1, lone, 0, 0, words, 8, &nodes, fields);
+}
+
+/* Reads the round and the words that `call watch` printed; whether they are there. */
+static int read_opening(const char *path, uint32_t *words, size_t nodes, uint32_t fields, uint32_t *start) {
+    FILE *file = fopen(path, "r");
+    unsigned word = 0;
+    int is_read = file && fscanf(file, "round %u", &word) == 1;
+    *start = word;
+    for (size_t node = 0; is_read && node < nodes; node++) {
+        is_read = fscanf(file, "%u", &word) == 1 && word == node;
+        for (uint32_t field = 0; is_read && field < fields; field++) {
+            is_read = fscanf(file, "%u", &word) == 1;
+            words[node * fields + field] = word;
+        }
+    }
+    if (file) fclose(file);
+    return is_read;
+}
+
+/* The three lists lie in a packed network as they are (docs/formats.md): behind the header the offsets, the neighbours, the weights. */
+static int show_large(char **words) {
+    struct text program = read_file(words[0]), packed = read_file(words[1]);
+    uint64_t header[4] = {0};
+    if (packed.len < sizeof header || memcmp(packed.bytes, "UNISONW1", 8) != 0) return wrong(words[1], "no packed network: `unison pack` makes one");
+    memcpy(header, packed.bytes, sizeof header);
+    size_t nodes = header[1], ends = header[2], weights = header[3] ? ends : 0;
+    const uint64_t *offsets = (const uint64_t *)(const void *)(packed.bytes + sizeof header);
+    const uint32_t *neighbours = (const uint32_t *)(const void *)(offsets + nodes + 1);
+    if (nodes > packed.len / 8 || ends > packed.len / 4 || packed.len != sizeof header + 8 * (nodes + 1) + 4 * (ends + weights))
+        return wrong(words[1], "the packed network has another length than its header says");
+    uint32_t first[8], fields = 0, start = 0, answer = open_node(program, first, &fields);
+    if (answer) return fault(answer);
+    uint32_t *states = room_for(nodes * fields, sizeof *states);
+    for (size_t at = 0; at < nodes * fields; at++) states[at] = first[at % fields];
+    if (words[3] && !read_opening(words[3], states, nodes, fields, &start)) return wrong(words[3], "no words of one round, as `call watch` prints them");
+    answer = unison_large_rounds(program.bytes, program.len, offsets, nodes + 1, neighbours, ends, neighbours + ends, weights, start,
+                                 number(words[2]), states, nodes * fields, &fields);
+    if (answer) return fault(answer);
+    print_words(states, (uint32_t)nodes, fields);
+    free(states);
+    free(packed.bytes);
+    free(program.bytes);
+    return 0;
+}
+
 int main(int count, char **words) {
     const char *call = count > 2 ? words[1] : "";
     if (strcmp(call, "check") == 0 && count == 3) return show_check(words[2]);
@@ -222,7 +279,8 @@ int main(int count, char **words) {
     if (strcmp(call, "watch") == 0 && count >= 4) return show_watch(words + 2, (size_t)count - 4);
     if (strcmp(call, "settle") == 0 && count == 5) return show_settle(words + 2);
     if (strcmp(call, "replay") == 0 && count == 6) return show_replay(words + 2);
+    if (strcmp(call, "large") == 0 && (count == 5 || count == 6)) return show_large(words + 2);
     if (strcmp(call, "why") == 0 && count >= 4) return show_why(words + 2, (size_t)count - 2);
-    fputs("call: check, lockstep, watch, settle, replay or why, and its files and numbers (call.c tells them)\n", stderr);
+    fputs("call: check, lockstep, watch, settle, replay, large or why, and its files and numbers (call.c tells them)\n", stderr);
     return 2;
 }

@@ -114,7 +114,8 @@ static void check_answer(uint32_t answer, const char *call) {
         UNISON_PLAN_BAD_NODE, UNISON_PLAN_BAD_VALUE, UNISON_PLAN_SET_TWICE, UNISON_RUN_TOO_MANY_ROUNDS,
         UNISON_RUN_ROUNDS_BELOW_START, UNISON_SCHEDULE_BAD_LINE, UNISON_SCHEDULE_TOO_MANY_STEPS, UNISON_RUN_STOP_TOO_LARGE,
         UNISON_RUN_STOP_BELOW_START, UNISON_REPORT_BAD_LINE, UNISON_REPORT_TOO_MANY_ROUNDS, UNISON_PROGRAM_READS_ROUND,
-        UNISON_LIMIT_TOO_LARGE, UNISON_LIMIT_BELOW_START};
+        UNISON_LIMIT_TOO_LARGE, UNISON_LIMIT_BELOW_START, UNISON_LISTS_NODE_COUNT, UNISON_LISTS_OFFSETS, UNISON_LISTS_NEIGHBOUR,
+        UNISON_LISTS_WEIGHT_COUNT, UNISON_LISTS_WORD_COUNT};
     for (size_t i = 0; i < sizeof named; i++) {
         if (answer == named[i]) {
             seen[answer]++;
@@ -361,6 +362,60 @@ static void hit_why(void) {
     drop_texts(&texts, "why");
 }
 
+enum { MOST_NODES = 8, MOST_ENDS = 24 };
+
+/* The lists of a network, most of them sound. */
+struct lists {
+    uint64_t offsets[MOST_NODES + 1];
+    uint32_t neighbours[MOST_ENDS], weights[MOST_ENDS];
+    size_t nodes, ends, weight_count;
+};
+
+static struct lists draw_lists(void) {
+    struct lists lists = {.nodes = 1 + below(MOST_NODES)};
+    for (size_t node = 0; node < lists.nodes; node++) lists.offsets[node + 1] = lists.offsets[node] + below(1 + MOST_ENDS / MOST_NODES);
+    lists.ends = lists.offsets[lists.nodes];
+    for (size_t end = 0; end < MOST_ENDS; end++) {
+        lists.neighbours[end] = (uint32_t)below(lists.nodes);
+        lists.weights[end] = (uint32_t)below(9);
+    }
+    if (chance(10)) lists.offsets[below(lists.nodes + 1)] = chance(2) ? draw() : below(MOST_ENDS);
+    if (chance(10) && lists.ends) lists.neighbours[below(lists.ends)] = chance(2) ? (uint32_t)draw() : (uint32_t)lists.nodes;
+    lists.weight_count = chance(10) ? below(MOST_ENDS) : chance(2) ? lists.ends : 0;
+    return lists;
+}
+
+#define LISTS lists.offsets, lists.nodes + 1, lists.neighbours, lists.ends, lists.weights, lists.weight_count
+
+/* The rounds, on as many words as the call asks for: its fault is the same as without words, and no other one comes of them. */
+static void go_on(struct texts texts, struct lists lists, uint32_t start, uint32_t round, uint32_t fields) {
+    struct guarded words = guarded(sizeof(uint32_t) * lists.nodes * fields);
+    uint32_t set = UNSET;
+    uint32_t answer = unison_large_rounds(PROGRAM, LISTS, start, round, (uint32_t *)(void *)inside(words), lists.nodes * fields, &set);
+    if (answer || set != fields) fail("refused the words that it asked for", "large_rounds");
+    check_memory(words, words.len, "large_rounds");
+}
+
+static void hit_large(void) {
+    struct texts texts = draw_texts();
+    struct lists lists = draw_lists(), before = lists;
+    struct guarded none = guarded(0);
+    size_t place = UNSET;
+    uint32_t fields = UNSET, start = (uint32_t)below(5), round = some_round();
+    uint32_t fault = unison_large_check(LISTS, &place);
+    check_answer(fault, "large_check");
+    if (!fault != (place == UNSET)) fail("a place", "large_check");
+    uint32_t answer = unison_large_rounds(PROGRAM, LISTS, start, round, (uint32_t *)(void *)inside(none), 0, &fields);
+    check_answer(answer, "large_rounds");
+    if ((!answer || answer == UNISON_LISTS_WORD_COUNT) == (fields == UNSET)) fail("a number of fields", "large_rounds");
+    if (fault && answer != fault && answer >= UNISON_NETWORK_NOT_TOML) fail("another fault than its check's", "large_rounds");
+    if (!fault && answer >= UNISON_LISTS_NODE_COUNT && answer < UNISON_LISTS_WORD_COUNT) fail("a fault of no lists", "large_rounds");
+    if (answer == UNISON_LISTS_WORD_COUNT) go_on(texts, lists, start, round, fields);
+    if (memcmp(&lists, &before, sizeof lists) != 0) fail("wrote into the lists", "large_rounds");
+    check_memory(none, 0, "large_rounds");
+    drop_texts(&texts, "large_rounds");
+}
+
 /* How much memory the process has, in KiB. */
 static unsigned long resident(void) {
     unsigned long pages = 0, all = 0;
@@ -373,7 +428,7 @@ static unsigned long resident(void) {
 }
 
 int main(int count, char **words) {
-    static void (*const hits[])(void) = {hit_check, hit_lockstep, hit_watch, hit_settle, hit_replay, hit_why};
+    static void (*const hits[])(void) = {hit_check, hit_lockstep, hit_watch, hit_settle, hit_replay, hit_why, hit_large};
     if (count < 5) {
         fputs("hammer: SEED CALLS FILE..\n", stderr);
         return 2;

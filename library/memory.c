@@ -75,6 +75,13 @@ static uint32_t why(struct room *it) {
     return unison_why(UNISON_JOB_CHECK, BROKEN, NOTHING, NOTHING, NOTHING, 0, &it->fault, it->text, sizeof it->text, &it->text_len);
 }
 
+/* From words that all are 0xA5A5A5A5: the next ones are the sums of the neighbours', which is the greatest number at the middle one. */
+static uint32_t large(struct room *it) {
+    static const uint64_t offsets[] = {0, 1, 3, 4};
+    static const uint32_t neighbours[] = {1, 0, 2, 1};
+    return unison_large_rounds(BYTES("field s = 0; next s = total n.s;"), offsets, 4, neighbours, 4, neighbours, 0, 0, 1, it->words, 3, &it->fields);
+}
+
 static int has_text(const struct room *it, const char *text) { return it->text_len == strlen(text) && memcmp(it->text, text, it->text_len) == 0; }
 
 static int has_numbers(const uint32_t *found, const uint32_t *right, size_t count) { return memcmp(found, right, count * sizeof *right) == 0; }
@@ -83,6 +90,8 @@ static int has_numbers(const uint32_t *found, const uint32_t *right, size_t coun
 static int is_right(const char *name, const struct room *it) {
     static const uint32_t from_report[] = {4, 3, 4}, watched[] = {0, FAR, FAR, 0, 1, 2}, counts[] = {0, 1, 0}, shown[] = {0, 1, FAR};
     int has_shape = it->nodes == 3 && it->fields == 1;
+    static const uint32_t summed[] = {0xA5A5A5A5, FAR, 0xA5A5A5A5, 0xA5A5A5A5};
+    if (!strcmp(name, "large")) return it->fields == 1 && has_numbers(it->words, summed, 4);
     if (!strcmp(name, "check")) return has_text(it, "field dist = 4294967295;\nnext dist = (dist min least (n.dist + 1));\n");
     if (!strcmp(name, "lockstep")) return has_shape && has_numbers(it->words, from_report, 3);
     if (!strcmp(name, "watch")) return has_shape && has_numbers(it->words, watched, 6);
@@ -115,7 +124,7 @@ int main(void) {
     static const struct {
         const char *name;
         uint32_t (*call)(struct room *);
-    } calls[] = {{"check", check}, {"lockstep", lockstep}, {"watch", watch}, {"settle", settle}, {"replay", replay}, {"why", why}};
+    } calls[] = {{"check", check}, {"lockstep", lockstep}, {"watch", watch}, {"settle", settle}, {"replay", replay}, {"why", why}, {"large", large}};
     for (size_t at = 0; at < sizeof calls / sizeof *calls; ++at) {
         unsigned long number = 0, told = 0;
         do {

@@ -1,5 +1,5 @@
-/* Unison for C: synchronous programs on networks. Each call goes from texts to an answer, keeps nothing, and starts no
- * thread; several threads may call at once.
+/* Unison for C: synchronous programs on networks. Each call goes from texts, or the lists of a network, to an answer, keeps
+ * nothing, and starts no thread; several threads may call at once.
  *
  * A call answers 0 where it was done, else the number of the first fault on the way (enum unison_fault). What each call
  * writes, and that nothing else is written, is proved: docs/library.md has the clauses in plain words.
@@ -9,8 +9,8 @@
  *
  * What a caller owes, and nothing checks:
  *   - no pointer is null, also where the length behind it is 0;
- *   - each pointer to read from has so many bytes (of uint32_t: so many numbers) as the length behind it says, each pointer to
- *     write to so many as the room behind it says, and a pointer without a length one value;
+ *   - each pointer to read from has so many bytes (of uint32_t and uint64_t: so many numbers) as the length behind it says, each
+ *     pointer to write to so many as the room or length behind it says, and a pointer without a length one value;
  *   - nothing that is written overlaps anything else that is given to the call;
  *   - while a call runs no other thread writes what is given to it, or reads what the call writes;
  *   - no call is made from a signal handler, or in the forked child of a process with threads;
@@ -76,7 +76,14 @@ enum unison_fault {
 
     UNISON_PROGRAM_READS_ROUND = 128, /* unison_settle alone */
     UNISON_LIMIT_TOO_LARGE = 129,
-    UNISON_LIMIT_BELOW_START = 130
+    UNISON_LIMIT_BELOW_START = 130,
+
+    UNISON_LISTS_NODE_COUNT = 144,          /* unison_large_check and unison_large_rounds alone, to 148 */
+    UNISON_LISTS_OFFSETS = 145,
+    UNISON_LISTS_TOO_MANY_NEIGHBOURS = 146,
+    UNISON_LISTS_NEIGHBOUR = 147,
+    UNISON_LISTS_WEIGHT_COUNT = 148,
+    UNISON_LISTS_WORD_COUNT = 149           /* unison_large_rounds alone; *fields is set */
     /* (end of what is made) */
 };
 
@@ -138,6 +145,34 @@ uint32_t unison_replay(const uint8_t *program, size_t program_len, const uint8_t
 uint32_t unison_why(uint32_t job, const uint8_t *program, size_t program_len, const uint8_t *network, size_t network_len,
                     const uint8_t *from, size_t from_len, const uint8_t *schedule, size_t schedule_len, uint32_t number,
                     uint32_t *fault, uint8_t *text, size_t text_room, size_t *text_len);
+
+/* Networks of any size, as three lists: the neighbours of node u are neighbours[offsets[u]] up to, and without,
+ * neighbours[offsets[u + 1]], and weights has the weight of each link at the same place. There is one offset more than there are
+ * nodes, 1 to 4,294,967,295 of these. Links may lead one way, join a node with itself, and stand several times. With weights_len 0
+ * each weight is 1; the pointer is not null even so. Nothing is written into the lists. */
+
+/* Whether three lists are such a network: 0, or the number of the first fault, and *place, which is set only then:
+ *   UNISON_LISTS_NODE_COUNT           how many nodes there are: one fewer than offsets
+ *   UNISON_LISTS_WEIGHT_COUNT         how many weights there are
+ *   UNISON_LISTS_OFFSETS              the first place in offsets at which the first is not 0, the next is lower, or the last is not
+ *                                     neighbours_len
+ *   UNISON_LISTS_TOO_MANY_NEIGHBOURS  the first node that has more than 4,294,967,295 neighbours
+ *   UNISON_LISTS_NEIGHBOUR            the first place in neighbours at which no node stands
+ * No memory is taken. */
+uint32_t unison_large_check(const uint64_t *offsets, size_t offsets_len, const uint32_t *neighbours, size_t neighbours_len,
+                            const uint32_t *weights, size_t weights_len, size_t *place);
+
+/* The words of all fields of all nodes after a round, in place of those after an earlier round, start: words has the word of field
+ * k of node u at u * *fields + k, before and after. words_len is the number of nodes times that of fields; where it is not, the
+ * answer is UNISON_LISTS_WORD_COUNT, and no round is computed. *fields is set then, and where the answer is 0. So a call with
+ * words_len 0 asks how many fields there are; unison_lockstep on a network of one node tells what they open with. Both rounds
+ * count from round 0, up to 1,000,000,000; a later call that begins with the words and the round of an earlier one goes on from
+ * there. The lists are looked at as by unison_large_check, which tells the place of their fault. The call makes the rounds in the
+ * thread that it is made in; while it runs it has 32 bytes for each node twice, 8 for each node and field, and the neighbours
+ * and weights a second time. */
+uint32_t unison_large_rounds(const uint8_t *program, size_t program_len, const uint64_t *offsets, size_t offsets_len,
+                             const uint32_t *neighbours, size_t neighbours_len, const uint32_t *weights, size_t weights_len,
+                             uint32_t start, uint32_t round, uint32_t *words, size_t words_len, uint32_t *fields);
 
 #ifdef __cplusplus
 }

@@ -11,7 +11,7 @@ from support import PYTHON, ROOT, run_python, skip, wanted
 
 import unison
 
-MODULES = ["", ".faults", ".graphs", ".jobs", ".network", ".program", ".results", ".schedule"]
+MODULES = ["", ".faults", ".graphs", ".jobs", ".large", ".network", ".program", ".results", ".schedule"]
 
 
 def test_examples_in_docstrings():

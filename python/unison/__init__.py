@@ -13,6 +13,7 @@ from . import schedule
 from ._library import LibraryMissing
 from .faults import NetworkError, PlanError, ProgramError, ReportError, RunError, ScheduleError, UnisonError
 from .jobs import NONE, first_fault, lockstep, replay, settle, watch, why
+from .large import LargeNetwork
 from .network import Network
 from .program import Program
 from .results import Replayed, Rounds, Settling, States, Table
@@ -21,6 +22,7 @@ __version__ = "0.1.0"
 
 __all__ = [
     "NONE",
+    "LargeNetwork",
     "LibraryMissing",
     "Network",
     "NetworkError",

@@ -192,3 +192,17 @@ def why(job: int, texts: Texts, asked: int) -> Told:
     if answer != 0:
         raise faults.fault_of(answer)
     return Told(fault.value, text.decode("utf-8", "replace"))
+
+
+def large_check(lists: Tuple[int, ...]) -> Tuple[int, int]:
+    """The first fault of the lists of a network, 0 where they have none, and its place."""
+    place = ctypes.c_size_t(0)
+    return _library.load().unison_large_check(*lists, ctypes.byref(place)), place.value
+
+
+def large_rounds(program: bytes, lists: Tuple[int, ...], start: int, asked: int, words: "array[int]", count: int) -> None:
+    """Puts so many words of a round in place of those of the start."""
+    fields = ctypes.c_uint32(0)
+    call = _library.load().unison_large_rounds
+    answer = call(program, len(program), *lists, start, asked, address(words), count, ctypes.byref(fields))
+    refuse(answer, CHECK, Texts(program), 0)

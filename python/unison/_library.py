@@ -17,6 +17,7 @@ POINTER = ctypes.c_void_p
 TEXT = [ctypes.c_char_p, SIZE]
 PLAN = TEXT * 3
 WORDS = [POINTER, SIZE, POINTER, POINTER]
+LISTS = [POINTER, SIZE] * 3
 
 CALLS = {
     "unison_check": TEXT + [POINTER, SIZE, POINTER],
@@ -25,6 +26,8 @@ CALLS = {
     "unison_settle": PLAN + [U32, POINTER, POINTER, POINTER],
     "unison_replay": PLAN + TEXT + [U32, POINTER, SIZE, POINTER, POINTER, SIZE] + WORDS,
     "unison_why": [U32] + PLAN + TEXT + [U32, POINTER, POINTER, SIZE, POINTER],
+    "unison_large_check": LISTS + [POINTER],
+    "unison_large_rounds": TEXT + LISTS + [U32, U32, POINTER, SIZE, POINTER],
 }
 
 

@@ -50,6 +50,12 @@ FAULTS: Dict[int, Tuple[str, str]] = {
     128: ("program", "ReadsRound"),
     129: ("run", "LimitTooLarge"),
     130: ("run", "LimitBelowStart"),
+    144: ("lists", "NodeCount"),
+    145: ("lists", "Offsets"),
+    146: ("lists", "TooManyNeighbours"),
+    147: ("lists", "Neighbour"),
+    148: ("lists", "WeightCount"),
+    149: ("lists", "WordCount"),
     # (end of what is made)
 }
 
@@ -81,7 +87,7 @@ class UnisonError(ValueError):
     program Syntax 18 (1, 29)
     """
 
-    #: The part at fault: `program`, `network`, `plan`, `report`, `schedule` or `run`.
+    #: The part at fault: `program`, `network`, `lists` of a large network, `plan`, `report`, `schedule` or `run`.
     part: str
     #: The fault's name, as in docs/formats.md: `Syntax`, `BadLink`, ..
     name: str
@@ -141,6 +147,7 @@ class RunError(UnisonError):
 KINDS: Dict[str, Type[UnisonError]] = {
     "program": ProgramError,
     "network": NetworkError,
+    "lists": NetworkError,
     "plan": PlanError,
     "report": ReportError,
     "schedule": ScheduleError,

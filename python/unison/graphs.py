@@ -2,11 +2,16 @@
 
 from __future__ import annotations
 
+from array import array
+from collections import Counter
 from fractions import Fraction
-from typing import Any, Dict, FrozenSet, List, Mapping, Optional, Tuple, Type
+from typing import Any, Dict, FrozenSet, List, Mapping, Optional, Tuple, Type, Union
 
+from .large import LargeNetwork, from_edges
 from .network import InitialValues, Network
 from .results import Table
+
+MOST_NODES, MOST_LINKS, MOST_NEIGHBOURS = 65536, 262144, 4096  # of a `Network`
 
 KEPT = {"min": min, "max": max, "first": lambda first, _: first}
 OLD_WORDS = {"least": "min", "most": "max", "first": "first"}  # of `merge_doubles`, an old name of `parallel`
@@ -66,8 +71,9 @@ def from_networkx(
     parallel: Optional[str] = None,
     merge_doubles: Optional[str] = None,
     kind: Type[Network] = Network,
-) -> Network:
-    """The network of a graph of NetworkX. Nodes are numbered in the graph's order, and called as in the graph.
+) -> Union[Network, LargeNetwork]:
+    """The network of a graph of NetworkX. Nodes are numbered in the graph's order, and called as in the graph. A graph of more than 65,536
+    nodes, 262,144 links or 4,096 links of one node makes a `LargeNetwork`, which has no `phase`.
 
     - `weight`: the attribute of edges that is the weight of the link, 1 where an edge has none; None: all weights are 1. Weights
       are whole numbers from 0 to 4294967295.
@@ -93,7 +99,25 @@ def from_networkx(
             raise ValueError(f"an edge joins {one!r} with itself, a self-loop, and no link does: drop_loops=True leaves it out")
         if one != other:
             edges.append((one, other, weight_of(data, weight, f"({one!r}, {other!r})", scale)))
-    return kind(list(graph), merged(edges, parallel), set=set, phase=phase)
+    links = merged(edges, parallel)
+    if is_beyond(len(graph), links):
+        return large_of(list(graph), links, set)
+    return kind(list(graph), links, set=set, phase=phase)
+
+
+def is_beyond(nodes: int, links: List[Tuple[Any, Any, int]]) -> bool:
+    """Whether so many nodes with these links are beyond the limits of a `Network`."""
+    if nodes > MOST_NODES or len(links) > MOST_LINKS:
+        return True
+    degrees = Counter(end for link in links for end in link[:2]) if len(links) > MOST_NEIGHBOURS else {}
+    return max(degrees.values(), default=0) > MOST_NEIGHBOURS
+
+
+def large_of(names: List[Any], links: List[Tuple[Any, Any, int]], set: Optional[Mapping[str, InitialValues]]) -> LargeNetwork:
+    """The network of any size with nodes of these names, and these links."""
+    numbers = {name: number for number, name in enumerate(names)}
+    ends = [array("I", (numbers[link[place]] for link in links)) for place in (0, 1)]
+    return from_edges(len(names), *ends, [weight for _, _, weight in links], False, names=names, set=set)
 
 
 def to_networkx(network: Network, values: Optional[Table] = None) -> Any:

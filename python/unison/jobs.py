@@ -4,8 +4,9 @@ from __future__ import annotations
 
 from typing import Any, Iterable, Optional, Tuple, Union
 
-from . import _calls, faults
+from . import _calls, faults, large
 from ._calls import Texts
+from .large import LargeNetwork
 from .network import Network
 from .program import Program
 from .results import Replayed, Rounds, Settling, States
@@ -15,6 +16,7 @@ from .schedule import Step, spell
 NONE = 4294967295
 
 From = Union[None, States, str, bytes]
+AnyNetwork = Union[Network, LargeNetwork]
 MANNERS = {1: "settles", 2: "repeats", 3: "open"}
 
 
@@ -36,21 +38,30 @@ def schedule_bytes(schedule: Union[str, bytes, Iterable[Step]]) -> bytes:
     return bytes_of(schedule if isinstance(schedule, (str, bytes, bytearray)) else spell(schedule))
 
 
-def texts_of(program: Program, network: Network, from_: From = None) -> Texts:
-    """The texts of a job."""
+def check_program(program: Any) -> None:
     if not isinstance(program, Program):
         raise TypeError(f"the program is no unison.Program: {type(program).__name__}; unison.Program(text) makes one")
+
+
+def texts_of(program: Program, network: Network, from_: From = None) -> Texts:
+    """The texts of a job."""
+    check_program(program)
+    if isinstance(network, LargeNetwork):
+        raise TypeError("this job is for a unison.Network; of a large network there are `lockstep` and `watch`")
     if not isinstance(network, Network):
         raise TypeError(f"the network is no unison.Network: {type(network).__name__}; unison.Network.from_text(text) makes one")
     return Texts(program.text, network._bytes, report_bytes(from_))
 
 
-def lockstep(program: Program, network: Network, rounds: int, from_: From = None) -> States:
+def lockstep(program: Program, network: AnyNetwork, rounds: int, from_: From = None) -> States:
     """The states of all nodes after a round.
+
+    - `network`: a `Network`, or a `LargeNetwork`, whose states are made in one thread.
 
     - `rounds`: the round, counted from round 0, up to 1,000,000,000. Where the program does not read `round`, and nothing changes any
       more, it is answered at once.
-    - `from_`: a result of `lockstep`, or the text of a report, to go on from; `rounds` may not lie before its round.
+    - `from_`: a result of `lockstep`, or of `States.from_values`, or the text of a report, to go on from; `rounds` may not lie before its
+      round. On a large network a text is not read.
 
     Raises PlanError, ReportError or RunError where it is refused.
 
@@ -62,12 +73,17 @@ def lockstep(program: Program, network: Network, rounds: int, from_: From = None
     ({0: 7, 1: 5}, {0: 5, 1: 7})
     """
     asked = _calls.number(rounds, "the round")
+    if isinstance(network, LargeNetwork):
+        check_program(program)
+        return large.lockstep(program, network, asked, from_)
     table = _calls.lockstep(texts_of(program, network, from_), asked, network.nodes * len(program.fields))
     return States(asked, program.fields, table.nodes, table.words, network._names)
 
 
-def watch(program: Program, network: Network, rounds: Iterable[int], from_: From = None) -> Rounds:
+def watch(program: Program, network: AnyNetwork, rounds: Iterable[int], from_: From = None) -> Rounds:
     """The states of all nodes after each of some rounds, in one pass: no round is computed twice.
+
+    On a `LargeNetwork` each of the rounds is gone on to by a call of its own, which takes the time of some rounds more.
 
     `rounds` are rising, each above the one before: `range(0, 100)`, `[1, 10, 100]`. The result has 4 bytes for each field of each node in
     each round.
@@ -80,6 +96,9 @@ def watch(program: Program, network: Network, rounds: Iterable[int], from_: From
     [True, True, False]
     """
     asked = [_calls.number(round, "a round") for round in rounds]
+    if isinstance(network, LargeNetwork):
+        check_program(program)
+        return large.watch(program, network, asked, from_)
     texts = texts_of(program, network, from_)
     table = _calls.watch(texts, asked, len(asked) * network.nodes * len(program.fields))
     return Rounds(asked, program.fields, table.nodes, table.words, network._names)

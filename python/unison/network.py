@@ -5,10 +5,13 @@ from __future__ import annotations
 import operator
 import os
 from pathlib import Path
-from typing import Any, Dict, Hashable, Iterable, List, Mapping, Optional, Sequence, Tuple, Union
+from typing import TYPE_CHECKING, Any, Dict, Hashable, Iterable, List, Mapping, Optional, Sequence, Tuple, Union
 
 from . import _calls, faults
 from ._document import Document, Link, Sets, read, write
+
+if TYPE_CHECKING:
+    from .large import LargeNetwork
 
 Name = Hashable
 #: Initial values of a field: one for all nodes, one for each node by rising number, or some by the names of their nodes.
@@ -166,11 +169,55 @@ class Network:
         return cls.from_text(Path(path).read_bytes(), lines)
 
     @classmethod
-    def from_networkx(cls, graph: Any, weight: Optional[str] = "weight", **how: Any) -> Network:
-        """The network of a graph of NetworkX, whose nodes keep their names: see `unison.graphs.from_networkx`."""
+    def from_networkx(cls, graph: Any, weight: Optional[str] = "weight", **how: Any) -> Union[Network, LargeNetwork]:
+        """The network of a graph of NetworkX, whose nodes keep their names: see `unison.graphs.from_networkx`. It is a `LargeNetwork` where
+        the graph is beyond the limits of a `Network`."""
         from .graphs import from_networkx
 
         return from_networkx(graph, weight, kind=cls, **how)
+
+    @staticmethod
+    def from_arrays(indptr: Any, indices: Any, weights: Any = None, **how: Any) -> LargeNetwork:
+        """The network of any size whose node u has the neighbours `indices[indptr[u]:indptr[u + 1]]`, with a weight for each of them, 1 where
+        none are given: see `unison.LargeNetwork`, which also takes `set` and `names`.
+
+        >>> import unison
+        >>> unison.Network.from_arrays([0, 1, 2], [1, 0], [5, 5])
+        <LargeNetwork of 2 nodes and 2 neighbours>
+        """
+        from .large import LargeNetwork
+
+        return LargeNetwork(indptr, indices, weights, **how)
+
+    @staticmethod
+    def from_edges(
+        a: Any, b: Any, weights: Any = None, *, nodes: Optional[int] = None, directed: bool = False, **how: Any
+    ) -> LargeNetwork:
+        """The network of any size of the edges from `a[i]` to `b[i]`, with the weight `weights[i]`, 1 where none are given.
+
+        The neighbours of a node stand by rising number. Where edges are not `directed`, each makes both ends neighbours of each other. An
+        edge that joins a node with itself makes it its own neighbour, once; edges that join the same two nodes all stay. There are
+        as many `nodes` as are told, or one more than the greatest number.
+
+        >>> import unison
+        >>> network = unison.Network.from_edges([0, 1], [1, 2])
+        >>> network.neighbours(1), unison.Network.from_edges([0, 1], [1, 2], directed=True).neighbours(1)
+        ([0, 2], [2])
+        """
+        from .large import from_edges
+
+        return from_edges(nodes, a, b, weights, directed, **how)
+
+    @staticmethod
+    def from_scipy(matrix: Any, *, weights: bool = True, **how: Any) -> LargeNetwork:
+        """The network of any size of a sparse matrix of SciPy: the entries of row u are the links of node u to its neighbours, and their
+        values the weights, which are whole; `weights=False` makes each weight 1. An entry that is there counts, whatever its value.
+
+        `unison.Network.from_scipy(scipy.sparse.csr_matrix([[0, 2], [2, 0]]))`
+        """
+        from .large import from_scipy
+
+        return from_scipy(matrix, weights, **how)
 
     def to_networkx(self, values: Any = None) -> Any:
         """The network as a graph of NetworkX: see `unison.graphs.to_networkx`."""

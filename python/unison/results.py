@@ -134,6 +134,21 @@ class States(Table):
         super().__init__(fields, nodes, words, names)
         self._round = round
 
+    @classmethod
+    def from_values(cls, program: Any, values: Any, round: int = 0, names: Optional[Sequence[Name]] = None) -> States:
+        """The states that have these values by node and field: an array of shape (nodes, fields), or a list of a list for each node. A call
+        goes on from them (`from_`) at this round.
+
+        >>> import unison
+        >>> states = unison.States.from_values(unison.Program("field s = 0; next s = s;"), [[5], [7]], round=3)
+        >>> states.round, states.by_name("s")
+        (3, {0: 5, 1: 7})
+        """
+        from ._arrays import values_of
+
+        words, nodes = values_of(values, program.fields)
+        return cls(round, program.fields, nodes, words, names)
+
     @property
     def round(self) -> int:
         """The round, counted from round 0, at which the states are the initial ones."""

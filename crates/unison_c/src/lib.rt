@@ -8,14 +8,22 @@ ghost use Rattle.app_calls.specs.Answers.{HasPlanWith, HasReplay, HasRoundWords,
 ghost use Rattle.app_calls.specs.Jobs.{HasJobWith, IsFirstNumber};
 ghost use Rattle.app_calls.specs.Numbers.{IsNumberOf};
 ghost use Rattle.app_calls.specs.Refusals.{AreNoRounds, IsNoReplay, IsNoRound, IsNoSettling, IsRefusedPlan, IsUnspelled, IsUntold, is_job};
+ghost use Rattle.large_net.specs.Large.{AreLaidOut};
+ghost use Rattle.large_calls.specs.LargeAnswers.{HasLargeRounds, IsRefusedRounds};
+ghost use Rattle.large_calls.specs.Lists.{given_weights, lists_fault};
+ghost use Rattle.large_calls.specs.ListNumbers.{IsLargeNumberOf, IsToldLists};
 
 use app_calls::{
     write_reason, write_replay, write_round, write_rounds, write_settling, write_spelling,
 };
+use large_calls::{check_lists, write_large_rounds};
 use std::alloc::Global;
 
 /// The number of the fault of too little room.
 const ROOM: u32 = 2;
+
+/// The number of the fault of a wrong number of words.
+const WORD_COUNT: u32 = 149;
 
 /// Writes the canonical spelling of a program to the front of the text, and how long it is; where there is too little room,
 /// how long it is alone. A program of more than 65,536 bytes takes no memory.
@@ -173,6 +181,59 @@ pub extern "C" fn unison_why(
 {
     let done = write_reason(
         alloc, job, program, network, from, schedule, number, fault, text, text_len,
+    );
+    match done {
+        Ok(()) => 0,
+        Err(fault) => fault.number(),
+    }
+}
+
+/// Whether three lists are the rows of a network of any size: the neighbours of node u stand from offset u up to the next one;
+/// each weight is 1 where there are none. Where they are not, the number of their first fault and its place: that in the list of
+/// offsets or of neighbours, the node with too many neighbours, or how many nodes or weights there are. No memory is taken.
+#[unsafe(no_mangle)]
+pub extern "C" fn unison_large_check(
+    offsets: &[usize],
+    neighbours: &[u32],
+    weights: &[u32],
+    place: &mut usize,
+) -> u32
+    ensures rows { result ≡ 0 → AreLaidOut offsets.now neighbours.now (given_weights neighbours.now weights.now) }
+    ensures kept { result ≡ 0 → place.new ≡ place.old }
+    ensures refused { result ≢ 0 → IsToldLists (lists_fault offsets.now neighbours.now weights.now) result place.new }
+{
+    match check_lists(offsets, neighbours, weights) {
+        Ok(()) => 0,
+        Err(fault) => {
+            *place = fault.place() as usize;
+            fault.number()
+        }
+    }
+}
+
+/// Writes the words of all fields of all nodes after a round, node by node, in place of those after an earlier round, the start,
+/// on a network of any size, and how many fields there are; where there is not one word for each field of each node, how many
+/// fields there are alone, and then no round is computed.
+#[unsafe(no_mangle)]
+pub extern "C" fn unison_large_rounds(
+    alloc: Global,
+    program: &[u8],
+    offsets: &[usize],
+    neighbours: &[u32],
+    weights: &[u32],
+    start: u32,
+    round: u32,
+    words: &mut [u32],
+    fields: &mut u32,
+) -> u32
+    ensures written { result ≡ 0 → HasLargeRounds program.now offsets.now neighbours.now weights.now start round words.old words.new fields.new }
+    ensures kept { result ≢ 0 → words.new ≡ words.old }
+    ensures sized { result ≢ 0 → result ≢ WORD_COUNT → fields.new ≡ fields.old }
+    ensures refused { result ≢ 0 → IsLargeNumberOf (IsRefusedRounds program.now offsets.now neighbours.now weights.now start round (length words.old) fields.new) result }
+    ensures long { 65536 < length program.now → result ≡ 16 }
+{
+    let done = write_large_rounds(
+        alloc, program, offsets, neighbours, weights, start, round, words, fields,
     );
     match done {
         Ok(()) => 0,

@@ -1,0 +1,4 @@
+mod LaidOut
+mod Moves
+mod Passing
+mod StateWords

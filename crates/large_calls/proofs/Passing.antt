@@ -1,0 +1,24 @@
+-- What is refused of words and rounds is refused of the texts and lists.
+use Rattle.std.proofs.Common.{◌≡◌, ℕ, ◌-◌, List, length, None}
+use Rattle.rule_lang.specs.Tree.{ItemTree}
+use Rattle.rule_check.specs.Items.{rules_of}
+use Rattle.app_jobs.specs.Served.{IsAccepted}
+use Rattle.app_calls.specs.declared.fault.Fault.TheVariants.{Texts, Round, Replay, Settle, NotRising, NoJob, Room, Memory}
+use Rattle.large_calls.specs.declared.fault.LargeCallFault.{LargeCallFault}
+use Rattle.large_calls.specs.declared.fault.LargeCallFault.TheVariants.{Call, Lists, WordCount}
+use Rattle.large_calls.specs.Lists.{lists_fault}
+use Rattle.large_calls.specs.LargeAnswers.{IsNoMove, IsRefusedRounds}
+
+pub refused_move : (program offsets ns ws : List ℕ) (start round room fields : ℕ) (items : List ItemTree) (f : LargeCallFault)
+    → IsAccepted program items → lists_fault offsets ns ws ≡ None → IsNoMove (rules_of items) (length offsets - 1) start round room fields f
+    → IsRefusedRounds program offsets ns ws start round room fields f
+refused_move program offsets ns ws start round room fields items (Call (Texts f)) accepted none h = absurd h
+refused_move program offsets ns ws start round room fields items (Call (Round f)) accepted none h = (items, accepted, none, h)
+refused_move program offsets ns ws start round room fields items (Call (Replay f)) accepted none h = absurd h
+refused_move program offsets ns ws start round room fields items (Call (Settle f)) accepted none h = absurd h
+refused_move program offsets ns ws start round room fields items (Call NotRising) accepted none h = absurd h
+refused_move program offsets ns ws start round room fields items (Call NoJob) accepted none h = absurd h
+refused_move program offsets ns ws start round room fields items (Call Room) accepted none h = absurd h
+refused_move program offsets ns ws start round room fields items (Call Memory) accepted none h = (items, accepted, none, h)
+refused_move program offsets ns ws start round room fields items (Lists f) accepted none h = absurd h
+refused_move program offsets ns ws start round room fields items WordCount accepted none h = (items, accepted, none, h)

@@ -1,0 +1,4 @@
+pub mod ListNumbers
+pub mod Lists
+pub mod States
+pub mod LargeAnswers

@@ -1,0 +1,12 @@
+//! The calls for C on networks of any size, as they work on slices: from a program's text and the lists of a network to
+//! words in the caller's memory, with no state and no threads.
+#![tactic(auto)]
+
+mod fault;
+mod lists;
+mod rounds;
+mod states;
+
+pub use fault::{LargeCallFault, ListsFault};
+pub use lists::check_lists;
+pub use rounds::write_large_rounds;

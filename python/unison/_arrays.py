@@ -1,0 +1,164 @@
+"""Arrays of numbers for the library: without a copy where they lie in memory as it reads them, else converted. A value that does not
+fit is told by its place."""
+
+from __future__ import annotations
+
+import operator
+from array import array
+from typing import Any, NamedTuple, Sequence, Tuple
+
+from . import faults
+from .results import numpy
+
+WORD, LONG = 4, 8  # how many bytes a number has
+CODES = {WORD: "I", LONG: "Q"}
+assert array("I").itemsize == WORD and array("Q").itemsize == LONG
+NOTHING = array("Q", [0])
+SOMEWHERE = NOTHING.buffer_info()[0]  # where no number lies: no pointer may be null
+
+
+class Numbers(NamedTuple):
+    """Numbers that lie one behind the other in memory: how many, where, and what holds them there."""
+
+    count: int
+    address: int
+    held: Any  # an array of numpy, or an `array`: it answers `held[place]`
+    lock: Any = None  # while it is held, an `array` grows and shrinks not
+
+
+def refused(what: str, place: int, found: Any, most: int) -> ValueError:
+    return ValueError(f"{what}[{place}]: found {found!r}, expected a whole number from 0 to {most}")
+
+
+def first_wrong(values: Any, size: int) -> Any:
+    """The place of the first number of an array of numpy that has no such size, is negative or not whole; None where there is none."""
+    kind, most = values.dtype.kind, 2 ** (8 * size) - 1
+    if kind == "f":
+        wrong = ~((values >= 0) & (values < float(most + 1)) & (values == numpy.floor(values)))
+    elif kind == "b" or (kind == "u" and values.dtype.itemsize <= size):
+        return None
+    else:
+        wrong = values < 0
+        if values.dtype.itemsize > size:
+            wrong |= values > most
+    return int(wrong.argmax()) if wrong.any() else None
+
+
+def of_numpy(values: Any, size: int, what: str) -> Any:
+    """An array of numpy with numbers of this size: the same memory where it has such numbers, one behind the other."""
+    if values.ndim != 1:
+        raise ValueError(f"{what} has the shape {values.shape}: expected one number behind the other")
+    place = first_wrong(values, size)
+    if place is not None:
+        raise refused(what, place, values[place].item(), 2 ** (8 * size) - 1)
+    if values.dtype.kind == "i" and values.dtype.itemsize == size and values.dtype.isnative:
+        values = values.view(f"u{size}")  # no number is negative: the bytes are the same
+    return numpy.ascontiguousarray(values, dtype=f"u{size}")
+
+
+def whole(value: Any) -> int:
+    """A number that is whole, a float too."""
+    return int(value) if isinstance(value, float) and value.is_integer() else operator.index(value)
+
+
+def of_list(values: Any, size: int, what: str) -> "array[int]":
+    """Numbers of this size, one after the other."""
+    found, most = array(CODES[size]), 2 ** (8 * size) - 1
+    for place, value in enumerate(values):
+        try:
+            found.append(whole(value))
+        except (TypeError, OverflowError):
+            raise refused(what, place, value, most) from None
+    return found
+
+
+def is_lent(values: Any, size: int) -> bool:
+    """Whether values are an `array` of such numbers."""
+    return isinstance(values, array) and values.typecode in "ILQ" and values.itemsize == size
+
+
+def numbers(values: Any, size: int, what: str) -> Numbers:
+    """Numbers of so many bytes each. `what` is how a fault calls them."""
+    if is_lent(values, size):
+        return Numbers(len(values), values.buffer_info()[0] or SOMEWHERE, values, memoryview(values))
+    if numpy is not None and (hasattr(values, "__array_interface__") or isinstance(values, array)):
+        given = numpy.asarray(values)
+        if given.dtype.kind in "biuf":
+            held = of_numpy(given, size, what)
+            return Numbers(held.size, held.__array_interface__["data"][0], held)
+    listed = of_list(values, size, what)
+    return Numbers(len(listed), listed.buffer_info()[0] or SOMEWHERE, listed)
+
+
+def text_of_fault(number: int, place: int, offsets: Numbers, neighbours: Numbers, weights: Numbers) -> str:
+    """What is wrong with lists, where, and what to do: for the answer and the place of `unison_large_check`."""
+    name = faults.FAULTS[number][1]
+    nodes = max(offsets.count - 1, 0)
+    if name == "NodeCount":
+        return f"indptr has {offsets.count} entries: expected one more than there are nodes, so from 2 to 4294967296"
+    if name == "WeightCount":
+        return f"there are {weights.count} weights: expected one for each of the {neighbours.count} indices, or none"
+    if name == "Neighbour":
+        return f"indices[{place}]: found {neighbours.held[place]}, expected a node: there are {nodes}, numbered from 0"
+    if name == "TooManyNeighbours":
+        return f"node {place} has {offsets.held[place + 1] - offsets.held[place]} neighbours: 4294967295 are the most"
+    return offset_text(place, offsets, neighbours.count)
+
+
+def offset_text(place: int, offsets: Numbers, ends: int) -> str:
+    """What is wrong with an offset: the last is not the number of neighbours, the first is not 0, or the next is lower."""
+    found = int(offsets.held[place])
+    if place + 1 == offsets.count:
+        return f"indptr[{place}], the last: found {found}, expected {ends}, the number of indices"
+    if place == 0 and found != 0:
+        return f"indptr[0]: found {found}, expected 0"
+    return f"indptr[{place + 1}]: found {int(offsets.held[place + 1])}, expected {found} or more, which stands before it"
+
+
+def rows_of_edges(nodes: int, ends: Tuple[Any, Any], weights: Any, directed: bool) -> Tuple[Any, Any, Any]:
+    """Offsets, neighbours and weights of the edges from one end to the other, and back where they have no direction: the neighbours of a
+    node by rising number, those of one number in the order of their edges. An edge of a node with itself stands once."""
+    if numpy is None:
+        return rows_of_lists(nodes, ends, weights, directed)
+    one, other = ends
+    place = numpy.arange(one.size)
+    if not directed:
+        back = one != other
+        one, other, place = (numpy.concatenate(pair) for pair in ((one, other[back]), (other, one[back]), (place, place[back])))
+    order = numpy.lexsort((place, other, one))
+    offsets = numpy.zeros(nodes + 1, dtype=numpy.uint64)
+    numpy.cumsum(numpy.bincount(one, minlength=nodes), out=offsets[1:], dtype=numpy.uint64)
+    return offsets, other[order], None if weights is None else weights[place[order]]
+
+
+def rows_of_lists(nodes: int, ends: Tuple[Any, Any], weights: Any, directed: bool) -> Tuple[Any, Any, Any]:
+    """The same, without numpy."""
+    rows = [[] for _ in range(nodes)]  # type: ignore[var-annotated]
+    for place, (one, other) in enumerate(zip(*ends)):
+        rows[one].append((other, place))
+        if not directed and one != other:
+            rows[other].append((one, place))
+    offsets, neighbours, order = array("Q", [0]), array("I"), []
+    for row in rows:
+        row.sort()
+        neighbours.extend(node for node, _ in row)
+        order.extend(place for _, place in row)
+        offsets.append(len(neighbours))
+    return offsets, neighbours, None if weights is None else array("I", (weights[place] for place in order))
+
+
+def values_of(values: Any, fields: Sequence[str]) -> Tuple["array[int]", int]:
+    """The words of values by node and field, and how many nodes there are."""
+    what = f"the values by node and field ({', '.join(fields)})"
+    if numpy is not None and hasattr(values, "__array_interface__"):
+        given = numpy.asarray(values)
+        if given.ndim != 2 or given.shape[1] != len(fields):
+            raise ValueError(f"{what} have the shape {given.shape}: expected (nodes, {len(fields)})")
+        words = array("I")
+        words.frombytes(of_numpy(given.reshape(-1), WORD, what).tobytes())
+        return words, given.shape[0]
+    rows = [tuple(row) for row in values]
+    for node, row in enumerate(rows):
+        if len(row) != len(fields):
+            raise ValueError(f"{what}: node {node} has {len(row)}, expected {len(fields)}")
+    return of_list((value for row in rows for value in row), WORD, what), len(rows)
