@@ -1,8 +1,10 @@
 //! `large`: rounds on networks of any size.
 
-use crate::arguments::{EVERY, FILE, FLAG, PROGRAM, PROGRAM_ARGUMENT, ROUND, ROUNDS, span_in};
+use crate::arguments::{
+    EVERY, FILE, FILE_OPTION, FLAG, PROGRAM, PROGRAM_ARGUMENT, ROUND, ROUNDS, span_in,
+};
 use crate::init::{RandomWord, SEED, SET, SET_RANDOM, SetWord, random_in, sets_in};
-use app_table::{Argument, Command, Kind, OPTION, Reading, Subcommand, WordsFault};
+use app_table::{Argument, Choice, Command, Kind, OPTION, Reading, Subcommand, Value, WordsFault};
 use run_watch::Span;
 use std::alloc::Global;
 
@@ -41,6 +43,79 @@ const COUNT: Argument = Argument {
 /// `COUNT`, as it is read.
 static COUNT_ARGUMENT: Argument = COUNT;
 
+const SET_FILE: Argument = Argument {
+    name: "set-file",
+    kind: Kind::Repeated,
+    value_name: "FIELD=FILE",
+    help: "Give a field of each node the value at its place in an array of NumPy (.npy) with one axis, or - for standard input; as often as wanted",
+    ..FILE_OPTION
+};
+
+/// `SET_FILE`, as it is read.
+static SET_FILE_ARGUMENT: Argument = SET_FILE;
+
+const FORMAT: Argument = Argument {
+    name: "format",
+    value: Value::Choice(&[
+        Choice {
+            name: "report",
+            aliases: &[],
+        },
+        Choice {
+            name: "npy",
+            aliases: &[],
+        },
+    ]),
+    value_name: "FORMAT",
+    help: "report (the default), or npy: an array of NumPy with a row for each node and a column for each field",
+    ..OPTION
+};
+
+/// `FORMAT`, as it is read.
+static FORMAT_ARGUMENT: Argument = FORMAT;
+
+const ONE_FIELD: Argument = Argument {
+    name: "field",
+    value_name: "FIELD",
+    help: "With --format npy write this field alone, as an array with one axis, which --set-file reads",
+    needs: Some("format"),
+    ..OPTION
+};
+
+/// `ONE_FIELD`, as it is read.
+static ONE_FIELD_ARGUMENT: Argument = ONE_FIELD;
+
+const COLUMN: Argument = Argument {
+    name: "field",
+    value_name: "FIELD",
+    help: "Show this field of all nodes in each shown round, in place of how many nodes changed",
+    ..OPTION
+};
+
+/// `COLUMN`, as it is read.
+static COLUMN_ARGUMENT: Argument = COLUMN;
+
+const COLUMN_FORMAT: Argument = Argument {
+    name: "format",
+    value: Value::Choice(&[
+        Choice {
+            name: "csv",
+            aliases: &[],
+        },
+        Choice {
+            name: "npy",
+            aliases: &[],
+        },
+    ]),
+    value_name: "FORMAT",
+    help: "Of --field: csv (the default), or npy: an array of NumPy with a row for each shown round and a column for each node",
+    needs: Some("field"),
+    ..OPTION
+};
+
+/// `COLUMN_FORMAT`, as it is read.
+static COLUMN_FORMAT_ARGUMENT: Argument = COLUMN_FORMAT;
+
 const SEQUENTIAL: Argument = Argument {
     name: "sequential",
     help: "Make all rounds by one thread",
@@ -62,7 +137,8 @@ const WAYS: [Subcommand; 3] = [
         about: "Report the states after a round, as unison lockstep does",
         notes: "",
         arguments: &[
-            PROGRAM, PACKED, LAST, SET, SET_RANDOM, SEED, COUNT, SEQUENTIAL,
+            PROGRAM, PACKED, LAST, SET, SET_FILE, SET_RANDOM, SEED, COUNT, FORMAT, ONE_FIELD,
+            SEQUENTIAL,
         ],
     },
     Subcommand {
@@ -70,7 +146,18 @@ const WAYS: [Subcommand; 3] = [
         about: "Tell for each round from one to another how many nodes changed since the round shown before, or count a field's values, as CSV",
         notes: "",
         arguments: &[
-            PROGRAM, PACKED, ROUNDS, EVERY, SET, SET_RANDOM, SEED, COUNT, SEQUENTIAL,
+            PROGRAM,
+            PACKED,
+            ROUNDS,
+            EVERY,
+            SET,
+            SET_FILE,
+            SET_RANDOM,
+            SEED,
+            COUNT,
+            COLUMN,
+            COLUMN_FORMAT,
+            SEQUENTIAL,
         ],
     },
 ];
@@ -91,11 +178,20 @@ pub(crate) fn large() -> &'static Command {
     &LARGE
 }
 
-/// The initial values that the words ask for, beside those of the program: nodes drawn by a seed, and those of `--set`, which
-/// count over the others.
+/// A word of `--set-file FIELD=FILE`.
+#[derive(Drop)]
+pub struct FileWord {
+    pub field: String,
+    /// The path of the array.
+    pub path: String,
+}
+
+/// The initial values that the words ask for, beside those of the program: nodes drawn by a seed; those of arrays, which count
+/// over them; and those of `--set`, which count over both.
 #[derive(Drop)]
 pub struct StartWords {
     pub random: Vec<RandomWord>,
+    pub files: Vec<FileWord>,
     pub sets: Vec<SetWord>,
     /// By what nodes are drawn; where none are, 0.
     pub seed: u32,
@@ -115,23 +211,161 @@ pub struct LargeTexts {
     pub is_shared: bool,
 }
 
+/// How the states after a round are shown.
+#[derive(Clone, Copy, PartialEq, Eq)]
+pub enum LargeFormat {
+    Report,
+    Npy,
+}
+
+/// What is shown of the states after a round.
+#[derive(Drop)]
+pub struct StatesView {
+    pub format: LargeFormat,
+    /// The field that stands alone in an array, where one does.
+    pub field: Option<String>,
+}
+
+/// How a field of all nodes is shown, round by round.
+#[derive(Clone, Copy, PartialEq, Eq)]
+pub enum ColumnFormat {
+    Csv,
+    Npy,
+}
+
+/// A field of all nodes that is shown.
+#[derive(Drop)]
+pub struct ColumnView {
+    pub field: String,
+    pub format: ColumnFormat,
+}
+
 /// What `large` is asked for.
 #[derive(Drop)]
 pub enum LargeRequest {
     /// What one wants to know of a network.
-    Info { network: String },
+    Info {
+        network: String,
+    },
     /// The states after a round.
-    Lockstep { texts: LargeTexts, rounds: u32 },
-    /// How many nodes changed, or have each value, round by round.
-    Watch { texts: LargeTexts, span: Span },
+    Lockstep {
+        texts: LargeTexts,
+        rounds: u32,
+        view: StatesView,
+    },
+    /// How many nodes changed, or have each value, or a field of all nodes, round by round.
+    Watch {
+        texts: LargeTexts,
+        span: Span,
+        column: Option<ColumnView>,
+    },
+}
+
+/// Notes that a word of `--set-file` has not its parts.
+fn refuse_file(reading: &mut Reading, word: &str) {
+    reading.refuse_as(format!(in reading.alloc();
+        "--set-file: expected FIELD=FILE, found `{word}`"
+    ));
+}
+
+/// The word of `--set-file`, where it has its parts.
+fn file_word(reading: &mut Reading, word: &str) -> Option<FileWord> {
+    let (field, path) = word.split_once('=')?;
+    let field = reading.copied(field);
+    let path = reading.copied(path);
+    Some(FileWord { field, path })
+}
+
+/// Puts a word behind the others.
+fn put_file(files: &mut Vec<FileWord>, reading: &mut Reading, word: &str) {
+    match file_word(reading, word) {
+        Some(file) => {
+            if files.push(file).is_err() {
+                reading.refuse(WordsFault::Memory);
+            }
+        }
+        None => refuse_file(reading, word),
+    }
+}
+
+/// The words of `--set-file`, in their order.
+fn files_in(reading: &mut Reading) -> Vec<FileWord> {
+    let words = reading.texts(&SET_FILE_ARGUMENT);
+    let mut files = Vec::new(reading.alloc());
+    for word in &words {
+        put_file(&mut files, reading, word.as_str());
+    }
+    files
 }
 
 /// The initial values that the words ask for.
 fn start_in(reading: &mut Reading) -> StartWords {
     let random = random_in(reading);
+    let files = files_in(reading);
     let sets = sets_in(reading);
     let seed = reading.number_or(&SEED_ARGUMENT, 0);
-    StartWords { random, sets, seed }
+    StartWords {
+        random,
+        files,
+        sets,
+        seed,
+    }
+}
+
+/// Refuses counts in place of an array, or of a field of all nodes.
+fn check_counts(reading: &mut Reading, is_other: bool) {
+    if is_other && reading.has(&COUNT_ARGUMENT) {
+        reading.refuse_words(
+            "--count: counts are CSV of their own; leave away --field and --format npy, or --count",
+        );
+    }
+}
+
+/// How the states after a round are to be shown.
+fn format_in(reading: &mut Reading) -> LargeFormat {
+    match reading.choice(&FORMAT_ARGUMENT).unwrap_or("report") {
+        "npy" => LargeFormat::Npy,
+        _ => LargeFormat::Report,
+    }
+}
+
+/// Refuses a field that is to stand alone in a report, which has all of them.
+fn check_field(reading: &mut Reading, format: LargeFormat) {
+    if format == LargeFormat::Report && reading.has(&ONE_FIELD_ARGUMENT) {
+        reading.refuse_words("--field: a report has all fields; take --format npy");
+    }
+}
+
+/// What is to be shown of the states after a round.
+fn view_in(reading: &mut Reading) -> StatesView {
+    let format = format_in(reading);
+    check_counts(reading, format == LargeFormat::Npy);
+    check_field(reading, format);
+    let field = reading.text(&ONE_FIELD_ARGUMENT);
+    StatesView { format, field }
+}
+
+/// The field of all nodes that is to be shown, where one is.
+fn column_in(reading: &mut Reading) -> Option<ColumnView> {
+    let field = reading.text(&COLUMN_ARGUMENT)?;
+    check_counts(reading, true);
+    let format = match reading.choice(&COLUMN_FORMAT_ARGUMENT).unwrap_or("csv") {
+        "npy" => ColumnFormat::Npy,
+        _ => ColumnFormat::Csv,
+    };
+    Some(ColumnView { field, format })
+}
+
+/// What `large watch` is asked for, where the words name rounds.
+fn watch_in(reading: &mut Reading) -> Option<LargeRequest> {
+    let span = span_in(reading)?;
+    let column = column_in(reading);
+    let texts = texts_in(reading);
+    Some(LargeRequest::Watch {
+        texts,
+        span,
+        column,
+    })
 }
 
 /// What rounds begin with.
@@ -157,13 +391,10 @@ fn request_in(reading: &mut Reading) -> Option<LargeRequest> {
         }),
         "lockstep" => Some(LargeRequest::Lockstep {
             rounds: reading.number_or(&LAST_ARGUMENT, 0),
+            view: view_in(reading),
             texts: texts_in(reading),
         }),
-        _ => {
-            let span = span_in(reading)?;
-            let texts = texts_in(reading);
-            Some(LargeRequest::Watch { texts, span })
-        }
+        _ => watch_in(reading),
     }
 }
 

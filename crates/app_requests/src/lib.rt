@@ -26,7 +26,10 @@ pub use generate::{GenerateRequest, Topology, Weights};
 pub use import::{Format, ImportRequest};
 pub use info::InfoRequest;
 pub use init::{CellsWord, InitRequest, RandomWord, SetWord};
-pub use large::{LargeRequest, LargeTexts, StartWords};
+pub use large::{
+    ColumnFormat, ColumnView, FileWord, LargeFormat, LargeRequest, LargeTexts, StartWords,
+    StatesView,
+};
 pub use pack::PackRequest;
 pub use page::{PageRequest, PageRun, PageView};
 pub use schedule::{Limits, Listing, ScheduleRequest, StepsManner, Writing};

@@ -22,10 +22,10 @@ use Rattle.npy_arrays.specs.Headers.{IsFreeOf, header_front, header_back}
 use Rattle.npy_arrays.specs.Written.{axes_text, element_count, npy_file, padded_header}
 use Rattle.npy_arrays.specs.Parts.{bare_header, front_text, IsRow, IsSmall}
 
-number_short : (n : ℕ) → n < 2 ^ 32 → length (decimal n) ≤ 10
-number_short n small = length-decimal-le 10 n (omega arith) (omega arith) (omega arith)
+number_short : (n : ℕ) → n < 2 ^ 64 → length (decimal n) ≤ 20
+number_short n small = length-decimal-le 20 n (omega arith) (omega arith) (omega arith)
 
-pub axes_short : (shape : ArrayShape) → IsSmall shape → length (axes_text shape) ≤ 22
+pub axes_short : (shape : ArrayShape) → IsSmall shape → length (axes_text shape) ≤ 42
 axes_short (Row count) small = omega (arith, number_short count small, length-append (decimal count) (codes ","))
 axes_short (Table rows columns) small =
     omega (arith, number_short rows small.0, number_short columns small.1, length-append (decimal rows) (codes ", " ++ decimal columns), length-append (codes ", ") (decimal columns))
@@ -44,12 +44,12 @@ bare_length axes =
     omega (arith, length-append (codes "{'descr': '<u4', 'fortran_order': False, 'shape': (") (axes ++ codes "), }"), length-append axes (codes "), }"))
 
 -- how many blanks fill it up
-pub blank_count : (axes : List ℕ) → length axes ≤ 22 → 64 - (10 + length (header_front (codes "<u4") false ++ header_back axes [])) % 64 ≡ 62 - length axes
+pub blank_count : (axes : List ℕ) → length axes ≤ 42 → 64 - (10 + length (header_front (codes "<u4") false ++ header_back axes [])) % 64 ≡ 62 - length axes
 blank_count axes short =
     let long : length (header_front (codes "<u4") false ++ header_back axes []) ≡ 56 + length axes = omega (arith, header_length axes []) in
     omega (arith, long)
 
-pub padded_length : (axes : List ℕ) → length axes ≤ 22 → length (padded_header axes) ≡ 118
+pub padded_length : (axes : List ℕ) → length axes ≤ 42 → length (padded_header axes) ≡ 118
 padded_length axes short =
     let blanks = blank_count axes short in
     let many = length-replicate {A = ℕ} (64 - (10 + length (header_front (codes "<u4") false ++ header_back axes [])) % 64) 32 in
@@ -89,10 +89,10 @@ written_whole shape body small =
     ap (λ k. magic ++ (version_bytes One ++ (length_bytes One k ++ (padded ++ body)))) (sym (padded_length (axes_text shape) (axes_short shape small)))
 
 -- words of one axis are read as they were written
-pub row_back : (shape : ArrayShape) (words : List ℕ) → IsRow shape → length words ≡ element_count shape → IsSmall shape → ((k : ℕ) → get_or words k 0 < 2 ^ 32)
+pub row_back : (shape : ArrayShape) (words : List ℕ) → IsRow shape → length words ≡ element_count shape → IsSmall shape → length words < 2 ^ 32 → ((k : ℕ) → get_or words k 0 < 2 ^ 32)
     → HasVerdict (npy_file shape words) (Ok words)
-row_back (Table rows columns) words row whole few small = absurd row
-row_back (Row n) words row whole few small =
+row_back (Table rows columns) words row whole few long small = absurd row
+row_back (Row n) words row whole few long small =
     let padded = padded_header (axes_text (Row n)) in
     let body = flat_map (to_le_bytes w32) words in
     let blanks = 64 - (10 + length (header_front (codes "<u4") false ++ header_back (axes_text (Row n)) [])) % 64 in
@@ -101,7 +101,7 @@ row_back (Row n) words row whole few small =
       count = n;
       body = body;
       array = record {
-        few = few;
+        few = omega (arith, whole, long);
         whole = record {
           header = padded;
           file = record { version = One; short = omega (arith, padded_length (axes_text (Row n)) (axes_short (Row n) few)); text = refl };
@@ -109,7 +109,7 @@ row_back (Row n) words row whole few small =
             order = false;
             blanks = replicate blanks 32;
             kind_ends = (refl, (refl, (refl, tt)));
-            shape_ends = count_free n few;
+            shape_ends = count_free n (omega (arith, whole, long));
             blank = all_blank blanks;
             text = refl;
           };

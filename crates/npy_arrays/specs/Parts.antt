@@ -41,10 +41,10 @@ abbrev pub IsRow : ArrayShape → Type 0
 IsRow (Row count) = Unit {0}
 IsRow (Table rows columns) = ⊥
 
--- each axis is below 2 ^ 32
+-- each axis is below 2 ^ 64
 abbrev pub IsSmall : ArrayShape → Type 0
-IsSmall (Row count) = count < 2 ^ 32
-IsSmall (Table rows columns) = (rows < 2 ^ 32) × (columns < 2 ^ 32)
+IsSmall (Row count) = count < 2 ^ 64
+IsSmall (Table rows columns) = (rows < 2 ^ 64) × (columns < 2 ^ 64)
 
 -- the header of an array of words with these axes, up to its brace
 abbrev pub bare_header : List ℕ → List ℕ

@@ -1,7 +1,7 @@
 //! The axes of an array.
-ghost use Rattle.std.specs.Prelude.{◌≡◌, ◌≢◌, ◌<◌, ◌^◌, ℕ, MatchOption, IfOk, string_bytes};
+ghost use Rattle.std.specs.Prelude.{◌≡◌, ◌≢◌, ◌<◌, ◌^◌, ℕ, ◌↔◌, IsTrue, MatchOption, IfOk, string_bytes};
 ghost use Rattle.npy_arrays.specs.Arrays.{shape_text};
-ghost use Rattle.npy_arrays.specs.Written.{axes_text};
+ghost use Rattle.npy_arrays.specs.Written.{axes_text, element_count};
 ghost use Rattle.npy_arrays.specs.Parts.{IsSmall};
 
 use report_text::read_number;
@@ -11,12 +11,22 @@ use std::alloc::{AllocError, Global};
 #[derive(Clone, Copy)]
 pub enum ArrayShape {
     /// One axis of so many elements.
-    Row { count: u32 },
+    Row { count: usize },
     /// Rows of so many columns each; the elements of a row stand together.
-    Table { rows: u32, columns: u32 },
+    Table { rows: usize, columns: usize },
 }
 
 impl ArrayShape {
+    /// Whether the shape has so many elements.
+    pub(crate) fn has(self, words: usize) -> bool
+        ensures { IsTrue result ↔ (words ≡ element_count self) }
+    {
+        match self {
+            ArrayShape::Row { count } => count == words,
+            ArrayShape::Table { rows, columns } => rows.checked_mul(columns) == Some(words),
+        }
+    }
+
     /// The shape as a tuple of Python, without its parentheses.
     pub(crate) fn text(self, alloc: Global) -> Result<String, AllocError>
         ensures text { IfOk result (λ text. string_bytes text ≡ axes_text self) }

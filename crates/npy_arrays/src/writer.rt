@@ -1,12 +1,14 @@
 //! Arrays that are written.
-ghost use Rattle.std.specs.Prelude.{◌≡◌, ◌++◌, ◌≤◌, ◌-◌, length, flat_map, replicate, IfOk, OnOk, Ok, string_bytes};
+ghost use Rattle.std.specs.Prelude.{◌≡◌, ◌≢◌, ◌++◌, ◌<◌, ◌^◌, ◌≤◌, ◌-◌, length, flat_map, replicate, IfOk, IfErr, OnOk, Ok, Err, string_bytes};
 ghost use Rattle.std.specs.Int.{to_le_bytes, w32};
 ghost use Rattle.npy_arrays.specs.Arrays.{IsReading};
 ghost use Rattle.npy_arrays.specs.Written.{axes_text, element_count, npy_file};
 ghost use Rattle.npy_arrays.specs.Parts.{bare_header, front_text, IsRow, IsSmall};
+ghost use Rattle.npy_arrays.specs.declared.write_fault.WriteFault.TheVariants.{Count, Memory};
 
 use crate::front::MAGIC;
 use crate::shape::ArrayShape;
+use crate::write_fault::WriteFault;
 use std::alloc::{AllocError, Global};
 
 /// How many bytes the front of a file has, its header counted in: there is room for every shape.
@@ -72,14 +74,33 @@ fn front_bytes(alloc: Global, shape: ArrayShape, room: usize) -> Result<Vec<u8>,
     Ok(bytes)
 }
 
-/// The file of an array of this shape with these words, byte for byte as NumPy writes one of type `'<u4'`. Besides the file a
-/// header's memory is taken.
-pub fn npy_bytes(alloc: Global, shape: ArrayShape, words: &[u32]) -> Result<Vec<u8>, AllocError>
+/// The file of an array of this shape with these words, which are as many.
+fn whole_file(alloc: Global, shape: ArrayShape, words: &[u32]) -> Result<Vec<u8>, AllocError>
     requires whole { length words.now ≡ element_count shape }
     ensures file { IfOk result (λ v. v.items ≡ npy_file shape words.now) }
-    ensures reads_back { IsRow shape → IfOk result (λ v. IsReading v.items (Ok words.now)) }
+    ensures reads_back { IsRow shape → length words.now < 2 ^ 32 → IfOk result (λ v. IsReading v.items (Ok words.now)) }
 {
-    let mut bytes = front_bytes(alloc, shape, FRONT + 4 * words.len())?;
+    let mut bytes = front_bytes(
+        alloc,
+        shape,
+        FRONT.saturating_add(words.len().saturating_mul(4)),
+    )?;
     push_words(&mut bytes, words)?;
+    Ok(bytes)
+}
+
+/// The file of an array of this shape with these words, byte for byte as NumPy writes one of type `'<u4'`. `Count` comes
+/// where the words are not as many as the shape has elements, whatever memory there is; of any others the only fault is
+/// `Memory`. Besides the file a header's memory is taken.
+pub fn npy_bytes(alloc: Global, shape: ArrayShape, words: &[u32]) -> Result<Vec<u8>, WriteFault>
+    ensures file { IfOk result (λ v. v.items ≡ npy_file shape words.now) }
+    ensures reads_back { IsRow shape → length words.now < 2 ^ 32 → IfOk result (λ v. IsReading v.items (Ok words.now)) }
+    ensures count { length words.now ≢ element_count shape → result ≡ Err Count }
+    ensures memory { length words.now ≡ element_count shape → IfErr result (λ fault. fault ≡ Memory) }
+{
+    if !shape.has(words.len()) {
+        return Err(WriteFault::Count);
+    }
+    let bytes = whole_file(alloc, shape, words)?;
     Ok(bytes)
 }

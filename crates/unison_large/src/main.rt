@@ -1,6 +1,9 @@
 //! Unison on networks of any size: `pack` and `large`.
 #![tactic(auto)]
 
+mod arrays;
+mod binary;
+mod columns;
 mod counts;
 mod info;
 mod network;
@@ -27,8 +30,16 @@ fn run_large(
 ) -> Result<u8, Ending> {
     match LargeRequest::parse(rt.alloc(), words)? {
         LargeRequest::Info { network } => show_info(rt, network.as_str()),
-        LargeRequest::Lockstep { texts, rounds } => report_round(rt, threads, &texts, rounds),
-        LargeRequest::Watch { texts, span } => watch_rounds(rt, threads, &texts, &span),
+        LargeRequest::Lockstep {
+            texts,
+            rounds,
+            view,
+        } => report_round(rt, threads, &texts, rounds, &view),
+        LargeRequest::Watch {
+            texts,
+            span,
+            column,
+        } => watch_rounds(rt, threads, &texts, &span, &column),
     }
 }
 

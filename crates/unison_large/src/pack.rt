@@ -1,5 +1,6 @@
 //! `pack`: a network of any size as a binary file.
 
+use crate::binary::check_output;
 use crate::refusals::{matrix_refusal, names_refusal, refusal};
 use app_files::{Ending, bytes_at, file_at, name_at, print_out, put_note, write_file};
 use app_requests::PackRequest;
@@ -12,7 +13,6 @@ use large_random::{LargeRandom, LargeRandomFault, large_random};
 use large_shapes::{LargeShape, LargeShapeFault, large_shape};
 use net_names::list_text;
 use std::alloc::{AllocError, Global};
-use std::io::IsTerminal;
 
 /// How many edges were dropped or merged; nothing where none were.
 fn notes_text(alloc: Global, packed: &Packed) -> Result<String, AllocError> {
@@ -156,17 +156,6 @@ fn output_for(rt: &HostRuntime, asked: &PackRequest) -> Result<Output, Ending> {
         PackRequest::Shape(shape) => shape_of(rt.alloc(), *shape),
         PackRequest::Random { wanted, seed } => random_of(rt.alloc(), *wanted, *seed),
     }
-}
-
-/// Refuses a terminal as standard output, for which a binary file is nothing.
-fn check_output(rt: &HostRuntime) -> Result<(), Ending> {
-    if rt.stdout().is_terminal() {
-        return Err(Ending::usage(String::from_str(
-            rt.alloc(),
-            "the file is binary: put > and the name of a file behind the words",
-        )));
-    }
-    Ok(())
 }
 
 /// Prints a binary file, and tells what was dropped or merged. The status with which the program ends.

@@ -1,14 +1,15 @@
 //! What rounds on a network of any size begin with: a program, a network, and the initial state of each node.
 
+use crate::arrays::column_at;
 use crate::network::network_at;
 use app_files::{Ending, bytes_at, drawn_for, field_place, next_draw, read_once};
 use app_jobs::program_of;
-use app_requests::{LargeTexts, RandomWord, SetWord, StartWords};
+use app_requests::{FileWord, LargeTexts, RandomWord, SetWord, StartWords};
 use app_table::number;
 use large_net::LargeNetwork;
 use large_rounds::{openings, set_all_values, set_value};
 use rule_check::{Program, State};
-use std::alloc::Global;
+use std::alloc::{AllocError, Global};
 
 /// A program, a network that it is run on, and the initial state of each node.
 #[derive(Drop)]
@@ -108,16 +109,52 @@ fn put_randoms(
     Ok(())
 }
 
-/// The initial states of so many nodes: those of the program, then drawn values, then those of `--set`.
+/// Gives a field of each node its value.
+fn put_column(states: &mut [State], program: &Program, field: u32, values: &[u32]) {
+    for (node, value) in values.iter().enumerate() {
+        let _ = set_value(program, states, node as u32, field, *value);
+    }
+}
+
+/// Gives a field of so many nodes the values of the array that a word of `--set-file` names.
+fn put_file(
+    states: &mut [State],
+    rt: &HostRuntime,
+    program: &Program,
+    nodes: u32,
+    word: &FileWord,
+) -> Result<(), Ending> {
+    let field = field_place(rt.alloc(), program, "--set-file", word.field.as_str())?;
+    let values = column_at(rt, word.path.as_str(), nodes)?;
+    put_column(states, program, field, &values);
+    Ok(())
+}
+
+/// Gives fields of so many nodes the values of the arrays that the words of `--set-file` name, in their order.
+fn put_files(
+    states: &mut [State],
+    rt: &HostRuntime,
+    program: &Program,
+    nodes: u32,
+    words: &[FileWord],
+) -> Result<(), Ending> {
+    for word in words {
+        put_file(states, rt, program, nodes, word)?;
+    }
+    Ok(())
+}
+
+/// The initial states of so many nodes: those of the program, then drawn values, then those of arrays, then those of `--set`.
 fn states_of(
-    alloc: Global,
+    rt: &HostRuntime,
     program: &Program,
     nodes: u32,
     words: &StartWords,
 ) -> Result<Vec<State>, Ending> {
-    let mut states = openings(alloc, program, nodes)?;
-    put_randoms(&mut states, alloc, program, nodes, words)?;
-    put_sets(&mut states, alloc, program, words.sets.as_slice())?;
+    let mut states = openings(rt.alloc(), program, nodes)?;
+    put_randoms(&mut states, rt.alloc(), program, nodes, words)?;
+    put_files(&mut states, rt, program, nodes, words.files.as_slice())?;
+    put_sets(&mut states, rt.alloc(), program, words.sets.as_slice())?;
     Ok(states)
 }
 
@@ -130,13 +167,29 @@ fn program_at(rt: &HostRuntime, path: &str) -> Result<Program, Ending> {
     }
 }
 
+/// Puts the paths of the files that the words name.
+fn put_paths<'a>(paths: &mut Vec<&'a str>, texts: &'a LargeTexts) -> Result<(), AllocError> {
+    paths.push(texts.program.as_str())?;
+    paths.push(texts.network.as_str())?;
+    for word in &texts.start.files {
+        paths.push(word.path.as_str())?;
+    }
+    Ok(())
+}
+
+/// Refuses standard input for more than one of the files.
+fn check_paths(alloc: Global, texts: &LargeTexts) -> Result<(), Ending> {
+    let mut paths = Vec::new(alloc);
+    put_paths(&mut paths, texts)?;
+    read_once(alloc, &paths)
+}
+
 /// What rounds begin with by these words.
 pub(crate) fn start_at(rt: &HostRuntime, texts: &LargeTexts) -> Result<Start, Ending> {
-    let (program, network) = (texts.program.as_str(), texts.network.as_str());
-    read_once(rt.alloc(), &[program, network])?;
-    let program = program_at(rt, program)?;
-    let network = network_at(rt, network)?;
-    let states = states_of(rt.alloc(), &program, network.nodes(), &texts.start)?;
+    check_paths(rt.alloc(), texts)?;
+    let program = program_at(rt, texts.program.as_str())?;
+    let network = network_at(rt, texts.network.as_str())?;
+    let states = states_of(rt, &program, network.nodes(), &texts.start)?;
     Ok(Start {
         program,
         network,

@@ -1,10 +1,11 @@
 //! `large watch`: how many nodes changed, or have each value, round by round.
 
+use crate::columns::watch_column;
 use crate::counts::{counted, put_counts};
 use crate::rounds::plan_of;
 use crate::start::{Start, start_at};
 use app_files::{Ending, print_out};
-use app_requests::LargeTexts;
+use app_requests::{ColumnView, LargeTexts};
 use large_rounds::{LargePlan, LargeWalk, changed_nodes};
 use rule_check::State;
 use run_watch::Span;
@@ -40,7 +41,7 @@ impl Show {
 }
 
 /// Tells on standard error which round is reached, where that is a terminal.
-fn tell_reached(rt: &HostRuntime, round: u32, last: u32) {
+pub(crate) fn tell_reached(rt: &HostRuntime, round: u32, last: u32) {
     if rt.stderr().is_terminal() {
         let _ = eprint!(rt; "\rround {round} of {last}");
         if round == last {
@@ -68,7 +69,7 @@ fn put_round(
 }
 
 /// Moves a walk on to a round, unless it is there or beyond.
-fn move_to(threads: &(impl Threads + Sync), walk: &mut LargeWalk<'_>, round: u32) {
+pub(crate) fn move_to(threads: &(impl Threads + Sync), walk: &mut LargeWalk<'_>, round: u32) {
     if walk.round() < round {
         walk.go_to_shared(threads, round);
     }
@@ -97,7 +98,7 @@ fn put_rounds(
 }
 
 /// A walk over the rounds of a plan, from its start on. One that is not shared makes each round by one thread.
-fn walk_of<'a>(
+pub(crate) fn walk_of<'a>(
     rt: &HostRuntime,
     threads: &(impl Threads + Sync),
     plan: &'a LargePlan<'a>,
@@ -132,8 +133,12 @@ pub(crate) fn watch_rounds(
     threads: &(impl Threads + Sync),
     texts: &LargeTexts,
     span: &Span,
+    column: &Option<ColumnView>,
 ) -> Result<u8, Ending> {
     let start = start_at(rt, texts)?;
+    if let Some(view) = column {
+        return watch_column(rt, threads, &start, span, view, texts.is_shared);
+    }
     let show = Show::of(rt.alloc(), &start, texts)?;
     let text = text_of(rt, threads, &start, span, show, texts.is_shared)?;
     print_out(rt, text.as_bytes())

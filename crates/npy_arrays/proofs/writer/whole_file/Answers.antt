@@ -3,7 +3,7 @@ use Rattle.std.specs.Int.{to_le_bytes, w32}
 use Rattle.std.specs.List.{flat_map}
 use Rattle.npy_arrays.specs.Written.{npy_file}
 use Rattle.npy_arrays.proofs.Writes.{written_whole, row_back}
-use Rattle.npy_arrays.proofs.writer.npy_bytes.Goals as goal
+use Rattle.npy_arrays.proofs.writer.whole_file.Goals as goal
 
 items : (c : goal.In_ok-push_words) → c.push_words.new.bytes.items ≡ npy_file c.args.shape c.args.words.now
 items c =
@@ -15,5 +15,5 @@ pub returns-clause-file : goal.returns-clause-file
 returns-clause-file c = items c
 
 pub returns-clause-reads_back : goal.returns-clause-reads_back
-returns-clause-reads_back c = λ row.
-    rw (items c) (row_back c.args.shape c.args.words.now row c.requires.whole c.in_ok-bytes.ensures.small (λ k. omega (arith, c.type_inv.words k)))
+returns-clause-reads_back c = λ row few.
+    rw (items c) (row_back c.args.shape c.args.words.now row c.requires.whole c.in_ok-bytes.ensures.small few (λ k. omega (arith, c.type_inv.words k)))
