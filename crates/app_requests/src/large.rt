@@ -205,39 +205,48 @@ pub struct LargeTexts {
     /// The path of the network's binary file.
     pub network: String,
     pub start: StartWords,
-    /// The field whose values are counted, where they are.
-    pub count: Option<String>,
     /// Whether rounds are shared among the processors.
     pub is_shared: bool,
 }
 
 /// How the states after a round are shown.
 #[derive(Clone, Copy, PartialEq, Eq)]
-pub enum LargeFormat {
+pub enum StatesFormat {
+    /// As a report.
     Report,
+    /// As an array of NumPy, a row for each node.
     Npy,
 }
 
 /// What is shown of the states after a round.
 #[derive(Drop)]
-pub struct StatesView {
-    pub format: LargeFormat,
-    /// The field that stands alone in an array, where one does.
-    pub field: Option<String>,
+pub enum StatesView {
+    /// All states.
+    All(StatesFormat),
+    /// The field of this name, as an array of NumPy with one axis.
+    Column(String),
+    /// How many nodes have each value of the field of this name.
+    Counts(String),
 }
 
 /// How a field of all nodes is shown, round by round.
 #[derive(Clone, Copy, PartialEq, Eq)]
 pub enum ColumnFormat {
+    /// As CSV, a line for each node.
     Csv,
+    /// As an array of NumPy, a row for each round.
     Npy,
 }
 
-/// A field of all nodes that is shown.
+/// What is shown of each round.
 #[derive(Drop)]
-pub struct ColumnView {
-    pub field: String,
-    pub format: ColumnFormat,
+pub enum RoundsView {
+    /// How many nodes changed since the round that was shown before.
+    Changes,
+    /// How many nodes have each value of the field of this name.
+    Counts(String),
+    /// The field of this name, of all nodes.
+    Column { field: String, format: ColumnFormat },
 }
 
 /// What `large` is asked for.
@@ -253,11 +262,11 @@ pub enum LargeRequest {
         rounds: u32,
         view: StatesView,
     },
-    /// How many nodes changed, or have each value, or a field of all nodes, round by round.
+    /// What rounds are like, one by one.
     Watch {
         texts: LargeTexts,
         span: Span,
-        column: Option<ColumnView>,
+        view: RoundsView,
     },
 }
 
@@ -312,60 +321,64 @@ fn start_in(reading: &mut Reading) -> StartWords {
     }
 }
 
-/// Refuses counts in place of an array, or of a field of all nodes.
-fn check_counts(reading: &mut Reading, is_other: bool) {
-    if is_other && reading.has(&COUNT_ARGUMENT) {
-        reading.refuse_words(
-            "--count: counts are CSV of their own; leave away --field and --format npy, or --count",
-        );
-    }
-}
-
 /// How the states after a round are to be shown.
-fn format_in(reading: &mut Reading) -> LargeFormat {
+fn format_in(reading: &mut Reading) -> StatesFormat {
     match reading.choice(&FORMAT_ARGUMENT).unwrap_or("report") {
-        "npy" => LargeFormat::Npy,
-        _ => LargeFormat::Report,
+        "npy" => StatesFormat::Npy,
+        _ => StatesFormat::Report,
     }
 }
 
-/// Refuses a field that is to stand alone in a report, which has all of them.
-fn check_field(reading: &mut Reading, format: LargeFormat) {
-    if format == LargeFormat::Report && reading.has(&ONE_FIELD_ARGUMENT) {
-        reading.refuse_words("--field: a report has all fields; take --format npy");
+/// Counts of a field's values, of whose form nothing is said.
+fn counts_in(reading: &mut Reading, field: String) -> StatesView {
+    if reading.has(&FORMAT_ARGUMENT) {
+        reading.refuse_words("--count: counted values are printed as CSV; leave out --format");
     }
+    StatesView::Counts(field)
+}
+
+/// A field that stands alone in an array.
+fn one_field_in(reading: &mut Reading, format: StatesFormat, field: String) -> StatesView {
+    if format != StatesFormat::Npy {
+        reading.refuse_words("--field: other forms have all fields; take --format npy");
+    }
+    StatesView::Column(field)
 }
 
 /// What is to be shown of the states after a round.
 fn view_in(reading: &mut Reading) -> StatesView {
     let format = format_in(reading);
-    check_counts(reading, format == LargeFormat::Npy);
-    check_field(reading, format);
-    let field = reading.text(&ONE_FIELD_ARGUMENT);
-    StatesView { format, field }
+    if let Some(field) = reading.text(&COUNT_ARGUMENT) {
+        return counts_in(reading, field);
+    }
+    match reading.text(&ONE_FIELD_ARGUMENT) {
+        Some(field) => one_field_in(reading, format, field),
+        None => StatesView::All(format),
+    }
 }
 
-/// The field of all nodes that is to be shown, where one is.
-fn column_in(reading: &mut Reading) -> Option<ColumnView> {
-    let field = reading.text(&COLUMN_ARGUMENT)?;
-    check_counts(reading, true);
-    let format = match reading.choice(&COLUMN_FORMAT_ARGUMENT).unwrap_or("csv") {
+/// How a field of all nodes is to be shown.
+fn column_format_in(reading: &mut Reading) -> ColumnFormat {
+    match reading.choice(&COLUMN_FORMAT_ARGUMENT).unwrap_or("csv") {
         "npy" => ColumnFormat::Npy,
         _ => ColumnFormat::Csv,
-    };
-    Some(ColumnView { field, format })
+    }
 }
 
-/// What `large watch` is asked for, where the words name rounds.
-fn watch_in(reading: &mut Reading) -> Option<LargeRequest> {
-    let span = span_in(reading)?;
-    let column = column_in(reading);
-    let texts = texts_in(reading);
-    Some(LargeRequest::Watch {
-        texts,
-        span,
-        column,
-    })
+/// What is to be shown of each round.
+fn rounds_view_in(reading: &mut Reading) -> RoundsView {
+    let format = column_format_in(reading);
+    let column = reading.text(&COLUMN_ARGUMENT);
+    if let Some(field) = reading.text(&COUNT_ARGUMENT) {
+        if column.is_some() {
+            reading.refuse_words("--count: it stands in place of --field; leave out one of them");
+        }
+        return RoundsView::Counts(field);
+    }
+    match column {
+        Some(field) => RoundsView::Column { field, format },
+        None => RoundsView::Changes,
+    }
 }
 
 /// What rounds begin with.
@@ -373,14 +386,32 @@ fn texts_in(reading: &mut Reading) -> LargeTexts {
     let program = reading.needed_text(&PROGRAM_ARGUMENT);
     let network = reading.needed_text(&PACKED_ARGUMENT);
     let start = start_in(reading);
-    let count = reading.text(&COUNT_ARGUMENT);
     LargeTexts {
         program,
         network,
         start,
-        count,
         is_shared: !reading.has(&SEQUENTIAL_ARGUMENT),
     }
+}
+
+/// What the words of `lockstep` ask for.
+fn lockstep_in(reading: &mut Reading) -> LargeRequest {
+    let rounds = reading.number_or(&LAST_ARGUMENT, 0);
+    let view = view_in(reading);
+    let texts = texts_in(reading);
+    LargeRequest::Lockstep {
+        texts,
+        rounds,
+        view,
+    }
+}
+
+/// What the words of `watch` ask for, where they name rounds.
+fn watch_in(reading: &mut Reading) -> Option<LargeRequest> {
+    let span = span_in(reading)?;
+    let view = rounds_view_in(reading);
+    let texts = texts_in(reading);
+    Some(LargeRequest::Watch { texts, span, view })
 }
 
 /// What plain words ask for, where they name rounds.
@@ -389,11 +420,7 @@ fn request_in(reading: &mut Reading) -> Option<LargeRequest> {
         "info" => Some(LargeRequest::Info {
             network: reading.needed_text(&PACKED_ARGUMENT),
         }),
-        "lockstep" => Some(LargeRequest::Lockstep {
-            rounds: reading.number_or(&LAST_ARGUMENT, 0),
-            view: view_in(reading),
-            texts: texts_in(reading),
-        }),
+        "lockstep" => Some(lockstep_in(reading)),
         _ => watch_in(reading),
     }
 }

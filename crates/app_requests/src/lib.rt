@@ -27,7 +27,7 @@ pub use import::{Format, ImportRequest};
 pub use info::InfoRequest;
 pub use init::{CellsWord, InitRequest, RandomWord, SetWord};
 pub use large::{
-    ColumnFormat, ColumnView, FileWord, LargeFormat, LargeRequest, LargeTexts, StartWords,
+    ColumnFormat, FileWord, LargeRequest, LargeTexts, RoundsView, StartWords, StatesFormat,
     StatesView,
 };
 pub use pack::PackRequest;

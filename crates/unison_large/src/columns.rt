@@ -6,7 +6,7 @@ use crate::rounds::plan_of;
 use crate::start::Start;
 use crate::watch::{move_to, tell_reached, walk_of};
 use app_files::{Ending, field_place, print_out};
-use app_requests::{ColumnFormat, ColumnView};
+use app_requests::ColumnFormat;
 use large_rounds::LargeWalk;
 use npy_arrays::ArrayShape;
 use rule_check::State;
@@ -96,20 +96,20 @@ fn lines_of(
     Ok(text.into_bytes())
 }
 
-/// What is printed of a field.
+/// What is printed of the field of this name.
 fn output_of(
     rt: &HostRuntime,
     threads: &(impl Threads + Sync),
     start: &Start,
     span: &Span,
-    view: &ColumnView,
+    name: &str,
+    format: ColumnFormat,
     is_shared: bool,
 ) -> Result<Vec<u8>, Ending> {
-    let name = view.field.as_str();
     let field = field_place(rt.alloc(), &start.program, "--field", name)?;
     let plan = plan_of(rt.alloc(), start)?;
     let mut walk = walk_of(rt, threads, &plan, is_shared)?;
-    match view.format {
+    match format {
         ColumnFormat::Csv => Ok(lines_of(rt, threads, &mut walk, span, field, name)?),
         ColumnFormat::Npy => {
             let words = words_of(rt, threads, &mut walk, span, field)?;
@@ -122,18 +122,19 @@ fn output_of(
     }
 }
 
-/// Prints a field of all nodes in the rounds of a span. The status with which the program ends.
+/// Prints the field of this name, of all nodes, in the rounds of a span. The status with which the program ends.
 pub(crate) fn watch_column(
     rt: &HostRuntime,
     threads: &(impl Threads + Sync),
     start: &Start,
     span: &Span,
-    view: &ColumnView,
+    name: &str,
+    format: ColumnFormat,
     is_shared: bool,
 ) -> Result<u8, Ending> {
-    if view.format == ColumnFormat::Npy {
+    if format == ColumnFormat::Npy {
         check_output(rt)?;
     }
-    let output = output_of(rt, threads, start, span, view, is_shared)?;
+    let output = output_of(rt, threads, start, span, name, format, is_shared)?;
     print_out(rt, &output)
 }

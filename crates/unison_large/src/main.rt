@@ -35,11 +35,9 @@ fn run_large(
             rounds,
             view,
         } => report_round(rt, threads, &texts, rounds, &view),
-        LargeRequest::Watch {
-            texts,
-            span,
-            column,
-        } => watch_rounds(rt, threads, &texts, &span, &column),
+        LargeRequest::Watch { texts, span, view } => {
+            watch_rounds(rt, threads, &texts, &span, &view)
+        }
     }
 }
 

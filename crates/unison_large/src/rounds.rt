@@ -7,14 +7,14 @@ use crate::counts::{counted, put_counts};
 use crate::start::{Start, start_at};
 use app_files::{Ending, field_place, print_out};
 use app_jobs::ServeFault;
-use app_requests::{LargeFormat, LargeTexts, StatesView};
+use app_requests::{LargeTexts, StatesFormat, StatesView};
 use large_rounds::{LargePlan, LargePlanFault, large_lockstep};
 use npy_arrays::ArrayShape;
 use report_text::report_states;
 use rounds_plan::RoundFault;
 use rule_check::{Program, State};
 use state_columns::state_rows;
-use std::alloc::Global;
+use std::alloc::{AllocError, Global};
 use std::thread::Threads;
 
 /// The plan of what rounds begin with.
@@ -48,15 +48,46 @@ fn states_after(
     }
 }
 
-/// How many nodes have each value of the field of this name, as CSV.
-fn counts_of(
+/// What is shown of the states after a round.
+#[derive(Clone, Copy)]
+enum Show {
+    /// All states.
+    All(StatesFormat),
+    /// The field at this place, as an array.
+    Column(u32),
+    /// How many nodes have each value of the field at this place.
+    Counts(u32),
+}
+
+impl Show {
+    /// What the words ask for. Binary files are refused where standard output is a terminal.
+    fn of(rt: &HostRuntime, program: &Program, view: &StatesView) -> Result<Show, Ending> {
+        match view {
+            StatesView::All(StatesFormat::Report) => Ok(Show::All(StatesFormat::Report)),
+            StatesView::All(format) => {
+                check_output(rt)?;
+                Ok(Show::All(*format))
+            }
+            StatesView::Column(name) => {
+                check_output(rt)?;
+                let field = field_place(rt.alloc(), program, "--field", name.as_str())?;
+                Ok(Show::Column(field))
+            }
+            StatesView::Counts(name) => {
+                let field = counted(rt.alloc(), program, name.as_str())?;
+                Ok(Show::Counts(field))
+            }
+        }
+    }
+}
+
+/// The text about how many nodes have each value of a field after a round.
+fn counts_text(
     alloc: Global,
-    start: &Start,
-    name: &str,
     rounds: u32,
     states: &[State],
-) -> Result<Vec<u8>, Ending> {
-    let field = counted(alloc, &start.program, name)?;
+    field: u32,
+) -> Result<Vec<u8>, AllocError> {
     let mut text = String::from_str(alloc, "round,value,nodes\n")?;
     put_counts(&mut text, alloc, rounds, states, field)?;
     Ok(text.into_bytes())
@@ -73,46 +104,26 @@ fn table_of(alloc: Global, program: &Program, states: &[State]) -> Result<Vec<u8
     array_of(alloc, shape, &words)
 }
 
-/// The field of this name as an array with an element for each node.
-fn row_of(
-    alloc: Global,
-    program: &Program,
-    name: &str,
-    states: &[State],
-) -> Result<Vec<u8>, Ending> {
-    let field = field_place(alloc, program, "--field", name)?;
+/// A field as an array with an element for each node.
+fn row_of(alloc: Global, states: &[State], field: u32) -> Result<Vec<u8>, Ending> {
     let words = column_of(alloc, states, field)?;
     let shape = ArrayShape::Row { count: words.len() };
     array_of(alloc, shape, &words)
 }
 
-/// The states in the form that is asked for.
-fn shown(
-    alloc: Global,
-    program: &Program,
-    view: &StatesView,
-    rounds: u32,
-    states: &[State],
-) -> Result<Vec<u8>, Ending> {
-    match (view.format, &view.field) {
-        (LargeFormat::Report, _) => Ok(report_states(alloc, program, rounds, states)?),
-        (LargeFormat::Npy, Some(name)) => row_of(alloc, program, name.as_str(), states),
-        (LargeFormat::Npy, None) => table_of(alloc, program, states),
-    }
-}
-
 /// What is printed of the states after a round.
 fn output_of(
     alloc: Global,
-    start: &Start,
-    texts: &LargeTexts,
+    program: &Program,
     rounds: u32,
-    view: &StatesView,
     states: &[State],
+    show: Show,
 ) -> Result<Vec<u8>, Ending> {
-    match &texts.count {
-        Some(name) => counts_of(alloc, start, name.as_str(), rounds, states),
-        None => shown(alloc, &start.program, view, rounds, states),
+    match show {
+        Show::All(StatesFormat::Report) => Ok(report_states(alloc, program, rounds, states)?),
+        Show::All(StatesFormat::Npy) => table_of(alloc, program, states),
+        Show::Column(field) => row_of(alloc, states, field),
+        Show::Counts(field) => Ok(counts_text(alloc, rounds, states, field)?),
     }
 }
 
@@ -124,11 +135,9 @@ pub(crate) fn report_round(
     rounds: u32,
     view: &StatesView,
 ) -> Result<u8, Ending> {
-    if view.format == LargeFormat::Npy {
-        check_output(rt)?;
-    }
     let start = start_at(rt, texts)?;
+    let show = Show::of(rt, &start.program, view)?;
     let states = states_after(rt, threads, &start, rounds, texts.is_shared)?;
-    let output = output_of(rt.alloc(), &start, texts, rounds, view, &states)?;
+    let output = output_of(rt.alloc(), &start.program, rounds, &states, show)?;
     print_out(rt, &output)
 }

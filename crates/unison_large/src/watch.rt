@@ -5,7 +5,7 @@ use crate::counts::{counted, put_counts};
 use crate::rounds::plan_of;
 use crate::start::{Start, start_at};
 use app_files::{Ending, print_out};
-use app_requests::{ColumnView, LargeTexts};
+use app_requests::{LargeTexts, RoundsView};
 use large_rounds::{LargePlan, LargeWalk, changed_nodes};
 use rule_check::State;
 use run_watch::Span;
@@ -23,14 +23,6 @@ enum Show {
 }
 
 impl Show {
-    /// What the words ask for.
-    fn of(alloc: Global, start: &Start, texts: &LargeTexts) -> Result<Show, Ending> {
-        match &texts.count {
-            None => Ok(Show::Changes),
-            Some(name) => Ok(Show::Counts(counted(alloc, &start.program, name.as_str())?)),
-        }
-    }
-
     /// The line that stands first.
     fn heading(self) -> &'static str {
         match self {
@@ -127,19 +119,40 @@ fn text_of(
     Ok(text)
 }
 
+/// Prints what is shown of the rounds of a span. The status with which the program ends.
+fn print_rounds(
+    rt: &HostRuntime,
+    threads: &(impl Threads + Sync),
+    start: &Start,
+    span: &Span,
+    show: Show,
+    is_shared: bool,
+) -> Result<u8, Ending> {
+    let text = text_of(rt, threads, start, span, show, is_shared)?;
+    print_out(rt, text.as_bytes())
+}
+
 /// Prints the rounds of a span. The status with which the program ends.
 pub(crate) fn watch_rounds(
     rt: &HostRuntime,
     threads: &(impl Threads + Sync),
     texts: &LargeTexts,
     span: &Span,
-    column: &Option<ColumnView>,
+    view: &RoundsView,
 ) -> Result<u8, Ending> {
     let start = start_at(rt, texts)?;
-    if let Some(view) = column {
-        return watch_column(rt, threads, &start, span, view, texts.is_shared);
+    match view {
+        RoundsView::Changes => {
+            print_rounds(rt, threads, &start, span, Show::Changes, texts.is_shared)
+        }
+        RoundsView::Counts(name) => {
+            let field = counted(rt.alloc(), &start.program, name.as_str())?;
+            let show = Show::Counts(field);
+            print_rounds(rt, threads, &start, span, show, texts.is_shared)
+        }
+        RoundsView::Column { field, format } => {
+            let name = field.as_str();
+            watch_column(rt, threads, &start, span, name, *format, texts.is_shared)
+        }
     }
-    let show = Show::of(rt.alloc(), &start, texts)?;
-    let text = text_of(rt, threads, &start, span, show, texts.is_shared)?;
-    print_out(rt, text.as_bytes())
 }
