@@ -4,3 +4,4 @@ mod Searches
 mod Elements
 mod Arrays
 mod Writes
+mod Unique

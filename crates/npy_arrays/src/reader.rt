@@ -2,6 +2,7 @@
 ghost use Rattle.std.specs.Prelude.{◌≡◌, ◌≢◌, ◌*◌, ◌<◌, ◌≤◌, ◌^◌, ℕ, List, length, find, IfOk, MatchResult, Ok, Err};
 ghost use Rattle.std.specs.List.{range_with_len};
 ghost use Rattle.npy_arrays.specs.declared.element.Element.{Element};
+ghost use Rattle.npy_arrays.specs.declared.fault.NpyFault.{NpyFault};
 ghost use Rattle.npy_arrays.specs.declared.fault.NpyFault.TheVariants.{Memory};
 ghost use Rattle.npy_arrays.specs.Arrays.{IsArray, IsNoArray, IsReading, HasVerdict, is_misfit, number_at, size, value_bound, values, verdict};
 ghost use Rattle.npy_arrays.specs.Parts.{AreValues};
@@ -114,7 +115,7 @@ fn read_column(alloc: Global, bytes: &[u8]) -> Result<Vec<u32>, NpyFault>
 pub fn read_npy(alloc: Global, bytes: &[u8]) -> Result<Vec<u32>, NpyFault>
     ensures reading { MatchResult result (λ v. IsReading bytes.now (Ok v.items)) (λ fault. fault ≢ Memory → IsReading bytes.now (Err fault)) }
     ensures every_array { (element : Element) (count : ℕ) (body : List ℕ) → IsArray bytes.now element count body → MatchResult result (λ v. verdict element count body ≡ Ok v.items) (λ fault. fault ≢ Memory → verdict element count body ≡ Err fault) }
-    ensures memory { result ≡ Err Memory → (words : List ℕ) × IsReading bytes.now (Ok words) }
+    ensures refused { (fault : NpyFault) → IsReading bytes.now (Err fault) → result ≡ Err fault }
 {
     read_column(alloc, bytes)
 }
