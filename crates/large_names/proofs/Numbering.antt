@@ -1,6 +1,7 @@
 -- Edges between the numbers of names, read line by line.
-use Rattle.std.proofs.Common.{◌≡◌, ℕ, ◌+◌, ◌<◌, ◌≤◌, Bool, true, false, not, List, [], ◌∷◌, ◌++◌, length, map, nat_lt, refl, sym, ap, ◌∙◌, append_assoc, append-nil, arith, Option, Result, Ok, Err}
-use Rattle.std.specs.Str.{bytes_eq}
+use Rattle.std.proofs.Common.{◌≡◌, ℕ, ◌<◌, ◌≤◌, List, [], ◌∷◌, ◌++◌, length, map, refl, sym, ap, subst, ◌∙◌, append-nil, arith, Option, Result, Ok, Err}
+use Rattle.std.specs.Prelude.{IfErr}
+use Rattle.std.specs.Result.{IsErrAnd}
 use Rattle.std.proofs.lemmas.Bool.{ltb-true}
 use Rattle.std.proofs.lemmas.List.{length-append}
 use Rattle.import_lines.specs.Named.{NamedEdge}
@@ -9,12 +10,13 @@ use Rattle.import_edges.specs.Edges.{and_then, edge_of, edges_in}
 use Rattle.import_links.specs.declared.placed.PlacedLink.{PlacedLink}
 use Rattle.import_links.specs.Joining.{with_ends, names_with, link_in, links_with}
 use Rattle.import_links.proofs.Stable.{links_all, all_grown, ends_placed, first_there, has_with}
-use Rattle.net_names.specs.Naming.{place_in, has_name, with_name}
+use Rattle.net_names.specs.Naming.{place_in, with_name}
 use Rattle.large_pack.specs.declared.edge_line.EdgeLine.{EdgeLine}
 use Rattle.large_pack.specs.declared.options.PackOptions.{PackOptions}
 use Rattle.large_pack.specs.declared.ranked.Ranked.{Ranked}
 use Rattle.large_pack.specs.Ranks.{ranked, RankedWithin}
-use Rattle.large_pack.proofs.Rising.{EndsBelow, turned_below}
+use Rattle.large_pack.proofs.Rising.{turned_below}
+use Rattle.large_names.specs.declared.fault.NamesPackFault.{NamesPackFault}
 use Rattle.large_names.specs.Naming.{edge_in, numbered}
 
 -- ---- one edge
@@ -73,20 +75,14 @@ Read = Result (List NamedEdge) EdgeFault
 abbrev pub numbered_after : PackOptions → List (List ℕ) → List Ranked → Read → Result (List (List ℕ) × List Ranked) EdgeFault
 numbered_after o names items read = and_then read (λ es. Ok (names_with names es, items ++ map (ranked o) (edges_with names es)))
 
--- one edge more
-pub read_more : (o : PackOptions) (factor : Option ℕ) (names later : List (List ℕ)) (items more : List Ranked) (e : NamedEdge) (l : ℕ × List ℕ) (lines rest : List (ℕ × List ℕ)) (defined : Result (List (List ℕ) × List Ranked) EdgeFault)
-    → later ≡ with_ends names e → more ≡ items ++ ranked o (edge_in (with_ends names e) e) ∷ [] → lines ≡ l ∷ rest → Ok e ≡ edge_of factor l → numbered_after o names items (edges_in factor lines) ≡ defined → numbered_after o later more (edges_in factor rest) ≡ defined
-read_more o factor names later items more e l lines rest defined named put shape said so_far = rw (named, put, step (edges_in factor rest)) (sym (rw (shape, ← said) refl) ∙ so_far)
-  where
-    step : (read : Read) → numbered_after o (with_ends names e) (items ++ ranked o (edge_in (with_ends names e) e) ∷ []) read ≡ numbered_after o names items (and_then read (λ es. Ok (e ∷ es)))
-    step (Ok es) = ap (λ t. Ok (names_with (with_ends names e) es, t)) (append_assoc items (ranked o (edge_in (with_ends names e) e) ∷ []) (map (ranked o) (edges_with (with_ends names e) es)))
-    step (Err fault) = refl
-
 abbrev as_read : {A : Type 0} → A → Result A EdgeFault
 as_read x = Ok x
 
-same_pair : {A B : Type 0} (a c : A) (b d : B) → as_read (a, b) ≡ Ok (c, d) → (a ≡ c) × (b ≡ d)
-same_pair a c b d h = (let same : (a, b) ≡ (c, d) = cc in (ap (λ p. p.0) same, ap (λ p. p.1) same))
+same_of : {A : Type 0} (x y : A) → as_read x ≡ Ok y → x ≡ y
+same_of x y h = cc
+
+same_pair : {A B : Type 0} (a c : A) (b d : B) → as_read {A = A × B} (a, b) ≡ Ok (c, d) → (a ≡ c) × (b ≡ d)
+same_pair {A} {B} a c b d h = (let same = same_of {A = A × B} (a, b) (c, d) h in (ap (λ (p : A × B). p.0) same, ap (λ (p : A × B). p.1) same))
 
 -- no line is left
 pub read_done : (o : PackOptions) (factor : Option ℕ) (names : List (List ℕ)) (items : List Ranked) (lines : List (ℕ × List ℕ)) (defined : Read) (es : List NamedEdge)
@@ -101,12 +97,6 @@ failed fault = Err fault
 clash : {A : Type 0} (fault : EdgeFault) (x : List (List ℕ) × List Ranked) → failed fault ≡ Ok x → A
 clash fault x h = cc
 
--- a bad line is not left where all are good
-pub none_bad : {A : Type 0} (o : PackOptions) (factor : Option ℕ) (names : List (List ℕ)) (items : List Ranked) (l : ℕ × List ℕ) (lines rest : List (ℕ × List ℕ)) (defined : Read) (es : List NamedEdge) (fault : EdgeFault)
-    → lines ≡ l ∷ rest → Err fault ≡ edge_of factor l → numbered_after o names items (edges_in factor lines) ≡ numbered_after o [] [] defined → defined ≡ Ok es → A
-none_bad o factor names items l lines rest defined es fault shape said so_far is =
-    clash fault (names_with [] es, map (ranked o) (edges_with [] es)) (sym (rw (shape, ← said) refl) ∙ (rw is at so_far))
-
 -- too many names with one edge are too many with all
 pub crowd_here : (o : PackOptions) (factor : Option ℕ) (names : List (List ℕ)) (items : List Ranked) (e : NamedEdge) (l : ℕ × List ℕ) (lines rest : List (ℕ × List ℕ)) (defined : Read) (es : List NamedEdge) (most : ℕ)
     → lines ≡ l ∷ rest → Ok e ≡ edge_of factor l → numbered_after o names items (edges_in factor lines) ≡ numbered_after o [] [] defined → defined ≡ Ok es → most < length (with_ends names e) → most < length (names_with [] es)
@@ -117,3 +107,15 @@ crowd_here o factor names items e l lines rest defined es most shape said so_far
     by (Ok later) h =
         let same = same_pair (names_with (with_ends names e) later) (names_with [] es) _ _ h in
         omega (arith, many, grown_longer (with_ends names e) later, ap length same.0)
+
+-- what is so of a fault is so where it is passed on
+pub err_keeps : {A : Type 0} (r : Result A NamesPackFault) (fault : NamesPackFault) (Q : NamesPackFault → Type 0) → IsErrAnd r (λ e. e ≡ fault) → Q fault → IfErr r Q
+err_keeps (Ok x) fault Q is h = absurd is
+err_keeps (Err e) fault Q is h = subst Q (sym is) h
+
+-- where there is an edge there is a name
+pub some_names : (es : List NamedEdge) → 1 ≤ length es → 1 ≤ length (names_with [] es)
+some_names [] h = omega (arith, h)
+some_names (e ∷ es) h =
+    let there : place_in (with_ends [] e) e.first < length (with_ends [] e) = ltb-true (place_in (with_ends [] e) e.first) (length (with_ends [] e)) (first_there [] e) in
+    omega (arith, there, grown_longer (with_ends [] e) es)

@@ -1,5 +1,5 @@
 -- Edges between named nodes, and what they are packed into. A node's number is the place of its name.
-use Rattle.std.specs.Prelude.{ℕ, Bool, List, [], length, map, nat_lt, Option, Some, None, Result, Ok, Err, if◌then◌else◌}
+use Rattle.std.specs.Prelude.{ℕ, List, [], length, map, nat_lt, Option, Some, None, Result, Ok, Err, if◌then◌else◌}
 use Rattle.std.specs.List.{filter_map, slice_get}
 use Rattle.std.specs.Str.{bytes_eq}
 use Rattle.link_net.specs.Limits.{most_rows}
