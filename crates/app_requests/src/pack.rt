@@ -212,7 +212,9 @@ pub enum PackRequest {
         options: MatrixOptions,
     },
     /// The network file at a path.
-    Network { path: String },
+    Network {
+        path: String,
+    },
     /// A shape.
     Shape(LargeShape),
     /// A random network, and the seed by which it is drawn.

@@ -32,11 +32,7 @@ fn line_edge(number: u64, line: &[u8], factor: Option<u32>) -> Result<Edge<'_>, 
 
 /// The edge that the line of this number says: `a b` or `a b weight`, as `read_edges` reads it; or what is wrong with it,
 /// as `BadLine` with its number. It is the fault that comes first in the order of [`LineFault`].
-pub fn read_line(
-    number: u64,
-    line: &[u8],
-    factor: Option<u32>,
-) -> Result<Edge<'_>, EdgeFault>
+pub fn read_line(number: u64, line: &[u8], factor: Option<u32>) -> Result<Edge<'_>, EdgeFault>
     ensures edge { result ≡ edge_of factor (number, line.now) }
     ensures line { IfOk result (λ edge. edge.line ≡ number) }
 {

@@ -62,10 +62,7 @@ fn told_size(most_nodes: u32, number: u64, line: &[u8]) -> Result<Size, MatrixFa
 /// Words are parted by blanks, tabs or commas. A line ends at LF or at the end of the text; a CR is taken as a blank.
 ///
 /// Faults are those of [`MatrixFault`] but for `Memory`, of the lines before the entries; the entries tell the others.
-pub fn find_entries<'a>(
-    text: &'a [u8],
-    reading: &EntryReading,
-) -> Result<Entries<'a>, MatrixFault>
+pub fn find_entries<'a>(text: &'a [u8], reading: &EntryReading) -> Result<Entries<'a>, MatrixFault>
     ensures room { IfOk result (λ from. from.lines.passed + length from.lines.bytes.now < 2 ^ 64) }
     ensures most { IfOk result (λ from. from.found ≤ from.said) }
     ensures some { IfOk result (λ from. 1 ≤ from.form.nodes) }

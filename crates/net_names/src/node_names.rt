@@ -34,7 +34,11 @@ impl Model for NodeNames {
 }
 
 /// Puts a text that is new behind the others.
-pub(crate) fn put_text(alloc: Global, texts: &mut IndexSet<String>, text: &str) -> Result<(), AllocError>
+pub(crate) fn put_text(
+    alloc: Global,
+    texts: &mut IndexSet<String>,
+    text: &str,
+) -> Result<(), AllocError>
     requires new { contains_text texts.old text.now ≡ false }
     ensures put { OnOk result (map string_bytes texts.new.keys ≡ map string_bytes texts.old.keys ++ text.now ∷ []) }
     ensures distinct { OnOk result (IsDistinct string_eq texts.new.keys) }
