@@ -218,7 +218,10 @@ pub enum PackRequest {
     /// A shape.
     Shape(LargeShape),
     /// A random network, and the seed by which it is drawn.
-    Random { wanted: LargeRandom, seed: u32 },
+    Random {
+        wanted: LargeRandom,
+        seed: u32,
+    },
 }
 
 /// What becomes of edges between the same two nodes.
