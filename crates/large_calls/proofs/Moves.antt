@@ -1,23 +1,22 @@
 -- The plan that opens with the states of some words, and its round.
-use Rattle.std.proofs.Common.{◌≡◌, ◌∙◌, ℕ, zero, suc, ◌+◌, ◌-◌, ◌*◌, ◌≤◌, ◌<◌, Bool, false, true, not, eqb, nat_lt, List, [], ◌∷◌, ◌++◌, length, take, drop, replicate, get_or, Result, Ok, refl, ap, sym, arith, zero-add}
+use Rattle.std.proofs.Common.{◌≡◌, ◌∙◌, ℕ, zero, suc, ◌+◌, ◌-◌, ◌*◌, ◌≤◌, ◌<◌, false, true, not, eqb, nat_lt, List, [], ◌∷◌, ◌++◌, length, drop, replicate, Ok, refl, ap, arith, zero-add}
 use Rattle.std.specs.List.{list_any}
 use Rattle.std.proofs.lemmas.Bool.Decides.{nat_tests}
 use Rattle.std.proofs.Math.Seq.{drop-append-add}
-use Rattle.std.proofs.lemmas.List.{drop-replicate, length-take, length-replicate}
+use Rattle.std.proofs.lemmas.List.{drop-replicate, length-take}
 use Rattle.std.proofs.lemmas.List.Folds.{list_any_none}
 use Rattle.std.proofs.lemmas.List.FromFn.{get_or-map-range_with_len, length-map-range_with_len}
 use Rattle.rule_check.specs.declared.state.State.{State}
 use Rattle.rule_check.specs.Value.{Rules}
 use Rattle.link_net.specs.Neighbours.{Neighbours}
 use Rattle.large_rounds.specs.LargePlans.{is_stray, large_plan_of}
-use Rattle.rounds_plan.specs.declared.fault.RoundFault.{RoundFault}
 use Rattle.rounds_plan.specs.declared.fault.RoundFault.TheVariants.{RoundsBelowStart, TooManyRounds}
-use Rattle.rounds_plan.specs.Configs.{Configuration, most_rounds}
+use Rattle.rounds_plan.specs.Configs.{most_rounds}
 use Rattle.rounds_plan.specs.Lockstep.{lockstep, lockstep_config, lockstep_states, rounds_of}
 use Rattle.rounds_plan.specs.Plans.{PlanView}
 use Rattle.large_calls.specs.Lists.{given_weights}
 use Rattle.large_calls.specs.States.{node_words, state_of, states_of}
-use Rattle.large_calls.specs.LargeAnswers.{IsNoSpan, given_plan, words_plan}
+use Rattle.large_calls.specs.LargeAnswers.{IsNoSpan, words_plan}
 
 no_words : (n : ℕ) → list_any (λ w. not (eqb w 0)) (replicate n 0) ≡ false
 no_words zero = refl

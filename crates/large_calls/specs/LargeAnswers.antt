@@ -1,5 +1,5 @@
 -- What the calls on lists write, and why they write nothing: the first fault on the way. Memory may run out anywhere.
-use Rattle.std.specs.Prelude.{ℕ, ◌≡◌, ◌≢◌, ◌-◌, ◌*◌, ◌<◌, List, length, Option, Some, None, Ok, Err}
+use Rattle.std.specs.Prelude.{ℕ, ◌≡◌, ◌≢◌, ◌-◌, ◌*◌, ◌<◌, List, length, Some, None, Ok, Err}
 use Rattle.rule_lang.specs.declared.fault.LangFault.TheVariants as lang
 use Rattle.rule_lang.specs.Tree.{ItemTree}
 use Rattle.rule_check.specs.declared.state.State.{State}
