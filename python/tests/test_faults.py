@@ -80,6 +80,10 @@ CASES = [
     (128, settle("field s = 0; next s = round;", 9), None, "program ReadsRound: the program reads the number of the round, so that"),
     (129, settle(SWAP, 1000000001), None, "run LimitTooLarge: the limit is above 1000000000"),
     (130, settle(SWAP, 6, from_=LATER), None, "run LimitBelowStart: the limit lies before the round of the report"),
+    (144, lambda: unison.Network.from_arrays([0], []), None, "indptr: lists NodeCount: found 1 entries"),
+    (145, lambda: unison.Network.from_arrays([0, 2, 1], [0]), None, "indptr[2]: lists Offsets: found 1, expected 2 or more"),
+    (147, lambda: unison.Network.from_arrays([0, 1], [1]), None, "indices[0]: lists Neighbour: found 1, expected a node"),
+    (148, lambda: unison.Network.from_arrays([0, 2], [0, 0], [7]), None, "weights: lists WeightCount: found 1, expected one for each of the 2"),
 ]  # fmt: skip
 
 
@@ -94,8 +98,9 @@ def test_each_fault_has_its_number_name_and_place():
 
 
 def test_each_number_is_met():
-    """All but Memory and Room, which are other things to Python, and the two that no call of the package can have."""
-    assert {number for number, *_ in CASES} | {3, 5} == set(faults.FAULTS)
+    """All but Memory and Room, which are other things to Python, the three that no call of the package can have, and that of a node with more
+    than 4,294,967,295 neighbours, which would take 16 GiB."""
+    assert {number for number, *_ in CASES} | {3, 5, 146, 149} == set(faults.FAULTS)
 
 
 def test_the_numbers_are_those_of_the_header():

@@ -97,12 +97,13 @@ def test_initial_values():
 
 def test_bad_lists_are_told_by_their_place():
     for lists, number, told in (
-        (([0, 1, 3, 4], [1, 0, 3, 1]), 147, "indices[2]: found 3, expected a node: there are 3, numbered from 0"),
-        (([0, 2, 1, 4], [1, 0, 2, 1]), 145, "indptr[2]: found 1, expected 2 or more, which stands before it"),
-        (([1, 1, 3, 4], [1, 0, 2, 1]), 145, "indptr[0]: found 1, expected 0"),
-        (([0, 1, 3, 3], [1, 0, 2, 1]), 145, "indptr[3], the last: found 3, expected 4, the number of indices"),
-        (([0], []), 144, "indptr has 1 entries: expected one more than there are nodes, so from 2 to 4294967296"),
-        (([], []), 144, "indptr has 0 entries: expected one more than there are nodes, so from 2 to 4294967296"),
+        (([0, 1, 3, 4], [1, 0, 3, 1]), 147, "indices[2]: lists Neighbour: found 3, expected a node: there are 3, numbered from 0"),
+        (([0, 2, 1, 4], [1, 0, 2, 1]), 145, "indptr[2]: lists Offsets: found 1, expected 2 or more, which stands before it"),
+        (([1, 1, 3, 4], [1, 0, 2, 1]), 145, "indptr[0]: lists Offsets: found 1, expected 0"),
+        (([0, 1, 3, 3], [1, 0, 2, 1]), 145, "indptr[3]: lists Offsets: found 3, expected 4, the number of indices, since it is the last"),
+        (([0], []), 144, "indptr: lists NodeCount: found 1 entries, expected one more than there are nodes, so from 2 to 4294967296"),
+        (([], []), 144, "indptr: lists NodeCount: found 0 entries, expected one more than there are nodes, so from 2 to 4294967296"),
+        (([0, 1, 2], [0, 0], [1]), 148, "weights: lists WeightCount: found 1, expected one for each of the 2 indices, or none"),
     ):
         error = raised(unison.NetworkError, lambda: unison.Network.from_arrays(*lists))
         assert (error.number, str(error)) == (number, told)
@@ -115,7 +116,7 @@ def test_numbers_that_do_not_fit_are_told_by_their_place():
         (([0, 1.5], [0]), "indptr[1]: found 1.5, expected a whole number from 0 to 18446744073709551615"),
         (([0, "1"], [0]), "indptr[1]: found '1', expected a whole number from 0 to 18446744073709551615"),
         (([0, 1, 2], [0, 0], [1, -3]), "weights[1]: found -3, expected a whole number from 0 to 4294967295"),
-        (([0, 1, 2], [0, 0], [1]), "there are 1 weights: expected one for each of the 2 indices"),
+        (([0, 1, 2], [0, 0], []), "there are no weights: expected one for each of the 2 indices, or weights=None"),
     ):
         assert str(raised(ValueError, lambda: unison.Network.from_arrays(*lists))) == told
     told = str(raised(ValueError, lambda: unison.Network.from_edges([0, 1], [1, 2], nodes=2)))

@@ -91,28 +91,30 @@ def numbers(values: Any, size: int, what: str) -> Numbers:
 
 
 def text_of_fault(number: int, place: int, offsets: Numbers, neighbours: Numbers, weights: Numbers) -> str:
-    """What is wrong with lists, where, and what to do: for the answer and the place of `unison_large_check`."""
-    name = faults.FAULTS[number][1]
-    nodes = max(offsets.count - 1, 0)
+    """Where lists are wrong, by which fault, and what was expected: for the answer and the place of `unison_large_check`."""
+    part, name = faults.FAULTS[number]
     if name == "NodeCount":
-        return f"indptr has {offsets.count} entries: expected one more than there are nodes, so from 2 to 4294967296"
-    if name == "WeightCount":
-        return f"there are {weights.count} weights: expected one for each of the {neighbours.count} indices, or none"
-    if name == "Neighbour":
-        return f"indices[{place}]: found {neighbours.held[place]}, expected a node: there are {nodes}, numbered from 0"
-    if name == "TooManyNeighbours":
-        return f"node {place} has {offsets.held[place + 1] - offsets.held[place]} neighbours: 4294967295 are the most"
-    return offset_text(place, offsets, neighbours.count)
+        where, why = "indptr", f"found {offsets.count} entries, expected one more than there are nodes, so from 2 to 4294967296"
+    elif name == "WeightCount":
+        where, why = "weights", f"found {weights.count}, expected one for each of the {neighbours.count} indices, or none"
+    elif name == "Neighbour":
+        nodes = offsets.count - 1
+        where, why = f"indices[{place}]", f"found {neighbours.held[place]}, expected a node: there are {nodes}, numbered from 0"
+    elif name == "TooManyNeighbours":
+        where, why = f"indptr[{place + 1}]", f"node {place} has more than 4294967295 neighbours"
+    else:
+        where, why = offset_fault(place, offsets, neighbours.count)
+    return f"{where}: {part} {name}: {why}"
 
 
-def offset_text(place: int, offsets: Numbers, ends: int) -> str:
-    """What is wrong with an offset: the last is not the number of neighbours, the first is not 0, or the next is lower."""
+def offset_fault(place: int, offsets: Numbers, ends: int) -> Tuple[str, str]:
+    """The offset at fault and what is wrong: the last is not the number of neighbours, the first is not 0, or the next is lower."""
     found = int(offsets.held[place])
     if place + 1 == offsets.count:
-        return f"indptr[{place}], the last: found {found}, expected {ends}, the number of indices"
+        return f"indptr[{place}]", f"found {found}, expected {ends}, the number of indices, since it is the last"
     if place == 0 and found != 0:
-        return f"indptr[0]: found {found}, expected 0"
-    return f"indptr[{place + 1}]: found {int(offsets.held[place + 1])}, expected {found} or more, which stands before it"
+        return "indptr[0]", f"found {found}, expected 0"
+    return f"indptr[{place + 1}]", f"found {int(offsets.held[place + 1])}, expected {found} or more, which stands before it"
 
 
 def rows_of_edges(nodes: int, ends: Tuple[Any, Any], weights: Any, directed: bool) -> Tuple[Any, Any, Any]:

@@ -51,8 +51,8 @@ class LargeNetwork:
         self._offsets = numbers(indptr, LONG, "indptr")
         self._neighbours = numbers(indices, WORD, "indices")
         self._weights = numbers((), WORD, "weights") if weights is None else numbers(weights, WORD, "weights")
-        if weights is not None and self._weights.count != self._neighbours.count:
-            raise ValueError(f"there are {self._weights.count} weights: expected one for each of the {self._neighbours.count} indices")
+        if weights is not None and self._weights.count == 0 < self._neighbours.count:
+            raise ValueError(f"there are no weights: expected one for each of the {self._neighbours.count} indices, or weights=None")
         self._names = None if names is None else tuple(names)
         self._look()
         self._numbers = None if self._names is None else {name: number for number, name in enumerate(self._names)}
@@ -141,7 +141,7 @@ class LargeNetwork:
         """The words of the initial states."""
         unknown = [field for field in self._set if field not in program.fields]
         if unknown:
-            raise faults.PlanError(64, f"the initial values name a field {unknown[0]!r}: the fields are {', '.join(program.fields) or 'none'}")
+            raise faults.PlanError(64, f"set: plan UnknownField: found {unknown[0]!r}, and the fields are {', '.join(program.fields) or 'none'}")
         width = len(program.fields)
         words = _calls.room_for(self.nodes * width)
         for place, (field, first) in enumerate(program.initial_values.items()):
