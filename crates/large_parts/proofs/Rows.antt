@@ -1,0 +1,27 @@
+-- Rows that are looked up.
+use Rattle.std.proofs.Common.{◌≡◌, ◌∙◌, ℕ, zero, suc, List, [], ◌∷◌, map, slice_get, Option, Some, None, option_map, unwrap_or, Bor, refl, ap, arith, length, get_or, ◌<◌}
+use Rattle.std.proofs.lemmas.List.{get_or-map, length-map}
+use Rattle.link_net.specs.Neighbours.{Neighbours, row}
+
+-- what a lent list shows, where there is none an empty one
+shown : (o : Option (Bor (List ℕ))) (d : Bor (List ℕ)) → d.now ≡ [] → (unwrap_or o d).now ≡ unwrap_or (option_map (λ s. s.now) o) []
+shown None d none = none
+shown (Some s) d none = refl
+
+-- what a row gives, where there is none an empty one
+known : (f : ℕ × ℕ → ℕ) (network : Neighbours) (u : ℕ) → unwrap_or (option_map (λ r. map f r) (slice_get network u)) [] ≡ map f (row network u)
+known f [] u = refl
+known f (r ∷ network) zero = refl
+known f (r ∷ network) (suc u) = known f network u
+
+-- what is lent of a row
+pub lent_row : (f : ℕ × ℕ → ℕ) (network : Neighbours) (u : ℕ) (o : Option (Bor (List ℕ))) (d : Bor (List ℕ)) → d.now ≡ []
+    → option_map (λ s. s.now) o ≡ option_map (λ r. map f r) (slice_get network u) → (unwrap_or o d).now ≡ map f (row network u)
+lent_row f network u o d none is = shown o d none ∙ ap (λ (x : Option (List ℕ)). unwrap_or x []) is ∙ known f network u
+
+-- one part of each link of a row: as many, and slot by slot
+pub so_many : (f : ℕ × ℕ → ℕ) (links : List (ℕ × ℕ)) (xs : List ℕ) → xs ≡ map f links → length xs ≡ length links
+so_many f links xs is = ap length is ∙ length-map links f
+
+pub at_slot : (f : ℕ × ℕ → ℕ) (links : List (ℕ × ℕ)) (xs : List ℕ) (j : ℕ) → xs ≡ map f links → j < length xs → get_or xs j 0 ≡ f (get_or links j (0, 0))
+at_slot f links xs j is inside = ap (λ (ys : List ℕ). get_or ys j 0) is ∙ get_or-map f links j (0, 0) 0 (omega (arith, inside, so_many f links xs is))

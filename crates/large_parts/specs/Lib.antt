@@ -1,0 +1,3 @@
+pub mod Fitting
+pub mod Parts
+pub mod States

@@ -1,0 +1,45 @@
+//! States, and the words of their fields, node by node.
+ghost use Rattle.std.specs.Prelude.{◌≡◌, ◌+◌, ◌*◌, ◌++◌, ◌<◌, ◌≤◌, length, take, drop};
+ghost use Rattle.rounds_plan.specs.Lockstep.{state_in};
+ghost use Rattle.large_parts.specs.States.{state_of, states_of};
+
+use rule_check::State;
+
+/// Puts words at a place.
+fn put_words(words: &mut [u32], first: usize, new: &[u32])
+    requires room { first + length new.now ≤ length words.old }
+    ensures put { words.new ≡ take first words.old ++ new.now ++ drop (first + length new.now) words.old }
+{
+    words[first..first + new.len()].copy_from_slice(new);
+}
+
+/// The state with these words, and 0 behind them.
+fn state_of(words: &[u32]) -> State
+    requires few { length words.now ≤ 8 }
+    ensures state { result ≡ state_of words.now }
+{
+    let mut state_words = [0; 8];
+    put_words(&mut state_words, 0, words);
+    State { words: state_words }
+}
+
+/// The state of one of so many nodes, the words of whose fields stand node by node.
+pub(crate) fn state_at(words: &[u32], fields: usize, nodes: usize, node: usize) -> State
+    requires few { fields ≤ 8 }
+    requires count { length words.now ≡ nodes * fields }
+    requires inside { node < nodes }
+    ensures state { result ≡ state_in (states_of fields nodes words.now) node }
+{
+    let first = node * fields;
+    state_of(&words[first..first + fields])
+}
+
+/// Puts the words of a state's fields at a place.
+pub(crate) fn put_state(words: &mut [u32], first: usize, state: &State, fields: usize)
+    requires few { fields ≤ 8 }
+    requires room { first + fields ≤ length words.old }
+    ensures put { words.new ≡ take first words.old ++ take fields state.now.words ++ drop (first + fields) words.old }
+    ensures count { length (take fields state.now.words) ≡ fields }
+{
+    put_words(words, first, &state.words[..fields]);
+}
