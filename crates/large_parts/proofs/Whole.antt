@@ -1,10 +1,9 @@
 -- A part's round is that of the whole network.
-use Rattle.std.proofs.Common.{◌≡◌, ◌∙◌, ℕ, suc, ◌+◌, ◌≤◌, ◌<◌, List, [], ◌∷◌, length, map, take, get_or, refl, ap, sym, arith, zero-add, slice_index, IsPermutation}
+use Rattle.std.proofs.Common.{◌≡◌, ◌∙◌, ℕ, suc, ◌<◌, List, [], ◌∷◌, length, map, take, get_or, refl, ap, sym, arith, zero-add, slice_index}
 use Rattle.std.proofs.lemmas.List.{ext_get_or, get_or-map, get_or-take, length-map, length-take-le}
 use Rattle.std.proofs.lemmas.List.Sorted.{IsPermutation-map}
 use Rattle.std.proofs.lemmas.List.FromFn.{get_or-map-range_with_len, length-map-range_with_len}
 use Rattle.rule_check.specs.declared.state.State.{State}
-use Rattle.rule_check.specs.declared.state.Near.{Near}
 use Rattle.rule_check.specs.Order.{OrderPlaysNoPart}
 use Rattle.rule_check.specs.Value.{Rules, next_state}
 use Rattle.link_net.specs.Neighbours.{Neighbours, row}

@@ -1,5 +1,5 @@
 -- What a part has to have so that each look at it finds something.
-use Rattle.std.specs.Prelude.{ℕ, ◌≡◌, ◌≤◌, ◌*◌, List, length}
+use Rattle.std.specs.Prelude.{◌≡◌, ◌≤◌, ◌*◌, List, length}
 use Rattle.rule_check.specs.declared.state.State.{State}
 use Rattle.link_net.specs.Neighbours.{AreRows}
 use Rattle.large_parts.specs.declared.next.Part.{Part}

@@ -1,4 +1,4 @@
-use Rattle.std.proofs.Common.{◌≡◌, length, map, slice_index, take}
+use Rattle.std.proofs.Common.{◌≡◌, map, slice_index, take}
 use Rattle.rule_check.specs.Gathering.{sums_at}
 use Rattle.rule_check.specs.Value.{here_at}
 use Rattle.link_net.specs.Neighbours.{degree, row}

@@ -1,6 +1,6 @@
 use Rattle.std.proofs.Common.{◌≡◌, ◌∙◌, ◌+◌, ◌-◌, ◌*◌, ap, arith, drop, sym, take}
 use Rattle.large_parts.specs.States.{state_of}
-use Rattle.large_parts.proofs.StateWords.{state_there, words_within}
+use Rattle.large_parts.proofs.StateWords.{state_there}
 use Rattle.large_parts.proofs.states.state_at.Goals as goal
 
 pub returns : goal.returns
