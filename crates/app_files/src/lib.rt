@@ -1,5 +1,5 @@
 //! What the programs for people share: files and standard input, standard output, how a program ends, fields by their
-//! names, and nodes that are drawn.
+//! names, nodes that are drawn, and how it is told that rounds settle.
 #![tactic(auto)]
 
 mod command_line;
@@ -10,6 +10,7 @@ mod files;
 mod lines;
 mod networks;
 mod output;
+mod settling;
 mod texts;
 mod told;
 mod usage;
@@ -24,5 +25,6 @@ pub use files::{
 pub use lines::{put_note, put_place, weight_told, words_told};
 pub use networks::file_at;
 pub use output::{print_out, write_file, write_out};
+pub use settling::{not_settled, settled_round, settling_line};
 pub use texts::{Told, edges_told, matrix_told, on_line, put_matrix_detail};
 pub use told::{print_ending, print_fault};

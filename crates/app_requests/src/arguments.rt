@@ -70,7 +70,7 @@ pub(crate) const FROM: Argument = Argument {
 };
 
 /// `FROM`, as it is read.
-static FROM_ARGUMENT: Argument = FROM;
+pub(crate) static FROM_ARGUMENT: Argument = FROM;
 
 pub(crate) const NAMES: Argument = Argument {
     name: "names",

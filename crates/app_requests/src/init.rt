@@ -22,7 +22,7 @@ pub(crate) const SET: Argument = Argument {
 };
 
 /// `SET`, as it is read.
-static SET_ARGUMENT: Argument = SET;
+pub(crate) static SET_ARGUMENT: Argument = SET;
 
 pub(crate) const SET_RANDOM: Argument = Argument {
     name: "set-random",
@@ -33,7 +33,7 @@ pub(crate) const SET_RANDOM: Argument = Argument {
 };
 
 /// `SET_RANDOM`, as it is read.
-static SET_RANDOM_ARGUMENT: Argument = SET_RANDOM;
+pub(crate) static SET_RANDOM_ARGUMENT: Argument = SET_RANDOM;
 
 pub(crate) const SEED: Argument = Argument {
     name: "seed",

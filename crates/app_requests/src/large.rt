@@ -1,9 +1,14 @@
 //! `large`: rounds on networks of any size.
 
 use crate::arguments::{
-    EVERY, FILE, FILE_OPTION, FLAG, PROGRAM, PROGRAM_ARGUMENT, ROUND, ROUNDS, span_in,
+    EVERY, FILE, FILE_OPTION, FLAG, FROM, FROM_ARGUMENT, PROGRAM, PROGRAM_ARGUMENT, ROUND, ROUNDS,
+    span_in,
 };
-use crate::init::{RandomWord, SEED, SET, SET_RANDOM, SetWord, random_in, sets_in};
+use crate::init::{
+    RandomWord, SEED, SET, SET_ARGUMENT, SET_RANDOM, SET_RANDOM_ARGUMENT, SetWord, random_in,
+    sets_in,
+};
+use crate::settle::{DEFAULT_LIMIT, LIMIT, LIMIT_ARGUMENT, REPORT, REPORT_ARGUMENT};
 use app_table::{Argument, Choice, Command, Kind, OPTION, Reading, Subcommand, Value, WordsFault};
 use run_watch::Span;
 use std::alloc::Global;
@@ -62,12 +67,16 @@ const FORMAT: Argument = Argument {
             aliases: &[],
         },
         Choice {
+            name: "csv",
+            aliases: &[],
+        },
+        Choice {
             name: "npy",
             aliases: &[],
         },
     ]),
     value_name: "FORMAT",
-    help: "report (the default), or npy: an array of NumPy with a row for each node and a column for each field",
+    help: "report (the default), csv, or npy: an array of NumPy with a row for each node and a column for each field",
     ..OPTION
 };
 
@@ -116,19 +125,39 @@ const COLUMN_FORMAT: Argument = Argument {
 /// `COLUMN_FORMAT`, as it is read.
 static COLUMN_FORMAT_ARGUMENT: Argument = COLUMN_FORMAT;
 
+const THREADS: Argument = Argument {
+    name: "threads",
+    value: Value::Number {
+        least: 1,
+        most: 1024,
+    },
+    value_name: "N",
+    help: "Share rounds with much to compute among N threads: 1 to 1024, and as many as there are processors where it is left out",
+    ..OPTION
+};
+
+/// `THREADS`, as it is read.
+static THREADS_ARGUMENT: Argument = THREADS;
+
 const SEQUENTIAL: Argument = Argument {
     name: "sequential",
-    help: "Make all rounds by one thread",
+    help: "Make all rounds by one thread, as --threads 1 does",
     ..FLAG
 };
 
 /// `SEQUENTIAL`, as it is read.
 static SEQUENTIAL_ARGUMENT: Argument = SEQUENTIAL;
 
-const WAYS: [Subcommand; 3] = [
+const WAYS: [Subcommand; 5] = [
     Subcommand {
         name: "info",
         about: "How many nodes and neighbours there are, and the least and the greatest number of neighbours and weight",
+        notes: "",
+        arguments: &[PACKED],
+    },
+    Subcommand {
+        name: "show",
+        about: "Another name of info",
         notes: "",
         arguments: &[PACKED],
     },
@@ -137,8 +166,8 @@ const WAYS: [Subcommand; 3] = [
         about: "Report the states after a round, as unison lockstep does",
         notes: "",
         arguments: &[
-            PROGRAM, PACKED, LAST, SET, SET_FILE, SET_RANDOM, SEED, COUNT, FORMAT, ONE_FIELD,
-            SEQUENTIAL,
+            PROGRAM, PACKED, LAST, FROM, SET, SET_FILE, SET_RANDOM, SEED, COUNT, FORMAT, ONE_FIELD,
+            THREADS, SEQUENTIAL,
         ],
     },
     Subcommand {
@@ -150,6 +179,7 @@ const WAYS: [Subcommand; 3] = [
             PACKED,
             ROUNDS,
             EVERY,
+            FROM,
             SET,
             SET_FILE,
             SET_RANDOM,
@@ -157,6 +187,16 @@ const WAYS: [Subcommand; 3] = [
             COUNT,
             COLUMN,
             COLUMN_FORMAT,
+            THREADS,
+            SEQUENTIAL,
+        ],
+    },
+    Subcommand {
+        name: "settle",
+        about: "Tell from which round on nothing changes, or all states come again, as unison settle does",
+        notes: "Prints `settles R`, `repeats R P` or `open T`, as unison settle --help says.\n",
+        arguments: &[
+            PROGRAM, PACKED, LIMIT, REPORT, FROM, SET, SET_FILE, SET_RANDOM, SEED, THREADS,
             SEQUENTIAL,
         ],
     },
@@ -197,16 +237,18 @@ pub struct StartWords {
     pub seed: u32,
 }
 
-/// What `large lockstep` and `large watch` begin with.
+/// What rounds on a network of any size begin with, and how many threads make them.
 #[derive(Drop)]
 pub struct LargeTexts {
     /// The path of the program's text.
     pub program: String,
     /// The path of the network's binary file.
     pub network: String,
+    /// The path of the report from which the rounds go on, where they do; the words ask for no initial values then.
+    pub from: Option<String>,
     pub start: StartWords,
-    /// Whether rounds are shared among the processors.
-    pub is_shared: bool,
+    /// Among how many threads rounds are shared, 1 to 1,024; where nothing is said, as many as there are processors.
+    pub threads: Option<u32>,
 }
 
 /// How the states after a round are shown.
@@ -214,6 +256,8 @@ pub struct LargeTexts {
 pub enum StatesFormat {
     /// As a report.
     Report,
+    /// As CSV, a line for each node.
+    Csv,
     /// As an array of NumPy, a row for each node.
     Npy,
 }
@@ -267,6 +311,13 @@ pub enum LargeRequest {
         texts: LargeTexts,
         span: Span,
         view: RoundsView,
+    },
+    /// From which round on nothing changes, or all states come again, looked for up to a limit.
+    Settle {
+        texts: LargeTexts,
+        limit: u32,
+        /// Whether the report of the round that is found is printed too.
+        report: bool,
     },
 }
 
@@ -324,6 +375,7 @@ fn start_in(reading: &mut Reading) -> StartWords {
 /// How the states after a round are to be shown.
 fn format_in(reading: &mut Reading) -> StatesFormat {
     match reading.choice(&FORMAT_ARGUMENT).unwrap_or("report") {
+        "csv" => StatesFormat::Csv,
         "npy" => StatesFormat::Npy,
         _ => StatesFormat::Report,
     }
@@ -381,16 +433,60 @@ fn rounds_view_in(reading: &mut Reading) -> RoundsView {
     }
 }
 
-/// What rounds begin with.
+/// Refuses initial values beside a report, which has those of all nodes.
+fn check_start(reading: &mut Reading) {
+    let is_set = reading.has(&SET_ARGUMENT)
+        || reading.has(&SET_FILE_ARGUMENT)
+        || reading.has(&SET_RANDOM_ARGUMENT);
+    if is_set && reading.has(&FROM_ARGUMENT) {
+        reading.refuse_words(
+            "--from: the report says the states of all nodes; leave out --set, --set-file and --set-random, or --from",
+        );
+    }
+}
+
+/// Among how many threads rounds are shared, where it is said. Invalid arguments are noted where two numbers are.
+fn threads_in(reading: &mut Reading) -> Option<u32> {
+    let is_sequential = reading.has(&SEQUENTIAL_ARGUMENT);
+    let threads = reading.number_or(&THREADS_ARGUMENT, 1);
+    if is_sequential && threads != 1 {
+        reading.refuse_words(
+            "--sequential: all rounds are made by one thread; leave it out, or --threads",
+        );
+    }
+    if is_sequential || reading.has(&THREADS_ARGUMENT) {
+        Some(threads)
+    } else {
+        None
+    }
+}
+
+/// What rounds begin with, and how many threads make them.
 fn texts_in(reading: &mut Reading) -> LargeTexts {
     let program = reading.needed_text(&PROGRAM_ARGUMENT);
     let network = reading.needed_text(&PACKED_ARGUMENT);
+    check_start(reading);
+    let from = reading.text(&FROM_ARGUMENT);
     let start = start_in(reading);
+    let threads = threads_in(reading);
     LargeTexts {
         program,
         network,
+        from,
         start,
-        is_shared: !reading.has(&SEQUENTIAL_ARGUMENT),
+        threads,
+    }
+}
+
+/// What the words of `settle` ask for.
+fn settle_in(reading: &mut Reading) -> LargeRequest {
+    let limit = reading.number_or(&LIMIT_ARGUMENT, DEFAULT_LIMIT);
+    let report = reading.has(&REPORT_ARGUMENT);
+    let texts = texts_in(reading);
+    LargeRequest::Settle {
+        texts,
+        limit,
+        report,
     }
 }
 
@@ -417,11 +513,12 @@ fn watch_in(reading: &mut Reading) -> Option<LargeRequest> {
 /// What plain words ask for, where they name rounds.
 fn request_in(reading: &mut Reading) -> Option<LargeRequest> {
     match reading.subcommand() {
-        "info" => Some(LargeRequest::Info {
+        "info" | "show" => Some(LargeRequest::Info {
             network: reading.needed_text(&PACKED_ARGUMENT),
         }),
         "lockstep" => Some(lockstep_in(reading)),
-        _ => watch_in(reading),
+        "watch" => watch_in(reading),
+        _ => Some(settle_in(reading)),
     }
 }
 

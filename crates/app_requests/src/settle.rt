@@ -7,9 +7,9 @@ use app_table::{Argument, Command, OPTION, Reading, WordsFault};
 use std::alloc::Global;
 
 /// The limit where none is given.
-const DEFAULT_LIMIT: u32 = 1_000_000;
+pub(crate) const DEFAULT_LIMIT: u32 = 1_000_000;
 
-const LIMIT: Argument = Argument {
+pub(crate) const LIMIT: Argument = Argument {
     name: "limit",
     value: ROUND,
     value_name: "T",
@@ -18,16 +18,16 @@ const LIMIT: Argument = Argument {
 };
 
 /// `LIMIT`, as it is read.
-static LIMIT_ARGUMENT: Argument = LIMIT;
+pub(crate) static LIMIT_ARGUMENT: Argument = LIMIT;
 
-const REPORT: Argument = Argument {
+pub(crate) const REPORT: Argument = Argument {
     name: "report",
     help: "Print the report of round R, too",
     ..FLAG
 };
 
 /// `REPORT`, as it is read.
-static REPORT_ARGUMENT: Argument = REPORT;
+pub(crate) static REPORT_ARGUMENT: Argument = REPORT;
 
 /// `settle` and what it takes.
 static SETTLE: Command = Command {

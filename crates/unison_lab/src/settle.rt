@@ -3,44 +3,15 @@
 use crate::plan_texts::plan_at;
 use crate::progress::Silent;
 use crate::watch::no_rounds;
-use app_files::{Ending, all_fields, path_in, print_out, read_once};
+use app_files::{
+    Ending, all_fields, not_settled, path_in, print_out, read_once, settled_round, settling_line,
+};
 use app_requests::SettleRequest;
 use rounds_plan::Plan;
-use run_settle::{SettleFault, Settling, settle};
-use run_watch::{Format, Show, Span, WatchFault, watched};
+use run_settle::{Settling, settle};
+use run_watch::{Format, Show, Span, watched};
 use std::alloc::{AllocError, Global};
 use std::thread::Threads;
-
-/// The ending where it is not told.
-fn not_told(alloc: Global, fault: SettleFault) -> Ending {
-    match fault {
-        SettleFault::ReadsRound => Ending::refused(String::from_str(
-            alloc,
-            "program ReadsRound\nthe program reads `round`, so equal states need not be followed by equal ones, and no round tells that it settles; run it with lockstep or watch",
-        )),
-        SettleFault::LimitBelowStart => no_rounds(WatchFault::RoundsBelowStart),
-        SettleFault::LimitTooLarge => no_rounds(WatchFault::TooManyRounds),
-        SettleFault::Memory => Ending::Memory,
-    }
-}
-
-/// What was found, as a line.
-fn line_of(alloc: Global, found: Settling) -> Result<String, AllocError> {
-    match found {
-        Settling::Settles { round } => format!(in alloc; "settles {round}\n"),
-        Settling::Repeats { round, period } => format!(in alloc; "repeats {round} {period}\n"),
-        Settling::Open { limit } => format!(in alloc; "open {limit}\n"),
-    }
-}
-
-/// The round that was found.
-fn round_of(found: Settling) -> Option<u32> {
-    match found {
-        Settling::Settles { round } => Some(round),
-        Settling::Repeats { round, .. } => Some(round),
-        Settling::Open { .. } => None,
-    }
-}
 
 /// The report of rounds of which these fields are shown.
 fn report_with(
@@ -84,7 +55,7 @@ fn found_report(
     asked: &SettleRequest,
     found: Settling,
 ) -> Result<Vec<u8>, Ending> {
-    match round_of(found) {
+    match settled_round(found) {
         Some(round) if asked.report => report_of(alloc, threads, plan, round),
         _ => Ok(Vec::new(alloc)),
     }
@@ -92,7 +63,7 @@ fn found_report(
 
 /// What was found, as a line, with a report behind it.
 fn text_with(alloc: Global, found: Settling, report: &[u8]) -> Result<Vec<u8>, AllocError> {
-    let mut text = line_of(alloc, found)?.into_bytes();
+    let mut text = settling_line(alloc, found)?.into_bytes();
     text.extend_from_slice(report)?;
     Ok(text)
 }
@@ -114,7 +85,7 @@ fn text_of(
 fn found_for(alloc: Global, plan: &Plan, limit: u32) -> Result<Settling, Ending> {
     match settle(alloc, plan, limit) {
         Ok(found) => Ok(found),
-        Err(fault) => Err(not_told(alloc, fault)),
+        Err(fault) => Err(not_settled(alloc, fault)),
     }
 }
 

@@ -2,15 +2,16 @@
 
 use crate::arrays::array_of;
 use crate::binary::check_output;
+use crate::progress::Telling;
 use crate::rounds::plan_of;
 use crate::start::Start;
-use crate::watch::{move_to, tell_reached, walk_of};
+use crate::watch::move_to;
 use app_files::{Ending, field_place, print_out};
 use app_requests::ColumnFormat;
 use large_rounds::LargeWalk;
 use npy_arrays::ArrayShape;
 use rule_check::State;
-use run_watch::Span;
+use run_watch::{Progress, Span};
 use state_columns::push_column;
 use std::alloc::{AllocError, Global};
 use std::thread::Threads;
@@ -36,47 +37,49 @@ pub(crate) fn column_of(
 
 /// The states of a round, to which the walk is moved on unless it is there, which is told.
 fn states_at(
-    rt: &HostRuntime,
+    alloc: Global,
     threads: &(impl Threads + Sync),
     walk: &mut LargeWalk<'_>,
     round: u32,
-    last: u32,
+    telling: &mut Telling<'_>,
 ) -> Result<Vec<State>, AllocError> {
     move_to(threads, walk, round);
-    let states = walk.states(rt.alloc())?;
-    tell_reached(rt, round, last);
+    let states = walk.states(alloc)?;
+    telling.reached(round);
     Ok(states)
 }
 
-/// The lines of all rounds of a span. The walk stands at round 0.
+/// The lines of all rounds of a span.
 fn put_rounds(
-    rt: &HostRuntime,
     threads: &(impl Threads + Sync),
     text: &mut String,
+    alloc: Global,
     walk: &mut LargeWalk<'_>,
     span: &Span,
     field: u32,
+    telling: &mut Telling<'_>,
 ) -> Result<(), AllocError> {
     for step in 0..=span.steps() {
         let round = span.round_at(step);
-        let states = states_at(rt, threads, walk, round, span.last())?;
-        let values = column_of(rt.alloc(), &states, field)?;
+        let states = states_at(alloc, threads, walk, round, telling)?;
+        let values = column_of(alloc, &states, field)?;
         put_lines(text, round, &values)?;
     }
     Ok(())
 }
 
-/// The values of all rounds of a span, round by round. The walk stands at round 0.
+/// The values of all rounds of a span, round by round.
 fn words_of(
-    rt: &HostRuntime,
+    alloc: Global,
     threads: &(impl Threads + Sync),
     walk: &mut LargeWalk<'_>,
     span: &Span,
     field: u32,
+    telling: &mut Telling<'_>,
 ) -> Result<Vec<u32>, AllocError> {
-    let mut words = Vec::new(rt.alloc());
+    let mut words = Vec::new(alloc);
     for step in 0..=span.steps() {
-        let states = states_at(rt, threads, walk, span.round_at(step), span.last())?;
+        let states = states_at(alloc, threads, walk, span.round_at(step), telling)?;
         push_column(&mut words, &states, field)?;
     }
     Ok(words)
@@ -84,19 +87,38 @@ fn words_of(
 
 /// The rounds of a span as CSV.
 fn lines_of(
-    rt: &HostRuntime,
+    alloc: Global,
     threads: &(impl Threads + Sync),
     walk: &mut LargeWalk<'_>,
     span: &Span,
     field: u32,
     name: &str,
+    telling: &mut Telling<'_>,
 ) -> Result<Vec<u8>, AllocError> {
-    let mut text = format!(in rt.alloc(); "round,node,{name}\n")?;
-    put_rounds(rt, threads, &mut text, walk, span, field)?;
+    let mut text = format!(in alloc; "round,node,{name}\n")?;
+    put_rounds(threads, &mut text, alloc, walk, span, field, telling)?;
     Ok(text.into_bytes())
 }
 
-/// What is printed of the field of this name.
+/// The rounds of a span as an array, with a row for each of them and a column for each of so many nodes.
+fn table_of(
+    alloc: Global,
+    threads: &(impl Threads + Sync),
+    walk: &mut LargeWalk<'_>,
+    span: &Span,
+    field: u32,
+    nodes: u32,
+    telling: &mut Telling<'_>,
+) -> Result<Vec<u8>, Ending> {
+    let words = words_of(alloc, threads, walk, span, field, telling)?;
+    let shape = ArrayShape::Table {
+        rows: span.steps() as usize + 1,
+        columns: nodes as usize,
+    };
+    array_of(alloc, shape, &words)
+}
+
+/// What is printed of the field of this name in rounds that are shared among so many threads.
 fn output_of(
     rt: &HostRuntime,
     threads: &(impl Threads + Sync),
@@ -104,25 +126,25 @@ fn output_of(
     span: &Span,
     name: &str,
     format: ColumnFormat,
-    is_shared: bool,
+    count: usize,
 ) -> Result<Vec<u8>, Ending> {
-    let field = field_place(rt.alloc(), &start.program, "--field", name)?;
-    let plan = plan_of(rt.alloc(), start)?;
-    let mut walk = walk_of(rt, threads, &plan, is_shared)?;
+    let alloc = rt.alloc();
+    let field = field_place(alloc, &start.program, "--field", name)?;
+    let plan = plan_of(alloc, start, count)?;
+    let mut walk = plan.shared_walk(alloc, count)?;
+    let mut telling = Telling::new(rt, start.opening.round, span);
+    let nodes = start.network.nodes();
     match format {
-        ColumnFormat::Csv => Ok(lines_of(rt, threads, &mut walk, span, field, name)?),
-        ColumnFormat::Npy => {
-            let words = words_of(rt, threads, &mut walk, span, field)?;
-            let shape = ArrayShape::Table {
-                rows: span.steps() as usize + 1,
-                columns: start.network.nodes() as usize,
-            };
-            array_of(rt.alloc(), shape, &words)
+        ColumnFormat::Csv => {
+            let lines = lines_of(alloc, threads, &mut walk, span, field, name, &mut telling)?;
+            Ok(lines)
         }
+        ColumnFormat::Npy => table_of(alloc, threads, &mut walk, span, field, nodes, &mut telling),
     }
 }
 
-/// Prints the field of this name, of all nodes, in the rounds of a span. The status with which the program ends.
+/// Prints the field of this name, of all nodes, in the rounds of a span, which are shared among so many threads. The status
+/// with which the program ends.
 pub(crate) fn watch_column(
     rt: &HostRuntime,
     threads: &(impl Threads + Sync),
@@ -130,11 +152,11 @@ pub(crate) fn watch_column(
     span: &Span,
     name: &str,
     format: ColumnFormat,
-    is_shared: bool,
+    count: usize,
 ) -> Result<u8, Ending> {
     if format == ColumnFormat::Npy {
         check_output(rt)?;
     }
-    let output = output_of(rt, threads, start, span, name, format, is_shared)?;
+    let output = output_of(rt, threads, start, span, name, format, count)?;
     print_out(rt, &output)
 }

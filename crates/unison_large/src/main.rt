@@ -8,14 +8,18 @@ mod counts;
 mod info;
 mod network;
 mod pack;
+mod progress;
 mod refusals;
+mod reports;
 mod rounds;
+mod settle;
 mod start;
 mod watch;
 
 use crate::info::show_info;
 use crate::pack::pack_network;
 use crate::rounds::report_round;
+use crate::settle::settle_rounds;
 use crate::watch::watch_rounds;
 use app_files::{Ending, print_ending, words_of};
 use app_requests::{LargeRequest, Task};
@@ -38,6 +42,11 @@ fn run_large(
         LargeRequest::Watch { texts, span, view } => {
             watch_rounds(rt, threads, &texts, &span, &view)
         }
+        LargeRequest::Settle {
+            texts,
+            limit,
+            report,
+        } => settle_rounds(rt, threads, &texts, limit, report),
     }
 }
 

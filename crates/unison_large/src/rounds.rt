@@ -8,8 +8,10 @@ use crate::start::{Start, start_at};
 use app_files::{Ending, field_place, print_out};
 use app_jobs::ServeFault;
 use app_requests::{LargeTexts, StatesFormat, StatesView};
+use large_reports::csv_states;
 use large_rounds::{LargePlan, LargePlanFault, large_lockstep};
 use npy_arrays::ArrayShape;
+use rayon::current_num_threads;
 use report_text::report_states;
 use rounds_plan::RoundFault;
 use rule_check::{Program, State};
@@ -17,35 +19,72 @@ use state_columns::state_rows;
 use std::alloc::{AllocError, Global};
 use std::thread::Threads;
 
-/// The plan of what rounds begin with.
-pub(crate) fn plan_of<'a>(alloc: Global, start: &'a Start) -> Result<LargePlan<'a>, Ending> {
-    match LargePlan::new(
-        alloc,
-        &start.program,
-        start.network.rows(),
-        &start.states,
-        0,
-    ) {
+/// Among how many threads rounds are shared: as many as the words say, and where they say nothing as there are processors.
+pub(crate) fn threads_for(threads: &(impl Threads + Sync), texts: &LargeTexts) -> usize {
+    match texts.threads {
+        Some(count) => count as usize,
+        None => current_num_threads(threads),
+    }
+}
+
+/// The ending where there is no such plan.
+fn no_plan(alloc: Global, fault: LargePlanFault) -> Ending {
+    match fault {
+        LargePlanFault::Memory => Ending::Memory,
+        fault => Ending::refused(format!(in alloc; "{fault}")),
+    }
+}
+
+/// The plan of what rounds begin with, laid out for so many threads.
+pub(crate) fn plan_of<'a>(
+    alloc: Global,
+    start: &'a Start,
+    threads: usize,
+) -> Result<LargePlan<'a>, Ending> {
+    let (program, rows, opening) = (&start.program, start.network.rows(), &start.opening);
+    let plan = if threads > 1 {
+        LargePlan::to_share(alloc, program, rows, &opening.states, opening.round)
+    } else {
+        LargePlan::new(alloc, program, rows, &opening.states, opening.round)
+    };
+    match plan {
         Ok(plan) => Ok(plan),
-        Err(LargePlanFault::Memory) => Err(Ending::Memory),
-        Err(fault) => Err(Ending::refused(format!(in alloc; "{fault}"))),
+        Err(fault) => Err(no_plan(alloc, fault)),
+    }
+}
+
+/// The ending where there is no such round.
+pub(crate) fn no_round(fault: RoundFault) -> Ending {
+    match fault {
+        RoundFault::Memory => Ending::Memory,
+        fault => Ending::Served(ServeFault::Round(fault)),
+    }
+}
+
+/// The states after a round of a plan, which is shared among so many threads.
+pub(crate) fn states_after<'a>(
+    alloc: Global,
+    threads: &(impl Threads + Sync),
+    plan: &'a LargePlan<'a>,
+    rounds: u32,
+    count: usize,
+) -> Result<Vec<State>, Ending> {
+    match large_lockstep(threads, alloc, plan, rounds, count) {
+        Ok(states) => Ok(states),
+        Err(fault) => Err(no_round(fault)),
     }
 }
 
 /// The states after a round.
-fn states_after(
-    rt: &HostRuntime,
+fn states_from(
+    alloc: Global,
     threads: &(impl Threads + Sync),
     start: &Start,
     rounds: u32,
-    is_shared: bool,
+    count: usize,
 ) -> Result<Vec<State>, Ending> {
-    let plan = plan_of(rt.alloc(), start)?;
-    match large_lockstep(threads, rt.alloc(), &plan, rounds, is_shared) {
-        Ok(states) => Ok(states),
-        Err(RoundFault::Memory) => Err(Ending::Memory),
-        Err(fault) => Err(Ending::Served(ServeFault::Round(fault))),
-    }
+    let plan = plan_of(alloc, start, count)?;
+    states_after(alloc, threads, &plan, rounds, count)
 }
 
 /// What is shown of the states after a round.
@@ -63,9 +102,10 @@ impl Show {
     /// What the words ask for. Binary files are refused where standard output is a terminal.
     fn of(rt: &HostRuntime, program: &Program, view: &StatesView) -> Result<Show, Ending> {
         match view {
-            StatesView::All(StatesFormat::Report) => Ok(Show::All(StatesFormat::Report)),
             StatesView::All(format) => {
-                check_output(rt)?;
+                if *format == StatesFormat::Npy {
+                    check_output(rt)?;
+                }
                 Ok(Show::All(*format))
             }
             StatesView::Column(name) => {
@@ -121,6 +161,7 @@ fn output_of(
 ) -> Result<Vec<u8>, Ending> {
     match show {
         Show::All(StatesFormat::Report) => Ok(report_states(alloc, program, rounds, states)?),
+        Show::All(StatesFormat::Csv) => Ok(csv_states(alloc, program, states)?),
         Show::All(StatesFormat::Npy) => table_of(alloc, program, states),
         Show::Column(field) => row_of(alloc, states, field),
         Show::Counts(field) => Ok(counts_text(alloc, rounds, states, field)?),
@@ -137,7 +178,8 @@ pub(crate) fn report_round(
 ) -> Result<u8, Ending> {
     let start = start_at(rt, texts)?;
     let show = Show::of(rt, &start.program, view)?;
-    let states = states_after(rt, threads, &start, rounds, texts.is_shared)?;
+    let count = threads_for(threads, texts);
+    let states = states_from(rt.alloc(), threads, &start, rounds, count)?;
     let output = output_of(rt.alloc(), &start.program, rounds, &states, show)?;
     print_out(rt, &output)
 }

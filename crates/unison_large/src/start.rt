@@ -1,8 +1,9 @@
-//! What rounds on a network of any size begin with: a program, a network, and the initial state of each node.
+//! What rounds on a network of any size begin with: a program, a network, and the state of each node at a round.
 
 use crate::arrays::column_at;
 use crate::network::network_at;
-use app_files::{Ending, bytes_at, drawn_for, field_place, next_draw, read_once};
+use crate::reports::report_at;
+use app_files::{Ending, bytes_at, drawn_for, field_place, next_draw, path_in, read_once};
 use app_jobs::program_of;
 use app_requests::{FileWord, LargeTexts, RandomWord, SetWord, StartWords};
 use app_table::number;
@@ -11,11 +12,18 @@ use large_rounds::{openings, set_all_values, set_value};
 use rule_check::{Program, State};
 use std::alloc::{AllocError, Global};
 
-/// A program, a network that it is run on, and the initial state of each node.
+/// A program, a network that it is run on, and the state of each node at the round with which it begins.
 #[derive(Drop)]
 pub(crate) struct Start {
     pub(crate) program: Program,
     pub(crate) network: LargeNetwork,
+    pub(crate) opening: Opening,
+}
+
+/// The states of all nodes after a round, counted from round 0.
+#[derive(Drop)]
+pub(crate) struct Opening {
+    pub(crate) round: u32,
     pub(crate) states: Vec<State>,
 }
 
@@ -167,10 +175,30 @@ fn program_at(rt: &HostRuntime, path: &str) -> Result<Program, Ending> {
     }
 }
 
+/// With what the nodes begin: the states and the round of a report, where these words name one, and else their initial
+/// states at round 0.
+fn opening_for(
+    rt: &HostRuntime,
+    program: &Program,
+    network: &LargeNetwork,
+    texts: &LargeTexts,
+) -> Result<Opening, Ending> {
+    let Some(path) = &texts.from else {
+        let states = states_of(rt, program, network.nodes(), &texts.start)?;
+        return Ok(Opening { round: 0, states });
+    };
+    let report = report_at(rt, path.as_str(), program, network)?;
+    Ok(Opening {
+        round: report.rounds(),
+        states: report.into_states(),
+    })
+}
+
 /// Puts the paths of the files that the words name.
 fn put_paths<'a>(paths: &mut Vec<&'a str>, texts: &'a LargeTexts) -> Result<(), AllocError> {
     paths.push(texts.program.as_str())?;
     paths.push(texts.network.as_str())?;
+    paths.push(path_in(&texts.from))?;
     for word in &texts.start.files {
         paths.push(word.path.as_str())?;
     }
@@ -189,10 +217,10 @@ pub(crate) fn start_at(rt: &HostRuntime, texts: &LargeTexts) -> Result<Start, En
     check_paths(rt.alloc(), texts)?;
     let program = program_at(rt, texts.program.as_str())?;
     let network = network_at(rt, texts.network.as_str())?;
-    let states = states_of(rt, &program, network.nodes(), &texts.start)?;
+    let opening = opening_for(rt, &program, &network, texts)?;
     Ok(Start {
         program,
         network,
-        states,
+        opening,
     })
 }

@@ -2,15 +2,15 @@
 
 use crate::columns::watch_column;
 use crate::counts::{counted, put_counts};
-use crate::rounds::plan_of;
+use crate::progress::Telling;
+use crate::rounds::{no_round, plan_of, threads_for};
 use crate::start::{Start, start_at};
 use app_files::{Ending, print_out};
 use app_requests::{LargeTexts, RoundsView};
-use large_rounds::{LargePlan, LargeWalk, changed_nodes};
-use rule_check::State;
-use run_watch::Span;
+use large_rounds::{LargeWalk, changed_nodes};
+use rounds_plan::RoundFault;
+use run_watch::{Progress, Span};
 use std::alloc::{AllocError, Global};
-use std::io::IsTerminal;
 use std::thread::Threads;
 
 /// What is shown of each round.
@@ -32,34 +32,6 @@ impl Show {
     }
 }
 
-/// Tells on standard error which round is reached, where that is a terminal.
-pub(crate) fn tell_reached(rt: &HostRuntime, round: u32, last: u32) {
-    if rt.stderr().is_terminal() {
-        let _ = eprint!(rt; "\rround {round} of {last}");
-        if round == last {
-            let _ = eprintln!(rt; "");
-        }
-    }
-}
-
-/// Adds what is shown of a round; `before` are the states of the round that was shown before.
-fn put_round(
-    text: &mut String,
-    alloc: Global,
-    show: Show,
-    round: u32,
-    before: &[State],
-    states: &[State],
-) -> Result<(), AllocError> {
-    match show {
-        Show::Changes => {
-            let changed = changed_nodes(before, states);
-            write!(text, "{round},{changed}\n")
-        }
-        Show::Counts(field) => put_counts(text, alloc, round, states, field),
-    }
-}
-
 /// Moves a walk on to a round, unless it is there or beyond.
 pub(crate) fn move_to(threads: &(impl Threads + Sync), walk: &mut LargeWalk<'_>, round: u32) {
     if walk.round() < round {
@@ -67,68 +39,111 @@ pub(crate) fn move_to(threads: &(impl Threads + Sync), walk: &mut LargeWalk<'_>,
     }
 }
 
-/// The lines of all rounds of a span. The walk stands at round 0.
-fn put_rounds(
-    rt: &HostRuntime,
+/// Adds how many nodes changed in each round of a span since the round before in it; in the first one none.
+fn put_changes(
     threads: &(impl Threads + Sync),
     text: &mut String,
+    alloc: Global,
     walk: &mut LargeWalk<'_>,
     span: &Span,
-    show: Show,
+    telling: &mut Telling<'_>,
 ) -> Result<(), AllocError> {
     move_to(threads, walk, span.first());
-    let mut before = walk.states(rt.alloc())?;
-    for step in 0..=span.steps() {
+    let mut before = walk.states(alloc)?;
+    write!(text, "{},0\n", span.first())?;
+    telling.reached(span.first());
+    for step in 1..=span.steps() {
         let round = span.round_at(step);
         move_to(threads, walk, round);
-        let states = walk.states(rt.alloc())?;
-        put_round(text, rt.alloc(), show, round, &before, &states)?;
-        tell_reached(rt, round, span.last());
+        let states = walk.states(alloc)?;
+        let changed = changed_nodes(&before, &states);
+        write!(text, "{round},{changed}\n")?;
+        telling.reached(round);
         before = states;
     }
     Ok(())
 }
 
-/// A walk over the rounds of a plan, from its start on. One that is not shared makes each round by one thread.
-pub(crate) fn walk_of<'a>(
-    rt: &HostRuntime,
+/// Adds how many nodes have each value of a field in each round of a span.
+fn put_all_counts(
     threads: &(impl Threads + Sync),
-    plan: &'a LargePlan<'a>,
-    is_shared: bool,
-) -> Result<LargeWalk<'a>, AllocError> {
-    if is_shared {
-        plan.shared_walk(threads, rt.alloc())
-    } else {
-        plan.walk(rt.alloc())
+    text: &mut String,
+    alloc: Global,
+    walk: &mut LargeWalk<'_>,
+    span: &Span,
+    field: u32,
+    telling: &mut Telling<'_>,
+) -> Result<(), AllocError> {
+    for step in 0..=span.steps() {
+        let round = span.round_at(step);
+        move_to(threads, walk, round);
+        let states = walk.states(alloc)?;
+        put_counts(text, alloc, round, &states, field)?;
+        telling.reached(round);
+    }
+    Ok(())
+}
+
+/// Adds what is shown of each round of a span.
+fn put_rounds(
+    threads: &(impl Threads + Sync),
+    text: &mut String,
+    alloc: Global,
+    walk: &mut LargeWalk<'_>,
+    span: &Span,
+    show: Show,
+    telling: &mut Telling<'_>,
+) -> Result<(), AllocError> {
+    match show {
+        Show::Changes => put_changes(threads, text, alloc, walk, span, telling),
+        Show::Counts(field) => put_all_counts(threads, text, alloc, walk, span, field, telling),
     }
 }
 
-/// The text of the rounds of a span.
+/// Refuses a round before the start.
+fn check_span(start: &Start, span: &Span) -> Result<(), Ending> {
+    if span.first() < start.opening.round {
+        return Err(no_round(RoundFault::RoundsBelowStart));
+    }
+    Ok(())
+}
+
+/// The text of the rounds of a span, which are shared among so many threads.
 fn text_of(
     rt: &HostRuntime,
     threads: &(impl Threads + Sync),
     start: &Start,
     span: &Span,
     show: Show,
-    is_shared: bool,
+    count: usize,
 ) -> Result<String, Ending> {
-    let plan = plan_of(rt.alloc(), start)?;
-    let mut walk = walk_of(rt, threads, &plan, is_shared)?;
+    let plan = plan_of(rt.alloc(), start, count)?;
+    let mut walk = plan.shared_walk(rt.alloc(), count)?;
     let mut text = String::from_str(rt.alloc(), show.heading())?;
-    put_rounds(rt, threads, &mut text, &mut walk, span, show)?;
+    let mut telling = Telling::new(rt, start.opening.round, span);
+    put_rounds(
+        threads,
+        &mut text,
+        rt.alloc(),
+        &mut walk,
+        span,
+        show,
+        &mut telling,
+    )?;
     Ok(text)
 }
 
-/// Prints what is shown of the rounds of a span. The status with which the program ends.
+/// Prints what is shown of the rounds of a span, which are shared among so many threads. The status with which the program
+/// ends.
 fn print_rounds(
     rt: &HostRuntime,
     threads: &(impl Threads + Sync),
     start: &Start,
     span: &Span,
     show: Show,
-    is_shared: bool,
+    count: usize,
 ) -> Result<u8, Ending> {
-    let text = text_of(rt, threads, start, span, show, is_shared)?;
+    let text = text_of(rt, threads, start, span, show, count)?;
     print_out(rt, text.as_bytes())
 }
 
@@ -141,18 +156,17 @@ pub(crate) fn watch_rounds(
     view: &RoundsView,
 ) -> Result<u8, Ending> {
     let start = start_at(rt, texts)?;
+    check_span(&start, span)?;
+    let count = threads_for(threads, texts);
     match view {
-        RoundsView::Changes => {
-            print_rounds(rt, threads, &start, span, Show::Changes, texts.is_shared)
-        }
+        RoundsView::Changes => print_rounds(rt, threads, &start, span, Show::Changes, count),
         RoundsView::Counts(name) => {
             let field = counted(rt.alloc(), &start.program, name.as_str())?;
-            let show = Show::Counts(field);
-            print_rounds(rt, threads, &start, span, show, texts.is_shared)
+            print_rounds(rt, threads, &start, span, Show::Counts(field), count)
         }
         RoundsView::Column { field, format } => {
             let name = field.as_str();
-            watch_column(rt, threads, &start, span, name, *format, texts.is_shared)
+            watch_column(rt, threads, &start, span, name, *format, count)
         }
     }
 }

@@ -1,0 +1,80 @@
+//! `large settle`: from which round on nothing changes, or all states come again.
+
+use crate::rounds::{plan_of, states_after, threads_for};
+use crate::start::{Start, start_at};
+use app_files::{Ending, not_settled, print_out, settled_round, settling_line};
+use app_requests::LargeTexts;
+use large_rounds::LargePlan;
+use large_settle::large_settle;
+use report_text::report_states;
+use run_settle::Settling;
+use std::alloc::{AllocError, Global};
+use std::thread::Threads;
+
+/// What becomes of the rounds of a plan up to a limit, which are shared among so many threads.
+fn found_for<'a>(
+    alloc: Global,
+    threads: &'a (impl Threads + Sync),
+    plan: &'a LargePlan<'a>,
+    limit: u32,
+    count: usize,
+) -> Result<Settling, Ending> {
+    match large_settle(threads, alloc, plan, limit, count) {
+        Ok(found) => Ok(found),
+        Err(fault) => Err(not_settled(alloc, fault)),
+    }
+}
+
+/// The report of the round that was found; nothing where there is none.
+fn report_of<'a>(
+    alloc: Global,
+    threads: &(impl Threads + Sync),
+    plan: &'a LargePlan<'a>,
+    found: Settling,
+    count: usize,
+) -> Result<Vec<u8>, Ending> {
+    let Some(round) = settled_round(found) else {
+        return Ok(Vec::new(alloc));
+    };
+    let states = states_after(alloc, threads, plan, round, count)?;
+    Ok(report_states(alloc, plan.program(), round, &states)?)
+}
+
+/// What was found, as a line.
+fn line_of(alloc: Global, found: Settling) -> Result<Vec<u8>, AllocError> {
+    let line = settling_line(alloc, found)?;
+    Ok(line.into_bytes())
+}
+
+/// What was found, as a line, with the report of its round behind it where it is asked for.
+fn text_of(
+    alloc: Global,
+    threads: &(impl Threads + Sync),
+    start: &Start,
+    limit: u32,
+    count: usize,
+    is_reported: bool,
+) -> Result<Vec<u8>, Ending> {
+    let plan = plan_of(alloc, start, count)?;
+    let found = found_for(alloc, threads, &plan, limit, count)?;
+    let mut text = line_of(alloc, found)?;
+    if is_reported {
+        let report = report_of(alloc, threads, &plan, found, count)?;
+        text.extend_from_slice(&report)?;
+    }
+    Ok(text)
+}
+
+/// Tells from which round on nothing changes, or all states come again. The status with which the program ends.
+pub(crate) fn settle_rounds(
+    rt: &HostRuntime,
+    threads: &(impl Threads + Sync),
+    texts: &LargeTexts,
+    limit: u32,
+    is_reported: bool,
+) -> Result<u8, Ending> {
+    let start = start_at(rt, texts)?;
+    let count = threads_for(threads, texts);
+    let text = text_of(rt.alloc(), threads, &start, limit, count, is_reported)?;
+    print_out(rt, &text)
+}
