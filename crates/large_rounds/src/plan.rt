@@ -7,13 +7,11 @@ use crate::fault::LargePlanFault;
 use crate::parts::{check_parts, ends_of};
 use crate::walk::LargeWalk;
 use link_net::NetRows;
-use rayon::current_num_threads;
-use rounds_blocks::{Layout, Walk, costs_of, is_worth_sharing, most_ends_to_share};
+use rounds_blocks::{Layout, MOST_ENDS, Walk, costs_of, is_worth_sharing, most_ends_to_share};
 use rounds_code::RowCode;
 use rule_check::{Program, State};
 use std::alloc::{AllocError, Global};
 use std::marker::Model;
-use std::thread::Threads;
 
 /// A program on rows, with the states and the round at which the nodes open, and all that walks over its rounds share.
 #[derive(Drop)]
@@ -59,11 +57,43 @@ impl<'a> LargePlan<'a> {
         ensures plan { IsAnswer LargePlanFault.Memory (large_plan_of program.now rows.entry opening.now start) result }
         ensures at_once { IfErr (large_plan_of program.now rows.entry opening.now start) (λ fault. result ≡ Err fault) }
     {
+        let plan = LargePlan::in_blocks(alloc, program, rows, opening, start, MOST_ENDS)?;
+        Ok(plan)
+    }
+
+    /// What `new` does, for rounds that are to be shared among threads, so that these can part the work of hubs.
+    pub fn to_share(
+        alloc: Global,
+        program: &'a Program,
+        rows: NetRows<'a>,
+        opening: &'a [State],
+        start: u32,
+    ) -> Result<LargePlan<'a>, LargePlanFault>
+        ensures plan { IsAnswer LargePlanFault.Memory (large_plan_of program.now rows.entry opening.now start) result }
+        ensures at_once { IfErr (large_plan_of program.now rows.entry opening.now start) (λ fault. result ≡ Err fault) }
+    {
+        let most_ends = most_ends_to_share(program);
+        let plan = LargePlan::in_blocks(alloc, program, rows, opening, start, most_ends)?;
+        Ok(plan)
+    }
+
+    /// The plan, in blocks whose nodes have so many neighbours together at most.
+    fn in_blocks(
+        alloc: Global,
+        program: &'a Program,
+        rows: NetRows<'a>,
+        opening: &'a [State],
+        start: u32,
+        most_ends: u32,
+    ) -> Result<LargePlan<'a>, LargePlanFault>
+        ensures plan { IsAnswer LargePlanFault.Memory (large_plan_of program.now rows.entry opening.now start) result }
+        ensures at_once { IfErr (large_plan_of program.now rows.entry opening.now start) (λ fault. result ≡ Err fault) }
+    {
         check_parts(program, &rows, opening, start)?;
         let nodes = rows.nodes();
         let ends = ends_of(&rows);
         let code = RowCode::new(alloc, program)?;
-        let layout = Layout::new(alloc, rows, most_ends_to_share(program))?;
+        let layout = Layout::new(alloc, rows, most_ends)?;
         Ok(LargePlan {
             program,
             code,
@@ -112,18 +142,13 @@ impl<'a> LargePlan<'a> {
         Ok(LargeWalk::from_start(self, states))
     }
 
-    /// A walk that stands at the start, whose rounds `go_to_shared` shares among as many threads as
-    /// there are processors, where they have enough work.
-    pub fn shared_walk(
-        &'a self,
-        rt: &(impl Threads + Sync),
-        alloc: Global,
-    ) -> Result<LargeWalk<'a>, AllocError>
+    /// A walk that stands at the start, whose rounds `go_to_shared` and `step_shared` share among so many threads,
+    /// where they have enough work. With fewer than two threads each round is made sequentially.
+    pub fn shared_walk(&'a self, alloc: Global, threads: usize) -> Result<LargeWalk<'a>, AllocError>
         ensures start { IfOk result (λ walk. walk ≡ record { plan = self.now; round = self.now.start }) }
     {
         let mut states = Walk::new(alloc, self.program, &self.code, &self.layout, self.opening)?;
-        if is_worth_sharing(self.program, self.nodes as u64, self.ends) {
-            let threads = current_num_threads(rt);
+        if threads > 1 && is_worth_sharing(self.program, self.nodes as u64, self.ends) {
             states.share(alloc, &self.code, threads, costs_of(self.program))?;
         }
         Ok(LargeWalk::from_start(self, states))

@@ -37,17 +37,18 @@ fn made_in_turn<'a>(
     Ok(states)
 }
 
-/// The states after a round, each round shared among threads.
+/// The states after a round, each round shared among so many threads.
 fn made_in_threads<'a>(
     rt: &(impl Threads + Sync),
     alloc: Global,
     plan: &'a LargePlan<'a>,
     rounds: u32,
+    threads: usize,
 ) -> Result<Vec<State>, AllocError>
     requires late { plan.now.start ≤ rounds }
     ensures exact { IfOk result (λ states. states.items ≡ lockstep_states plan.now rounds (length plan.now.network)) }
 {
-    let mut walk = plan.shared_walk(rt, alloc)?;
+    let mut walk = plan.shared_walk(alloc, threads)?;
     walk.go_to_shared(rt, rounds);
     let states = walk.states(alloc)?;
     Ok(states)
@@ -57,8 +58,8 @@ fn made_in_threads<'a>(
 /// initial states on all nodes move at once, each by its own state and its neighbours' states before. Where the program
 /// doesn't read the number of the round, none is computed behind the first one that changes nothing.
 ///
-/// Where the rounds are to be shared, each that has enough to compute is shared among as many threads as there are
-/// processors; the states are the same.
+/// Each round that has enough to compute is shared among so many threads, and is made sequentially where they are fewer
+/// than two; the states are the same. A plan made by `LargePlan::to_share` is laid out for threads.
 ///
 /// `TooManyRounds` comes above 1,000,000,000, and else `RoundsBelowStart` below the plan's start, both before anything
 /// is done.
@@ -67,15 +68,15 @@ pub fn large_lockstep<'a>(
     alloc: Global,
     plan: &'a LargePlan<'a>,
     rounds: u32,
-    is_shared: bool,
+    threads: usize,
 ) -> Result<Vec<State>, RoundFault>
     ensures exact { IfOk result (λ states. rounds_of plan.now rounds ≡ Ok (record { rounds = rounds; fields = length plan.now.program.fields; states = states.items })) }
     ensures refused { IfErr result (λ fault. fault ≢ RoundFault.Memory → rounds_of plan.now rounds ≡ Err fault) }
     ensures at_once { IfErr (rounds_of plan.now rounds) (λ fault. result ≡ Err fault) }
 {
     check_round(plan, rounds)?;
-    let states = if is_shared {
-        made_in_threads(rt, alloc, plan, rounds)?
+    let states = if threads > 1 {
+        made_in_threads(rt, alloc, plan, rounds, threads)?
     } else {
         made_in_turn(alloc, plan, rounds)?
     };

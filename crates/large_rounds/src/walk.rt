@@ -1,9 +1,11 @@
 //! Walks over the rounds of a plan on rows.
-ghost use Rattle.std.specs.Prelude.{◌≡◌, ◌<◌, ◌≤◌, ℕ, IfOk, All, length, slice_index_or};
+ghost use Rattle.std.specs.Prelude.{◌≡◌, ◌↔◌, ◌<◌, ◌≤◌, ◌+◌, ◌^◌, ℕ, IfOk, IsTrue, All, true, false, length, slice_index_or};
 ghost use Rattle.rule_check.specs.declared.state.State.{State};
+ghost use Rattle.rule_check.specs.Rounds.{reads_round};
 ghost use Rattle.rounds_plan.specs.Configs.{IsPlain};
 ghost use Rattle.rounds_plan.specs.Lockstep.{lockstep_states};
 ghost use Rattle.rounds_blocks.specs.Walks.{state_by};
+ghost use Rattle.lockstep.specs.Walking.{AreAlike};
 ghost use Rattle.large_rounds.specs.LargePlans.{IsLargePlan};
 
 use crate::plan::LargePlan;
@@ -62,6 +64,33 @@ impl<'a> LargeWalk<'a> {
         self.round
     }
 
+    /// Moves on to the next round, sequentially. Answers whether a state changed, where the program doesn't read the
+    /// number of the round, and else true.
+    pub fn step(&mut self) -> bool
+        requires room { self.old.round + 1 < 2 ^ 32 }
+        ensures next { self.new ≡ record { plan = self.old.plan; round = self.old.round + 1 } }
+        ensures rests { result ≡ false → AreAlike self.old.plan self.old.round (self.old.round + 1) }
+        ensures unread { result ≡ false → reads_round self.old.plan.program ≡ false }
+        ensures moves { result ≡ true → reads_round self.old.plan.program ≡ false → AreAlike self.old.plan self.old.round (self.old.round + 1) → ⊥ }
+    {
+        let moved = self.states.round(self.round);
+        self.round += 1;
+        moved
+    }
+
+    /// What `step` does, the round shared among threads where it has enough to compute for them.
+    pub fn step_shared(&mut self, rt: &(impl Threads + Sync)) -> bool
+        requires room { self.old.round + 1 < 2 ^ 32 }
+        ensures next { self.new ≡ record { plan = self.old.plan; round = self.old.round + 1 } }
+        ensures rests { result ≡ false → AreAlike self.old.plan self.old.round (self.old.round + 1) }
+        ensures unread { result ≡ false → reads_round self.old.plan.program ≡ false }
+        ensures moves { result ≡ true → reads_round self.old.plan.program ≡ false → AreAlike self.old.plan self.old.round (self.old.round + 1) → ⊥ }
+    {
+        let moved = self.states.round_shared(rt, self.round);
+        self.round += 1;
+        moved
+    }
+
     /// Moves on to a round, one by one. Where the program doesn't read the number of the round, none is made behind
     /// the first one that changes nothing.
     pub fn go_to(&mut self, round: u32)
@@ -88,5 +117,13 @@ impl<'a> LargeWalk<'a> {
     {
         let states = self.states.states(alloc)?;
         Ok(states)
+    }
+
+    /// Whether all nodes have the states that they have in another walk of the same plan.
+    pub fn is_like(&self, other: &LargeWalk<'_>) -> bool
+        requires plan { other.now.plan ≡ self.now.plan }
+        ensures exact { IsTrue result ↔ AreAlike self.now.plan self.now.round other.now.round }
+    {
+        self.states.is_like(&other.states)
     }
 }
