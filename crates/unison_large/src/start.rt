@@ -117,10 +117,10 @@ fn put_randoms(
     Ok(())
 }
 
-/// Gives a field of each node its value.
-fn put_column(states: &mut [State], program: &Program, field: u32, values: &[u32]) {
-    for (node, value) in values.iter().enumerate() {
-        let _ = set_value(program, states, node as u32, field, *value);
+/// Gives a field of each of so many nodes its value.
+fn put_column(states: &mut [State], program: &Program, nodes: u32, field: u32, values: &[u32]) {
+    for (node, value) in (0..nodes).zip(values) {
+        let _ = set_value(program, states, node, field, *value);
     }
 }
 
@@ -134,7 +134,7 @@ fn put_file(
 ) -> Result<(), Ending> {
     let field = field_place(rt.alloc(), program, "--set-file", word.field.as_str())?;
     let values = column_at(rt, word.path.as_str(), nodes)?;
-    put_column(states, program, field, &values);
+    put_column(states, program, nodes, field, &values);
     Ok(())
 }
 
