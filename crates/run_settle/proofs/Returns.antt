@@ -4,7 +4,6 @@ use Rattle.std.specs.Prelude.{Bool, IsTrue, Option, Some, None, IfSome, MatchOpt
 use Rattle.std.proofs.lemmas.Bool.{false≢true}
 use Rattle.rule_check.specs.Rounds.{reads_round}
 use Rattle.rule_check.proofs.AnyRound.{next_state-any_round}
-use Rattle.link_net.specs.Neighbours.{IsNetwork}
 use Rattle.rounds_plan.specs.Lockstep.{lockstep, lockstep_states, lockstep-more, nears_in}
 use Rattle.rounds_plan.specs.Plans.{PlanView}
 use Rattle.lockstep.specs.Walking.{AreAlike, RoundView}
@@ -14,17 +13,17 @@ use Rattle.run_settle.specs.declared.search.Found.{Found}
 use Rattle.run_settle.specs.declared.settling.Settling.{Settling}
 use Rattle.run_settle.specs.declared.settling.Settling.TheVariants.{Settles, Repeats, Open}
 use Rattle.run_settle.specs.Outcomes.{IsOpen, IsRestless, IsSettling, IsStill, RepeatsFrom}
-use Rattle.run_settle.specs.Searching.{IsAway, IsFound, ComesAgain, IsFirstOf, last_of}
+use Rattle.run_settle.specs.Searching.{IsAway, IsFound, ComesAgain, IsFirstOf, LeadsInside, last_of}
 use Rattle.run_settle.proofs.Cycles as cycles
 
-module _ (p : PlanView) (network : IsNetwork p.network) (unread : reads_round p.program ≡ false) where
+module _ (p : PlanView) (leads : LeadsInside p.network) (unread : reads_round p.program ≡ false) where
   -- rounds that are alike are followed by such rounds
   alike_next : (a b : ℕ) → p.start ≤ a → p.start ≤ b → AreAlike p a b → AreAlike p (a + 1) (b + 1)
   alike_next a b late later same =
       alike_of p (a + 1) (b + 1)
       (λ u inside.
       lockstep-more p a u late
-      ∙ round_agrees p a (lockstep p a) (lockstep p b) u network.within (each_alike p a b same) inside
+      ∙ round_agrees p a (lockstep p a) (lockstep p b) u leads (each_alike p a b same) inside
       ∙ next_state-any_round p.program a b u (lockstep p b u) (nears_in p.network (lockstep p b) u) unread
       ∙ sym (lockstep-more p b u later))
 

@@ -1,5 +1,6 @@
 -- What a search for a configuration that comes again finds.
-use Rattle.std.specs.Prelude.{ℕ, ◌+◌, ◌<◌, ◌≤◌}
+use Rattle.std.specs.Prelude.{ℕ, ◌+◌, ◌<◌, ◌≤◌, length}
+use Rattle.link_net.specs.Neighbours.{Neighbours, degree, neighbour}
 use Rattle.rounds_plan.specs.Plans.{PlanView}
 use Rattle.lockstep.specs.Walking.{AreAlike}
 use Rattle.run_settle.specs.declared.search.Found.{Found}
@@ -32,3 +33,7 @@ pub record IsFirstOf (p : PlanView) (n r : ℕ) : Type 0 where
   pub late : p.start ≤ r
   pub again : AreAlike p r (r + n)
   pub first : (e : ℕ) → p.start ≤ e → e < r → AreAlike p e (e + n) → ⊥
+
+-- each neighbour of a node is a node
+abbrev pub LeadsInside : Neighbours → Type 0
+LeadsInside network = (u j : ℕ) → j < degree network u → neighbour network u j < length network

@@ -2,11 +2,14 @@
 #![tactic(auto)]
 
 mod fault;
+mod in_turn;
 mod outcome;
 mod search;
 mod settling;
 mod tail;
+mod walking;
 
 pub use fault::SettleFault;
-pub use outcome::settle;
+pub use outcome::{settle, settle_by};
 pub use settling::Settling;
+pub use walking::{Starting, Walking};

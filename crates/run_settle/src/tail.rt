@@ -4,26 +4,27 @@ ghost use Rattle.rounds_plan.specs.Configs.{most_rounds};
 ghost use Rattle.lockstep.specs.Walking.{AreAlike};
 ghost use Rattle.run_settle.specs.Searching.{IsFirstOf};
 
-use lockstep::Course;
+use crate::walking::{Starting, Walking};
 use std::alloc::{AllocError, Global};
 
 /// The first round whose states come again after a period, where those of a mark's round do.
-pub(crate) fn first_round<'a>(
+pub(crate) fn first_round<S: Starting>(
     alloc: Global,
-    course: &'a Course<'a>,
+    starts: &S,
     mark: u32,
     period: u32,
 ) -> Result<u32, AllocError>
-    requires late { course.now.start ≤ mark }
+    requires late { (S.plan starts.now).start ≤ mark }
     requires few { mark + period ≤ 2 * most_rounds }
-    requires again { AreAlike course.now mark (mark + period) }
-    ensures first { IfOk result (λ round. IsFirstOf course.now period round) }
+    requires again { AreAlike (S.plan starts.now) mark (mark + period) }
+    ensures first { IfOk result (λ round. IsFirstOf (S.plan starts.now) period round) }
     ensures within { IfOk result (λ round. round ≤ mark) }
 {
-    let mut behind = course.walk(alloc)?;
-    let mut ahead = course.walk(alloc)?;
-    ahead.go_to(behind.round() + period);
-    for round in behind.round()..mark {
+    let mut behind = starts.begin(alloc)?;
+    let mut ahead = starts.begin(alloc)?;
+    let start = starts.first_round();
+    ahead.go_to(start + period);
+    for round in start..mark {
         if ahead.is_like(&behind) {
             return Ok(round);
         }

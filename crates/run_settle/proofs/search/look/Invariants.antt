@@ -4,7 +4,12 @@ use Rattle.run_settle.specs.Searching.{IsAway}
 use Rattle.run_settle.proofs.search.look.Given as goal
 
 abbrev pub invariant-loop-step : goal.invariant-loop-step
-invariant-loop-step l =
-    (l.walk ≡ record { plan = l.initial.walk.plan; round = l.initial.walk.round + l._step })
-    × IsRestless l.initial.walk.plan (l.initial.walk.round + l._step)
-    × IsAway l.initial.walk.plan l.initial.walk.round (l.initial.walk.round + l._step + 1)
+invariant-loop-step g l =
+    let stands = g.W.Walking.stands in
+    let first = stands l.initial.walk in
+    record {
+      way : g.W.Walking.serves l.walk;
+      there : stands l.walk ≡ record { plan = first.plan; round = first.round + l._step };
+      restless : IsRestless first.plan (first.round + l._step);
+      away : IsAway first.plan first.round (first.round + l._step + 1);
+    }
