@@ -47,6 +47,8 @@ impl<'a> Starting for InTurn<'a> {
 
     ghost plan = { λ s. s };
 
+    ghost serves = { λ s. Unit {0} };
+
     fn uses_round(&self) -> bool {
         self.plan.program().uses_round()
     }

@@ -40,6 +40,7 @@ fn settling_of<S: Starting>(
     found: Found,
     limit: u32,
 ) -> Result<Settling, AllocError>
+    requires way { S.serves starts.now }
     requires inside { LeadsInside (S.plan starts.now).network }
     requires unread { reads_round (S.plan starts.now).program ≡ false }
     requires found { IsFound (S.plan starts.now) found }
@@ -65,6 +66,7 @@ fn settling_of<S: Starting>(
 
 /// What becomes of the rounds up to the limit, where nothing refuses it.
 fn settled<S: Starting>(alloc: Global, starts: &S, limit: u32) -> Result<Settling, AllocError>
+    requires way { S.serves starts.now }
     requires inside { LeadsInside (S.plan starts.now).network }
     requires unread { reads_round (S.plan starts.now).program ≡ false }
     requires late { (S.plan starts.now).start ≤ limit }
@@ -86,6 +88,7 @@ pub fn settle_by<S: Starting>(
     starts: &S,
     limit: u32,
 ) -> Result<Settling, SettleFault>
+    requires way { S.serves starts.now }
     ensures settling { IfOk result (IsSettling (S.plan starts.now) limit) }
     ensures only { IfOk result (λ found. (s : Settling) → IsSettling (S.plan starts.now) limit s → s ≡ found) }
     ensures refused { IfErr result (IsFaultOf (S.plan starts.now) limit) }

@@ -76,6 +76,7 @@ pub(crate) fn search<S: Starting>(
     starts: &S,
     limit: u32,
 ) -> Result<Option<Found>, AllocError>
+    requires way { S.serves starts.now }
     requires unread { reads_round (S.plan starts.now).program ≡ false }
     requires late { (S.plan starts.now).start ≤ limit }
     requires few { limit ≤ most_rounds }

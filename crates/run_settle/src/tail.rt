@@ -14,6 +14,7 @@ pub(crate) fn first_round<S: Starting>(
     mark: u32,
     period: u32,
 ) -> Result<u32, AllocError>
+    requires way { S.serves starts.now }
     requires late { (S.plan starts.now).start ≤ mark }
     requires few { mark + period ≤ 2 * most_rounds }
     requires again { AreAlike (S.plan starts.now) mark (mark + period) }

@@ -52,6 +52,9 @@ pub trait Starting {
     // The plan.
     ghost plan: { Self → PlanView };
 
+    // What walks ask for beside.
+    ghost serves: { Self → Type 0 };
+
     /// Whether the program reads the number of the round.
     fn uses_round(&self) -> bool
         ensures exact { result ≡ reads_round (plan self.now).program };
@@ -63,6 +66,7 @@ pub trait Starting {
 
     /// A walk that stands at the start.
     fn begin(&self, alloc: Global) -> Result<Self::Walk, AllocError>
+        requires way { serves self.now }
         ensures start { IfOk result (λ walk. Self.Walk.stands walk ≡ record { plan = plan self.now; round = (plan self.now).start }) }
         ensures way { IfOk result (λ walk. Self.Walk.serves walk) };
 }
