@@ -5,8 +5,8 @@
  *     call watch PROGRAM NETWORK ROUND..          the same for each round, behind a line with its number
  *     call settle PROGRAM NETWORK LIMIT           settles ROUND, repeats ROUND PERIOD, or open LIMIT
  *     call replay PROGRAM NETWORK SCHEDULE STOP   the replay report, and a line for each node: its number, its count and its words
- *     call large PROGRAM PACKED ROUND [OPENING]   a line for each node, as of lockstep, on the network of any size that `unison pack` made;
- *                                                 OPENING is what `call watch` printed of one round, to go on from
+ *     call large PROGRAM PACKED ROUND [INITIAL]   a line for each node, as of lockstep, on the network of any size that `unison pack` made;
+ *                                                 INITIAL is what `call watch` printed of one round, to go on from
  *     call why JOB PROGRAM [NETWORK NUMBER [SCHEDULE]]
  *                                                 the number of the first fault, or 0, and what is told of it
  *
@@ -230,7 +230,7 @@ static uint32_t open_node(struct text program, uint32_t words[8], uint32_t *fiel
 }
 
 /* Reads the round and the words that `call watch` printed; whether they are there. */
-static int read_opening(const char *path, uint32_t *words, size_t nodes, uint32_t fields, uint32_t *start) {
+static int read_initial(const char *path, uint32_t *words, size_t nodes, uint32_t fields, uint32_t *start) {
     FILE *file = fopen(path, "r");
     unsigned word = 0;
     int is_read = file && fscanf(file, "round %u", &word) == 1;
@@ -261,7 +261,7 @@ static int show_large(char **words) {
     if (answer) return fault(answer);
     uint32_t *states = room_for(nodes * fields, sizeof *states);
     for (size_t at = 0; at < nodes * fields; at++) states[at] = first[at % fields];
-    if (words[3] && !read_opening(words[3], states, nodes, fields, &start)) return wrong(words[3], "no words of one round, as `call watch` prints them");
+    if (words[3] && !read_initial(words[3], states, nodes, fields, &start)) return wrong(words[3], "no words of one round, as `call watch` prints them");
     answer = unison_large_rounds(program.bytes, program.len, offsets, nodes + 1, neighbours, ends, neighbours + ends, weights, start,
                                  number(words[2]), states, nodes * fields, &fields);
     if (answer) return fault(answer);

@@ -137,7 +137,7 @@ class LargeNetwork:
         number = self.number(name)
         return int(self.indptr[number + 1]) - int(self.indptr[number])
 
-    def _openings(self, program: Program) -> "array[int]":
+    def _initial_words(self, program: Program) -> "array[int]":
         """The words of the initial states."""
         unknown = [field for field in self._set if field not in program.fields]
         if unknown:
@@ -201,7 +201,7 @@ def from_scipy(matrix: Any, weights: bool, **how: Any) -> LargeNetwork:
 def words_from(program: Program, network: LargeNetwork, from_: Any) -> Tuple[int, "array[int]"]:
     """The round to go on from and the words of its states, which may be changed."""
     if from_ is None:
-        return 0, network._openings(program)
+        return 0, network._initial_words(program)
     if not isinstance(from_, States):
         raise TypeError(
             f"a large network goes on from States, and not from {type(from_).__name__}: "
