@@ -135,7 +135,11 @@ _unison() {
     options="--names --node-field"
     ;;
   pack:edges)
-    options="--nodes --directed --scale --drop-loops --keep-loops --parallel --header"
+    options="--nodes --directed --scale --drop-loops --keep-loops --parallel --header --names"
+    [ "$previous" = --parallel ] && words="min max first keep"
+    ;;
+  pack:matrix-market)
+    options="--scale --drop-loops --keep-loops --parallel --undirected"
     [ "$previous" = --parallel ] && words="min max first keep"
     ;;
   pack:network)
@@ -153,21 +157,38 @@ _unison() {
   pack:torus)
     options="--diagonals"
     ;;
+  pack:random)
+    options="--links --seed"
+    ;;
+  pack:preferential)
+    options="--links-each --seed"
+    ;;
+  pack:small-world)
+    options="--near --rewire --seed"
+    ;;
   pack:*)
-    words="edges network path ring grid torus"
+    words="edges matrix-market network path ring grid torus random preferential small-world"
     options=""
     ;;
   large:info)
     options=""
     ;;
+  large:show)
+    options=""
+    ;;
   large:lockstep)
-    options="--rounds --set --set-random --seed --count --sequential"
+    options="--rounds --from --set --set-file --set-random --seed --count --format --field --threads --sequential"
+    [ "$previous" = --format ] && words="report csv npy"
     ;;
   large:watch)
-    options="--rounds --every --set --set-random --seed --count --sequential"
+    options="--rounds --every --from --set --set-file --set-random --seed --count --field --format --threads --sequential"
+    [ "$previous" = --format ] && words="csv npy"
+    ;;
+  large:settle)
+    options="--limit --report --from --set --set-file --set-random --seed --threads --sequential"
     ;;
   large:*)
-    words="info lockstep watch"
+    words="info show lockstep watch settle"
     options=""
     ;;
   why:*)
