@@ -1,8 +1,8 @@
 //! Standard output, and files that are written.
 
-use crate::ending::{Ending, refused};
+use crate::ending::Ending;
 use crate::files::unserved;
-use std::io::{BufWriter, ErrorKind, Write};
+use std::io::{ErrorKind, Write};
 use std::rt::Files;
 use std::{fs, io};
 
@@ -14,27 +14,19 @@ fn unwritten(error: &io::Error) -> Ending {
     }
 }
 
-/// Writes a text, and hands the buffer's last bytes on.
-fn put_whole(output: &mut impl Write, text: &[u8]) -> io::Result<()> {
-    output.write_all(text)?;
-    output.flush()
-}
-
-/// Writes a text on standard output, whole.
-pub fn write_out(rt: &(impl Print + AllocGlobal), text: &[u8]) -> Result<(), Ending> {
-    let mut output = match BufWriter::new(rt.alloc(), io::writer(rt)) {
-        Ok(output) => output,
-        Err(error) => return Err(refused(&error, Ending::Output)),
-    };
-    match put_whole(&mut output, text) {
+/// Writes bytes on standard output, whole. No memory is asked for, so that a file that was written before never stands
+/// beside a command that ran out of it.
+pub fn write_out(rt: &impl Print, bytes: &[u8]) -> Result<(), Ending> {
+    let mut output = io::writer(rt);
+    match output.write_all(bytes) {
         Ok(()) => Ok(()),
         Err(error) => Err(unwritten(&error)),
     }
 }
 
-/// Prints a text on standard output, whole. The status with which the program ends.
-pub fn print_out(rt: &(impl Print + AllocGlobal), text: &[u8]) -> Result<u8, Ending> {
-    write_out(rt, text)?;
+/// Prints bytes on standard output, whole. The status with which the program ends.
+pub fn print_out(rt: &impl Print, bytes: &[u8]) -> Result<u8, Ending> {
+    write_out(rt, bytes)?;
     Ok(0)
 }
 

@@ -172,7 +172,7 @@ const WAYS: [Subcommand; 5] = [
     },
     Subcommand {
         name: "watch",
-        about: "Tell for each round from one to another how many nodes changed since the round shown before, or count a field's values, as CSV",
+        about: "Tell for each round from one to another how many nodes changed since the round shown before, or a field's values, counted or of all nodes",
         notes: "",
         arguments: &[
             PROGRAM,
@@ -381,9 +381,9 @@ fn format_in(reading: &mut Reading) -> StatesFormat {
     }
 }
 
-/// Counts of a field's values, of whose form nothing is said.
-fn counts_in(reading: &mut Reading, field: String) -> StatesView {
-    if reading.has(&FORMAT_ARGUMENT) {
+/// Counts of a field's values, of which CSV is the one form.
+fn counts_in(reading: &mut Reading, format: StatesFormat, field: String) -> StatesView {
+    if reading.has(&FORMAT_ARGUMENT) && format != StatesFormat::Csv {
         reading.refuse_words("--count: counted values are printed as CSV; leave out --format");
     }
     StatesView::Counts(field)
@@ -401,7 +401,7 @@ fn one_field_in(reading: &mut Reading, format: StatesFormat, field: String) -> S
 fn view_in(reading: &mut Reading) -> StatesView {
     let format = format_in(reading);
     if let Some(field) = reading.text(&COUNT_ARGUMENT) {
-        return counts_in(reading, field);
+        return counts_in(reading, format, field);
     }
     match reading.text(&ONE_FIELD_ARGUMENT) {
         Some(field) => one_field_in(reading, format, field),

@@ -15,7 +15,7 @@ use Rattle.rounds_plan.specs.Configs.{most_rounds}
 use Rattle.rounds_plan.specs.Lockstep.{lockstep, lockstep_config, lockstep_states, rounds_of}
 use Rattle.rounds_plan.specs.Plans.{PlanView}
 use Rattle.large_calls.specs.Lists.{given_weights}
-use Rattle.large_calls.specs.States.{node_words, state_of, states_of}
+use Rattle.large_parts.specs.States.{node_words, state_of, states_of}
 use Rattle.large_calls.specs.LargeAnswers.{IsNoSpan, words_plan}
 
 no_words : (n : ℕ) → list_any (λ w. not (eqb w 0)) (replicate n 0) ≡ false

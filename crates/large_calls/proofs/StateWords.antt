@@ -7,7 +7,7 @@ use Rattle.std.proofs.lemmas.List.{append-nil, drop-drop}
 use Rattle.std.proofs.lemmas.List.FromFn.{map-range_with_len_more}
 use Rattle.rule_check.specs.declared.state.State.{State}
 use Rattle.app_calls.specs.Words.{words_in}
-use Rattle.large_calls.specs.States.{node_words, state_of, states_of}
+use Rattle.large_parts.specs.States.{node_words, state_of, states_of}
 
 -- what is left is the words of one node, and what is left behind them
 pub left_more : (n i fields left : ℕ) → i < n → left ≡ (n - i) * fields → left ≡ fields + (n - (i + 1)) * fields

@@ -1,4 +1,3 @@
 pub mod ListNumbers
 pub mod Lists
-pub mod States
 pub mod LargeAnswers

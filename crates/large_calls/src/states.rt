@@ -1,7 +1,7 @@
 //! States, and the words of their fields, node by node.
 ghost use Rattle.std.specs.Prelude.{◌≡◌, ◌+◌, ◌*◌, ◌++◌, ◌≤◌, length, take, drop, IfOk};
 ghost use Rattle.app_calls.specs.Words.{words_in};
-ghost use Rattle.large_calls.specs.States.{state_of, states_of};
+ghost use Rattle.large_parts.specs.States.{state_of, states_of};
 
 use rule_check::State;
 use std::alloc::{AllocError, Global};

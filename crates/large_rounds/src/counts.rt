@@ -1,20 +1,14 @@
 //! What there is to count in the states of many nodes.
-ghost use Rattle.std.specs.Prelude.{◌≡◌, length, zip, slice_index, IfOk};
+ghost use Rattle.std.specs.Prelude.{◌≡◌, length, zip, IfOk};
 ghost use Rattle.std.specs.List.{filter};
 ghost use Rattle.std.specs.BTreeMap.{get};
 ghost use Rattle.std.specs.Ordering.{nat_cmp};
 ghost use Rattle.large_rounds.specs.Counts.{AreCounts, has_moved, IsTally};
 
+use crate::columns::field_value;
 use rule_check::State;
 use std::alloc::{AllocError, Global};
 use std::collections::BTreeMap;
-
-/// The value of a field, and 0 for one that states do not have.
-fn field_value(state: &State, field: u32) -> u32
-    ensures value { result ≡ slice_index state.now.words field }
-{
-    state.words.get(field as usize).copied().unwrap_or(0)
-}
 
 /// How many of the states have each value of a field.
 fn tally(alloc: Global, states: &[State], field: u32) -> Result<BTreeMap<u32, u64>, AllocError>

@@ -2,6 +2,7 @@
 //! `rounds_plan` defines, for these networks as for those of a network file.
 #![tactic(auto)]
 
+mod columns;
 mod counts;
 mod fault;
 mod initial;
@@ -11,6 +12,7 @@ mod plan;
 mod rounds;
 mod walk;
 
+pub use columns::{push_column, state_rows};
 pub use counts::{changed_nodes, count_values};
 pub use fault::{LargePlanFault, SetFault};
 pub use initial::{openings, set_all_values, set_value};

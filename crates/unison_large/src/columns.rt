@@ -8,11 +8,10 @@ use crate::start::Start;
 use crate::watch::move_to;
 use app_files::{Ending, field_place, print_out};
 use app_requests::ColumnFormat;
-use large_rounds::LargeWalk;
+use large_rounds::{LargeWalk, push_column};
 use npy_arrays::ArrayShape;
 use rule_check::State;
 use run_watch::{Progress, Span};
-use state_columns::push_column;
 use std::alloc::{AllocError, Global};
 use std::thread::Threads;
 

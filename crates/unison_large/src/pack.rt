@@ -1,8 +1,8 @@
 //! `pack`: a network of any size as a binary file.
 
-use crate::binary::{check_output, print_bytes};
+use crate::binary::check_output;
 use crate::refusals::{matrix_refusal, names_refusal, refusal};
-use app_files::{Ending, bytes_at, file_at, name_at, put_note, write_file};
+use app_files::{Ending, bytes_at, file_at, name_at, print_out, put_note, write_file};
 use app_requests::PackRequest;
 use app_table::Draft;
 use large_matrix::{MatrixOptions, pack_matrix};
@@ -160,7 +160,7 @@ fn output_for(rt: &HostRuntime, asked: &PackRequest) -> Result<Output, Ending> {
 
 /// Prints a binary file, and tells what was dropped or merged. The status with which the program ends.
 fn put_output(rt: &HostRuntime, output: &Output) -> Result<u8, Ending> {
-    let status = print_bytes(rt, &output.bytes)?;
+    let status = print_out(rt, &output.bytes)?;
     if !output.notes.is_empty() {
         let _ = eprintln!(rt; "{}", output.notes.as_str());
     }

@@ -9,13 +9,12 @@ use app_files::{Ending, field_place, print_out};
 use app_jobs::ServeFault;
 use app_requests::{LargeTexts, StatesFormat, StatesView};
 use large_reports::csv_states;
-use large_rounds::{LargePlan, LargePlanFault, large_lockstep};
+use large_rounds::{LargePlan, LargePlanFault, large_lockstep, state_rows};
 use npy_arrays::ArrayShape;
 use rayon::current_num_threads;
 use report_text::report_states;
 use rounds_plan::RoundFault;
 use rule_check::{Program, State};
-use state_columns::state_rows;
 use std::alloc::{AllocError, Global};
 use std::thread::Threads;
 

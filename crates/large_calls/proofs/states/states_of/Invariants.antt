@@ -1,5 +1,5 @@
 use Rattle.std.proofs.Common.{◌≡◌, ◌-◌, ◌*◌, drop, length}
-use Rattle.large_calls.specs.States.{states_of}
+use Rattle.large_parts.specs.States.{states_of}
 use Rattle.large_calls.proofs.states.states_of.Given as goal
 
 abbrev pub invariant-loop-node : goal.invariant-loop-node

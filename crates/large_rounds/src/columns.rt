@@ -1,13 +1,14 @@
 //! Values of fields in many states, one behind the other.
 ghost use Rattle.std.specs.Prelude.{◌≡◌, ◌++◌, ◌≤◌, IfOk, OnOk, take, slice_index};
-ghost use Rattle.state_columns.specs.Columns.{column, rows};
+ghost use Rattle.large_parts.specs.States.{words_in};
+ghost use Rattle.large_rounds.specs.Columns.{column};
 
 use rule_check::State;
 use std::alloc::{AllocError, Global};
 
 /// The value of a field, and 0 for one that states do not have.
-fn field_value(state: &State, field: u32) -> u32
-    ensures { result ≡ slice_index state.now.words field }
+pub(crate) fn field_value(state: &State, field: u32) -> u32
+    ensures value { result ≡ slice_index state.now.words field }
 {
     state.words.get(field as usize).copied().unwrap_or(0)
 }
@@ -32,7 +33,7 @@ pub fn push_column(words: &mut Vec<u32>, states: &[State], field: u32) -> Result
 
 /// The values of the first so many fields, state by state, each in order of declaration.
 pub fn state_rows(alloc: Global, states: &[State], fields: u32) -> Result<Vec<u32>, AllocError>
-    ensures rows { IfOk result (λ v. v.items ≡ rows fields states.now) }
+    ensures rows { IfOk result (λ v. v.items ≡ words_in fields states.now) }
 {
     let mut words = Vec::new(alloc);
     for state in states {

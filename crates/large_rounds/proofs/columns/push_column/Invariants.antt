@@ -1,6 +1,6 @@
 use Rattle.std.proofs.Common.{◌≡◌, ◌++◌, take}
-use Rattle.state_columns.specs.Columns.{column}
-use Rattle.state_columns.proofs.columns.push_column.Given as goal
+use Rattle.large_rounds.specs.Columns.{column}
+use Rattle.large_rounds.proofs.columns.push_column.Given as goal
 
 -- the values so far are written
 abbrev pub invariant-loop-state : goal.invariant-loop-state

@@ -1,11 +1,7 @@
 -- Values of fields in many states.
-use Rattle.std.specs.Prelude.{ℕ, List, map, take, flat_map, slice_index}
+use Rattle.std.specs.Prelude.{ℕ, List, map, slice_index}
 use Rattle.rule_check.specs.declared.state.State.{State}
 
 -- the value of a field in each state, in their order; 0 for a field that states do not have
 abbrev pub column : ℕ → List State → List ℕ
 column field states = map (λ state. slice_index state.words field) states
-
--- the values of the first so many fields, state by state
-abbrev pub rows : ℕ → List State → List ℕ
-rows fields states = flat_map (λ state. take fields state.words) states
