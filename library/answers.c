@@ -244,6 +244,51 @@ static void large_faults(void) {
     large_fault_is("large rounds, no words", "field a = 0; field b = 0; next a = b;", path_neighbours, 0, 2, 0, 149, 2);
 }
 
+/* Node 0 and node 1, and node 2 and node 3, of the path 0 - 1 - 2 - 3 as parts: each has the neighbour of its own nodes that is not its own behind them. */
+static const uint64_t left_offsets[] = {0, 1, 3, 3}, right_offsets[] = {0, 2, 3, 3};
+static const uint32_t left_ids[] = {0, 1, 2}, left_neighbours[] = {1, 0, 2}, right_ids[] = {2, 3, 1}, right_neighbours[] = {1, 2, 0};
+#define LEFT_LISTS left_offsets, 4, left_neighbours, 3
+#define RIGHT_LISTS right_offsets, 4, right_neighbours, 3
+/* What it makes of the states 1 2 3 4 of the path in round 2: 2002 2104 2206 2303; where links 1 - 2 have weight 7 and all others 5, 2010 2126 2234 2315. */
+static const char marked[] = "field s = 0; next s = ((total (n.s * n.weight) + (id * 100)) + (round * 1000));";
+
+static void part_rounds(void) {
+    const uint32_t left[] = {1, 2, 3}, right[] = {3, 4, 2}, weights[] = {5, 7, 5}, far[] = {0, FAR, FAR}, pairs[] = {1, 2, 3, 4, 5, 6};
+    uint32_t left_next[] = {9, 9, 9}, right_next[] = {9, 9, 9}, answer;
+    size_t changed = 9;
+    answer = unison_part_round(TEXT(distance), left_ids, 3, LEFT_LISTS, NO_WEIGHTS, 0, far, 3, left_next, 2, &changed);
+    is("part, one node changes", answer == 0 && changed == 1 && are(left_next, (uint32_t[]){0, 1, 9}, 3));
+    answer = unison_part_round(TEXT(marked), left_ids, 3, LEFT_LISTS, NO_WEIGHTS, 2, left, 3, left_next, 2, &changed);
+    is("part, numbers and round", answer == 0 && changed == 2 && are(left_next, (uint32_t[]){2002, 2104, 9}, 3));
+    answer = unison_part_round(TEXT(marked), right_ids, 3, RIGHT_LISTS, weights, 3, 2, right, 3, right_next, 2, &changed);
+    is("part, weights", answer == 0 && changed == 2 && are(right_next, (uint32_t[]){2234, 2315, 9}, 3));
+    answer = unison_part_round(TEXT("field a = 0; field b = 0; next a = b; next b = total n.a;"), left_ids, 3, LEFT_LISTS, NO_WEIGHTS, 0, pairs, 6, left_next, 2, &changed);
+    is("part, two fields and one own node", answer == 0 && changed == 1 && are(left_next, (uint32_t[]){2, 3, 9}, 3));
+    answer = unison_part_round(TEXT(distance), left_ids, 3, LEFT_LISTS, NO_WEIGHTS, 0, far, 3, right_next, 0, &changed);
+    is("part, no own node", answer == 0 && changed == 0 && are(right_next, (uint32_t[]){2234, 2315, 9}, 3));
+}
+
+/* The answer for the left part with so many numbers, words and room; and that words and the number of changed nodes stay. */
+static void part_fault_is(const char *what, const char *program, const uint32_t neighbours[3], size_t ids, size_t words, size_t room, uint32_t wanted) {
+    const uint32_t from[] = {0, FAR, FAR, FAR, FAR, FAR};
+    uint32_t to[] = {9, 9, 9, 9};
+    size_t changed = 7;
+    uint32_t answer = unison_part_round(TEXT(program), left_ids, ids, left_offsets, 4, neighbours, 3, NO_WEIGHTS, 0, from, words, to, room, &changed);
+    is(what, answer == wanted && changed == 7 && are(to, (uint32_t[]){9, 9, 9, 9}, 4));
+}
+
+static void part_faults(void) {
+    const uint32_t loose_neighbours[] = {1, 0, 3};
+    part_fault_is("part, a program that breaks off", "field", loose_neighbours, 2, 3, 2, 18);
+    part_fault_is("part, a neighbour that is no node", distance, loose_neighbours, 2, 3, 2, 147);
+    part_fault_is("part, a number too few", distance, left_neighbours, 2, 2, 4, 150);
+    part_fault_is("part, a word too few", distance, left_neighbours, 3, 2, 4, 149);
+    part_fault_is("part, a word too many", distance, left_neighbours, 3, 4, 4, 149);
+    part_fault_is("part, more room than nodes", distance, left_neighbours, 3, 3, 4, 151);
+    part_fault_is("part, room for half a node", "field a = 0; field b = 0; next a = b;", left_neighbours, 3, 6, 3, 151);
+    part_fault_is("part, no field and room", "", left_neighbours, 3, 0, 1, 151);
+}
+
 int main(void) {
     spelling();
     rounds();
@@ -257,6 +302,8 @@ int main(void) {
     lists();
     large_rounds();
     large_faults();
+    part_rounds();
+    part_faults();
     printf("%d passed, %d failed\n", passed, failed);
     return failed != 0;
 }

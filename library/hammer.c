@@ -115,7 +115,7 @@ static void check_answer(uint32_t answer, const char *call) {
         UNISON_RUN_ROUNDS_BELOW_START, UNISON_SCHEDULE_BAD_LINE, UNISON_SCHEDULE_TOO_MANY_STEPS, UNISON_RUN_STOP_TOO_LARGE,
         UNISON_RUN_STOP_BELOW_START, UNISON_REPORT_BAD_LINE, UNISON_REPORT_TOO_MANY_ROUNDS, UNISON_PROGRAM_READS_ROUND,
         UNISON_LIMIT_TOO_LARGE, UNISON_LIMIT_BELOW_START, UNISON_LISTS_NODE_COUNT, UNISON_LISTS_OFFSETS, UNISON_LISTS_NEIGHBOUR,
-        UNISON_LISTS_WEIGHT_COUNT, UNISON_LISTS_WORD_COUNT};
+        UNISON_LISTS_WEIGHT_COUNT, UNISON_LISTS_WORD_COUNT, UNISON_LISTS_NUMBER_COUNT, UNISON_LISTS_ROOM_COUNT};
     for (size_t i = 0; i < sizeof named; i++) {
         if (answer == named[i]) {
             seen[answer]++;
@@ -416,6 +416,41 @@ static void hit_large(void) {
     drop_texts(&texts, "large_rounds");
 }
 
+enum { MOST_LARGE_WORDS = MOST_NODES * 8 };
+
+/* How many nodes have other words in the new list than in the old one. */
+static size_t count_changed(const uint32_t *old, const uint32_t *new, size_t nodes, size_t fields) {
+    size_t count = 0;
+    for (size_t node = 0; node < nodes; node++) count += memcmp(old + node * fields, new + node * fields, sizeof *old * fields) != 0;
+    return count;
+}
+
+/* The round of a part that is the first nodes of the whole network under their own numbers, with all others behind them: what it
+ * answers is what one round of the whole network answers for these nodes. */
+static void hit_part(void) {
+    struct texts texts = draw_texts();
+    struct lists lists = draw_lists(), before = lists;
+    uint32_t ids[MOST_NODES], old[MOST_LARGE_WORDS], whole[MOST_LARGE_WORDS], fields = UNSET, round = (uint32_t)below(5);
+    size_t own = below(lists.nodes + 1), changed = UNSET;
+    for (size_t node = 0; node < MOST_NODES; node++) ids[node] = (uint32_t)node;
+    for (size_t word = 0; word < MOST_LARGE_WORDS; word++) whole[word] = old[word] = chance(5) ? (uint32_t)draw() : (uint32_t)below(9);
+    uint32_t asked = unison_large_rounds(PROGRAM, LISTS, round, round + 1, whole, 0, &fields);
+    size_t each = asked == UNISON_LISTS_WORD_COUNT || !asked ? fields : 1;
+    uint32_t wanted = each ? unison_large_rounds(PROGRAM, LISTS, round, round + 1, whole, lists.nodes * each, &fields) : 0;
+    struct guarded to = guarded(sizeof(uint32_t) * own * each);
+    uint32_t answer = unison_part_round(PROGRAM, ids, lists.nodes, LISTS, round, old, lists.nodes * each, (uint32_t *)(void *)inside(to), own * each, &changed);
+    check_answer(answer, "part_round");
+    if (!answer != (changed != UNSET)) fail("a number of changed nodes", "part_round");
+    if (asked == UNISON_LISTS_WORD_COUNT || !asked) {
+        if (answer != wanted || answer) fail("another answer than of a whole round", "part_round");
+        if (memcmp(inside(to), whole, to.len) != 0) fail("other words than of a whole round", "part_round");
+        if (changed != (each ? count_changed(old, whole, own, each) : 0)) fail("another number of changed nodes", "part_round");
+    } else if (answer != asked) fail("another fault than that of a whole round", "part_round");
+    if (memcmp(&lists, &before, sizeof lists) != 0) fail("wrote into the lists", "part_round");
+    check_memory(to, answer ? 0 : to.len, "part_round");
+    drop_texts(&texts, "part_round");
+}
+
 /* How much memory the process has, in KiB. */
 static unsigned long resident(void) {
     unsigned long pages = 0, all = 0;
@@ -428,7 +463,7 @@ static unsigned long resident(void) {
 }
 
 int main(int count, char **words) {
-    static void (*const hits[])(void) = {hit_check, hit_lockstep, hit_watch, hit_settle, hit_replay, hit_why, hit_large};
+    static void (*const hits[])(void) = {hit_check, hit_lockstep, hit_watch, hit_settle, hit_replay, hit_why, hit_large, hit_part};
     if (count < 5) {
         fputs("hammer: SEED CALLS FILE..\n", stderr);
         return 2;

@@ -78,12 +78,14 @@ enum unison_fault {
     UNISON_LIMIT_TOO_LARGE = 129,
     UNISON_LIMIT_BELOW_START = 130,
 
-    UNISON_LISTS_NODE_COUNT = 144,          /* unison_large_check and unison_large_rounds alone, to 148 */
+    UNISON_LISTS_NODE_COUNT = 144,          /* calls on lists alone, to 151 */
     UNISON_LISTS_OFFSETS = 145,
     UNISON_LISTS_TOO_MANY_NEIGHBOURS = 146,
     UNISON_LISTS_NEIGHBOUR = 147,
     UNISON_LISTS_WEIGHT_COUNT = 148,
-    UNISON_LISTS_WORD_COUNT = 149           /* unison_large_rounds alone; *fields is set */
+    UNISON_LISTS_WORD_COUNT = 149,          /* unison_large_rounds, which sets *fields, and unison_part_round */
+    UNISON_LISTS_NUMBER_COUNT = 150,        /* unison_part_round alone, to 151 */
+    UNISON_LISTS_ROOM_COUNT = 151
     /* (end of what is made) */
 };
 
@@ -173,6 +175,19 @@ uint32_t unison_large_check(const uint64_t *offsets, size_t offsets_len, const u
 uint32_t unison_large_rounds(const uint8_t *program, size_t program_len, const uint64_t *offsets, size_t offsets_len,
                              const uint32_t *neighbours, size_t neighbours_len, const uint32_t *weights, size_t weights_len,
                              uint32_t start, uint32_t round, uint32_t *words, size_t words_len, uint32_t *fields);
+
+/* The words of a part's own nodes after the step from a round, for engines that split a network and keep the states themselves:
+ * the part has its own nodes and, behind them, those that are only neighbours of them. ids has the number of each of these nodes
+ * in the whole network, which is what the program sees as id; the lists have the neighbours of each by their places in the part,
+ * and what neighbours the nodes behind have plays no part. from has the words of all nodes of the part before the round, node by
+ * node; to takes those of the own nodes after it, and to_len, their number times that of fields, says how many these are.
+ * *changed is how many of them have another state then; it is set where the answer is 0 alone. round is the number of the round
+ * that from has, counted from round 0, which is what the program sees as round. Where each own node has all its neighbours and
+ * weights, and each node the state that it has in the whole network, the new words are those of a round of the whole. */
+uint32_t unison_part_round(const uint8_t *program, size_t program_len, const uint32_t *ids, size_t ids_len,
+                           const uint64_t *offsets, size_t offsets_len, const uint32_t *neighbours, size_t neighbours_len,
+                           const uint32_t *weights, size_t weights_len, uint32_t round, const uint32_t *from, size_t from_len,
+                           uint32_t *to, size_t to_len, size_t *changed);
 
 #ifdef __cplusplus
 }

@@ -56,6 +56,8 @@ FAULTS: Dict[int, Tuple[str, str]] = {
     147: ("lists", "Neighbour"),
     148: ("lists", "WeightCount"),
     149: ("lists", "WordCount"),
+    150: ("lists", "NumberCount"),
+    151: ("lists", "RoomCount"),
     # (end of what is made)
 }
 

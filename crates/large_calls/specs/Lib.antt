@@ -1,3 +1,4 @@
 pub mod ListNumbers
 pub mod Lists
 pub mod LargeAnswers
+pub mod PartAnswers

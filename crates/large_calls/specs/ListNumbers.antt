@@ -3,6 +3,8 @@ use Rattle.std.specs.Prelude.{ℕ, ◌≡◌, Option, Some}
 use Rattle.app_calls.specs.Numbers.{number_of}
 use Rattle.large_net.specs.declared.fault.LargeFault.{LargeFault}
 use Rattle.large_net.specs.declared.fault.LargeFault.TheVariants as rows
+use Rattle.large_parts.specs.declared.fault.PartFault.{PartFault}
+use Rattle.large_parts.specs.declared.fault.PartFault.TheVariants as parts
 use Rattle.large_calls.specs.declared.fault.ListsFault.{ListsFault}
 use Rattle.large_calls.specs.declared.fault.ListsFault.TheVariants as lists
 use Rattle.large_calls.specs.declared.fault.LargeCallFault.{LargeCallFault}
@@ -24,11 +26,18 @@ abbrev pub lists_number : ListsFault → ℕ
 lists_number (lists.Rows f) = rows_number f
 lists_number (lists.WeightCount weights) = 148
 
+-- of what does not fit the rows of a part
+abbrev pub part_number : PartFault → ℕ
+part_number parts.WordCount = 149
+part_number parts.NumberCount = 150
+part_number parts.RoomCount = 151
+
 -- of a call on lists
 abbrev pub large_number_of : LargeCallFault → ℕ
 large_number_of (large.Call f) = number_of f
 large_number_of (large.Lists f) = lists_number f
 large_number_of large.WordCount = 149
+large_number_of (large.Part f) = part_number f
 
 -- where the fault of lists lies, or how many there are of what there are too many or too few
 abbrev pub place_of : ListsFault → ℕ

@@ -1,12 +1,13 @@
 //! Why a call was not done, and the numbers of the faults.
 ghost use Rattle.std.specs.Prelude.{◌≡◌, ◌<◌};
 ghost use Rattle.app_calls.specs.declared.fault.Fault.TheVariants as call;
-ghost use Rattle.large_calls.specs.declared.fault.LargeCallFault.TheVariants.{Call, Lists};
-ghost use Rattle.large_calls.specs.ListNumbers.{large_number_of, lists_number, place_of, rows_number};
+ghost use Rattle.large_calls.specs.declared.fault.LargeCallFault.TheVariants.{Call, Lists, Part};
+ghost use Rattle.large_calls.specs.ListNumbers.{large_number_of, lists_number, part_number, place_of, rows_number};
 
 use app_calls::Fault;
 use app_jobs::ServeFault;
 use large_net::LargeFault;
+use large_parts::PartFault;
 use rounds_plan::RoundFault;
 use std::alloc::AllocError;
 
@@ -28,6 +29,8 @@ pub enum LargeCallFault {
     Lists(ListsFault),
     /// There is not one word for each field of each node.
     WordCount,
+    /// Numbers, words or room do not fit the rows of a part.
+    Part(PartFault),
 }
 
 impl From<ServeFault> for LargeCallFault {
@@ -54,6 +57,14 @@ impl From<ListsFault> for LargeCallFault {
     }
 }
 
+impl From<PartFault> for LargeCallFault {
+    ghost from_gives = { λ fault e. e ≡ Part fault };
+
+    fn from(fault: PartFault) -> LargeCallFault {
+        LargeCallFault::Part(fault)
+    }
+}
+
 impl From<AllocError> for LargeCallFault {
     ghost from_gives = { λ _ e. e ≡ Call call.Memory };
 
@@ -72,6 +83,7 @@ impl LargeCallFault {
             LargeCallFault::Call(fault) => fault.number(),
             LargeCallFault::Lists(fault) => fault.number(),
             LargeCallFault::WordCount => 149,
+            LargeCallFault::Part(fault) => part_number(*fault),
         }
     }
 }
@@ -106,6 +118,18 @@ impl ListsFault {
                 | LargeFault::Memory,
             ) => 0,
         }
+    }
+}
+
+/// The number of what does not fit the rows of a part.
+fn part_number(fault: PartFault) -> u32
+    ensures number { result ≡ part_number fault }
+    ensures some { 0 < result }
+{
+    match fault {
+        PartFault::WordCount => 149,
+        PartFault::NumberCount => 150,
+        PartFault::RoomCount => 151,
     }
 }
 

@@ -4,9 +4,11 @@
 
 mod fault;
 mod lists;
+mod parts;
 mod rounds;
 mod states;
 
 pub use fault::{LargeCallFault, ListsFault};
 pub use lists::check_lists;
+pub use parts::write_part_round;
 pub use rounds::write_large_rounds;

@@ -10,13 +10,14 @@ ghost use Rattle.app_calls.specs.Numbers.{IsNumberOf};
 ghost use Rattle.app_calls.specs.Refusals.{AreNoRounds, IsNoReplay, IsNoRound, IsNoSettling, IsRefusedPlan, IsUnspelled, IsUntold, is_job};
 ghost use Rattle.large_net.specs.Large.{AreLaidOut};
 ghost use Rattle.large_calls.specs.LargeAnswers.{HasLargeRounds, IsRefusedRounds};
+ghost use Rattle.large_calls.specs.PartAnswers.{HasPartRound, IsRefusedPart};
 ghost use Rattle.large_calls.specs.Lists.{given_weights, lists_fault};
 ghost use Rattle.large_calls.specs.ListNumbers.{IsLargeNumberOf, IsToldLists};
 
 use app_calls::{
     write_reason, write_replay, write_round, write_rounds, write_settling, write_spelling,
 };
-use large_calls::{check_lists, write_large_rounds};
+use large_calls::{check_lists, write_large_rounds, write_part_round};
 use std::alloc::Global;
 
 /// The number of the fault of too little room.
@@ -237,6 +238,40 @@ pub extern "C" fn unison_large_rounds(
     );
     match done {
         Ok(()) => 0,
+        Err(fault) => fault.number(),
+    }
+}
+
+/// Writes the words of a part's own nodes after the step from a round, node by node, and how many of these nodes changed, on a
+/// part of a network of any size: ids has the number of each of its nodes in the whole network, the own nodes come first, and
+/// there is room for the words of these alone.
+#[unsafe(no_mangle)]
+pub extern "C" fn unison_part_round(
+    alloc: Global,
+    program: &[u8],
+    ids: &[u32],
+    offsets: &[usize],
+    neighbours: &[u32],
+    weights: &[u32],
+    round: u32,
+    from: &[u32],
+    to: &mut [u32],
+    changed: &mut usize,
+) -> u32
+    ensures written { result ≡ 0 → HasPartRound program.now ids.now offsets.now neighbours.now weights.now round from.now (length to.old) to.new changed.new }
+    ensures kept { result ≢ 0 → to.new ≡ to.old }
+    ensures untold { result ≢ 0 → changed.new ≡ changed.old }
+    ensures refused { result ≢ 0 → IsLargeNumberOf (IsRefusedPart program.now ids.now offsets.now neighbours.now weights.now (length from.now) (length to.old)) result }
+    ensures long { 65536 < length program.now → result ≡ 16 }
+{
+    let done = write_part_round(
+        alloc, program, ids, offsets, neighbours, weights, round, from, to,
+    );
+    match done {
+        Ok(count) => {
+            *changed = count;
+            0
+        }
         Err(fault) => fault.number(),
     }
 }
