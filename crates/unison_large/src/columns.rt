@@ -3,9 +3,8 @@
 use crate::arrays::array_of;
 use crate::binary::check_output;
 use crate::progress::Telling;
-use crate::rounds::plan_of;
+use crate::rounds::{move_to, plan_of};
 use crate::start::Start;
-use crate::watch::move_to;
 use app_files::{Ending, field_place, print_out};
 use app_requests::ColumnFormat;
 use large_rounds::{LargeWalk, push_column};
@@ -131,7 +130,8 @@ fn output_of(
     let field = field_place(alloc, &start.program, "--field", name)?;
     let plan = plan_of(alloc, start, count)?;
     let mut walk = plan.shared_walk(alloc, count)?;
-    let mut telling = Telling::new(rt, start.opening.round, span);
+    let last = span.round_at(span.steps());
+    let mut telling = Telling::new(rt, start.opening.round, last);
     let nodes = start.network.nodes();
     match format {
         ColumnFormat::Csv => {

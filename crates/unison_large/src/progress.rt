@@ -1,6 +1,6 @@
 //! How far long work is.
 
-use run_watch::{Progress, Span};
+use run_watch::Progress;
 use std::io::IsTerminal;
 use std::time::Instant;
 
@@ -45,8 +45,8 @@ fn now_of(rt: &HostRuntime) -> Option<Instant> {
 }
 
 impl<'a> Telling<'a> {
-    /// What tells of these rounds, which are made from a start on.
-    pub(crate) fn new(rt: &'a HostRuntime, start: u32, span: &Span) -> Telling<'a> {
+    /// What tells of the rounds from a start on to the last one.
+    pub(crate) fn new(rt: &'a HostRuntime, start: u32, last: u32) -> Telling<'a> {
         let began = if rt.stderr().is_terminal() {
             now_of(rt)
         } else {
@@ -56,7 +56,7 @@ impl<'a> Telling<'a> {
             rt,
             began,
             start,
-            last: span.round_at(span.steps()),
+            last,
             next: 1,
         }
     }

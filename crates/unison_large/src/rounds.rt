@@ -4,19 +4,24 @@ use crate::arrays::array_of;
 use crate::binary::check_output;
 use crate::columns::column_of;
 use crate::counts::{counted, put_counts};
+use crate::progress::Telling;
 use crate::start::{Start, start_at};
 use app_files::{Ending, field_place, print_out};
 use app_jobs::ServeFault;
 use app_requests::{LargeTexts, StatesFormat, StatesView};
 use large_reports::csv_states;
-use large_rounds::{LargePlan, LargePlanFault, large_lockstep, state_rows};
+use large_rounds::{LargePlan, LargePlanFault, LargeWalk, large_lockstep, state_rows};
 use npy_arrays::ArrayShape;
 use rayon::current_num_threads;
 use report_text::report_states;
 use rounds_plan::RoundFault;
+use run_watch::{Progress, Span};
 use rule_check::{Program, State};
 use std::alloc::{AllocError, Global};
 use std::thread::Threads;
+
+/// In how many parts the way to a round is told at most.
+const TOLD_PARTS: u32 = 256;
 
 /// Among how many threads rounds are shared: as many as the words say, and where they say nothing as there are processors.
 pub(crate) fn threads_for(threads: &(impl Threads + Sync), texts: &LargeTexts) -> usize {
@@ -74,16 +79,47 @@ pub(crate) fn states_after<'a>(
     }
 }
 
-/// The states after a round.
+/// Moves a walk on to a round, unless it is there or beyond.
+pub(crate) fn move_to(threads: &(impl Threads + Sync), walk: &mut LargeWalk<'_>, round: u32) {
+    if walk.round() < round {
+        walk.go_to_shared(threads, round);
+    }
+}
+
+/// Moves a walk on to the last round of a way, and tells at some rounds that it is there.
+fn go_told(
+    threads: &(impl Threads + Sync),
+    walk: &mut LargeWalk<'_>,
+    way: &Span,
+    telling: &mut Telling<'_>,
+) {
+    for part in 0..way.steps() {
+        let round = way.round_at(part);
+        move_to(threads, walk, round);
+        telling.reached(round);
+    }
+    move_to(threads, walk, way.last());
+    telling.reached(way.last());
+}
+
+/// The states after a round. How far the rounds are is told where they are long.
 fn states_from(
-    alloc: Global,
+    rt: &HostRuntime,
     threads: &(impl Threads + Sync),
     start: &Start,
     rounds: u32,
     count: usize,
 ) -> Result<Vec<State>, Ending> {
-    let plan = plan_of(alloc, start, count)?;
-    states_after(alloc, threads, &plan, rounds, count)
+    let first = start.opening.round;
+    let plan = plan_of(rt.alloc(), start, count)?;
+    let Some(way) = Span::new(first, rounds, rounds.saturating_sub(first) / TOLD_PARTS + 1) else {
+        return Err(no_round(RoundFault::RoundsBelowStart));
+    };
+    let mut walk = plan.shared_walk(rt.alloc(), count)?;
+    let mut telling = Telling::new(rt, first, rounds);
+    go_told(threads, &mut walk, &way, &mut telling);
+    let states = walk.states(rt.alloc())?;
+    Ok(states)
 }
 
 /// What is shown of the states after a round.
@@ -178,7 +214,7 @@ pub(crate) fn report_round(
     let start = start_at(rt, texts)?;
     let show = Show::of(rt, &start.program, view)?;
     let count = threads_for(threads, texts);
-    let states = states_from(rt.alloc(), threads, &start, rounds, count)?;
+    let states = states_from(rt, threads, &start, rounds, count)?;
     let output = output_of(rt.alloc(), &start.program, rounds, &states, show)?;
     print_out(rt, &output)
 }

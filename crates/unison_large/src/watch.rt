@@ -3,7 +3,7 @@
 use crate::columns::watch_column;
 use crate::counts::{counted, put_counts};
 use crate::progress::Telling;
-use crate::rounds::{no_round, plan_of, threads_for};
+use crate::rounds::{move_to, no_round, plan_of, threads_for};
 use crate::start::{Start, start_at};
 use app_files::{Ending, print_out};
 use app_requests::{LargeTexts, RoundsView};
@@ -29,13 +29,6 @@ impl Show {
             Show::Changes => "round,changed\n",
             Show::Counts(_) => "round,value,nodes\n",
         }
-    }
-}
-
-/// Moves a walk on to a round, unless it is there or beyond.
-pub(crate) fn move_to(threads: &(impl Threads + Sync), walk: &mut LargeWalk<'_>, round: u32) {
-    if walk.round() < round {
-        walk.go_to_shared(threads, round);
     }
 }
 
@@ -120,7 +113,8 @@ fn text_of(
     let plan = plan_of(rt.alloc(), start, count)?;
     let mut walk = plan.shared_walk(rt.alloc(), count)?;
     let mut text = String::from_str(rt.alloc(), show.heading())?;
-    let mut telling = Telling::new(rt, start.opening.round, span);
+    let last = span.round_at(span.steps());
+    let mut telling = Telling::new(rt, start.opening.round, last);
     put_rounds(
         threads,
         &mut text,
