@@ -80,7 +80,7 @@ module _ (network : Neighbours) (batch : Batch) (at behind count : ℕ) (group :
         let slot_here = slot_is k none h in
         let place : i < length slot.neighbours = omega (arith, low, slot_long k none h) in
         get_or-map (near_in from i) group k none d h
-        ∙ ap (λ (w : ℕ). column_near from w (slice_index slot.weights.items i)) (neighbour_in network nodes (at + k) slot i 0 slot_here place)
+        ∙ ap (λ (w : ℕ). column_near from w (slice_index slot.weights i)) (neighbour_in network nodes (at + k) slot i 0 slot_here place)
         ∙ ap (λ (x : ℕ). column_near from (neighbour network u (at + k)) x) (weight_in network nodes (at + k) slot i 0 slot_here place)
         ∙ sym (get_or-map (near_at (state_at from)) (row network u) (at + k) (0, 0) d (has_one k h low))
 

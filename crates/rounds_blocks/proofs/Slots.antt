@@ -25,7 +25,7 @@ falling_degrees network nodes degrees are falling i j le inside =
 -- a slot as it is made
 pub made_slot : (network : Neighbours) (nodes degrees : List ℕ) (j count : ℕ) (slot : Slot) → degrees ≡ map (degree network) nodes → count ≤ length degrees
     → ((i : ℕ) → i < count → j < slice_index degrees i) → ((i : ℕ) → count ≤ i → i < length degrees → slice_index degrees i ≤ j)
-    → slot.neighbours ≡ map (λ u. neighbour network u j) (take count nodes) → slot.weights.items ≡ map (λ u. weight network u j) (take count nodes)
+    → slot.neighbours ≡ map (λ u. neighbour network u j) (take count nodes) → slot.weights ≡ map (λ u. weight network u j) (take count nodes)
     → IsSlot network nodes j slot
 made_slot network nodes degrees j count slot are fits have lack neighbours weights =
     let many = as_many network nodes degrees are in
@@ -65,7 +65,7 @@ neighbour_in network nodes j slot i d is inside =
     ∙ ap (λ u. neighbour network u j) (get_or-take n nodes i 0 inside)
 
 -- the weight of a lane
-pub weight_in : (network : Neighbours) (nodes : List ℕ) (j : ℕ) (slot : Slot) (i d : ℕ) → IsSlot network nodes j slot → i < length slot.neighbours → slice_index_or slot.weights.items i d ≡ weight network (slice_index nodes i) j
+pub weight_in : (network : Neighbours) (nodes : List ℕ) (j : ℕ) (slot : Slot) (i d : ℕ) → IsSlot network nodes j slot → i < length slot.neighbours → slice_index_or slot.weights i d ≡ weight network (slice_index nodes i) j
 weight_in network nodes j slot i d is inside =
     let n = length slot.neighbours in
     let place : i < length (take n nodes) = omega (arith, inside, length-take-le n nodes is.few) in

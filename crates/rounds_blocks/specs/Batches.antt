@@ -14,7 +14,7 @@ AreFalling network nodes = (i j : ℕ) → i ≤ j → j < length nodes → degr
 pub record IsSlot (network : Neighbours) (nodes : List ℕ) (j : ℕ) (slot : Slot) : Type 0 where
   pub few : length slot.neighbours ≤ length nodes
   pub neighbours : slot.neighbours ≡ map (λ u. neighbour network u j) (take (length slot.neighbours) nodes)
-  pub weights : slot.weights.items ≡ map (λ u. weight network u j) (take (length slot.neighbours) nodes)
+  pub weights : slot.weights ≡ map (λ u. weight network u j) (take (length slot.neighbours) nodes)
   pub have : (i : ℕ) → i < length slot.neighbours → j < degree network (slice_index nodes i)
   pub lack : (i : ℕ) → length slot.neighbours ≤ i → i < length nodes → degree network (slice_index nodes i) ≤ j
 

@@ -5,7 +5,7 @@ ghost use Rattle.rounds_blocks.specs.Batches.{AreFalling, IsSlot, IsBatch};
 
 use crate::nodes::{degree_of, neighbour_of, weight_of};
 use link_net::NetRows;
-use rounds_code::{Places, Slot};
+use rounds_code::{Places, Slot, Weights};
 use std::alloc::{AllocError, Global};
 
 /// Up to 256 nodes by falling number of their neighbours, with these numbers, and what stands in their slots: in each a
@@ -81,9 +81,10 @@ fn slot_of(
     let neighbours = neighbours_in(alloc, network, front, slot)?;
     let weights = weights_in(alloc, network, front, slot)?;
     let places = Places::new(alloc, neighbours)?;
+    let kept = Weights::new(weights);
     Ok(Slot {
         neighbours: places,
-        weights,
+        weights: kept,
     })
 }
 

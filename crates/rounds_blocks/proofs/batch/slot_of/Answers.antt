@@ -10,6 +10,6 @@ returns c = record {
   exact =
       let e = c.count_in-count.ensures in
       made_slot c.args.network.now c.args.nodes.now c.args.degrees.now c.args.slot c.count_in-count.result
-      (record { neighbours = c.in_ok-places.places; weights = c.in_ok-weights.weights })
-      c.requires.degrees e.few e.have e.lack (c.in_ok-places.ensures.exact ∙ c.in_ok-neighbours.ensures.exact) c.in_ok-weights.ensures.exact;
+      (record { neighbours = c.in_ok-places.places; weights = c.new-kept.result })
+      c.requires.degrees e.few e.have e.lack (c.in_ok-places.ensures.exact ∙ c.in_ok-neighbours.ensures.exact) (c.new-kept.ensures.exact ∙ c.in_ok-weights.ensures.exact);
 }
