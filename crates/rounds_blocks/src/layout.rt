@@ -17,8 +17,9 @@ const BATCH: usize = 256;
 const TOGETHER: u32 = 65_536;
 
 /// How many nodes that follow one another stand by falling number of their neighbours, for themselves, in a greater network:
-/// there what a batch reads and writes of its nodes lies side by side, and that of near nodes near.
-const WINDOW: u32 = 256;
+/// so many that the nodes of a batch have about equally many, and so few that what a batch reads and writes of its nodes lies
+/// near, and that of near nodes too.
+const WINDOW: u32 = 4_096;
 
 /// The nodes of a network in batches, with all that a round reads of the network. A contract sees the network.
 #[derive(Drop)]
