@@ -18,6 +18,7 @@ pub use fault::{LargePlanFault, SetFault};
 pub use initial::{openings, set_all_values, set_value};
 pub use laws::goes_on_from_states;
 pub use plan::LargePlan;
-pub use rounds::large_lockstep;
+pub use rounds::{large_lockstep, packed_lockstep};
+pub use rounds_blocks::PackedStates;
 pub use rounds_plan::{MOST_ROUNDS, RoundFault};
 pub use walk::LargeWalk;

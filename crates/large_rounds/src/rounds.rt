@@ -4,6 +4,7 @@ ghost use Rattle.rounds_plan.specs.Configs.{most_rounds};
 ghost use Rattle.rounds_plan.specs.Lockstep.{rounds_of, lockstep_states};
 
 use crate::plan::LargePlan;
+use rounds_blocks::PackedStates;
 use rounds_plan::{MOST_ROUNDS, RoundFault};
 use rule_check::State;
 use std::alloc::{AllocError, Global};
@@ -27,14 +28,13 @@ fn made_in_turn<'a>(
     alloc: Global,
     plan: &'a LargePlan<'a>,
     rounds: u32,
-) -> Result<Vec<State>, AllocError>
+) -> Result<PackedStates, AllocError>
     requires late { plan.now.start ≤ rounds }
-    ensures exact { IfOk result (λ states. states.items ≡ lockstep_states plan.now rounds (length plan.now.network)) }
+    ensures exact { IfOk result (λ packed. packed ≡ lockstep_states plan.now rounds (length plan.now.network)) }
 {
     let mut walk = plan.walk(alloc)?;
     walk.go_to(rounds);
-    let states = walk.states(alloc)?;
-    Ok(states)
+    Ok(walk.into_packed())
 }
 
 /// The states after a round, each round shared among so many threads.
@@ -44,14 +44,35 @@ fn made_in_threads<'a>(
     plan: &'a LargePlan<'a>,
     rounds: u32,
     threads: usize,
-) -> Result<Vec<State>, AllocError>
+) -> Result<PackedStates, AllocError>
     requires late { plan.now.start ≤ rounds }
-    ensures exact { IfOk result (λ states. states.items ≡ lockstep_states plan.now rounds (length plan.now.network)) }
+    ensures exact { IfOk result (λ packed. packed ≡ lockstep_states plan.now rounds (length plan.now.network)) }
 {
     let mut walk = plan.shared_walk(alloc, threads)?;
     walk.go_to_shared(rt, rounds);
-    let states = walk.states(alloc)?;
-    Ok(states)
+    Ok(walk.into_packed())
+}
+
+/// What `large_lockstep` answers, the states packed: they borrow nothing of the plan, which can be dropped before a list of
+/// them is made. The refusals are the same, and come before anything is done.
+pub fn packed_lockstep<'a>(
+    rt: &(impl Threads + Sync),
+    alloc: Global,
+    plan: &'a LargePlan<'a>,
+    rounds: u32,
+    threads: usize,
+) -> Result<PackedStates, RoundFault>
+    ensures exact { IfOk result (λ packed. rounds_of plan.now rounds ≡ Ok (record { rounds = rounds; fields = length plan.now.program.fields; states = packed })) }
+    ensures refused { IfErr result (λ fault. fault ≢ RoundFault.Memory → rounds_of plan.now rounds ≡ Err fault) }
+    ensures at_once { IfErr (rounds_of plan.now rounds) (λ fault. result ≡ Err fault) }
+{
+    check_round(plan, rounds)?;
+    let packed = if threads > 1 {
+        made_in_threads(rt, alloc, plan, rounds, threads)?
+    } else {
+        made_in_turn(alloc, plan, rounds)?
+    };
+    Ok(packed)
 }
 
 /// The states of all nodes after a round, counted from round 0, by the textbook synchronous round: from the plan's
@@ -74,11 +95,7 @@ pub fn large_lockstep<'a>(
     ensures refused { IfErr result (λ fault. fault ≢ RoundFault.Memory → rounds_of plan.now rounds ≡ Err fault) }
     ensures at_once { IfErr (rounds_of plan.now rounds) (λ fault. result ≡ Err fault) }
 {
-    check_round(plan, rounds)?;
-    let states = if threads > 1 {
-        made_in_threads(rt, alloc, plan, rounds, threads)?
-    } else {
-        made_in_turn(alloc, plan, rounds)?
-    };
+    let packed = packed_lockstep(rt, alloc, plan, rounds, threads)?;
+    let states = packed.states(alloc)?;
     Ok(states)
 }

@@ -9,7 +9,7 @@ ghost use Rattle.lockstep.specs.Walking.{AreAlike};
 ghost use Rattle.large_rounds.specs.LargePlans.{IsLargePlan};
 
 use crate::plan::LargePlan;
-use rounds_blocks::Walk;
+use rounds_blocks::{PackedStates, Walk};
 use rule_check::State;
 use std::alloc::{AllocError, Global};
 use std::marker::Model;
@@ -117,6 +117,13 @@ impl<'a> LargeWalk<'a> {
     {
         let states = self.states.states(alloc)?;
         Ok(states)
+    }
+
+    /// The states of all nodes after the round, by rising number of the node, packed. What else the walk needs is dropped.
+    pub fn into_packed(self) -> PackedStates
+        ensures exact { result ≡ lockstep_states self.entry.plan self.entry.round (length self.entry.plan.network) }
+    {
+        self.states.into_packed()
     }
 
     /// Whether all nodes have the states that they have in another walk of the same plan.

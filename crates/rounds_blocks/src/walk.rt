@@ -12,6 +12,7 @@ use crate::batch::Batch;
 use crate::columns::{are_same, columns_of, states_of};
 use crate::layout::Layout;
 use crate::merge::copy_shares;
+use crate::packed::PackedStates;
 use crate::round::step_due;
 use crate::share::Share;
 use crate::sharing::{Costs, cost_all, saved_by, shares_of, work_all};
@@ -174,6 +175,20 @@ impl<'a> Walk<'a> {
     {
         states_of(alloc, self.network.nodes() as usize, &self.from)
     }
+
+    /// The states of all nodes by rising number, packed. What else rounds need is dropped, so that a list of the states can be made
+    /// where neither the columns of the next round nor those of shares stand, nor the layout, if the caller drops that.
+    pub fn into_packed(self) -> PackedStates
+        ensures exact { result ≡ map (state_by self.entry.words) (numbers_below (length self.entry.network)) }
+    {
+        let nodes = self.network.nodes() as usize;
+        let Walk { from, .. } = self;
+        PackedStates {
+            nodes,
+            columns: from,
+        }
+    }
+
     /// Whether all nodes have the states that they have in another walk of the same program on the same network.
     pub fn is_like(&self, other: &Walk<'_>) -> bool
         requires rules { other.now.rules ≡ self.now.rules }
