@@ -10,7 +10,7 @@ use app_files::{Ending, field_place, print_out};
 use app_jobs::ServeFault;
 use app_requests::{LargeTexts, StatesFormat, StatesView};
 use large_reports::csv_states;
-use large_rounds::{LargePlan, LargePlanFault, LargeWalk, large_lockstep, state_rows};
+use large_rounds::{LargePlan, LargePlanFault, LargeWalk, PackedStates, large_lockstep, state_rows};
 use npy_arrays::ArrayShape;
 use rayon::current_num_threads;
 use report_text::report_states;
@@ -102,14 +102,14 @@ fn go_told(
     telling.reached(way.last());
 }
 
-/// The states after a round. How far the rounds are is told where they are long.
-fn states_from(
+/// The states after a round by fields. How far the rounds are is told where they are long.
+fn packed_from(
     rt: &HostRuntime,
     threads: &(impl Threads + Sync),
     start: &Start,
     rounds: u32,
     count: usize,
-) -> Result<Vec<State>, Ending> {
+) -> Result<PackedStates, Ending> {
     let first = start.opening.round;
     let plan = plan_of(rt.alloc(), start, count)?;
     let Some(way) = Span::new(first, rounds, rounds.saturating_sub(first) / TOLD_PARTS + 1) else {
@@ -118,8 +118,7 @@ fn states_from(
     let mut walk = plan.shared_walk(rt.alloc(), count)?;
     let mut telling = Telling::new(rt, first, rounds);
     go_told(threads, &mut walk, &way, &mut telling);
-    let states = walk.states(rt.alloc())?;
-    Ok(states)
+    Ok(walk.into_packed())
 }
 
 /// What is shown of the states after a round.
@@ -214,7 +213,10 @@ pub(crate) fn report_round(
     let start = start_at(rt, texts)?;
     let show = Show::of(rt, &start.program, view)?;
     let count = threads_for(threads, texts);
-    let states = states_from(rt, threads, &start, rounds, count)?;
-    let output = output_of(rt.alloc(), &start.program, rounds, &states, show)?;
+    let packed = packed_from(rt, threads, &start, rounds, count)?;
+    // The network and the initial states are dropped before the list of the states is made.
+    let Start { program, .. } = start;
+    let states = packed.states(rt.alloc())?;
+    let output = output_of(rt.alloc(), &program, rounds, &states, show)?;
     print_out(rt, &output)
 }
