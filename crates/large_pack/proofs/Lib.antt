@@ -10,3 +10,7 @@ mod Packs
 pub mod Rising
 mod Sounds
 mod Repeats
+mod Apart
+mod Keying
+mod KeyRows
+mod Readings

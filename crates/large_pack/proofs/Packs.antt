@@ -117,7 +117,7 @@ kept_shorter parallel es =
 -- ---- the whole
 
 -- a network of arcs is one of these arcs in another order
-arcs_moved : (n : ℕ) (arcs given : List Arc) (network : Neighbours) → IsPermutation arcs given → HasArcs n given network → HasArcs n arcs network
+pub arcs_moved : (n : ℕ) (arcs given : List Arc) (network : Neighbours) → IsPermutation arcs given → HasArcs n given network → HasArcs n arcs network
 arcs_moved n arcs given network moved has = record {
   count = has.count;
   rows = λ u low.
@@ -126,10 +126,10 @@ arcs_moved n arcs given network moved has = record {
   rising = has.rising;
 }
 
-more_test : (n m : ℕ) → n < m → nat_lt n m ≡ true
+pub more_test : (n m : ℕ) → n < m → nat_lt n m ≡ true
 more_test n m h = grind (arith, nat_tests)
 
-few_test : (n m : ℕ) → m ≤ n → nat_lt n m ≡ false
+pub few_test : (n m : ℕ) → m ≤ n → nat_lt n m ≡ false
 few_test n m h = grind (arith, nat_tests)
 
 err_answers : (options : PackOptions) (es : List EdgeLine) (fault : PackFault) → (fault ≢ Memory → packing_in options es ≡ Err fault) → IsAnswer (packing_in options es) (Err fault)

@@ -138,12 +138,12 @@ some_nodes zero none = cc
 some_nodes (suc n) none = omega arith
 
 -- edges whose nodes are counted are sound
-record AreSound (o : PackOptions) (es : List EdgeLine) (n : ℕ) : Type 0 where
-  count : n ≡ node_count o.nodes es
-  some : 1 ≤ n
-  within : AllByRecursion (EndsBelow n) es
+pub record AreSound (o : PackOptions) (es : List EdgeLine) (n : ℕ) : Type 0 where
+  pub count : n ≡ node_count o.nodes es
+  pub some : 1 ≤ n
+  pub within : AllByRecursion (EndsBelow n) es
 
-sound_edges : (o : PackOptions) (es : List EdgeLine) (n : ℕ) → Ok n ≡ and_then (sound_in o es) (λ x. Ok (node_count o.nodes x)) → AreSound o es n
+pub sound_edges : (o : PackOptions) (es : List EdgeLine) (n : ℕ) → Ok n ≡ and_then (sound_in o es) (λ x. Ok (node_count o.nodes x)) → AreSound o es n
 sound_edges o es n h =
     let passed = all_passed (node_fault (node_count o.nodes es)) (first_fault (outside_fault o.nodes) es) (first_fault (loop_fault o.self_loops) es) es (node_count o.nodes) n h in
     record {

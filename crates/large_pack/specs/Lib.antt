@@ -4,3 +4,4 @@ pub mod Sound
 pub mod Surveys
 pub mod Packing
 pub mod Ranks
+pub mod Keys

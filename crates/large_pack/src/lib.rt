@@ -3,6 +3,8 @@
 
 mod edge_line;
 mod fault;
+mod keyed_rows;
+mod keys;
 mod merging;
 mod options;
 mod pack;

@@ -1,20 +1,25 @@
 //! Lists of edges packed into networks.
-ghost use Rattle.std.specs.Prelude.{◌≡◌, ◌≢◌, ◌<◌, ◌≤◌, List, true, length, map, IfErr, Err, MatchResult};
+ghost use Rattle.std.specs.Prelude.{◌≡◌, ◌≢◌, ◌<◌, ◌≤◌, ◌&&◌, ◌||◌, List, true, length, map, IfErr, IfSome, Ok, Err, MatchResult};
 ghost use Rattle.std.specs.List.{flat_map};
 ghost use Rattle.link_net.specs.Limits.{most_rows};
+ghost use Rattle.link_net.specs.Links.{AllWithin};
 ghost use Rattle.large_pack.specs.declared.edge_line.EdgeLine.{EdgeLine};
 ghost use Rattle.large_pack.specs.declared.fault.PackFault.TheVariants.{TooManyEdges, Memory};
+ghost use Rattle.large_pack.specs.Lines.{and_then};
 ghost use Rattle.large_pack.specs.Rows.{HasArcs};
 ghost use Rattle.large_pack.specs.Sound.{node_count, sound_of};
-ghost use Rattle.large_pack.specs.Packing.{refuses, packing_in, packing_of, IsAnswer};
+ghost use Rattle.large_pack.specs.Packing.{merges, refuses, packing_in, packing_of, IsAnswer};
+ghost use Rattle.large_pack.specs.Keys.{usual_weight, arcs_in, repeats, AreKeyed};
 ghost use Rattle.large_pack.specs.Ranks.{ranked, ranked_arcs, RankedWithin, LinesRise, AreTied};
 
 use crate::fault::PackFault;
+use crate::keyed_rows::network_of_keys;
+use crate::keys::{KeyedEdges, has_repeat};
 use crate::merging::{settle, straighten};
-use crate::options::PackOptions;
+use crate::options::{PackOptions, Parallel};
 use crate::ranked::{Ranked, arcs, ranked_edges};
 use crate::rows::network_of_arcs;
-use crate::survey::{edge_lines, sound_nodes};
+use crate::survey::{count_nodes, edge_lines, read_edges};
 use large_net::LargeNetwork;
 use std::alloc::Global;
 
@@ -85,6 +90,66 @@ pub fn pack_ranked(
     })
 }
 
+/// Whether some arcs lead alike that do not all stay.
+fn is_unsettled(parallel: Parallel, keys: &[u64]) -> bool
+    ensures { result ≡ ((merges parallel || refuses parallel) && repeats keys.now) }
+{
+    match parallel {
+        Parallel::Keep => false,
+        Parallel::Refuse | Parallel::Least | Parallel::Greatest | Parallel::First => {
+            has_repeat(keys)
+        }
+    }
+}
+
+/// What edges are packed into whose arcs stand as single numbers: none where they do not, or where some of them lead alike
+/// and do not all stay.
+fn pack_keyed(
+    alloc: Global,
+    nodes: u32,
+    keyed: Option<KeyedEdges>,
+    options: &PackOptions,
+) -> Result<Option<Packed>, PackFault>
+    requires some { 1 ≤ nodes }
+    requires within { IfSome keyed (λ k. AllWithin nodes (arcs_in (usual_weight options.now.factor) k.keys.items)) }
+    ensures answer { (es : List EdgeLine) → IfSome keyed (λ k. AreKeyed options.now es k) → nodes ≡ node_count options.now.nodes es → MatchResult result (λ found. IfSome found (λ packed. IsAnswer (packing_in options.now es) (Ok packed))) (λ fault. IsAnswer (packing_in options.now es) (Err fault)) }
+{
+    let Some(keyed) = keyed else {
+        return Ok(None);
+    };
+    let mut keys = keyed.keys;
+    keys.sort_unstable();
+    if is_unsettled(options.parallel, keys.as_slice()) {
+        return Ok(None);
+    }
+    if keys.len() > MOST_ARCS {
+        return Err(PackFault::TooManyEdges);
+    }
+    let weight = options.factor.unwrap_or(1);
+    let network = network_of_keys(alloc, nodes, keys.as_slice(), weight)?;
+    Ok(Some(Packed {
+        network,
+        lines: keyed.lines,
+        dropped_loops: keyed.dropped_loops,
+        merged: 0,
+    }))
+}
+
+/// What the edges of a text are packed into which are sound, and of so many nodes.
+fn pack_anew(
+    alloc: Global,
+    nodes: u32,
+    text: &[u8],
+    options: &PackOptions,
+) -> Result<Packed, PackFault>
+    requires counted { Ok nodes ≡ and_then (sound_of options.now text.now) (λ es. Ok (node_count options.now.nodes es)) }
+    ensures answer { IsAnswer (packing_of options.now text.now) result }
+{
+    let edges = ranked_edges(alloc, edge_lines(text, options.header), options)?;
+    let packed = pack_ranked(alloc, nodes, edges, options)?;
+    Ok(packed)
+}
+
 /// The network that a list of edges between numbered nodes makes.
 ///
 /// A line says an edge as `line_edge` says: `a b` or `a b weight`. Lines without words, or whose first word begins with
@@ -98,8 +163,10 @@ pub fn pack_edges(alloc: Global, text: &[u8], options: &PackOptions) -> Result<P
     ensures answer { IsAnswer (packing_of options.now text.now) result }
     ensures refused { IfErr (sound_of options.now text.now) (λ fault. result ≡ Err fault) }
 {
-    let nodes = sound_nodes(text, options)?;
-    let edges = ranked_edges(alloc, edge_lines(text, options.header), options)?;
-    let packed = pack_ranked(alloc, nodes, edges, options)?;
-    Ok(packed)
+    let reading = read_edges(alloc, edge_lines(text, options.header), options)?;
+    let nodes = count_nodes(&reading.survey, options)?;
+    if let Some(packed) = pack_keyed(alloc, nodes, reading.keyed, options)? {
+        return Ok(packed);
+    }
+    pack_anew(alloc, nodes, text, options)
 }

@@ -1,14 +1,17 @@
 //! What a list of edges tells before it is kept.
-ghost use Rattle.std.specs.Prelude.{◌≡◌, ◌+◌, ◌<◌, ◌≤◌, ◌^◌, length, Ok};
+ghost use Rattle.std.specs.Prelude.{◌≡◌, ◌+◌, ◌<◌, ◌≤◌, ◌^◌, length, Err, MatchResult};
 ghost use Rattle.import_lines.specs.Texts.{told_from};
-ghost use Rattle.large_pack.specs.Lines.{and_then, edge_lines, edges_in, most_node};
-ghost use Rattle.large_pack.specs.Sound.{outside_fault, loop_fault, node_count, sound_of};
-ghost use Rattle.large_pack.specs.Surveys.{with_edge, survey_in, count_in};
+ghost use Rattle.large_pack.specs.Lines.{edge_lines, edges_in, most_node};
+ghost use Rattle.large_pack.specs.Sound.{outside_fault, loop_fault};
+ghost use Rattle.large_pack.specs.Surveys.{with_edge, count_in};
+ghost use Rattle.large_pack.specs.Keys.{IsRead};
 
 use crate::edge_line::{EdgeLine, read_line};
 use crate::fault::PackFault;
+use crate::keys::{KeyedEdges, no_edges, with_arcs};
 use crate::options::{PackOptions, SelfLoops};
 use import_lines::Lines;
+use std::alloc::Global;
 
 /// What the edges of a text tell together.
 #[derive(Clone, Copy)]
@@ -67,10 +70,22 @@ fn with_edge(survey: Survey, edge: &EdgeLine, options: &PackOptions) -> Survey
     }
 }
 
-/// What the edges of the lines that are left tell together.
-fn survey_lines(from: Lines<'_>, options: &PackOptions) -> Result<Survey, PackFault>
+/// What the edges of a text tell together, and their arcs, where all have the weight of an edge that says none.
+#[derive(Drop)]
+pub(crate) struct Reading {
+    pub survey: Survey,
+    pub keyed: Option<KeyedEdges>,
+}
+
+/// What the edges of the lines that are left tell together, and their arcs: none where an edge has another weight than
+/// one that says none, or memory runs out.
+pub(crate) fn read_edges(
+    alloc: Global,
+    from: Lines<'_>,
+    options: &PackOptions,
+) -> Result<Reading, PackFault>
     requires room { from.passed + length from.bytes.now < 2 ^ 64 }
-    ensures { result ≡ survey_in options.now (edges_in options.now.factor (told_from (from.entry.passed + 1) from.entry.bytes.now)) }
+    ensures { MatchResult result (λ reading. IsRead options.now (edges_in options.now.factor (told_from (from.entry.passed + 1) from.entry.bytes.now)) reading) (λ fault. edges_in options.now.factor (told_from (from.entry.passed + 1) from.entry.bytes.now) ≡ Err fault) }
 {
     let mut lines = from;
     let mut survey = Survey {
@@ -78,15 +93,18 @@ fn survey_lines(from: Lines<'_>, options: &PackOptions) -> Result<Survey, PackFa
         outside: None,
         self_loop: None,
     };
+    let start = no_edges(alloc);
+    let mut keyed = Some(start);
     while let Some((number, line)) = lines.next_told() {
         let edge = read_line(number, line, options.factor)?;
         survey = with_edge(survey, &edge, options);
+        keyed = with_arcs(keyed, &edge, options);
     }
-    Ok(survey)
+    Ok(Reading { survey, keyed })
 }
 
 /// How many nodes there are, where edges that tell this are sound.
-fn count_nodes(survey: &Survey, options: &PackOptions) -> Result<u32, PackFault>
+pub(crate) fn count_nodes(survey: &Survey, options: &PackOptions) -> Result<u32, PackFault>
     ensures { result ≡ count_in options.now survey.now }
 {
     let nodes = options.nodes.unwrap_or(survey.reach);
@@ -112,12 +130,4 @@ pub(crate) fn edge_lines(text: &[u8], header: bool) -> Lines<'_>
         lines.next_told();
     }
     lines
-}
-
-/// How many nodes there are, where the edges of a text are sound.
-pub(crate) fn sound_nodes(text: &[u8], options: &PackOptions) -> Result<u32, PackFault>
-    ensures { result ≡ and_then (sound_of options.now text.now) (λ edges. Ok (node_count options.now.nodes edges)) }
-{
-    let survey = survey_lines(edge_lines(text, options.header), options)?;
-    count_nodes(&survey, options)
 }

@@ -1,20 +1,22 @@
-use Rattle.large_pack.proofs.Sounds.{Known, known}
+use Rattle.std.proofs.Common.{◌∙◌, Err}
+use Rattle.large_pack.specs.Lines.{edges_of}
+use Rattle.large_pack.specs.Packing.{packing_of}
+use Rattle.large_pack.specs.Keys.{IsRead}
+use Rattle.large_pack.proofs.Packs.{answers_by_fault}
+use Rattle.large_pack.proofs.Readings.{counted, read_within, read_answers}
 use Rattle.large_pack.proofs.pack.pack_edges.Goals as goal
-use Rattle.large_pack.proofs.pack.pack_edges.Goals.{In_ok-edges}
 
-known_here : (c : In_ok-edges) → Known c.args.options.now c.in_ok-nodes.nodes c.in_ok-edges.edges.items
-known_here c =
-    known c.args.options.now c.args.text.now c.in_ok-nodes.nodes c.in_ok-edges.edges.items c.in_ok-nodes.ensures
-    (rw c.edge_lines.ensures.lines at c.in_ok-edges.ensures)
+pub pack_keyed-requires-clause-within : goal.pack_keyed-requires-clause-within
+pack_keyed-requires-clause-within c =
+    let o = c.args.options.now in
+    let defined = edges_of o.header o.factor c.args.text.now in
+    let read : IsRead o defined c.in_ok-reading.reading = rw c.edge_lines.ensures.lines at c.in_ok-reading.ensures in
+    read_within o defined c.in_ok-reading.reading c.in_ok-nodes.nodes read (c.in_ok-nodes.ensures ∙ counted o defined c.in_ok-reading.reading.survey read.survey)
 
-pub pack_ranked-requires-clause-some : goal.pack_ranked-requires-clause-some
-pack_ranked-requires-clause-some c = (known_here c).0
-
-pub pack_ranked-requires-clause-within : goal.pack_ranked-requires-clause-within
-pack_ranked-requires-clause-within c = (known_here c).1
-
-pub pack_ranked-requires-clause-rising : goal.pack_ranked-requires-clause-rising
-pack_ranked-requires-clause-rising c = (known_here c).2
-
-pub pack_ranked-requires-clause-tied : goal.pack_ranked-requires-clause-tied
-pack_ranked-requires-clause-tied c = (known_here c).3
+pub returns-in_err-packed-clause-answer : goal.returns-in_err-packed-clause-answer
+returns-in_err-packed-clause-answer c =
+    let o = c.args.options.now in
+    let defined = edges_of o.header o.factor c.args.text.now in
+    let read : IsRead o defined c.in_ok-reading.reading = rw c.edge_lines.ensures.lines at c.in_ok-reading.ensures in
+    answers_by_fault (packing_of o c.args.text.now) c.in_err-packed.field-0.0 c.from_residual-in_err-packed.result c.from_residual-in_err-packed.ensures.1
+    (read_answers o defined c.in_ok-reading.reading c.in_ok-nodes.nodes (Err c.in_err-packed.field-0.0) read (c.in_ok-nodes.ensures ∙ counted o defined c.in_ok-reading.reading.survey read.survey) c.in_err-packed.ensures.answer)
