@@ -1,0 +1,4 @@
+pub mod Cells
+pub mod Numbers
+pub mod Sorting
+pub mod Steps

@@ -1,0 +1,7 @@
+use Rattle.std.proofs.Common.{◌≡◌, drop}
+use Rattle.std.specs.List.{list_any}
+use Rattle.large_rounds.specs.Counts.{has_value}
+use Rattle.run_counts.proofs.rows.has_value.Given as goal
+
+abbrev pub invariant-loop-state : goal.invariant-loop-state
+invariant-loop-state l = list_any (has_value l.field l.value) (drop l.state-index l.states) ≡ list_any (has_value l.field l.value) l.states

@@ -1,0 +1,65 @@
+//! What is counted, and how it is shown.
+ghost use Rattle.std.specs.Prelude.{◌≡◌};
+ghost use Rattle.run_counts.specs.Figures.{kind_name};
+
+/// The form of the text.
+#[derive(Clone, Copy)]
+pub enum CountFormat {
+    /// CSV: a record of headings, and records of numbers.
+    Csv,
+    /// A JSON object on each line, for each record of CSV: its members are named by the headings.
+    Json,
+}
+
+/// What a figure is of the values that all nodes have in a field.
+#[derive(Clone, Copy)]
+pub enum FigureKind {
+    /// Their sum.
+    Sum,
+    /// The least of them.
+    Least,
+    /// The greatest of them.
+    Most,
+}
+
+impl FigureKind {
+    /// What it is called, as the option of `count` that asks for it: `sum`, `least` or `most`.
+    pub fn name(self) -> &'static str
+        ensures name { result.now ≡ kind_name self }
+    {
+        match self {
+            FigureKind::Sum => "sum",
+            FigureKind::Least => "least",
+            FigureKind::Most => "most",
+        }
+    }
+}
+
+/// A further number of each round.
+#[derive(Clone, Copy)]
+pub struct Figure {
+    pub kind: FigureKind,
+    /// The place of the field whose values it is of.
+    pub field: u32,
+}
+
+/// When rounds end early: behind the first round that is shown in which no node has this value in the field at this
+/// place.
+#[derive(Clone, Copy)]
+pub struct Until {
+    pub field: u32,
+    pub value: u32,
+}
+
+/// What is counted of each round.
+#[derive(Clone, Copy)]
+pub struct Counting<'a> {
+    /// The form of the text.
+    pub format: CountFormat,
+    /// The place of the field whose values are counted.
+    pub field: u32,
+    /// The further numbers, in this order.
+    pub figures: &'a [Figure],
+    /// When the rounds end before the last one, where they may.
+    pub until: Option<Until>,
+}

@@ -1,0 +1,132 @@
+//! The rounds of a plan, as they are counted.
+ghost use Rattle.std.specs.Prelude.{◌≡◌, ◌++◌, Err, IfOk, IfErr, MatchOption, None, map};
+ghost use Rattle.rule_check.specs.Value.{names_of};
+ghost use Rattle.run_watch.specs.declared.fault.WatchFault.TheVariants.{Memory};
+ghost use Rattle.run_watch.specs.Watching.{missing_of};
+ghost use Rattle.run_counts.specs.Counts.{IsCounted, places_of, refusal_of, until_places};
+ghost use Rattle.run_counts.specs.Tables.{table_text};
+
+use crate::asked::{Counting, Figure, Until};
+use crate::columns::put_opening;
+use crate::lines::put_rows;
+use crate::rows::rows_of;
+use crate::table::Row;
+use crate::values::values_of;
+use lockstep::Course;
+use rounds_plan::{MOST_ROUNDS, Plan};
+use rule_check::Program;
+use run_watch::{Progress, Span, WatchFault};
+use std::alloc::{AllocError, Global};
+use std::thread::Threads;
+
+/// The first place, of the fields of the figures, that is none of so many fields.
+fn missing_figure(count: u32, figures: &[Figure]) -> Option<u32>
+    ensures { result ≡ missing_of count (map (λ f. f.field) figures.now) }
+{
+    for figure in figures {
+        if figure.field >= count {
+            return Some(figure.field);
+        }
+    }
+    None
+}
+
+/// The first place, of the field by which rounds end and of those of the figures, that is none of so many fields.
+fn missing_behind(count: u32, until: Option<Until>, figures: &[Figure]) -> Option<u32>
+    ensures { result ≡ missing_of count (until_places until ++ map (λ f. f.field) figures.now) }
+{
+    match until {
+        Some(until) if until.field >= count => Some(until.field),
+        _ => missing_figure(count, figures),
+    }
+}
+
+/// The first place of what is asked for that is none of so many fields.
+fn missing_place(count: u32, counting: &Counting<'_>) -> Option<u32>
+    ensures { result ≡ missing_of count (places_of counting.now) }
+{
+    if counting.field >= count {
+        return Some(counting.field);
+    }
+    missing_behind(count, counting.until, counting.figures)
+}
+
+/// Why the rounds cannot be counted, whatever memory there is.
+fn refusal(plan: &Plan, span: &Span, counting: &Counting<'_>) -> Option<WatchFault>
+    ensures { result ≡ refusal_of plan.now span.now counting.now }
+{
+    if span.last() > MOST_ROUNDS {
+        return Some(WatchFault::TooManyRounds);
+    }
+    if span.first() < plan.start() {
+        return Some(WatchFault::RoundsBelowStart);
+    }
+    let place = missing_place(plan.program().field_count(), counting)?;
+    Some(WatchFault::NoField { place })
+}
+
+/// The text of rounds with these values.
+fn table_with(
+    alloc: Global,
+    program: &Program,
+    counting: &Counting<'_>,
+    values: &[u32],
+    rows: &[Row],
+) -> Result<Vec<u8>, AllocError>
+    ensures text { IfOk result (λ v. v.items ≡ table_text counting.now.format (names_of program.now) counting.now.figures.now values.now rows.now) }
+{
+    let mut out = String::new(alloc);
+    put_opening(&mut out, program, counting, values)?;
+    put_rows(&mut out, counting.format, program, values, rows)?;
+    Ok(out.into_bytes())
+}
+
+/// The text of the rounds, where nothing refuses them.
+fn text_of<P: Progress>(
+    rt: &(impl Threads + Sync),
+    alloc: Global,
+    plan: &Plan,
+    span: &Span,
+    counting: &Counting<'_>,
+    progress: &mut P,
+) -> Result<Vec<u8>, AllocError>
+    requires fits { refusal_of plan.now span.now counting.now ≡ None }
+    ensures text { IfOk result (λ v. IsCounted plan.now span.now counting.now v.items) }
+{
+    let course = Course::new(alloc, plan)?;
+    let mut walk = course.shared_walk(rt, alloc)?;
+    let rows = rows_of(rt, alloc, &mut walk, span, counting, progress)?;
+    let values = values_of(alloc, &rows)?;
+    table_with(alloc, plan.program(), counting, &values, &rows)
+}
+
+/// How many nodes have each value of a field in each round of a span, and further numbers of these rounds, in one pass
+/// over the rounds: none is computed twice. Each round is shared among as many threads as there are processors where it
+/// has enough to compute for them. The rounds end behind the first of them that ends them, where one does.
+///
+/// Where 64 values at most occur in these rounds, each has a column, by rising value, and each round a line; else each
+/// value that occurs in a round has a line of that round: `value`, and `nodes`, how many nodes have it.
+///
+/// `TooManyRounds` comes where the last round is above 1,000,000,000, else `RoundsBelowStart` where the first lies
+/// before the plan's start, and else `NoField` with the first place at which the program has no field, of the counted
+/// field, the one by which rounds end and those of the figures, all before anything is done; `Memory` only where none of
+/// them holds.
+pub fn counted<P: Progress>(
+    rt: &(impl Threads + Sync),
+    alloc: Global,
+    plan: &Plan,
+    span: &Span,
+    counting: &Counting<'_>,
+    progress: &mut P,
+) -> Result<Vec<u8>, WatchFault>
+    ensures text { IfOk result (λ v. IsCounted plan.now span.now counting.now v.items) }
+    ensures fits { IfOk result (λ _. refusal_of plan.now span.now counting.now ≡ None) }
+    ensures refused { IfErr result (λ fault. fault ≡ Memory → refusal_of plan.now span.now counting.now ≡ None) }
+    ensures at_once { MatchOption (refusal_of plan.now span.now counting.now) (Unit {0}) (λ fault. result ≡ Err fault) }
+{
+    if let Some(fault) = refusal(plan, span, counting) {
+        return Err(fault);
+    }
+    let text = text_of(rt, alloc, plan, span, counting, progress)?;
+    Ok(text)
+}

@@ -1,0 +1,17 @@
+//! Laws of counting.
+ghost use Rattle.run_counts.specs.Counts.{CellsAreCounts};
+ghost use Rattle.run_counts.specs.Records.{LongLinesAreRecords, WideLinesAreRecords};
+
+/// The number that stands under a value in the line of a round is the number of nodes that have this value after it: 0
+/// where none has it, which then may have it after another round.
+pub fn cells_are_counts()
+    ensures cells { CellsAreCounts }
+{}
+
+/// A line of CSV, cut at its commas, is the decimals of its numbers: of the round, of the number of nodes for each value
+/// that has a column, or of the value and the number of nodes that have it, and of the further numbers. They are to fit
+/// 64 bits.
+pub fn csv_is_read_back()
+    ensures rounds { WideLinesAreRecords }
+    ensures values { LongLinesAreRecords }
+{}
