@@ -6,7 +6,7 @@ _unison() {
   if [ "$COMP_CWORD" -gt "$at" ]; then command=${COMP_WORDS[at]}; fi
   if [ "$COMP_CWORD" -gt $((at + 1)) ]; then form=${COMP_WORDS[at + 1]}; fi
   case $command:$form in
-  :) words="check lockstep run replay compare watch settle schedule explain page image dot generate import init info csv pack large why completion manual" ;;
+  :) words="check lockstep run replay compare watch count settle schedule explain page image dot generate import init info csv pack large why completion manual" ;;
   check:*) options="" ;;
   lockstep:*) options="--rounds --from" ;;
   run:*) options="--rounds --workers --trace --from" ;;
@@ -16,6 +16,11 @@ _unison() {
     words=""
     options="--rounds --every --format --only --changes --names --from"
     [ "$previous" = --format ] && words="report csv json"
+    ;;
+  count:*)
+    words=""
+    options="--rounds --every --field --until --sum --least --most --format --from"
+    [ "$previous" = --format ] && words="csv json"
     ;;
   settle:*)
     words=""

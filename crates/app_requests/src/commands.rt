@@ -1,5 +1,6 @@
 //! All commands of the program, in groups.
 
+use crate::count::count;
 use crate::csv::csv;
 use crate::draw::{dot, image};
 use crate::explain::explain;
@@ -58,6 +59,7 @@ static MANUAL: Command = Command {
 #[derive(Clone, Copy)]
 pub enum Task {
     Completion,
+    Count,
     Csv,
     Dot,
     Explain,
@@ -87,7 +89,13 @@ pub struct Group {
 pub const GROUPS: [Group; 5] = [
     Group {
         title: "Runs in detail",
-        tasks: &[Task::Watch, Task::Settle, Task::Schedule, Task::Explain],
+        tasks: &[
+            Task::Watch,
+            Task::Count,
+            Task::Settle,
+            Task::Schedule,
+            Task::Explain,
+        ],
     },
     Group {
         title: "Pictures",
@@ -130,6 +138,7 @@ impl Task {
     pub fn command(self) -> &'static Command {
         match self {
             Task::Completion => &COMPLETION,
+            Task::Count => count(),
             Task::Csv => csv(),
             Task::Dot => dot(),
             Task::Explain => explain(),

@@ -3,6 +3,7 @@
 
 mod arguments;
 mod commands;
+mod count;
 mod csv;
 mod draw;
 mod explain;
@@ -19,6 +20,7 @@ mod watch;
 
 pub use arguments::PlanPaths;
 pub use commands::{GROUPS, Group, Task, check_completion, check_manual};
+pub use count::{CountRequest, FigureWord, UntilWord};
 pub use csv::CsvRequest;
 pub use draw::{DotRequest, ImageRequest};
 pub use explain::ExplainRequest;

@@ -2,6 +2,7 @@
 #![tactic(auto)]
 
 mod cells;
+mod count;
 mod csv_text;
 mod explain;
 mod generate;
@@ -22,6 +23,7 @@ mod settle;
 mod watch;
 mod why;
 
+use crate::count::count_rounds;
 use crate::csv_text::print_csv;
 use crate::explain::explain_schedule;
 use crate::generate::generate_network;
@@ -66,6 +68,7 @@ fn run_task(
 ) -> Result<u8, Ending> {
     match task {
         Task::Completion => print_completion(rt, words),
+        Task::Count => count_rounds(rt, threads, words),
         Task::Csv => print_csv(rt, words),
         Task::Dot => make_dot(rt, threads, words),
         Task::Explain => explain_schedule(rt, words),

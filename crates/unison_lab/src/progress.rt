@@ -15,6 +15,8 @@ pub(crate) struct Telling<'a> {
     last: u32,
     /// The round from which on the next one is told.
     next: u32,
+    /// Whether a round is told on a line that has no end yet.
+    is_open: bool,
 }
 
 impl Progress for Telling<'_> {
@@ -25,8 +27,9 @@ impl Progress for Telling<'_> {
         let (rt, last) = (self.rt, self.last);
         let _ = eprint!(rt; "\rround {round} of {last}");
         self.next = round.saturating_add((last.saturating_sub(self.first) / 100).max(1));
+        self.is_open = true;
         if round == last {
-            let _ = eprintln!(rt; "");
+            self.end();
         }
     }
 }
@@ -41,6 +44,16 @@ impl<'a> Telling<'a> {
             first: span.first(),
             last: span.round_at(span.steps()),
             next: 0,
+            is_open: false,
+        }
+    }
+
+    /// Ends the line on which a round is told, where it has no end yet: rounds may end before the last one.
+    pub(crate) fn end(&mut self) {
+        if self.is_open {
+            let rt = self.rt;
+            let _ = eprintln!(rt; "");
+            self.is_open = false;
         }
     }
 }

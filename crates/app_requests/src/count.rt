@@ -1,0 +1,241 @@
+//! `count`: how many nodes have each value, round by round.
+
+use crate::arguments::{
+    EVERY, FIELD, FIELD_ARGUMENT, FROM, NETWORK, PROGRAM, PlanPaths, ROUNDS, span_in,
+};
+use app_table::{Argument, Choice, Command, Kind, OPTION, Reading, Value, WordsFault, number};
+use run_counts::{CountFormat, FigureKind};
+use run_watch::Span;
+use std::alloc::Global;
+
+const COUNTED: Argument = Argument {
+    help: "The field whose values are counted; may be left out where the program has one alone",
+    ..FIELD
+};
+
+const UNTIL: Argument = Argument {
+    name: "until",
+    value_name: "FIELD=VALUE",
+    help: "End behind the first shown round in which no node has this value in this field",
+    ..OPTION
+};
+
+/// `UNTIL`, as it is read.
+static UNTIL_ARGUMENT: Argument = UNTIL;
+
+/// What an option for a further column is made from.
+const COLUMN: Argument = Argument {
+    kind: Kind::Repeated,
+    value_name: "FIELD",
+    ..OPTION
+};
+
+const SUM: Argument = Argument {
+    name: "sum",
+    help: "A further column with the sum of the values of a field; as often as wanted",
+    ..COLUMN
+};
+
+/// `SUM`, as it is read.
+static SUM_ARGUMENT: Argument = SUM;
+
+const LEAST: Argument = Argument {
+    name: "least",
+    help: "A further column with the least value of a field; as often as wanted",
+    ..COLUMN
+};
+
+/// `LEAST`, as it is read.
+static LEAST_ARGUMENT: Argument = LEAST;
+
+const MOST: Argument = Argument {
+    name: "most",
+    help: "A further column with the greatest value of a field; as often as wanted",
+    ..COLUMN
+};
+
+/// `MOST`, as it is read.
+static MOST_ARGUMENT: Argument = MOST;
+
+const FORMAT: Argument = Argument {
+    name: "format",
+    value: Value::Choice(&[
+        Choice {
+            name: "csv",
+            aliases: &[],
+        },
+        Choice {
+            name: "json",
+            aliases: &[],
+        },
+    ]),
+    value_name: "FORMAT",
+    help: "csv (the default) or json, an object on each line",
+    ..OPTION
+};
+
+/// `FORMAT`, as it is read.
+static FORMAT_ARGUMENT: Argument = FORMAT;
+
+/// `count` and what it takes.
+static COUNT: Command = Command {
+    name: "count",
+    aliases: &[],
+    called: "unison count",
+    about: "Count how many nodes have each value, round by round, with sums and extremes",
+    notes: "Prints, for the rounds FIRST, FIRST + K, FIRST + 2 K and so on, up to LAST, how many nodes have each value of a field: a column for each value that occurs, or lines of round, value and nodes where there are more than 64.\nAn example: unison count examples/life.rules examples/glider.toml --rounds 0..4\nAnother one: unison count examples/distance.rules examples/path.toml --rounds 0..9 --until dist=4294967295\n",
+    arguments: &[
+        PROGRAM, NETWORK, ROUNDS, EVERY, COUNTED, UNTIL, SUM, LEAST, MOST, FORMAT, FROM,
+    ],
+    subcommands: &[],
+};
+
+/// The table of `count`.
+pub(crate) fn count() -> &'static Command {
+    &COUNT
+}
+
+/// A further column: what it is of a field.
+#[derive(Drop)]
+pub struct FigureWord {
+    pub kind: FigureKind,
+    pub field: String,
+}
+
+/// A word of `--until FIELD=VALUE`.
+#[derive(Drop)]
+pub struct UntilWord {
+    pub field: String,
+    pub value: u32,
+}
+
+/// What `count` is asked for.
+#[derive(Drop)]
+pub struct CountRequest {
+    pub plan: PlanPaths,
+    /// The rounds that are counted.
+    pub span: Span,
+    /// The field whose values are counted, where it is named.
+    pub field: Option<String>,
+    /// The further columns: sums, then least, then greatest values.
+    pub figures: Vec<FigureWord>,
+    /// When the rounds end early, where they may.
+    pub until: Option<UntilWord>,
+    /// The form of the text.
+    pub format: CountFormat,
+}
+
+/// The parts of a word of `--until`: what stands before the first `=`, and the number behind it.
+fn until_parts(word: &str) -> Option<(&str, u32)> {
+    let (field, value) = word.split_once('=')?;
+    let value = number(value, 0, 4_294_967_295)?;
+    Some((field, value))
+}
+
+/// The word of `--until`, which has its parts where it is read.
+fn until_word(reading: &mut Reading, word: &str) -> Option<UntilWord> {
+    let Some((field, value)) = until_parts(word) else {
+        reading.refuse_as(format!(in reading.alloc();
+            "--until: expected FIELD=VALUE, with a whole number from 0 to 4294967295 behind the first =, found `{word}`"
+        ));
+        return None;
+    };
+    let field = reading.copied(field);
+    Some(UntilWord { field, value })
+}
+
+/// The word of `--until`, where it is given.
+fn until_in(reading: &mut Reading) -> Option<UntilWord> {
+    let word = reading.text(&UNTIL_ARGUMENT)?;
+    until_word(reading, word.as_str())
+}
+
+/// Whether one of the words is this one.
+fn has_word(words: &[String], word: &str) -> bool {
+    for other in words {
+        if other.as_str() == word {
+            return true;
+        }
+    }
+    false
+}
+
+/// Notes that a word stands twice behind an option of columns.
+fn refuse_twice(reading: &mut Reading, option: &str, word: &str) {
+    reading.refuse_as(format!(in reading.alloc();
+        "--{option}: `{word}` stands there twice; a column is shown once"
+    ));
+}
+
+/// Puts a column behind the others.
+fn put_figure(
+    figures: &mut Vec<FigureWord>,
+    reading: &mut Reading,
+    kind: FigureKind,
+    word: &str,
+) {
+    let field = reading.copied(word);
+    if figures.push(FigureWord { kind, field }).is_err() {
+        reading.refuse(WordsFault::Memory);
+    }
+}
+
+/// Puts the columns that an option asks for behind the others.
+fn put_figures(
+    figures: &mut Vec<FigureWord>,
+    reading: &mut Reading,
+    kind: FigureKind,
+    argument: &Argument,
+) {
+    let words = reading.texts(argument);
+    for (place, word) in words.iter().enumerate() {
+        if has_word(&words[..place], word.as_str()) {
+            refuse_twice(reading, kind.name(), word.as_str());
+        }
+        put_figure(figures, reading, kind, word.as_str());
+    }
+}
+
+/// The further columns.
+fn figures_in(reading: &mut Reading) -> Vec<FigureWord> {
+    let mut figures = Vec::new(reading.alloc());
+    put_figures(&mut figures, reading, FigureKind::Sum, &SUM_ARGUMENT);
+    put_figures(&mut figures, reading, FigureKind::Least, &LEAST_ARGUMENT);
+    put_figures(&mut figures, reading, FigureKind::Most, &MOST_ARGUMENT);
+    figures
+}
+
+/// The form of the text.
+fn format_in(reading: &mut Reading) -> CountFormat {
+    match reading.choice(&FORMAT_ARGUMENT).unwrap_or("csv") {
+        "json" => CountFormat::Json,
+        _ => CountFormat::Csv,
+    }
+}
+
+/// What plain words ask for, where they name rounds.
+fn request_in(reading: &mut Reading) -> Option<CountRequest> {
+    let figures = figures_in(reading);
+    let until = until_in(reading);
+    let format = format_in(reading);
+    let span = span_in(reading)?;
+    let field = reading.text(&FIELD_ARGUMENT);
+    let plan = PlanPaths::of(reading);
+    Some(CountRequest {
+        plan,
+        span,
+        field,
+        figures,
+        until,
+        format,
+    })
+}
+
+impl CountRequest {
+    /// What the words ask for, the command's name first.
+    pub fn parse(alloc: Global, line: &[String]) -> Result<CountRequest, WordsFault> {
+        let mut reading = Reading::of(alloc, count(), line)?;
+        let asked = request_in(&mut reading);
+        reading.end_some(asked)
+    }
+}
