@@ -1,0 +1,5 @@
+pub mod Operators
+pub mod Cuts
+pub mod Counting
+pub mod Symbols
+pub mod Texts

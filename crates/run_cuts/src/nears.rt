@@ -1,0 +1,78 @@
+//! The neighbours of a node, as its rules see them.
+ghost use Rattle.std.specs.Prelude.{◌≡◌, ◌+◌, ◌≤◌, ◌++◌, length, map, OnOk};
+ghost use Rattle.link_net.specs.Neighbours.{row};
+ghost use Rattle.rounds_plan.specs.Lockstep.{nears_in, state_in};
+ghost use Rattle.run_cuts.specs.Counting.{nears_from};
+
+use link_net::Network;
+use rule_check::{Near, State};
+use std::alloc::AllocError;
+
+/// The state of a node; 0 in each word where there is no such node.
+pub(crate) fn state_at(states: &[State], node: u32) -> State
+    ensures exact { result ≡ state_in states.now node }
+{
+    match states.get(node as usize) {
+        Some(state) => *state,
+        None => State { words: [0; 8] },
+    }
+}
+
+/// The neighbours of a node.
+fn neighbours_of(network: &Network, node: u32) -> &[u32]
+    ensures exact { result.now ≡ map (λ a. a.0) (row network.now node) }
+    ensures few { length result.now ≤ 4096 }
+{
+    match network.neighbours(node) {
+        Some(neighbours) => neighbours,
+        None => &[],
+    }
+}
+
+/// The weights of the links to the neighbours of a node.
+fn weights_of(network: &Network, node: u32) -> &[u32]
+    ensures exact { result.now ≡ map (λ a. a.1) (row network.now node) }
+{
+    match network.weights(node) {
+        Some(weights) => weights,
+        None => &[],
+    }
+}
+
+/// Puts neighbours, with the weights of the links to them and their states among these.
+fn put_nears(
+    nears: &mut Vec<Near>,
+    states: &[State],
+    neighbours: &[u32],
+    weights: &[u32],
+) -> Result<(), AllocError>
+    requires pairs { length weights.now ≡ length neighbours.now }
+    ensures exact { OnOk result (nears.new.items ≡ nears.old.items ++ nears_from (state_in states.now) neighbours.now weights.now) }
+    ensures count { OnOk result (length nears.new.items ≡ length nears.old.items + length neighbours.now) }
+{
+    for (slot, neighbour) in neighbours.iter().enumerate() {
+        let id = *neighbour;
+        let state = state_at(states, id);
+        let weight = weights[slot];
+        nears.push(Near { id, weight, state })?;
+    }
+    Ok(())
+}
+
+/// Puts the neighbours of a node in place of those that are there.
+#[tactic(auto, using(crate::proofs::Standing::nears_of_row))]
+pub(crate) fn fill_nears(
+    nears: &mut Vec<Near>,
+    network: &Network,
+    states: &[State],
+    node: u32,
+) -> Result<(), AllocError>
+    ensures exact { OnOk result (nears.new.items ≡ nears_in network.now (state_in states.now) node) }
+    ensures few { OnOk result (length nears.new.items ≤ 4294967295) }
+{
+    nears.clear();
+    let neighbours = neighbours_of(network, node);
+    let weights = weights_of(network, node);
+    put_nears(nears, states, neighbours, weights)?;
+    Ok(())
+}
