@@ -72,10 +72,10 @@ eq_of a b h = grind (arith, nat_tests)
 eq_test : (a b : ℕ) → a ≡ b → (a == b) ≡ true
 eq_test a b h = grind (arith, nat_tests)
 
-abbrev number : ℕ → ℕ → ℕ
+abbrev pub number : ℕ → ℕ → ℕ
 number a b = a * 4294967296 + b
 
-same_number : (a b c d : ℕ) → a ≡ c → b ≡ d → (number a b == number c d) ≡ true
+pub same_number : (a b c d : ℕ) → a ≡ c → b ≡ d → (number a b == number c d) ≡ true
 same_number a b c d p q = eq_test (number a b) (number c d) (cc)
 
 -- neither joins what the other joins
@@ -168,14 +168,14 @@ not_before_itself parallel e =
     let three : (r == r) ≡ true = eq_test r r refl in
     rw (one, two, three) refl
 
-and_none : (a b : Bool) → a ≡ false → (a && b) ≡ false
+pub and_none : (a b : Bool) → a ≡ false → (a && b) ≡ false
 and_none a b h = rw h refl
 
 and_later : (a b : Bool) → b ≡ false → (a && b) ≡ false
 and_later true b h = h
 and_later false b h = refl
 
-or_neither : (a b : Bool) → a ≡ false → b ≡ false → (a || b) ≡ false
+pub or_neither : (a b : Bool) → a ≡ false → b ≡ false → (a || b) ≡ false
 or_neither a b p q = rw (p, q) refl
 
 none_joins : (options : PackOptions) (e : EdgeLine) (es : List EdgeLine) → AllByRecursion (AreApart options.is_directed e) es → is_behind options es e ≡ false

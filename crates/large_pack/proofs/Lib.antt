@@ -11,6 +11,7 @@ pub mod Rising
 mod Sounds
 mod Repeats
 mod Apart
+mod Unrepeated
 mod Keying
 mod KeyRows
 mod Readings

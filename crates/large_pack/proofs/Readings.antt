@@ -42,8 +42,8 @@ before_all (Ok es) = refl
 before_all (Err fault) = refl
 
 -- no edge yet
-pub from_start : (o : PackOptions) (defined : Result (List EdgeLine) PackFault) (k : KeyedEdges) → AreKeyed o [] k → ReadTo o defined defined (Some k)
-from_start o defined k are = record { done = []; told = before_all defined; arcs = are }
+pub from_start : (o : PackOptions) (defined : Result (List EdgeLine) PackFault) (keyed : Option KeyedEdges) → IfSome keyed (λ k. AreKeyed o [] k) → ReadTo o defined defined keyed
+from_start o defined keyed are = record { done = []; told = before_all defined; arcs = are }
 
 -- one edge more
 pub to_next : (o : PackOptions) (defined : Result (List EdgeLine) PackFault) (lines rest : List (ℕ × List ℕ)) (l : ℕ × List ℕ) (e : EdgeLine) (old new : Option KeyedEdges)

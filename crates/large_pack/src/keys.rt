@@ -6,7 +6,7 @@ ghost use Rattle.large_pack.specs.Packing.{edge_arcs};
 ghost use Rattle.large_pack.specs.Keys.{key_of, is_dropped, repeats, AreKeyed};
 
 use crate::edge_line::EdgeLine;
-use crate::options::{PackOptions, SelfLoops};
+use crate::options::{PackOptions, Parallel, SelfLoops};
 use std::alloc::{AllocError, Global};
 
 /// What the node that an arc comes from is multiplied by in the arc's number.
@@ -24,19 +24,22 @@ pub(crate) struct KeyedEdges {
     pub dropped_loops: u64,
 }
 
-/// No edges yet.
-pub(crate) fn no_edges(alloc: Global) -> KeyedEdges
-    ensures none { (options : PackOptions) → AreKeyed options [] result }
+/// No edges yet, where their arcs are kept as numbers: not where edges that join the same two nodes are merged.
+pub(crate) fn no_edges(alloc: Global, parallel: Parallel) -> Option<KeyedEdges>
+    ensures none { (options : PackOptions) → IfSome result (λ k. AreKeyed options [] k) }
 {
-    KeyedEdges {
-        keys: Vec::new(alloc),
-        lines: 0,
-        dropped_loops: 0,
+    match parallel {
+        Parallel::Refuse | Parallel::Keep => Some(KeyedEdges {
+            keys: Vec::new(alloc),
+            lines: 0,
+            dropped_loops: 0,
+        }),
+        Parallel::Least | Parallel::Greatest | Parallel::First => None,
     }
 }
 
 /// An arc as one number.
-fn key(from: u32, to: u32) -> u64
+pub(crate) fn key(from: u32, to: u32) -> u64
     ensures { result ≡ key_of (from, to, 1) }
 {
     from as u64 * SPAN + to as u64

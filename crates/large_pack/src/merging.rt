@@ -1,13 +1,16 @@
 //! Edges that join the same two nodes.
-ghost use Rattle.std.specs.Prelude.{◌≡◌, true, OnOk};
+ghost use Rattle.std.specs.Prelude.{◌≡◌, true, map, None, IfOk, OnOk};
 ghost use Rattle.std.specs.List.Sorted.{IsPermutation};
 ghost use Rattle.std.specs.Result.{result_err};
 ghost use Rattle.large_pack.specs.Ranks.{alike, unbeaten, straight_ranked, kept_ranked, repeat_in, repeat_ranked, sooner, least_repeat, LinesRise, AreTied};
 ghost use Rattle.large_pack.specs.Packing.{refuses};
+ghost use Rattle.large_pack.specs.Keys.{key_of};
 
 use crate::fault::PackFault;
+use crate::keys::{has_repeat, key};
 use crate::options::{Parallel, SelfLoops};
 use crate::ranked::Ranked;
+use std::alloc::{AllocError, Global};
 
 /// Leaves out self-loops, where they are dropped.
 pub(crate) fn straighten(edges: &mut Vec<Ranked>, self_loops: SelfLoops)
@@ -68,19 +71,48 @@ fn least_repeat(edges: &[Ranked]) -> Option<(u64, u64)>
     repeat
 }
 
+/// The two ends of each edge as one number.
+fn ends_keys(alloc: Global, edges: &[Ranked]) -> Result<Vec<u64>, AllocError>
+    ensures { IfOk result (λ v. v.items ≡ map (λ e. key_of (e.first, e.second, 1)) edges.now) }
+{
+    edges
+        .iter()
+        .map(|edge| key(edge.first, edge.second))
+        .collect(alloc)
+}
+
+/// Whether it is seen that no two edges join the same two nodes: not where memory runs out.
+fn are_apart(alloc: Global, edges: &[Ranked]) -> bool
+    ensures { result ≡ true → repeat_in edges.now ≡ None }
+{
+    let Ok(keys) = ends_keys(alloc, edges) else {
+        return false;
+    };
+    let mut keys = keys;
+    keys.sort_unstable();
+    !has_repeat(keys.as_slice())
+}
+
 /// The line of the first edge that joins the same two nodes as an earlier one, and the first line that does.
-fn first_repeat(edges: &mut Vec<Ranked>) -> Option<(u64, u64)>
+fn first_repeat(alloc: Global, edges: &mut Vec<Ranked>) -> Option<(u64, u64)>
     requires rising { LinesRise edges.old.items }
     requires tied { AreTied edges.old.items }
     ensures repeat { result ≡ repeat_in edges.old.items }
     ensures moved { IsPermutation edges.old.items edges.new.items }
 {
+    if are_apart(alloc, edges.as_slice()) {
+        return None;
+    }
     edges.sort_unstable();
     least_repeat(edges.as_slice())
 }
 
 /// Does with edges that join the same two nodes what is done with them.
-pub(crate) fn settle(edges: &mut Vec<Ranked>, parallel: Parallel) -> Result<(), PackFault>
+pub(crate) fn settle(
+    alloc: Global,
+    edges: &mut Vec<Ranked>,
+    parallel: Parallel,
+) -> Result<(), PackFault>
     requires rising { LinesRise edges.old.items }
     requires tied { refuses parallel ≡ true → AreTied edges.old.items }
     ensures kept { OnOk result (IsPermutation (kept_ranked parallel edges.old.items) edges.new.items) }
@@ -88,7 +120,7 @@ pub(crate) fn settle(edges: &mut Vec<Ranked>, parallel: Parallel) -> Result<(), 
 {
     match parallel {
         Parallel::Refuse => {
-            if let Some((line, earlier)) = first_repeat(edges) {
+            if let Some((line, earlier)) = first_repeat(alloc, edges) {
                 return Err(PackFault::ParallelEdge { line, earlier });
             }
         }

@@ -79,7 +79,7 @@ pub fn pack_ranked(
     let lines = edges.len() as u64;
     straighten(&mut edges, options.self_loops);
     let straight = edges.len() as u64;
-    settle(&mut edges, options.parallel)?;
+    settle(alloc, &mut edges, options.parallel)?;
     let kept = edges.len() as u64;
     let network = network_of_edges(alloc, nodes, edges, options.is_directed)?;
     Ok(Packed {

@@ -93,8 +93,8 @@ pub(crate) fn read_edges(
         outside: None,
         self_loop: None,
     };
-    let start = no_edges(alloc);
-    let mut keyed = Some(start);
+    let start = no_edges(alloc, options.parallel);
+    let mut keyed = start;
     while let Some((number, line)) = lines.next_told() {
         let edge = read_line(number, line, options.factor)?;
         survey = with_edge(survey, &edge, options);
