@@ -1,4 +1,8 @@
 mod Lookups
+mod Kept
+mod ListLines
+mod Numbers
+mod Ranges
 mod Rebuilt
 mod PairCounts
 mod Relisted

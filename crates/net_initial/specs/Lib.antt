@@ -1,4 +1,6 @@
 pub mod Ahead
+pub mod Draws
+pub mod NodeLists
 pub mod Opened
 pub mod Placed
 pub mod Texts

@@ -1,13 +1,14 @@
 -- What openings make of the initial values of a network file.
-use Rattle.std.specs.Prelude.{◌≡◌, ℕ, ℤ, pos, negsuc, ◌==◌, ◌&&◌, ◌||◌, not, Bool, true, false, List, [], ◌∷◌, fold, nat_lt, Option, Some, None, option_map, if◌then◌else◌}
-use Rattle.std.specs.List.{list_any, find, filter_map}
-use Rattle.std.specs.Option.{unwrap_or}
+use Rattle.std.specs.Prelude.{◌≡◌, ℕ, ℤ, pos, negsuc, ◌==◌, ◌&&◌, ◌||◌, not, Bool, true, false, List, [], ◌∷◌, fold, nat_lt, nat_le, Option, Some, None, option_map, if◌then◌else◌}
+use Rattle.std.specs.List.{list_any, find, filter, filter_map, slice_get}
+use Rattle.std.specs.Option.{option_or, unwrap_or}
 use Rattle.std.specs.Str.{bytes_eq}
 use Rattle.link_net.specs.declared.field_set.FieldSet.{FieldSet}
 use Rattle.link_net.specs.Names.{AreRising}
 use Rattle.link_net.specs.Neighbours.{numbers_below}
 use Rattle.net_initial.specs.declared.opening.Chosen.{Chosen}
 use Rattle.net_initial.specs.declared.opening.Opening.{Opening}
+use Rattle.net_initial.specs.declared.opening.Values.{Values}
 
 -- an integer from 0 on, below a bound
 abbrev pub is_below : ℕ → ℤ → Bool
@@ -27,7 +28,13 @@ node_of p = number_of p.0
 abbrev pub chooses : Chosen → ℕ → Bool
 chooses Chosen.Every u = true
 chooses (Chosen.One w) u = w == u
+chooses (Chosen.Range first last) u = nat_le first u && nat_le u last
 chooses (Chosen.These ws) u = list_any (λ w. w == u) ws.items
+
+-- the value that the node gets, where it gets one
+abbrev pub value_at : Values → ℕ → Option ℕ
+value_at (Values.Same nodes value) u = if chooses nodes u then Some value else None
+value_at (Values.Each values) u = slice_get values.items u
 
 -- the pair is of a node below n and of a word
 abbrev pub is_entry : ℕ → ℤ × ℤ → Bool
@@ -46,13 +53,13 @@ is_undefined n pairs = list_any (λ p. not (is_entry n p)) pairs || has_node_twi
 abbrev pub given : List (ℤ × ℤ) → ℕ → Option ℕ
 given pairs u = fold (λ v p. if node_of p == u then Some (number_of p.1) else v) None pairs
 
--- the opening is of the field, and has the node
-abbrev pub opens : List ℕ → ℕ → Opening → Bool
-opens f u o = bytes_eq o.field f && chooses o.nodes u
-
--- the value of the last opening of the field that has the node, and where there is none the value at hand
+-- the value that the last opening of the field gives the node, and where none gives it one the value at hand
 abbrev pub opened_value : List Opening → List ℕ → ℕ → Option ℕ → Option ℕ
-opened_value openings f u v = fold (λ v o. if opens f u o then Some o.value else v) v openings
+opened_value openings f u v = fold (λ v o. if bytes_eq o.field f then option_or (value_at o.values u) v else v) v openings
+
+-- the sets that are left where those of some fields are cleared
+abbrev pub kept_sets : List (List ℕ) → List FieldSet → List FieldSet
+kept_sets cleared sets = filter (λ s. not (list_any (bytes_eq s.name) cleared)) sets
 
 -- the set of a field, where there is one
 abbrev pub set_at : List FieldSet → List ℕ → Option FieldSet
@@ -66,7 +73,7 @@ pairs_at sets f = unwrap_or (option_map (λ s. s.pairs) (set_at sets f)) []
 abbrev pub shown_pairs : ℕ → (ℕ → Option ℕ) → List (ℤ × ℤ)
 shown_pairs n value = filter_map (λ u. option_map (λ v. (pos u, pos v)) (value u)) (numbers_below n)
 
--- the set of a field, opened: for each of n nodes by rising number the value of the last opening of the field that has it, else the file's, and no pair where neither gives one
+-- the set of a field, opened: for each of n nodes by rising number the value that the last opening of the field gives it, else the file's, and no pair where neither gives one
 abbrev pub opened_set : ℕ → List FieldSet → List Opening → List ℕ → FieldSet
 opened_set n sets openings f = record { name = f; pairs = shown_pairs n (λ u. opened_value openings f u (given (pairs_at sets f) u)) }
 

@@ -8,10 +8,11 @@ use Rattle.rule_lang.specs.Keywords.{keyword_of}
 use Rattle.link_net.specs.declared.field_set.FieldSet.{FieldSet}
 use Rattle.link_net.specs.Reading.{Description, reading_of}
 use Rattle.net_initial.specs.declared.fault.OpenFault.{OpenFault}
-use Rattle.net_initial.specs.declared.fault.OpenFault.TheVariants.{BadPhase, BadName, NoNode, BadSet}
+use Rattle.net_initial.specs.declared.fault.OpenFault.TheVariants.{BadPhase, BadName, BadClear, NoNode, BadSet}
 use Rattle.net_initial.specs.declared.opening.Chosen.{Chosen}
 use Rattle.net_initial.specs.declared.opening.Opening.{Opening}
-use Rattle.net_initial.specs.Opened.{AreOpened, has_undefined}
+use Rattle.net_initial.specs.declared.opening.Values.{Values}
+use Rattle.net_initial.specs.Opened.{AreOpened, has_undefined, kept_sets}
 
 -- a letter, then letters, digits and `_`
 abbrev pub is_word : List ℕ → Bool
@@ -26,7 +27,13 @@ is_field_name name = is_word name && is_none (keyword_of name)
 abbrev pub misses_node : ℕ → Chosen → Bool
 misses_node n Chosen.Every = false
 misses_node n (Chosen.One w) = nat_le n w
+misses_node n (Chosen.Range first last) = nat_le first last && nat_le n last
 misses_node n (Chosen.These ws) = list_any (λ w. nat_le n w) ws.items
+
+-- the values are for a node that n nodes do not have
+abbrev pub pass_nodes : ℕ → Values → Bool
+pass_nodes n (Values.Same nodes value) = misses_node n nodes
+pass_nodes n (Values.Each values) = nat_lt n (length values.items)
 
 -- the phase that is asked for is none
 abbrev pub is_bad_phase : Option ℕ → Bool
@@ -34,20 +41,22 @@ is_bad_phase None = false
 is_bad_phase (Some p) = nat_lt 2 p
 
 -- the first fault of what is asked for, on n nodes
-abbrev pub asking_fault : ℕ → List Opening → Option ℕ → Option OpenFault
-asking_fault n openings phase =
+abbrev pub asking_fault : ℕ → List (List ℕ) → List Opening → Option ℕ → Option OpenFault
+asking_fault n cleared openings phase =
     if is_bad_phase phase then Some BadPhase
     else if list_any (λ o. not (is_field_name o.field)) openings then Some BadName
-    else if list_any (λ o. misses_node n o.nodes) openings then Some NoNode
+    else if list_any (λ f. not (is_field_name f)) cleared then Some BadClear
+    else if list_any (λ o. pass_nodes n o.values) openings then Some NoNode
     else None
 
 -- the first fault of what is asked for of a file
-abbrev pub fault_of : Description → List Opening → Option ℕ → Option OpenFault
-fault_of d openings phase =
-    option_or (asking_fault (length d.network) openings phase) (if has_undefined (length d.network) d.sets openings then Some BadSet else None)
+abbrev pub fault_of : Description → List (List ℕ) → List Opening → Option ℕ → Option OpenFault
+fault_of d cleared openings phase =
+    option_or (asking_fault (length d.network) cleared openings phase)
+    (if has_undefined (length d.network) (kept_sets cleared d.sets) openings then Some BadSet else None)
 
--- the text is a network file: it reads to the same network, the phase that is asked for or else the file's, and the file's sets, opened
-pub record IsOpened (d : Description) (openings : List Opening) (phase : Option ℕ) (text : List ℕ) : Type 0 where
+-- the text is a network file: it reads to the same network, the phase that is asked for or else the file's, and the sets of the file that are not cleared, opened
+pub record IsOpened (d : Description) (cleared : List (List ℕ)) (openings : List Opening) (phase : Option ℕ) (text : List ℕ) : Type 0 where
   pub sets : List FieldSet
-  pub opened : AreOpened (length d.network) d.sets openings sets
+  pub opened : AreOpened (length d.network) (kept_sets cleared d.sets) openings sets
   pub reads : reading_of text ≡ Ok (record { network = d.network; phase = unwrap_or phase d.phase; sets = sets })

@@ -1,10 +1,11 @@
 //! What is asked for, looked at before anything is made.
-ghost use Rattle.std.specs.Prelude.{◌≡◌, not, nat_le};
+ghost use Rattle.std.specs.Prelude.{◌≡◌, not, nat_lt, nat_le, length};
 ghost use Rattle.std.specs.List.{list_any, list_all};
 ghost use Rattle.rule_lang.specs.Tokens.{is_word_byte};
-ghost use Rattle.net_initial.specs.Texts.{is_word, is_field_name, misses_node, is_bad_phase, asking_fault};
+ghost use Rattle.net_initial.specs.Texts.{is_word, is_field_name, misses_node, pass_nodes, is_bad_phase, asking_fault};
 
-use crate::{Chosen, OpenFault, Opening};
+use crate::{Chosen, OpenFault, Opening, Values};
+use link_net::Name;
 use rule_lang::reserved_word;
 
 /// Whether the bytes are letters, digits and `_`.
@@ -47,7 +48,18 @@ fn misses_node(nodes: u32, chosen: &Chosen) -> bool
     match chosen {
         Chosen::Every => false,
         Chosen::One(node) => *node >= nodes,
+        Chosen::Range { first, last } => *first <= *last && *last >= nodes,
         Chosen::These(chosen) => has_no_node(nodes, chosen.as_slice()),
+    }
+}
+
+/// Whether values are for a node that the network does not have.
+fn pass_nodes(nodes: u32, values: &Values) -> bool
+    ensures { result ≡ pass_nodes nodes values.now }
+{
+    match values {
+        Values::Same { nodes: chosen, .. } => misses_node(nodes, chosen),
+        Values::Each(values) => values.len() > nodes as usize,
     }
 }
 
@@ -70,24 +82,39 @@ fn has_bad_name(openings: &[Opening]) -> bool
         .any(|opening| !is_field_name(opening.field.as_str()))
 }
 
-/// Whether an opening names a node that the network does not have.
+/// Whether the name of a field that is to be cleared is none that a program can declare.
+fn has_bad_clear(cleared: &[Name]) -> bool
+    ensures { result ≡ list_any (λ f. not (is_field_name f)) cleared.now }
+{
+    cleared.iter().any(|field| !is_field_name(field.as_str()))
+}
+
+/// Whether an opening has a value for a node that the network does not have.
 fn has_missing_node(nodes: u32, openings: &[Opening]) -> bool
-    ensures { result ≡ list_any (λ o. misses_node nodes o.nodes) openings.now }
+    ensures { result ≡ list_any (λ o. pass_nodes nodes o.values) openings.now }
 {
     openings
         .iter()
-        .any(|opening| misses_node(nodes, &opening.nodes))
+        .any(|opening| pass_nodes(nodes, &opening.values))
 }
 
 /// The first fault of what is asked for.
-pub(crate) fn asking_fault(nodes: u32, openings: &[Opening], phase: Option<u8>) -> Option<OpenFault>
-    ensures { result ≡ asking_fault nodes openings.now phase }
+pub(crate) fn asking_fault(
+    nodes: u32,
+    cleared: &[Name],
+    openings: &[Opening],
+    phase: Option<u8>,
+) -> Option<OpenFault>
+    ensures { result ≡ asking_fault nodes cleared.now openings.now phase }
 {
     if is_bad_phase(phase) {
         return Some(OpenFault::BadPhase);
     }
     if has_bad_name(openings) {
         return Some(OpenFault::BadName);
+    }
+    if has_bad_clear(cleared) {
+        return Some(OpenFault::BadClear);
     }
     if has_missing_node(nodes, openings) {
         return Some(OpenFault::NoNode);

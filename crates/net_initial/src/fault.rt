@@ -6,19 +6,22 @@ use std::alloc::{AllocError, AllocFailed};
 use thiserror::Error;
 
 /// Why openings make no network file. Where several hold, the first in this order; memory is taken only where none of the
-/// first three holds.
+/// first four holds.
 #[derive(Clone, Copy, Debug, PartialEq, Eq, Error)]
 pub enum OpenFault {
     /// The phase that is asked for is not 0, 1 or 2.
     #[error("BadPhase")]
     BadPhase,
-    /// The name of a field is no name that a program can declare.
+    /// The name of a field of an opening is no name that a program can declare.
     #[error("BadName")]
     BadName,
-    /// An opening names a node that the network does not have.
+    /// The name of a field that is to be cleared is no name that a program can declare.
+    #[error("BadClear")]
+    BadClear,
+    /// An opening has a value for a node that the network does not have.
     #[error("NoNode")]
     NoNode,
-    /// The file gives a field that an opening names a number that is no node, a value outside 0 to 4,294,967,295, or one
+    /// The file gives a field that an opening names, and that is not cleared, a number that is no node, a value outside 0 to 4,294,967,295, or one
     /// node twice.
     #[error("BadSet")]
     BadSet,

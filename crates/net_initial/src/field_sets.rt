@@ -1,12 +1,13 @@
 //! The sets of fields that openings name.
-ghost use Rattle.std.specs.Prelude.{◌≡◌, ◌≢◌, ◌<◌, ◌≤◌, ℕ, ◌+◌, List, take, true, false, length, slice_index_or, replicate, Some, None, OnOk, IfOk, IfErr, if◌then◌else◌};
+ghost use Rattle.std.specs.Prelude.{◌≡◌, ◌≢◌, ◌<◌, ◌≤◌, ℕ, ◌+◌, ◌++◌, ◌∷◌, [], List, take, true, false, length, slice_index_or, replicate, Some, None, OnOk, IfOk, IfErr, if◌then◌else◌};
 ghost use Rattle.std.specs.List.{list_any};
+ghost use Rattle.std.specs.Str.{bytes_eq};
 ghost use Rattle.std.specs.Ordering.{nat_cmp};
 ghost use Rattle.std.specs.declared.cmp.Ordering.TheVariants.{Less};
 ghost use Rattle.std.specs.Cmp.Lexicographic.{slice_cmp};
 ghost use Rattle.link_net.specs.declared.field_set.FieldSet.{FieldSet};
 ghost use Rattle.link_net.specs.Names.{AreRising};
-ghost use Rattle.net_initial.specs.Opened.{pairs_at, given, is_undefined, opened_value, opened_set, is_named, has_undefined, set_at, set_after, AreOpened};
+ghost use Rattle.net_initial.specs.Opened.{pairs_at, given, is_undefined, opened_value, opened_set, is_named, has_undefined, set_at, set_after, kept_sets, AreOpened};
 ghost use Rattle.net_initial.specs.Placed.{put_set};
 
 use crate::table::{put_openings, put_pairs, shown_pairs};
@@ -122,6 +123,45 @@ fn copied(alloc: Global, sets: &[FieldSet]) -> Result<Vec<FieldSet>, AllocError>
     Ok(copies)
 }
 
+/// Whether the field is one that is cleared.
+fn is_cleared(cleared: &[Name], field: &str) -> bool
+    ensures { result ≡ list_any (bytes_eq field.now) cleared.now }
+{
+    cleared.iter().any(|name| field == name.as_str())
+}
+
+/// Puts a copy of a set behind the others, unless its field is cleared.
+fn put_kept(
+    kept: &mut Vec<FieldSet>,
+    alloc: Global,
+    set: &FieldSet,
+    cleared: &[Name],
+) -> Result<(), AllocError>
+    ensures kept { OnOk result (kept.new.items ≡ kept.old.items ++ kept_sets cleared.now (set.now ∷ [])) }
+{
+    if is_cleared(cleared, set.name.as_str()) {
+        return Ok(());
+    }
+    let copy = copy_of(alloc, set)?;
+    kept.push(copy)?;
+    Ok(())
+}
+
+/// The sets of the fields that are not cleared.
+fn kept_sets(
+    alloc: Global,
+    sets: &[FieldSet],
+    cleared: &[Name],
+) -> Result<Vec<FieldSet>, AllocError>
+    ensures kept { IfOk result (λ v. v.items ≡ kept_sets cleared.now sets.now) }
+{
+    let mut kept = Vec::with_capacity(alloc, sets.len())?;
+    for set in sets {
+        put_kept(&mut kept, alloc, set, cleared)?;
+    }
+    Ok(kept)
+}
+
 /// Whether some opening is of the field.
 fn is_named(openings: &[Opening], field: &str) -> bool
     ensures { result ≡ is_named openings.now field.now }
@@ -159,8 +199,8 @@ fn put_field(
     Ok(())
 }
 
-/// The sets of a file, opened: those of the fields that no opening names as they are.
-pub(crate) fn opened_sets(
+/// Sets, opened: those of the fields that no opening names as they are.
+fn opened_sets(
     alloc: Global,
     nodes: u32,
     sets: &[FieldSet],
@@ -177,4 +217,22 @@ pub(crate) fn opened_sets(
         put_field(alloc, nodes, &mut opened, sets, openings, place)?;
     }
     Ok(opened)
+}
+
+/// The sets of a file, those of the fields that are cleared left aside, opened.
+pub(crate) fn sets_anew(
+    alloc: Global,
+    nodes: u32,
+    sets: &[FieldSet],
+    cleared: &[Name],
+    openings: &[Opening],
+) -> Result<Vec<FieldSet>, OpenFault>
+    requires few { nodes ≤ 65536 }
+    requires rising { AreRising sets.now }
+    ensures opened { IfOk result (λ v. AreOpened nodes (kept_sets cleared.now sets.now) openings.now v.items) }
+    ensures defined { IfOk result (λ _. has_undefined nodes (kept_sets cleared.now sets.now) openings.now ≡ false) }
+    ensures refused { IfErr result (λ fault. fault ≢ OpenFault.Memory → (fault ≡ OpenFault.BadSet) × (has_undefined nodes (kept_sets cleared.now sets.now) openings.now ≡ true)) }
+{
+    let kept = kept_sets(alloc, sets, cleared)?;
+    opened_sets(alloc, nodes, kept.as_slice(), openings)
 }

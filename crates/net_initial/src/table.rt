@@ -1,9 +1,10 @@
 //! The values of one field, node by node.
-ghost use Rattle.std.specs.Prelude.{◌++◌, pos, option_map, option_to_list, OnOk, ◌≡◌, ◌<◌, ◌≤◌, ◌^◌, ℕ, ◌==◌, ◌&&◌, not, true, length, replicate, slice_index_or, is_none, Some, None, IfOk, IsTrue, if◌then◌else◌};
-ghost use Rattle.std.specs.List.{list_any};
-ghost use Rattle.net_initial.specs.Opened.{is_below, number_of, node_of, is_entry, is_undefined, given, chooses, opened_value, shown_pairs};
+ghost use Rattle.std.specs.Prelude.{◌++◌, pos, option_map, option_to_list, OnOk, ◌≡◌, ◌<◌, ◌≤◌, ◌^◌, ℕ, ◌==◌, ◌&&◌, nat_le, not, true, length, replicate, slice_index_or, is_none, Some, None, IfOk, IsTrue, if◌then◌else◌};
+ghost use Rattle.std.specs.List.{list_any, slice_get};
+ghost use Rattle.std.specs.Option.{option_or};
+ghost use Rattle.net_initial.specs.Opened.{is_below, number_of, node_of, is_entry, is_undefined, given, chooses, value_at, opened_value, shown_pairs};
 
-use crate::{Chosen, Opening};
+use crate::{Chosen, Opening, Values};
 use std::alloc::{AllocError, Global};
 
 /// Whether the number lies from 0 on, below the bound.
@@ -79,6 +80,17 @@ fn put_every(table: &mut [Option<u32>], value: u32)
     }
 }
 
+/// Puts a value into the places of the nodes from one to another, both included.
+fn put_range(table: &mut [Option<u32>], first: u32, last: u32, value: u32)
+    ensures { (u : ℕ) → u < length table.old
+        → slice_index_or table.new u None ≡ (if nat_le first u && nat_le u last then Some value else slice_index_or table.old u None) }
+{
+    let end = table.len().min(last as usize + 1);
+    for node in first as usize..end {
+        table[node] = Some(value);
+    }
+}
+
 /// Puts a value into the places of some nodes.
 fn put_these(table: &mut [Option<u32>], nodes: &[u32], value: u32)
     ensures { (u : ℕ) → u < length table.old
@@ -97,7 +109,30 @@ fn put_chosen(table: &mut [Option<u32>], nodes: &Chosen, value: u32)
     match nodes {
         Chosen::Every => put_every(table, value),
         Chosen::One(node) => put_node(table, *node, value),
+        Chosen::Range { first, last } => put_range(table, *first, *last, value),
         Chosen::These(nodes) => put_these(table, nodes.as_slice(), value),
+    }
+}
+
+/// Puts values into the places of the nodes from node 0 on, as far as the table has them.
+fn put_each(table: &mut [Option<u32>], values: &[u32])
+    ensures { (u : ℕ) → u < length table.old
+        → slice_index_or table.new u None ≡ option_or (slice_get values.now u) (slice_index_or table.old u None) }
+{
+    let end = table.len().min(values.len());
+    for node in 0..end {
+        table[node] = Some(values[node]);
+    }
+}
+
+/// Puts values into the places of their nodes.
+fn put_values(table: &mut [Option<u32>], values: &Values)
+    ensures { (u : ℕ) → u < length table.old
+        → slice_index_or table.new u None ≡ option_or (value_at values.now u) (slice_index_or table.old u None) }
+{
+    match values {
+        Values::Same { nodes, value } => put_chosen(table, nodes, *value),
+        Values::Each(values) => put_each(table, values.as_slice()),
     }
 }
 
@@ -108,7 +143,7 @@ pub(crate) fn put_openings(table: &mut [Option<u32>], openings: &[Opening], fiel
 {
     for opening in openings {
         if opening.field.as_str() == field {
-            put_chosen(table, &opening.nodes, opening.value);
+            put_values(table, &opening.values);
         }
     }
 }
