@@ -128,7 +128,7 @@ _unison() {
     ;;
   init:* | open:*)
     words=""
-    options="--set --set-random --seed --cells --width --names --phase"
+    options="--set --set-random --overlap --random --seed --cells --width --clear --names --phase"
     [ "$previous" = --phase ] && words="0 1 2"
     ;;
   info:* | show:*)

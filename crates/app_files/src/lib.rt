@@ -1,5 +1,5 @@
 //! What the programs for people share: files and standard input, standard output, how a program ends, fields by their
-//! names, nodes that are drawn, and how it is told that rounds settle.
+//! names, nodes that are drawn or listed, and how it is told that rounds settle.
 #![tactic(auto)]
 
 mod command_line;
@@ -8,6 +8,7 @@ mod ending;
 mod fields;
 mod files;
 mod lines;
+mod listed_nodes;
 mod networks;
 mod output;
 mod settling;
@@ -23,6 +24,7 @@ pub use files::{
     Text, bytes_at, bytes_where, name_at, path_in, read_once, text_at, text_where, unserved,
 };
 pub use lines::{put_note, put_place, weight_told, words_told};
+pub use listed_nodes::{NodeCalls, list_path, listed_nodes};
 pub use networks::file_at;
 pub use output::{print_out, write_file, write_out};
 pub use settling::{not_settled, settled_round, settling_line};

@@ -2,10 +2,11 @@
 ghost use Rattle.std.specs.Prelude.{◌≤◌, IfOk, IfSome};
 
 use crate::arguments::{
-    FILE_OPTION, NAMES, NAMES_ARGUMENT, NETWORK, NETWORK_ARGUMENT, NUMBER, WIDTH,
+    FILE_OPTION, FLAG, NAMES, NAMES_ARGUMENT, NETWORK, NETWORK_ARGUMENT, NUMBER, WIDTH,
 };
 use app_table::{Argument, Choice, Command, Kind, OPTION, Reading, Value, WordsFault, number};
 use link_net::MOST_NODES;
+use net_initial::{ALL_NODES, Amount};
 use std::alloc::Global;
 
 /// An option that may be given as often as wanted.
@@ -17,7 +18,7 @@ const REPEATED: Argument = Argument {
 pub(crate) const SET: Argument = Argument {
     name: "set",
     value_name: "FIELD=NODE:VALUE",
-    help: "Give a field of a node, or of all nodes where NODE is *, its initial value; as often as wanted",
+    help: "Give a field of nodes an initial value: NODE is a node, A..B for those from A to B, both included, @FILE for those that a file lists, a line each, or * for all; as often as wanted",
     ..REPEATED
 };
 
@@ -27,7 +28,7 @@ pub(crate) static SET_ARGUMENT: Argument = SET;
 pub(crate) const SET_RANDOM: Argument = Argument {
     name: "set-random",
     value_name: "FIELD=VALUE:COUNT",
-    help: "Give a field of so many nodes, drawn by the seed, its initial value; as often as wanted",
+    help: "Give a field of so many nodes, or of a share of all as 5%, drawn by the seed, an initial value; as often as wanted",
     needs: Some("seed"),
     ..REPEATED
 };
@@ -44,8 +45,45 @@ pub(crate) const SEED: Argument = Argument {
     ..OPTION
 };
 
-/// `SEED`, as it is read.
-static SEED_ARGUMENT: Argument = SEED;
+/// `SEED` where values of all nodes are drawn, too.
+const DRAWS_SEED: Argument = Argument {
+    help: "By what --set-random and --random draw; the same seed draws the same on every machine",
+    needs: None,
+    ..SEED
+};
+
+/// `DRAWS_SEED`, as it is read.
+static SEED_ARGUMENT: Argument = DRAWS_SEED;
+
+const OVERLAP: Argument = Argument {
+    name: "overlap",
+    help: "Let each of several --set-random draw among all nodes; else no node is drawn twice",
+    ..FLAG
+};
+
+/// `OVERLAP`, as it is read.
+static OVERLAP_ARGUMENT: Argument = OVERLAP;
+
+const RANDOM: Argument = Argument {
+    name: "random",
+    value_name: "FIELD=LOW..HIGH",
+    help: "Give a field of each node a number from LOW to HIGH, both included, drawn by the seed; as often as wanted",
+    needs: Some("seed"),
+    ..REPEATED
+};
+
+/// `RANDOM`, as it is read.
+static RANDOM_ARGUMENT: Argument = RANDOM;
+
+const CLEAR: Argument = Argument {
+    name: "clear",
+    value_name: "FIELD",
+    help: "Leave aside the initial values that the network gives a field, before others are given; as often as wanted",
+    ..REPEATED
+};
+
+/// `CLEAR`, as it is read.
+static CLEAR_ARGUMENT: Argument = CLEAR;
 
 const CELLS: Argument = Argument {
     name: "cells",
@@ -101,9 +139,10 @@ static INIT: Command = Command {
     aliases: &["open"],
     called: "unison init",
     about: "Give a network other initial values, by numbers, names, at random, or by patterns of cells",
-    notes: "Prints the network with other initial values; where several give one to the same field and node, the last one counts; --set counts over --cells, and that over --set-random.\nAn example: unison init examples/path.toml --set 'dist=*:9' --set dist=0:0 > start.toml\n",
+    notes: "Prints the network with other initial values; where several give one to the same field and node, the last one counts; --set counts over --cells, that over --set-random, and that over --random.\nAn example: unison init examples/path.toml --set 'dist=*:9' --set dist=0:0 > start.toml\nAnother: unison init examples/path.toml --set state=0..1:2 --set-random state=1:33.3% --seed 7 > start.toml\n",
     arguments: &[
-        NETWORK, SET, SET_RANDOM, SEED, CELLS, GRID_WIDTH, NAMES, PHASE,
+        NETWORK, SET, SET_RANDOM, OVERLAP, RANDOM, DRAWS_SEED, CELLS, GRID_WIDTH, CLEAR, NAMES,
+        PHASE,
     ],
     subcommands: &[],
 };
@@ -117,7 +156,7 @@ pub(crate) fn init() -> &'static Command {
 #[derive(Drop)]
 pub struct SetWord {
     pub field: String,
-    /// A node's number or name, or `*` for all nodes.
+    /// A node's number or name, `A..B` for the nodes from A to B, `@FILE` for those that a file lists, or `*` for all nodes.
     pub node: String,
     pub value: u32,
 }
@@ -128,7 +167,17 @@ pub struct RandomWord {
     pub field: String,
     pub value: u32,
     /// How many nodes are drawn.
-    pub count: u32,
+    pub amount: Amount,
+}
+
+/// A word of `--random FIELD=LOW..HIGH`.
+#[derive(Drop)]
+pub struct RangeWord {
+    pub field: String,
+    /// The least number that is drawn; nothing is where it is the greater one.
+    pub low: u32,
+    /// The greatest number that is drawn.
+    pub high: u32,
 }
 
 /// A word of `--cells FIELD=FILE@X,Y`.
@@ -152,10 +201,15 @@ pub struct InitRequest {
     pub names: Option<String>,
     pub sets: Vec<SetWord>,
     pub random: Vec<RandomWord>,
+    /// Whether each word of `random` draws among all nodes, and not among those that the others leave.
+    pub overlap: bool,
+    pub values: Vec<RangeWord>,
+    /// The fields whose initial values in the network file are left aside.
+    pub cleared: Vec<String>,
     pub cells: Vec<CellsWord>,
     /// How many columns the grid has in which patterns are put; where there are none, 1.
     pub width: u32,
-    /// By what nodes are drawn; where none are, 0.
+    /// By what nodes and numbers are drawn; where none are, 0.
     pub seed: u32,
     /// The phase in which all nodes open; where there is none, that of the file.
     pub phase: Option<u8>,
@@ -207,30 +261,64 @@ pub(crate) fn sets_in(reading: &mut Reading) -> Vec<SetWord> {
     sets
 }
 
+/// The number that six decimals write, of which the last may be left out.
+fn millionths(digits: &str) -> Option<u32> {
+    if digits.len() > 6 {
+        return None;
+    }
+    let mut value = number(digits, 0, 999_999)?;
+    for _ in digits.len()..6 {
+        value = value.checked_mul(10)?;
+    }
+    Some(value)
+}
+
+/// The millionths of a percent that a number of percents writes, 100 at most, with six decimals at most.
+fn share_of(percents: &str) -> Option<u32> {
+    let (whole, digits) = percents.split_once('.').unwrap_or((percents, "0"));
+    let whole = number(whole, 0, 100)?;
+    let rest = millionths(digits)?;
+    let share = whole.checked_mul(1_000_000)?.checked_add(rest)?;
+    if share > ALL_NODES {
+        return None;
+    }
+    Some(share)
+}
+
+/// How many nodes a word asks for: a number, or a share of all nodes with `%` behind it.
+fn amount_of(word: &str) -> Option<Amount> {
+    if let Some(percents) = word.strip_suffix('%') {
+        let share = share_of(percents)?;
+        return Some(Amount::Share(share));
+    }
+    let count = number(word, 0, 4_294_967_295)?;
+    Some(Amount::Count(count))
+}
+
 /// The parts of a word of `--set-random`.
-fn random_parts(word: &str) -> Option<(&str, u32, u32)> {
+fn random_parts(word: &str) -> Option<(&str, u32, Amount)> {
     let (field, rest) = word.split_once('=')?;
-    let (value, count) = rest.split_once(':')?;
+    let (value, amount) = rest.split_once(':')?;
     let value = number(value, 0, 4_294_967_295)?;
-    let count = number(count, 0, 4_294_967_295)?;
-    Some((field, value, count))
+    let amount = amount_of(amount)?;
+    Some((field, value, amount))
 }
 
 /// Notes that a word of `--set-random` has not its parts.
 fn refuse_random(reading: &mut Reading, word: &str) {
     reading.refuse_as(format!(in reading.alloc();
-        "--set-random: expected FIELD=VALUE:COUNT, two whole numbers from 0 to 4294967295 behind the first =, found `{word}`"
+        "--set-random: expected FIELD=VALUE:COUNT, with a whole number from 0 to 4294967295 behind the first =, and behind the colon another one or a share from 0% to 100% with six decimals at most, found `{word}`"
     ));
 }
 
 /// The word of `--set-random`, where it has its parts.
 fn random_word(reading: &mut Reading, word: &str) -> Option<RandomWord> {
-    let (field, value, count) = random_parts(word)?;
+    let (field, value, amount) = random_parts(word)?;
     let field = reading.copied(field);
     Some(RandomWord {
         field,
         value,
-        count,
+        amount,
     })
 }
 
@@ -254,6 +342,66 @@ pub(crate) fn random_in(reading: &mut Reading) -> Vec<RandomWord> {
         put_random(&mut random, reading, word.as_str());
     }
     random
+}
+
+/// The parts of a word of `--random`.
+fn range_parts(word: &str) -> Option<(&str, u32, u32)> {
+    let (field, rest) = word.split_once('=')?;
+    let (low, high) = rest.split_once("..")?;
+    let low = number(low, 0, 4_294_967_295)?;
+    let high = number(high, 0, 4_294_967_295)?;
+    Some((field, low, high))
+}
+
+/// Notes that a word of `--random` has not its parts.
+fn refuse_range(reading: &mut Reading, word: &str) {
+    reading.refuse_as(format!(in reading.alloc();
+        "--random: expected FIELD=LOW..HIGH, with two whole numbers from 0 to 4294967295 behind the first =, found `{word}`"
+    ));
+}
+
+/// The word of `--random`, where it has its parts.
+fn range_word(reading: &mut Reading, word: &str) -> Option<RangeWord> {
+    let (field, low, high) = range_parts(word)?;
+    let field = reading.copied(field);
+    Some(RangeWord { field, low, high })
+}
+
+/// Puts a word behind the others.
+fn put_range(values: &mut Vec<RangeWord>, reading: &mut Reading, word: &str) {
+    match range_word(reading, word) {
+        Some(found) => {
+            if values.push(found).is_err() {
+                reading.refuse(WordsFault::Memory);
+            }
+        }
+        None => refuse_range(reading, word),
+    }
+}
+
+/// The words of `--random`, in their order.
+fn values_in(reading: &mut Reading) -> Vec<RangeWord> {
+    let words = reading.texts(&RANDOM_ARGUMENT);
+    let mut values = Vec::new(reading.alloc());
+    for word in &words {
+        put_range(&mut values, reading, word.as_str());
+    }
+    values
+}
+
+/// Refuses a seed where nothing is drawn, and `--overlap` where no nodes are.
+fn check_draws(reading: &mut Reading) {
+    let draws_nodes = reading.has(&SET_RANDOM_ARGUMENT);
+    if reading.has(&SEED_ARGUMENT) && !draws_nodes && !reading.has(&RANDOM_ARGUMENT) {
+        reading.refuse_words(
+            "--seed: nothing is drawn; give --set-random or --random, or leave --seed out",
+        );
+    }
+    if reading.has(&OVERLAP_ARGUMENT) && !draws_nodes {
+        reading.refuse_words(
+            "--overlap: no nodes are drawn; give --set-random, or leave --overlap out",
+        );
+    }
 }
 
 /// The parts of a word of `--cells`: what stands before the first `=`, what follows up to the last `@`, and the two numbers
@@ -328,7 +476,11 @@ fn request_in(reading: &mut Reading) -> InitRequest
     let phase = phase_in(reading);
     let seed = reading.number_or(&SEED_ARGUMENT, 0);
     let width = reading.number_or(&GRID_WIDTH_ARGUMENT, 1);
+    check_draws(reading);
     let random = random_in(reading);
+    let overlap = reading.has(&OVERLAP_ARGUMENT);
+    let values = values_in(reading);
+    let cleared = reading.texts(&CLEAR_ARGUMENT);
     let cells = cells_in(reading);
     let sets = sets_in(reading);
     let names = reading.text(&NAMES_ARGUMENT);
@@ -338,6 +490,9 @@ fn request_in(reading: &mut Reading) -> InitRequest
         names,
         sets,
         random,
+        overlap,
+        values,
+        cleared,
         cells,
         width,
         seed,

@@ -1,6 +1,6 @@
 //! `init .. --cells FIELD=FILE@X,Y --width W`: patterns of cells as initial values.
 
-use crate::init::put_opening;
+use crate::init::put_same;
 use app_files::{Ending, bytes_at, name_at};
 use app_requests::{CellsWord, InitRequest};
 use net_initial::{Chosen, Opening};
@@ -92,7 +92,7 @@ fn put_word(
     word: &CellsWord,
 ) -> Result<(), Ending> {
     let nodes = nodes_for(rt, grid, word)?;
-    put_opening(
+    put_same(
         openings,
         rt.alloc(),
         word.field.as_str(),

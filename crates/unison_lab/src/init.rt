@@ -2,40 +2,47 @@
 
 use crate::cells::put_cells;
 use crate::names::names_at;
-use app_files::{Ending, drawn_for, file_at, next_draw, path_in, print_out, read_once};
-use app_requests::{InitRequest, RandomWord, SetWord};
+use app_files::{
+    Ending, NodeCalls, drawn_for, file_at, list_path, listed_nodes, next_draw, path_in, print_out,
+    read_once,
+};
+use app_requests::{InitRequest, RandomWord, RangeWord, SetWord};
 use app_table::number;
 use link_net::{MOST_NODES, Name, NetFile};
-use net_initial::{Chosen, OpenFault, Opening, opened_text};
+use net_initial::{Amount, Chosen, OpenFault, Opening, Values, drawn_values, opened_text};
 use net_names::NodeNames;
 use std::alloc::{AllocError, Global};
 
-/// The opening of a field.
-fn opening_of(
-    alloc: Global,
-    field: &str,
-    nodes: Chosen,
-    value: u32,
-) -> Result<Opening, AllocError> {
-    let field = Name::new(String::from_str(alloc, field)?);
-    Ok(Opening {
-        field,
-        nodes,
-        value,
-    })
+/// How far the seed of the first word of `--random` is above that of the first word of `--set-random`.
+const RANDOM_SEEDS: u64 = 1 << 63;
+
+/// The name of a field.
+fn name_of(alloc: Global, field: &str) -> Result<Name, AllocError> {
+    let text = String::from_str(alloc, field)?;
+    Ok(Name::new(text))
 }
 
-/// Puts an opening behind the others.
-pub(crate) fn put_opening(
+/// Puts the opening of a field behind the others.
+fn put_opening(
+    openings: &mut Vec<Opening>,
+    alloc: Global,
+    field: &str,
+    values: Values,
+) -> Result<(), Ending> {
+    let field = name_of(alloc, field)?;
+    openings.push(Opening { field, values })?;
+    Ok(())
+}
+
+/// Puts the opening that gives a field the same value at some nodes behind the others.
+pub(crate) fn put_same(
     openings: &mut Vec<Opening>,
     alloc: Global,
     field: &str,
     nodes: Chosen,
     value: u32,
 ) -> Result<(), Ending> {
-    let opening = opening_of(alloc, field, nodes, value)?;
-    openings.push(opening)?;
-    Ok(())
+    put_opening(openings, alloc, field, Values::Same { nodes, value })
 }
 
 /// What a node is called by.
@@ -61,7 +68,7 @@ fn node_in(names: &Option<NodeNames>, word: &str) -> Option<u32> {
     }
 }
 
-/// The nodes that a word of `--set` names, where it names some.
+/// The nodes that a word of `--set` names besides those that it lists, where it names some.
 fn nodes_in(names: &Option<NodeNames>, word: &str) -> Option<Chosen> {
     if word == "*" {
         return Some(Chosen::Every);
@@ -70,63 +77,161 @@ fn nodes_in(names: &Option<NodeNames>, word: &str) -> Option<Chosen> {
     Some(Chosen::One(node))
 }
 
+/// The nodes that a word of `--set` names.
+fn nodes_for(
+    rt: &HostRuntime,
+    nodes: u32,
+    names: &Option<NodeNames>,
+    word: &SetWord,
+) -> Result<Chosen, Ending> {
+    let calls = NodeCalls {
+        nodes,
+        names: names.as_ref(),
+    };
+    let listed = listed_nodes(rt, &calls, word.field.as_str(), word.node.as_str())?;
+    match listed.or_else(|| nodes_in(names, word.node.as_str())) {
+        Some(chosen) => Ok(chosen),
+        None => Err(no_node(rt.alloc(), word, kind_of(names))),
+    }
+}
+
 /// Puts the opening that a word of `--set` asks for.
 fn put_set_word(
     openings: &mut Vec<Opening>,
-    alloc: Global,
+    rt: &HostRuntime,
+    nodes: u32,
     names: &Option<NodeNames>,
     word: &SetWord,
 ) -> Result<(), Ending> {
-    match nodes_in(names, word.node.as_str()) {
-        Some(nodes) => put_opening(openings, alloc, word.field.as_str(), nodes, word.value),
-        None => Err(no_node(alloc, word, kind_of(names))),
-    }
+    let chosen = nodes_for(rt, nodes, names, word)?;
+    put_same(
+        openings,
+        rt.alloc(),
+        word.field.as_str(),
+        chosen,
+        word.value,
+    )
 }
 
 /// Puts the openings that the words of `--set` ask for.
 fn put_set(
     openings: &mut Vec<Opening>,
-    alloc: Global,
+    rt: &HostRuntime,
+    nodes: u32,
     names: &Option<NodeNames>,
     words: &[SetWord],
 ) -> Result<(), Ending> {
     for word in words {
-        put_set_word(openings, alloc, names, word)?;
+        put_set_word(openings, rt, nodes, names, word)?;
     }
     Ok(())
 }
 
-/// Puts the opening that a word of `--set-random` asks for, of nodes that are drawn by this seed.
-fn put_drawn_word(
+/// Puts the openings that words of `--set-random` ask for, of nodes that are drawn by this seed, no node twice.
+fn put_drawn(
     openings: &mut Vec<Opening>,
     alloc: Global,
     nodes: u32,
-    word: &RandomWord,
+    words: &[RandomWord],
     seed: u64,
 ) -> Result<(), Ending> {
-    let drawn = drawn_for(alloc, nodes, word.count, seed)?;
-    put_opening(
-        openings,
-        alloc,
-        word.field.as_str(),
-        Chosen::These(drawn),
-        word.value,
-    )
+    let amounts = amounts_of(alloc, words)?;
+    let drawn = drawn_for(alloc, nodes, &amounts, seed)?;
+    for (word, part) in words.iter().zip(drawn) {
+        put_same(
+            openings,
+            alloc,
+            word.field.as_str(),
+            Chosen::These(part),
+            word.value,
+        )?;
+    }
+    Ok(())
 }
 
-/// Puts the openings that the words of `--set-random` ask for.
-fn put_drawn(
+/// How many nodes words of `--set-random` draw.
+fn amounts_of(alloc: Global, words: &[RandomWord]) -> Result<Vec<Amount>, AllocError> {
+    let mut amounts = Vec::with_capacity(alloc, words.len())?;
+    for word in words {
+        amounts.push(word.amount)?;
+    }
+    Ok(amounts)
+}
+
+/// Puts the openings that the words of `--set-random` ask for, each of which draws among all nodes.
+fn put_each_drawn(
     openings: &mut Vec<Opening>,
     alloc: Global,
     nodes: u32,
     asked: &InitRequest,
 ) -> Result<(), Ending> {
     let mut seed = asked.seed as u64;
-    for word in &asked.random {
+    for word in asked.random.chunks(1) {
         seed = next_draw(seed);
-        put_drawn_word(openings, alloc, nodes, word, seed)?;
+        put_drawn(openings, alloc, nodes, word, seed)?;
     }
     Ok(())
+}
+
+/// Puts the openings that the words of `--set-random` ask for.
+fn put_random(
+    openings: &mut Vec<Opening>,
+    alloc: Global,
+    nodes: u32,
+    asked: &InitRequest,
+) -> Result<(), Ending> {
+    if asked.overlap {
+        return put_each_drawn(openings, alloc, nodes, asked);
+    }
+    let seed = next_draw(asked.seed as u64);
+    put_drawn(openings, alloc, nodes, asked.random.as_slice(), seed)
+}
+
+/// The ending where no number lies between the two of a word of `--random`.
+fn no_range(alloc: Global, word: &RangeWord) -> Ending {
+    let (field, low, high) = (word.field.as_str(), word.low, word.high);
+    Ending::usage(format!(in alloc;
+        "--random: {field}: expected LOW..HIGH with LOW not above HIGH, found `{low}..{high}`"
+    ))
+}
+
+/// Puts the opening that a word of `--random` asks for, of numbers that are drawn by this seed.
+fn put_range(
+    openings: &mut Vec<Opening>,
+    alloc: Global,
+    nodes: u32,
+    word: &RangeWord,
+    seed: u64,
+) -> Result<(), Ending> {
+    if word.low > word.high {
+        return Err(no_range(alloc, word));
+    }
+    let values = drawn_values(alloc, nodes, word.low, word.high, seed)?;
+    put_opening(openings, alloc, word.field.as_str(), Values::Each(values))
+}
+
+/// Puts the openings that the words of `--random` ask for.
+fn put_ranges(
+    openings: &mut Vec<Opening>,
+    alloc: Global,
+    nodes: u32,
+    asked: &InitRequest,
+) -> Result<(), Ending> {
+    let mut seed = RANDOM_SEEDS + asked.seed as u64;
+    for word in &asked.values {
+        seed = next_draw(seed);
+        put_range(openings, alloc, nodes, word, seed)?;
+    }
+    Ok(())
+}
+
+/// The fields whose values in the file are left aside.
+fn cleared_by(alloc: Global, asked: &InitRequest) -> Result<Vec<Name>, AllocError> {
+    let mut cleared = Vec::with_capacity(alloc, asked.cleared.len())?;
+    for field in &asked.cleared {
+        cleared.push(name_of(alloc, field.as_str())?)?;
+    }
+    Ok(cleared)
 }
 
 /// The ending where openings make no network file.
@@ -135,6 +240,8 @@ fn no_opening(alloc: Global, fault: OpenFault) -> Ending {
         OpenFault::BadPhase => "--phase: expected 0, 1 or 2",
         OpenFault::BadName =>
             "--set: a field's name is one that a program can declare: a letter, then letters, digits and _, and no word of the language",
+        OpenFault::BadClear =>
+            "--clear: a field's name is one that a program can declare: a letter, then letters, digits and _, and no word of the language",
         OpenFault::NoNode => "--set: the network has no node of this number",
         OpenFault::BadSet =>
             "--set: what the file gives this field is no opening: a number that is no node, a value above 4294967295, or a node twice",
@@ -149,6 +256,14 @@ fn put_paths<'a>(paths: &mut Vec<&'a str>, asked: &'a InitRequest) -> Result<(),
     paths.push(path_in(&asked.names))?;
     for word in &asked.cells {
         paths.push(word.path.as_str())?;
+    }
+    put_list_paths(paths, asked.sets.as_slice())
+}
+
+/// Puts the paths of the lists that words of `--set` name.
+fn put_list_paths<'a>(paths: &mut Vec<&'a str>, words: &'a [SetWord]) -> Result<(), AllocError> {
+    for word in words {
+        paths.push(list_path(word.node.as_str()).unwrap_or(""))?;
     }
     Ok(())
 }
@@ -168,9 +283,10 @@ fn put_openings(
     nodes: u32,
     names: &Option<NodeNames>,
 ) -> Result<(), Ending> {
-    put_drawn(openings, rt.alloc(), nodes, asked)?;
+    put_ranges(openings, rt.alloc(), nodes, asked)?;
+    put_random(openings, rt.alloc(), nodes, asked)?;
     put_cells(openings, rt, nodes, asked)?;
-    put_set(openings, rt.alloc(), names, asked.sets.as_slice())
+    put_set(openings, rt, nodes, names, asked.sets.as_slice())
 }
 
 /// The openings that the words ask for of a network of so many nodes, in the order in which they count.
@@ -181,14 +297,15 @@ fn openings_for(rt: &HostRuntime, asked: &InitRequest, nodes: u32) -> Result<Vec
     Ok(openings)
 }
 
-/// The network file with these openings.
+/// The network file with these openings, over the file's values but for those of the fields that are cleared.
 fn opened(
     alloc: Global,
     file: &NetFile,
+    cleared: &[Name],
     openings: &[Opening],
     phase: Option<u8>,
 ) -> Result<Vec<u8>, Ending> {
-    match opened_text(alloc, file, openings, phase) {
+    match opened_text(alloc, file, cleared, openings, phase) {
         Ok(text) => Ok(text),
         Err(fault) => Err(no_opening(alloc, fault)),
     }
@@ -197,7 +314,8 @@ fn opened(
 /// The network file with the openings that the words ask for.
 fn opened_for(rt: &HostRuntime, asked: &InitRequest, file: &NetFile) -> Result<Vec<u8>, Ending> {
     let openings = openings_for(rt, asked, file.network().nodes())?;
-    opened(rt.alloc(), file, openings.as_slice(), asked.phase)
+    let cleared = cleared_by(rt.alloc(), asked)?;
+    opened(rt.alloc(), file, &cleared, &openings, asked.phase)
 }
 
 /// The network file that the words ask for.

@@ -3,12 +3,16 @@
 use crate::arrays::column_at;
 use crate::network::network_at;
 use crate::reports::report_at;
-use app_files::{Ending, bytes_at, drawn_for, field_place, next_draw, path_in, read_once};
+use app_files::{
+    Ending, NodeCalls, bytes_at, drawn_for, field_place, list_path, listed_nodes, next_draw,
+    path_in, read_once,
+};
 use app_jobs::program_of;
 use app_requests::{FileWord, LargeTexts, RandomWord, SetWord, StartWords};
 use app_table::number;
 use large_net::LargeNetwork;
 use large_rounds::{openings, set_all_values, set_value};
+use net_initial::Chosen;
 use rule_check::{Program, State};
 use std::alloc::{AllocError, Global};
 
@@ -50,34 +54,6 @@ fn put_value(
     }
 }
 
-/// Gives the values that a word of `--set` names.
-fn put_set(
-    states: &mut [State],
-    alloc: Global,
-    program: &Program,
-    word: &SetWord,
-) -> Result<(), Ending> {
-    let field = field_place(alloc, program, "--set", word.field.as_str())?;
-    if word.node.as_str() == "*" {
-        let _ = set_all_values(program, states, field, word.value);
-        return Ok(());
-    }
-    put_value(states, alloc, program, field, word)
-}
-
-/// Gives the values that the words of `--set` name, in their order.
-fn put_sets(
-    states: &mut [State],
-    alloc: Global,
-    program: &Program,
-    words: &[SetWord],
-) -> Result<(), Ending> {
-    for word in words {
-        put_set(states, alloc, program, word)?;
-    }
-    Ok(())
-}
-
 /// Gives a field of these nodes a value.
 fn put_values(states: &mut [State], program: &Program, nodes: &[u32], field: u32, value: u32) {
     for node in nodes {
@@ -85,8 +61,75 @@ fn put_values(states: &mut [State], program: &Program, nodes: &[u32], field: u32
     }
 }
 
+/// Gives a field of the nodes from one to another a value.
+fn put_range(
+    states: &mut [State],
+    program: &Program,
+    first: u32,
+    last: u32,
+    field: u32,
+    value: u32,
+) {
+    for node in first..=last {
+        let _ = set_value(program, states, node, field, value);
+    }
+}
+
+/// Gives a field of the nodes that are chosen a value.
+fn put_chosen(states: &mut [State], program: &Program, chosen: &Chosen, field: u32, value: u32) {
+    match chosen {
+        Chosen::Every => {
+            let _ = set_all_values(program, states, field, value);
+        }
+        Chosen::One(node) => {
+            let _ = set_value(program, states, *node, field, value);
+        }
+        Chosen::Range { first, last } => put_range(states, program, *first, *last, field, value),
+        Chosen::These(nodes) => put_values(states, program, nodes, field, value),
+    }
+}
+
+/// The nodes that a word of `--set` names for a network with so many, where they are not one alone.
+fn nodes_for(rt: &HostRuntime, nodes: u32, word: &SetWord) -> Result<Option<Chosen>, Ending> {
+    if word.node.as_str() == "*" {
+        return Ok(Some(Chosen::Every));
+    }
+    let calls = NodeCalls { nodes, names: None };
+    listed_nodes(rt, &calls, word.field.as_str(), word.node.as_str())
+}
+
+/// Gives the values that a word of `--set` names.
+fn put_set(
+    states: &mut [State],
+    rt: &HostRuntime,
+    program: &Program,
+    nodes: u32,
+    word: &SetWord,
+) -> Result<(), Ending> {
+    let field = field_place(rt.alloc(), program, "--set", word.field.as_str())?;
+    let Some(chosen) = nodes_for(rt, nodes, word)? else {
+        return put_value(states, rt.alloc(), program, field, word);
+    };
+    put_chosen(states, program, &chosen, field, word.value);
+    Ok(())
+}
+
+/// Gives the values that the words of `--set` name, in their order.
+fn put_sets(
+    states: &mut [State],
+    rt: &HostRuntime,
+    program: &Program,
+    nodes: u32,
+    words: &[SetWord],
+) -> Result<(), Ending> {
+    for word in words {
+        put_set(states, rt, program, nodes, word)?;
+    }
+    Ok(())
+}
+
 /// Gives the values that a word of `--set-random` names, of so many nodes. It draws the nodes that `unison init` draws by the
-/// same words.
+/// same words with `--overlap`.
 fn put_random(
     states: &mut [State],
     alloc: Global,
@@ -96,8 +139,9 @@ fn put_random(
     seed: u64,
 ) -> Result<(), Ending> {
     let field = field_place(alloc, program, "--set-random", word.field.as_str())?;
-    let chosen = drawn_for(alloc, nodes, word.count, seed)?;
-    put_values(states, program, &chosen, field, word.value);
+    for chosen in &drawn_for(alloc, nodes, &[word.amount], seed)? {
+        put_values(states, program, chosen, field, word.value);
+    }
     Ok(())
 }
 
@@ -162,7 +206,7 @@ fn states_of(
     let mut states = openings(rt.alloc(), program, nodes)?;
     put_randoms(&mut states, rt.alloc(), program, nodes, words)?;
     put_files(&mut states, rt, program, nodes, words.files.as_slice())?;
-    put_sets(&mut states, rt.alloc(), program, words.sets.as_slice())?;
+    put_sets(&mut states, rt, program, nodes, words.sets.as_slice())?;
     Ok(states)
 }
 
@@ -201,6 +245,14 @@ fn put_paths<'a>(paths: &mut Vec<&'a str>, texts: &'a LargeTexts) -> Result<(), 
     paths.push(path_in(&texts.from))?;
     for word in &texts.start.files {
         paths.push(word.path.as_str())?;
+    }
+    put_list_paths(paths, texts.start.sets.as_slice())
+}
+
+/// Puts the paths of the lists that words of `--set` name.
+fn put_list_paths<'a>(paths: &mut Vec<&'a str>, words: &'a [SetWord]) -> Result<(), AllocError> {
+    for word in words {
+        paths.push(list_path(word.node.as_str()).unwrap_or(""))?;
     }
     Ok(())
 }
