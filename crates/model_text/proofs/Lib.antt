@@ -1,0 +1,9 @@
+pub mod Complete
+pub mod Ends
+pub mod ItemsRead
+pub mod Leads
+pub mod Lexing
+pub mod Models
+pub mod Naming
+pub mod SingleTokens
+pub mod Sound

@@ -1,2 +1,9 @@
+pub mod Causes
+pub mod Grammar
+pub mod Keywords
+pub mod Lexing
+pub mod Models
+pub mod Reading
+pub mod Tokens
 pub mod Tree
 pub mod View

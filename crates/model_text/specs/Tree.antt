@@ -20,7 +20,7 @@ mutual
     InfixTree : (operator : Operator) (at : ℕ) (left right : Tree) → Tree
     NotTree : (at : ℕ) (part : Tree) → Tree
     ParensTree : (at : ℕ) (part : Tree) → Tree
-    IfTree : (at : ℕ) (test yes no : Tree) → Tree
+    IfTree : (at : ℕ) (test first second : Tree) → Tree
     CasesTree : (at : ℕ) (arms : ArmTree) → Tree
     CallTree : (function : Function) (at : ℕ) (arguments : ArgumentTree) → Tree
     ApplyTree : (name : List ℕ) (at : ℕ) (arguments : ArgumentTree) → Tree

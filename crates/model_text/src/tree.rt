@@ -1,7 +1,8 @@
 //! The tree of a model, with the place of each of its words and operators in the text.
 //!
 //! A place is that of a token's first byte, counted in bytes from 0. Brackets are kept, so that a
-//! tree has one spelling but for blanks, comments, the digits of a number and a comma before `}`.
+//! tree has one list of tokens. What a name means is not told here, nor how many arguments a call
+//! takes.
 
 /// An operator between two parts.
 #[derive(Clone, Copy, PartialEq, Eq)]
@@ -40,8 +41,7 @@ pub enum Operator {
     Rem,
 }
 
-/// A function that the notation has; each name is a reserved word. How many arguments it takes, and
-/// where it may stand, is not told by the text's form.
+/// A function that the notation has; each name is a reserved word.
 #[derive(Clone, Copy, PartialEq, Eq)]
 pub enum Function {
     /// `total(a)`: the sum over the neighbours.
@@ -156,7 +156,7 @@ pub enum Expr {
         at: u32,
         arguments: Box<Arguments>,
     },
-    /// `name(arguments)`: a let with parameters, by its name; it has one argument at least.
+    /// `name(arguments)`: a let with parameters, by its name.
     Apply {
         name: String,
         at: u32,
