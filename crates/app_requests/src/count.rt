@@ -168,12 +168,7 @@ fn refuse_twice(reading: &mut Reading, option: &str, word: &str) {
 }
 
 /// Puts a column behind the others.
-fn put_figure(
-    figures: &mut Vec<FigureWord>,
-    reading: &mut Reading,
-    kind: FigureKind,
-    word: &str,
-) {
+fn put_figure(figures: &mut Vec<FigureWord>, reading: &mut Reading, kind: FigureKind, word: &str) {
     let field = reading.copied(word);
     if figures.push(FigureWord { kind, field }).is_err() {
         reading.refuse(WordsFault::Memory);
