@@ -182,15 +182,15 @@ _unison() {
     options=""
     ;;
   large:lockstep)
-    options="--rounds --from --set --set-file --set-random --seed --count --format --field --threads --sequential"
+    options="--rounds --from --set --set-file --set-random --overlap --seed --count --format --field --threads --sequential"
     [ "$previous" = --format ] && words="report csv npy"
     ;;
   large:watch)
-    options="--rounds --every --from --set --set-file --set-random --seed --count --field --format --threads --sequential"
+    options="--rounds --every --from --set --set-file --set-random --overlap --seed --count --field --format --threads --sequential"
     [ "$previous" = --format ] && words="csv npy"
     ;;
   large:settle)
-    options="--limit --report --from --set --set-file --set-random --seed --threads --sequential"
+    options="--limit --report --from --set --set-file --set-random --overlap --seed --threads --sequential"
     ;;
   large:*)
     words="info show lockstep watch settle"

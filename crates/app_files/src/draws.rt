@@ -51,6 +51,35 @@ fn no_draw(alloc: Global, nodes: u32, counts: &[u64], fault: DrawFault) -> Endin
     }
 }
 
+/// Puts lists behind others.
+fn put_parts(parts: &mut Vec<Vec<u32>>, drawn: Vec<Vec<u32>>) -> Result<(), AllocError> {
+    for part in drawn {
+        parts.push(part)?;
+    }
+    Ok(())
+}
+
+/// For each of the amounts so many nodes of a network, which words of `--set-random` draw under the seed that the command
+/// names: all of them different ones, or each amount among all nodes. Invalid arguments where the network has fewer.
+pub fn drawn_parts(
+    alloc: Global,
+    nodes: u32,
+    amounts: &[Amount],
+    seed: u32,
+    overlap: bool,
+) -> Result<Vec<Vec<u32>>, Ending> {
+    let mut draw = next_draw(seed as u64);
+    if !overlap {
+        return drawn_for(alloc, nodes, amounts, draw);
+    }
+    let mut parts = Vec::with_capacity(alloc, amounts.len())?;
+    for amount in amounts.chunks(1) {
+        put_parts(&mut parts, drawn_for(alloc, nodes, amount, draw)?)?;
+        draw = next_draw(draw);
+    }
+    Ok(parts)
+}
+
 /// For each of the amounts so many nodes of a network, which words of `--set-random` draw by a seed; all of them are
 /// different ones. Invalid arguments where the network has fewer.
 pub fn drawn_for(

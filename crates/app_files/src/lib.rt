@@ -17,7 +17,7 @@ mod told;
 mod usage;
 
 pub use command_line::words_of;
-pub use draws::{drawn_for, next_draw};
+pub use draws::{drawn_for, drawn_parts, next_draw};
 pub use ending::{Ending, refused};
 pub use fields::{all_fields, coloured_field, field_place, shown_fields};
 pub use files::{

@@ -7,7 +7,7 @@ use crate::arguments::{
 use app_table::{Argument, Choice, Command, Kind, OPTION, Reading, Value, WordsFault, number};
 use link_net::MOST_NODES;
 use net_initial::{ALL_NODES, Amount};
-use std::alloc::Global;
+use std::alloc::{AllocError, Global};
 
 /// An option that may be given as often as wanted.
 const REPEATED: Argument = Argument {
@@ -55,7 +55,7 @@ const DRAWS_SEED: Argument = Argument {
 /// `DRAWS_SEED`, as it is read.
 static SEED_ARGUMENT: Argument = DRAWS_SEED;
 
-const OVERLAP: Argument = Argument {
+pub(crate) const OVERLAP: Argument = Argument {
     name: "overlap",
     help: "Let each of several --set-random draw among all nodes; else no node is drawn twice",
     ..FLAG
@@ -168,6 +168,15 @@ pub struct RandomWord {
     pub value: u32,
     /// How many nodes are drawn.
     pub amount: Amount,
+}
+
+/// How many nodes each word of `--set-random` draws.
+pub fn amounts_of(alloc: Global, words: &[RandomWord]) -> Result<Vec<Amount>, AllocError> {
+    let mut amounts = Vec::with_capacity(alloc, words.len())?;
+    for word in words {
+        amounts.push(word.amount)?;
+    }
+    Ok(amounts)
 }
 
 /// A word of `--random FIELD=LOW..HIGH`.
@@ -389,19 +398,25 @@ fn values_in(reading: &mut Reading) -> Vec<RangeWord> {
     values
 }
 
-/// Refuses a seed where nothing is drawn, and `--overlap` where no nodes are.
+/// Refuses a seed where nothing is drawn.
 fn check_draws(reading: &mut Reading) {
-    let draws_nodes = reading.has(&SET_RANDOM_ARGUMENT);
-    if reading.has(&SEED_ARGUMENT) && !draws_nodes && !reading.has(&RANDOM_ARGUMENT) {
+    let draws = reading.has(&SET_RANDOM_ARGUMENT) || reading.has(&RANDOM_ARGUMENT);
+    if reading.has(&SEED_ARGUMENT) && !draws {
         reading.refuse_words(
             "--seed: nothing is drawn; give --set-random or --random, or leave --seed out",
         );
     }
-    if reading.has(&OVERLAP_ARGUMENT) && !draws_nodes {
+}
+
+/// Whether each word of `--set-random` draws among all nodes. Refused where no nodes are drawn.
+pub(crate) fn overlap_in(reading: &mut Reading) -> bool {
+    let overlap = reading.has(&OVERLAP_ARGUMENT);
+    if overlap && !reading.has(&SET_RANDOM_ARGUMENT) {
         reading.refuse_words(
             "--overlap: no nodes are drawn; give --set-random, or leave --overlap out",
         );
     }
+    overlap
 }
 
 /// The parts of a word of `--cells`: what stands before the first `=`, what follows up to the last `@`, and the two numbers
@@ -478,7 +493,7 @@ fn request_in(reading: &mut Reading) -> InitRequest
     let width = reading.number_or(&GRID_WIDTH_ARGUMENT, 1);
     check_draws(reading);
     let random = random_in(reading);
-    let overlap = reading.has(&OVERLAP_ARGUMENT);
+    let overlap = overlap_in(reading);
     let values = values_in(reading);
     let cleared = reading.texts(&CLEAR_ARGUMENT);
     let cells = cells_in(reading);

@@ -5,8 +5,8 @@ use crate::arguments::{
     span_in,
 };
 use crate::init::{
-    RandomWord, SEED, SET, SET_ARGUMENT, SET_RANDOM, SET_RANDOM_ARGUMENT, SetWord, random_in,
-    sets_in,
+    OVERLAP, RandomWord, SEED, SET, SET_ARGUMENT, SET_RANDOM, SET_RANDOM_ARGUMENT, SetWord,
+    overlap_in, random_in, sets_in,
 };
 use crate::settle::{DEFAULT_LIMIT, LIMIT, LIMIT_ARGUMENT, REPORT, REPORT_ARGUMENT};
 use app_table::{Argument, Choice, Command, Kind, OPTION, Reading, Subcommand, Value, WordsFault};
@@ -166,8 +166,8 @@ const WAYS: [Subcommand; 5] = [
         about: "Report the states after a round, as unison lockstep does",
         notes: "",
         arguments: &[
-            PROGRAM, PACKED, LAST, FROM, SET, SET_FILE, SET_RANDOM, SEED, COUNT, FORMAT, ONE_FIELD,
-            THREADS, SEQUENTIAL,
+            PROGRAM, PACKED, LAST, FROM, SET, SET_FILE, SET_RANDOM, OVERLAP, SEED, COUNT, FORMAT,
+            ONE_FIELD, THREADS, SEQUENTIAL,
         ],
     },
     Subcommand {
@@ -183,6 +183,7 @@ const WAYS: [Subcommand; 5] = [
             SET,
             SET_FILE,
             SET_RANDOM,
+            OVERLAP,
             SEED,
             COUNT,
             COLUMN,
@@ -196,8 +197,8 @@ const WAYS: [Subcommand; 5] = [
         about: "Tell from which round on nothing changes, or all states come again, as unison settle does",
         notes: "Prints `settles R`, `repeats R P` or `open T`, as unison settle --help says.\n",
         arguments: &[
-            PROGRAM, PACKED, LIMIT, REPORT, FROM, SET, SET_FILE, SET_RANDOM, SEED, THREADS,
-            SEQUENTIAL,
+            PROGRAM, PACKED, LIMIT, REPORT, FROM, SET, SET_FILE, SET_RANDOM, OVERLAP, SEED,
+            THREADS, SEQUENTIAL,
         ],
     },
 ];
@@ -231,6 +232,8 @@ pub struct FileWord {
 #[derive(Drop)]
 pub struct StartWords {
     pub random: Vec<RandomWord>,
+    /// Whether each word of `random` draws among all nodes, and not among those that the others leave.
+    pub overlap: bool,
     pub files: Vec<FileWord>,
     pub sets: Vec<SetWord>,
     /// By what nodes are drawn; where none are, 0.
@@ -361,11 +364,13 @@ fn files_in(reading: &mut Reading) -> Vec<FileWord> {
 /// The initial values that the words ask for.
 fn start_in(reading: &mut Reading) -> StartWords {
     let random = random_in(reading);
+    let overlap = overlap_in(reading);
     let files = files_in(reading);
     let sets = sets_in(reading);
     let seed = reading.number_or(&SEED_ARGUMENT, 0);
     StartWords {
         random,
+        overlap,
         files,
         sets,
         seed,

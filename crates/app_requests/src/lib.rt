@@ -27,7 +27,7 @@ pub use explain::ExplainRequest;
 pub use generate::{GenerateRequest, Topology, Weights};
 pub use import::{Format, ImportRequest};
 pub use info::InfoRequest;
-pub use init::{CellsWord, InitRequest, RandomWord, RangeWord, SetWord};
+pub use init::{CellsWord, InitRequest, RandomWord, RangeWord, SetWord, amounts_of};
 pub use large::{
     ColumnFormat, FileWord, LargeRequest, LargeTexts, RoundsView, StartWords, StatesFormat,
     StatesView,

@@ -3,13 +3,13 @@
 use crate::cells::put_cells;
 use crate::names::names_at;
 use app_files::{
-    Ending, NodeCalls, drawn_for, file_at, list_path, listed_nodes, next_draw, path_in, print_out,
-    read_once,
+    Ending, NodeCalls, drawn_parts, file_at, list_path, listed_nodes, next_draw, path_in,
+    print_out, read_once,
 };
-use app_requests::{InitRequest, RandomWord, RangeWord, SetWord};
+use app_requests::{InitRequest, RangeWord, SetWord, amounts_of};
 use app_table::number;
 use link_net::{MOST_NODES, Name, NetFile};
-use net_initial::{Amount, Chosen, OpenFault, Opening, Values, drawn_values, opened_text};
+use net_initial::{Chosen, OpenFault, Opening, Values, drawn_values, opened_text};
 use net_names::NodeNames;
 use std::alloc::{AllocError, Global};
 
@@ -127,52 +127,6 @@ fn put_set(
     Ok(())
 }
 
-/// Puts the openings that words of `--set-random` ask for, of nodes that are drawn by this seed, no node twice.
-fn put_drawn(
-    openings: &mut Vec<Opening>,
-    alloc: Global,
-    nodes: u32,
-    words: &[RandomWord],
-    seed: u64,
-) -> Result<(), Ending> {
-    let amounts = amounts_of(alloc, words)?;
-    let drawn = drawn_for(alloc, nodes, &amounts, seed)?;
-    for (word, part) in words.iter().zip(drawn) {
-        put_same(
-            openings,
-            alloc,
-            word.field.as_str(),
-            Chosen::These(part),
-            word.value,
-        )?;
-    }
-    Ok(())
-}
-
-/// How many nodes words of `--set-random` draw.
-fn amounts_of(alloc: Global, words: &[RandomWord]) -> Result<Vec<Amount>, AllocError> {
-    let mut amounts = Vec::with_capacity(alloc, words.len())?;
-    for word in words {
-        amounts.push(word.amount)?;
-    }
-    Ok(amounts)
-}
-
-/// Puts the openings that the words of `--set-random` ask for, each of which draws among all nodes.
-fn put_each_drawn(
-    openings: &mut Vec<Opening>,
-    alloc: Global,
-    nodes: u32,
-    asked: &InitRequest,
-) -> Result<(), Ending> {
-    let mut seed = asked.seed as u64;
-    for word in asked.random.chunks(1) {
-        seed = next_draw(seed);
-        put_drawn(openings, alloc, nodes, word, seed)?;
-    }
-    Ok(())
-}
-
 /// Puts the openings that the words of `--set-random` ask for.
 fn put_random(
     openings: &mut Vec<Opening>,
@@ -180,11 +134,13 @@ fn put_random(
     nodes: u32,
     asked: &InitRequest,
 ) -> Result<(), Ending> {
-    if asked.overlap {
-        return put_each_drawn(openings, alloc, nodes, asked);
+    let amounts = amounts_of(alloc, &asked.random)?;
+    let drawn = drawn_parts(alloc, nodes, &amounts, asked.seed, asked.overlap)?;
+    for (word, part) in asked.random.iter().zip(drawn) {
+        let chosen = Chosen::These(part);
+        put_same(openings, alloc, word.field.as_str(), chosen, word.value)?;
     }
-    let seed = next_draw(asked.seed as u64);
-    put_drawn(openings, alloc, nodes, asked.random.as_slice(), seed)
+    Ok(())
 }
 
 /// The ending where no number lies between the two of a word of `--random`.

@@ -4,11 +4,11 @@ use crate::arrays::column_at;
 use crate::network::network_at;
 use crate::reports::report_at;
 use app_files::{
-    Ending, NodeCalls, bytes_at, drawn_for, field_place, list_path, listed_nodes, next_draw,
-    path_in, read_once,
+    Ending, NodeCalls, bytes_at, drawn_parts, field_place, list_path, listed_nodes, path_in,
+    read_once,
 };
 use app_jobs::program_of;
-use app_requests::{FileWord, LargeTexts, RandomWord, SetWord, StartWords};
+use app_requests::{FileWord, LargeTexts, RandomWord, SetWord, StartWords, amounts_of};
 use app_table::number;
 use large_net::LargeNetwork;
 use large_rounds::{openings, set_all_values, set_value};
@@ -128,24 +128,21 @@ fn put_sets(
     Ok(())
 }
 
-/// Gives the values that a word of `--set-random` names, of so many nodes. It draws the nodes that `unison init` draws by the
-/// same words with `--overlap`.
+/// Gives the value that a word of `--set-random` names to these nodes.
 fn put_random(
     states: &mut [State],
     alloc: Global,
     program: &Program,
-    nodes: u32,
     word: &RandomWord,
-    seed: u64,
+    nodes: &[u32],
 ) -> Result<(), Ending> {
     let field = field_place(alloc, program, "--set-random", word.field.as_str())?;
-    for chosen in &drawn_for(alloc, nodes, &[word.amount], seed)? {
-        put_values(states, program, chosen, field, word.value);
-    }
+    put_values(states, program, nodes, field, word.value);
     Ok(())
 }
 
-/// Gives the values that the words of `--set-random` name, of so many nodes, in their order.
+/// Gives the values that the words of `--set-random` name, of so many nodes, in their order. They draw the nodes that `unison
+/// init` draws by the same words.
 fn put_randoms(
     states: &mut [State],
     alloc: Global,
@@ -153,10 +150,10 @@ fn put_randoms(
     nodes: u32,
     words: &StartWords,
 ) -> Result<(), Ending> {
-    let mut seed = words.seed as u64;
-    for word in &words.random {
-        seed = next_draw(seed);
-        put_random(states, alloc, program, nodes, word, seed)?;
+    let amounts = amounts_of(alloc, &words.random)?;
+    let drawn = drawn_parts(alloc, nodes, &amounts, words.seed, words.overlap)?;
+    for (word, part) in words.random.iter().zip(&drawn) {
+        put_random(states, alloc, program, word, part)?;
     }
     Ok(())
 }
