@@ -6,7 +6,7 @@ _unison() {
   if [ "$COMP_CWORD" -gt "$at" ]; then command=${COMP_WORDS[at]}; fi
   if [ "$COMP_CWORD" -gt $((at + 1)) ]; then form=${COMP_WORDS[at + 1]}; fi
   case $command:$form in
-  :) words="check lockstep run replay compare watch count settle schedule explain page image dot generate import init info csv pack large why completion manual" ;;
+  :) words="check lockstep run replay compare watch count settle cuts schedule explain page image dot generate import init info csv pack large why completion manual" ;;
   check:*) options="" ;;
   lockstep:*) options="--rounds --from" ;;
   run:*) options="--rounds --workers --trace --from" ;;
@@ -25,6 +25,11 @@ _unison() {
   settle:*)
     words=""
     options="--limit --report --from"
+    ;;
+  cuts:*)
+    words=""
+    options="--rounds --below --format --names --from"
+    [ "$previous" = --format ] && words="text json"
     ;;
   schedule:sweeps | steps:sweeps)
     options="--stop --count --seed --refused --from"

@@ -2,6 +2,7 @@
 
 use crate::count::count;
 use crate::csv::csv;
+use crate::cuts::cuts;
 use crate::draw::{dot, image};
 use crate::explain::explain;
 use crate::generate::generate;
@@ -61,6 +62,7 @@ pub enum Task {
     Completion,
     Count,
     Csv,
+    Cuts,
     Dot,
     Explain,
     Generate,
@@ -93,6 +95,7 @@ pub const GROUPS: [Group; 5] = [
             Task::Watch,
             Task::Count,
             Task::Settle,
+            Task::Cuts,
             Task::Schedule,
             Task::Explain,
         ],
@@ -140,6 +143,7 @@ impl Task {
             Task::Completion => &COMPLETION,
             Task::Count => count(),
             Task::Csv => csv(),
+            Task::Cuts => cuts(),
             Task::Dot => dot(),
             Task::Explain => explain(),
             Task::Generate => generate(),

@@ -4,6 +4,7 @@
 mod cells;
 mod count;
 mod csv_text;
+mod cuts;
 mod explain;
 mod generate;
 mod help;
@@ -25,6 +26,7 @@ mod why;
 
 use crate::count::count_rounds;
 use crate::csv_text::print_csv;
+use crate::cuts::tell_cuts;
 use crate::explain::explain_schedule;
 use crate::generate::generate_network;
 use crate::help::{help_text, print_completion, print_manual};
@@ -70,6 +72,7 @@ fn run_task(
         Task::Completion => print_completion(rt, words),
         Task::Count => count_rounds(rt, threads, words),
         Task::Csv => print_csv(rt, words),
+        Task::Cuts => tell_cuts(rt, words),
         Task::Dot => make_dot(rt, threads, words),
         Task::Explain => explain_schedule(rt, words),
         Task::Generate => generate_network(rt, words),

@@ -25,7 +25,11 @@ fn plan_of(
 }
 
 /// The plan of a program's text and of the network and the report at these paths.
-fn plan_with(rt: &HostRuntime, paths: &PlanPaths, program: &[u8]) -> Result<Plan, Ending> {
+pub(crate) fn plan_with(
+    rt: &HostRuntime,
+    paths: &PlanPaths,
+    program: &[u8],
+) -> Result<Plan, Ending> {
     let network = bytes_at(rt, paths.network.as_str())?;
     let report = bytes_where(rt, &paths.from)?;
     plan_of(rt.alloc(), program, &network, &report)

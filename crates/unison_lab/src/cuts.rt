@@ -1,0 +1,127 @@
+//! `cuts PROGRAM NETWORK --rounds T`: where values were cut.
+
+use crate::labels::labels_at;
+use crate::plan_texts::plan_with;
+use app_files::{Ending, bytes_at, name_at, path_in, print_out, read_once};
+use app_jobs::{ServeFault, program_of};
+use app_requests::{CutsFormat, CutsRequest};
+use app_why::place_at;
+use rounds_plan::{Plan, RoundFault};
+use run_cuts::{Cut, Site, Telling, cuts, operator_places, put_json, put_text};
+use run_watch::Format;
+use std::alloc::{AllocError, Global};
+
+/// Where the operators of a program's text stand.
+fn sites_of(alloc: Global, program: &[u8]) -> Result<Vec<Site>, AllocError> {
+    let places = operator_places(alloc, program)?;
+    let mut sites = Vec::new(alloc);
+    for at in &places {
+        let place = place_at(program, *at);
+        sites.push(Site {
+            line: place.line,
+            column: place.column,
+        })?;
+    }
+    Ok(sites)
+}
+
+/// The form of what stands for nodes.
+fn labels_form(format: CutsFormat) -> Format {
+    match format {
+        CutsFormat::Text => Format::Report,
+        CutsFormat::Json => Format::Json,
+    }
+}
+
+/// The ending where a round is refused.
+fn no_round(fault: RoundFault) -> Ending {
+    match fault {
+        RoundFault::Memory => Ending::Memory,
+        fault => Ending::Served(ServeFault::Round(fault)),
+    }
+}
+
+/// What was cut in the rounds of a plan of a program with this text.
+fn cuts_in(
+    alloc: Global,
+    program: &[u8],
+    plan: &Plan,
+    asked: &CutsRequest,
+) -> Result<Vec<Cut>, Ending> {
+    let source = match program_of(alloc, program) {
+        Ok((source, _program)) => source,
+        Err(fault) => return Err(Ending::Served(fault)),
+    };
+    match cuts(alloc, &source, plan, asked.rounds, asked.below) {
+        Ok(found) => Ok(found),
+        Err(fault) => Err(no_round(fault)),
+    }
+}
+
+/// Cuts as they are told.
+fn told_of(
+    alloc: Global,
+    format: CutsFormat,
+    telling: &Telling<'_>,
+    found: &[Cut],
+) -> Result<Vec<u8>, AllocError> {
+    let mut text = String::new(alloc);
+    match format {
+        CutsFormat::Text => put_text(&mut text, telling, found)?,
+        CutsFormat::Json => put_json(&mut text, telling, found)?,
+    }
+    Ok(text.into_bytes())
+}
+
+/// What is told of a plan of the program with this text.
+fn text_with(
+    rt: &HostRuntime,
+    program: &[u8],
+    plan: &Plan,
+    asked: &CutsRequest,
+) -> Result<Vec<u8>, Ending> {
+    let nodes = plan.network().nodes();
+    let labels = labels_at(rt, labels_form(asked.format), &asked.names, nodes)?;
+    let sites = sites_of(rt.alloc(), program)?;
+    let telling = Telling {
+        name: name_at(asked.plan.program.as_str()),
+        sites: &sites,
+        labels: &labels,
+        rounds: asked.rounds,
+        below: asked.below,
+    };
+    let found = cuts_in(rt.alloc(), program, plan, asked)?;
+    let text = told_of(rt.alloc(), asked.format, &telling, &found)?;
+    Ok(text)
+}
+
+/// What is told of the texts that are named.
+fn text_for(rt: &HostRuntime, asked: &CutsRequest) -> Result<Vec<u8>, Ending> {
+    let program = bytes_at(rt, asked.plan.program.as_str())?;
+    let plan = plan_with(rt, &asked.plan, &program)?;
+    text_with(rt, &program, &plan, asked)
+}
+
+/// Refuses standard input for more than one of the texts.
+fn check_paths(alloc: Global, asked: &CutsRequest) -> Result<(), Ending> {
+    let paths = [
+        asked.plan.program.as_str(),
+        asked.plan.network.as_str(),
+        path_in(&asked.plan.from),
+        path_in(&asked.names),
+    ];
+    read_once(alloc, &paths)
+}
+
+/// Prints what is told of the texts that are named. The status with which the program ends.
+fn put_told(rt: &HostRuntime, asked: &CutsRequest) -> Result<u8, Ending> {
+    check_paths(rt.alloc(), asked)?;
+    let text = text_for(rt, asked)?;
+    print_out(rt, &text)
+}
+
+/// Tells where values were cut. The status with which the program ends.
+pub(crate) fn tell_cuts(rt: &HostRuntime, words: &[String]) -> Result<u8, Ending> {
+    let asked = CutsRequest::parse(rt.alloc(), words)?;
+    put_told(rt, &asked)
+}
