@@ -1,4 +1,5 @@
 mod LaidOut
 mod Moves
+mod PartMade
 mod Passing
 mod StateWords
