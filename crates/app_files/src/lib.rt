@@ -8,8 +8,8 @@ mod ending;
 mod fields;
 mod files;
 mod lines;
-mod listed_nodes;
 mod networks;
+mod node_calls;
 mod output;
 mod settling;
 mod texts;
@@ -24,8 +24,8 @@ pub use files::{
     Text, bytes_at, bytes_where, name_at, path_in, read_once, text_at, text_where, unserved,
 };
 pub use lines::{put_note, put_place, weight_told, words_told};
-pub use listed_nodes::{NodeCalls, list_path, listed_nodes};
 pub use networks::file_at;
+pub use node_calls::{NodeCalls, list_path, listed_nodes};
 pub use output::{print_out, write_file, write_out};
 pub use settling::{not_settled, settled_round, settling_line};
 pub use texts::{Told, edges_told, matrix_told, on_line, put_matrix_detail};
