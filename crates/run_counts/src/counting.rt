@@ -97,7 +97,8 @@ fn text_of<P: Progress>(
     let mut walk = course.shared_walk(rt, alloc)?;
     let rows = rows_of(rt, alloc, &mut walk, span, counting, progress)?;
     let values = values_of(alloc, &rows)?;
-    table_with(alloc, plan.program(), counting, &values, &rows)
+    let text = table_with(alloc, plan.program(), counting, &values, &rows)?;
+    Ok(text)
 }
 
 /// How many nodes have each value of a field in each round of a span, and further numbers of these rounds, in one pass
