@@ -10,13 +10,15 @@ use app_files::{Ending, field_place, print_out};
 use app_jobs::ServeFault;
 use app_requests::{LargeTexts, StatesFormat, StatesView};
 use large_reports::csv_states;
-use large_rounds::{LargePlan, LargePlanFault, LargeWalk, PackedStates, large_lockstep, state_rows};
+use large_rounds::{
+    LargePlan, LargePlanFault, LargeWalk, PackedStates, large_lockstep, state_rows,
+};
 use npy_arrays::ArrayShape;
 use rayon::current_num_threads;
 use report_text::report_states;
 use rounds_plan::RoundFault;
-use run_watch::{Progress, Span};
 use rule_check::{Program, State};
+use run_watch::{Progress, Span};
 use std::alloc::{AllocError, Global};
 use std::thread::Threads;
 
