@@ -2,6 +2,7 @@
 
 import { CellPicture } from "./cells.js";
 import { Controls } from "./controls.js";
+import { CurvePicture } from "./curves.js";
 import { Problem, readRun } from "./data.js";
 import { layoutFor, MOST_DRAWN } from "./layout.js";
 import { longestText, NetworkPicture } from "./network.js";
@@ -48,6 +49,7 @@ class Page {
     this.layout = layoutFor(run);
     this.network = this.networkPicture();
     this.time = new TimePicture(byId("time"), run);
+    this.curves = new CurvePicture(byId("curves"), run);
     this.scale = null;
     byId("stage").hidden = false;
     byId("table-part").hidden = false;
@@ -218,7 +220,7 @@ class Page {
     }
   }
 
-  /** Lets a click on the picture of the rounds go to its round, and of the counts to the step by which the node came there. */
+  /** Lets a click on the picture of the rounds, and on the curves, go to its round, and on the counts to the step by which the node came there. */
   bindTime() {
     const canvas = byId("time");
     const leap = (event) => {
@@ -242,6 +244,13 @@ class Page {
       }
     });
     canvas.addEventListener("pointerleave", () => this.point(-1));
+    const goTo = (event) => this.controls.leap(this.curves.placeAt(event.offsetX));
+    byId("curves").addEventListener("click", goTo);
+    byId("curves").addEventListener("pointermove", (event) => {
+      if (event.buttons === 1 && event.pointerType === "mouse") {
+        goTo(event);
+      }
+    });
   }
 
   /** Draws anew where the window's size or the scheme changes. */
@@ -261,6 +270,7 @@ class Page {
     const sizes = new ResizeObserver(() => this.resize());
     sizes.observe(byId("network").parentElement);
     sizes.observe(byId("time").parentElement);
+    sizes.observe(byId("curves").parentElement);
   }
 
   /** Prepares the pictures once before the next frame. */
@@ -292,6 +302,7 @@ class Page {
     if (this.network) {
       this.network.prepare(this.paints, longestText(this.scene.colouring));
     }
+    this.curves.prepare(this.paints, this.scene.colouring, this.scene.field);
     this.time.prepare(this.paints, this.scene.colouring, this.scene.field);
     byId("window-label").hidden = !this.time.isSmall();
     byId("sampled").textContent = this.time.leftOut();
@@ -312,8 +323,10 @@ class Page {
       this.network.draw(this.scene);
     }
     this.time.draw(this.scene);
+    this.curves.draw(this.scene);
     byId("network").setAttribute("aria-label", `The network: ${told}`);
     byId("time").setAttribute("aria-label", `${byId("time-title").textContent}; ${told}`);
+    byId("curves").setAttribute("aria-label", `How many nodes have each value; ${told}; ${this.curves.words(this.scene.row)}`);
     showNode(this.scene);
     this.table.show();
   }
@@ -395,6 +408,8 @@ function faceOf(page) {
     isPlaying: () => page.controls.isPlaying,
     nodeSpot: (node) => (page.network ? page.spotOf("network", page.network.spot(node)) : null),
     timeSpot: (node, place) => page.spotOf("time", page.time.spot(node, place)),
+    counts: () => (page.curves.counts === null ? null : [...page.curves.counts].map(([value, numbers]) => [value, [...numbers]])),
+    curveSpot: (place, count) => page.spotOf("curves", page.curves.spot(place, count)),
   };
 }
 

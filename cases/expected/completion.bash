@@ -6,48 +6,52 @@ _unison() {
   if [ "$COMP_CWORD" -gt "$at" ]; then command=${COMP_WORDS[at]}; fi
   if [ "$COMP_CWORD" -gt $((at + 1)) ]; then form=${COMP_WORDS[at + 1]}; fi
   case $command:$form in
-  :) words="check lockstep run replay compare watch count settle cuts schedule explain page image dot generate import init info csv pack large why completion manual" ;;
+  :) words="check lockstep run replay compare expand watch count settle cuts schedule explain naive verify page image dot generate import init info csv pack large why completion manual" ;;
   check:*) options="" ;;
   lockstep:*) options="--rounds --from" ;;
   run:*) options="--rounds --workers --trace --from" ;;
   replay:*) options="--stop --from" ;;
   compare:*) options="--rounds --workers --from" ;;
+  expand:*)
+    words=""
+    options="--const"
+    ;;
   watch:*)
     words=""
-    options="--rounds --every --format --only --changes --names --from"
+    options="--rounds --every --format --only --changes --names --from --const"
     [ "$previous" = --format ] && words="report csv json"
     ;;
   count:*)
     words=""
-    options="--rounds --every --field --until --sum --least --most --format --from"
+    options="--rounds --every --field --until --sum --least --most --format --mean --from --const"
     [ "$previous" = --format ] && words="csv json"
     ;;
   settle:*)
     words=""
-    options="--limit --report --from"
+    options="--limit --report --from --const"
     ;;
   cuts:*)
     words=""
-    options="--rounds --below --format --names --from"
+    options="--rounds --below --format --names --from --const"
     [ "$previous" = --format ] && words="text json"
     ;;
   schedule:sweeps | steps:sweeps)
-    options="--stop --count --seed --refused --from"
+    options="--stop --count --seed --refused --from --const"
     ;;
   schedule:random | steps:random)
-    options="--stop --count --seed --refused --from"
+    options="--stop --count --seed --refused --from --const"
     ;;
   schedule:slow-links | steps:slow-links)
-    options="--stop --count --seed --refused --from"
+    options="--stop --count --seed --refused --from --const"
     ;;
   schedule:starve | steps:starve)
-    options="--names --stop --count --seed --refused --from"
+    options="--names --stop --count --seed --refused --from --const"
     ;;
   schedule:ahead | steps:ahead)
-    options="--names --stop --count --seed --refused --from"
+    options="--names --stop --count --seed --refused --from --const"
     ;;
   schedule:write | steps:write)
-    options="--names --from"
+    options="--names --from --const"
     ;;
   schedule:* | steps:*)
     words="sweeps random slow-links starve ahead write"
@@ -55,19 +59,27 @@ _unison() {
     ;;
   explain:* | tell:*)
     words=""
-    options="--stop --counts --from"
+    options="--stop --counts --from --const"
+    ;;
+  naive:*)
+    words=""
+    options="--stop --from --const"
+    ;;
+  verify:*)
+    words=""
+    options="--names --from --const"
     ;;
   page:*)
     words=""
-    options="--rounds --every --steps --stop --only --names --grid --from --viewer"
+    options="--rounds --every --steps --stop --only --names --grid --from --const --viewer"
     ;;
   image:*)
     words=""
-    options="--rounds --every --field --grid --from"
+    options="--rounds --every --field --counts --grid --from --const"
     ;;
   dot:*)
     words=""
-    options="--rounds --field --names --from"
+    options="--rounds --field --names --from --const"
     ;;
   generate:path | make:path)
     options="--weights --seed"
@@ -187,15 +199,15 @@ _unison() {
     options=""
     ;;
   large:lockstep)
-    options="--rounds --from --set --set-file --set-random --overlap --seed --count --format --field --threads --sequential"
+    options="--rounds --from --set --set-file --set-random --overlap --seed --count --format --field --threads --sequential --const"
     [ "$previous" = --format ] && words="report csv npy"
     ;;
   large:watch)
-    options="--rounds --every --from --set --set-file --set-random --overlap --seed --count --field --format --threads --sequential"
+    options="--rounds --every --from --set --set-file --set-random --overlap --seed --count --field --format --threads --sequential --const"
     [ "$previous" = --format ] && words="csv npy"
     ;;
   large:settle)
-    options="--limit --report --from --set --set-file --set-random --overlap --seed --threads --sequential"
+    options="--limit --report --from --set --set-file --set-random --overlap --seed --threads --sequential --const"
     ;;
   large:*)
     words="info show lockstep watch settle"

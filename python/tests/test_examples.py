@@ -9,10 +9,12 @@ from unison import schedule
 
 
 def lists():
-    """The first three lists of `examples/check`: programs, networks and rounds of the examples and of the cookbook, and replays; the fourth one has pictures."""
+    """Three of the lists of `examples/check`: programs, networks and rounds of the examples and of the cookbook, and replays. The second of
+    all has models and the fifth has pictures."""
     found = re.findall(r"<<LIST\n(.*?)\nLIST\n", (EXAMPLES / "check").read_text(), re.DOTALL)
-    assert len(found) == 4, "examples/check has other lists"
-    return [[line.split() for line in text.splitlines()] for text in found[:3]]
+    assert len(found) == 5, "examples/check has other lists"
+    examples, _, cookbook, steps, _ = ([line.split() for line in text.splitlines()] for text in found)
+    return examples, cookbook, steps
 
 
 def runs():

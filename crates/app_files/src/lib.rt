@@ -8,9 +8,12 @@ mod ending;
 mod fields;
 mod files;
 mod lines;
+mod model_hints;
+mod model_told;
 mod networks;
 mod node_calls;
 mod output;
+mod programs;
 mod settling;
 mod texts;
 mod told;
@@ -24,9 +27,13 @@ pub use files::{
     Text, bytes_at, bytes_where, name_at, path_in, read_once, text_at, text_where, unserved,
 };
 pub use lines::{put_note, put_place, weight_told, words_told};
+pub use model_told::{ModelRefusal, refusal_of};
 pub use networks::file_at;
 pub use node_calls::{NodeCalls, list_path, listed_nodes};
 pub use output::{print_out, write_file, write_out};
+pub use programs::{
+    check_constants, check_model, expanded_text, is_model, program_at, program_name,
+};
 pub use settling::{not_settled, settled_round, settling_line};
 pub use texts::{Told, edges_told, matrix_told, on_line, put_matrix_detail};
 pub use told::{print_ending, print_fault};

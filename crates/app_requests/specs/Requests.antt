@@ -1,7 +1,9 @@
 -- Which numbers requests may have.
-use Rattle.std.specs.Prelude.{◌≤◌}
+use Rattle.std.specs.Prelude.{◌≤◌, length}
 use Rattle.rounds_plan.specs.Configs.{most_rounds}
+use Rattle.run_counts.specs.Ensembles.{most_runs}
 use Rattle.unison_trace.specs.Histories.{most_steps}
+use Rattle.app_requests.specs.declared.constants.Varied.{Varied}
 use Rattle.app_requests.specs.declared.page.PageRun.{PageRun}
 use Rattle.app_requests.specs.declared.page.PageRun.TheVariants.{Rounds, Steps}
 use Rattle.app_requests.specs.declared.schedule.Limits.{Limits}
@@ -21,3 +23,7 @@ AreWithin limits = (limits.stop ≤ most_rounds) × (limits.count ≤ most_steps
 abbrev pub IsScheduleWithin : ScheduleRequest → Type 0
 IsScheduleWithin (request.Listing listing) = AreWithin listing.limits
 IsScheduleWithin (request.Writing writing) = Unit {0}
+
+-- a constant has a value for each of as many runs as can be counted together, one at least
+abbrev pub HasRuns : Varied → Type 0
+HasRuns varied = (1 ≤ length varied.values.items) × (length varied.values.items ≤ most_runs)

@@ -1,7 +1,9 @@
 //! Arguments that several commands have, and what they give.
 
+use crate::constants::constants_in;
 use app_table::{Argument, Kind, OPTION, Reading, Value, WordsFault, number};
 use link_net::MOST_NODES;
+use model_rules::Given;
 use rounds_plan::MOST_ROUNDS;
 use run_watch::Span;
 
@@ -46,7 +48,7 @@ pub(crate) const FLAG: Argument = Argument {
 pub(crate) const PROGRAM: Argument = Argument {
     name: "program",
     value_name: "PROGRAM",
-    help: "The file of the program text, or - for standard input",
+    help: "The file of the program text, or of a model where its name ends in .model, or - for standard input",
     ..FILE
 };
 
@@ -130,19 +132,28 @@ pub(crate) static FIELD_ARGUMENT: Argument = FIELD;
 #[derive(Drop)]
 pub struct PlanPaths {
     pub program: String,
+    /// The constants of the program that are given values, where it is a model.
+    pub constants: Vec<Given>,
     pub network: String,
     /// The report from which the plan goes on, where it does.
     pub from: Option<String>,
 }
 
 impl PlanPaths {
-    /// The paths that the words of a command with `PROGRAM`, `NETWORK` and `FROM` name.
+    /// The paths that the words of a command with `PROGRAM`, `CONSTANT`, `NETWORK` and `FROM` name.
     pub(crate) fn of(reading: &mut Reading) -> PlanPaths {
+        let constants = constants_in(reading);
+        PlanPaths::with(reading, constants)
+    }
+
+    /// The paths that the words name, where the constants are read.
+    pub(crate) fn with(reading: &mut Reading, constants: Vec<Given>) -> PlanPaths {
         let program = reading.needed_text(&PROGRAM_ARGUMENT);
         let network = reading.needed_text(&NETWORK_ARGUMENT);
         let from = reading.text(&FROM_ARGUMENT);
         PlanPaths {
             program,
+            constants,
             network,
             from,
         }

@@ -4,16 +4,19 @@ use crate::count::count;
 use crate::csv::csv;
 use crate::cuts::cuts;
 use crate::draw::{dot, image};
+use crate::expand::expand;
 use crate::explain::explain;
 use crate::generate::generate;
 use crate::import::import;
 use crate::info::info;
 use crate::init::init;
 use crate::large::large;
+use crate::naive::naive;
 use crate::pack::pack;
 use crate::page::page;
 use crate::schedule::schedule;
 use crate::settle::settle;
+use crate::verify::verify;
 use crate::watch::watch;
 use app_table::{Command, Subcommand, WordsFault, parse};
 use std::alloc::Global;
@@ -64,6 +67,7 @@ pub enum Task {
     Csv,
     Cuts,
     Dot,
+    Expand,
     Explain,
     Generate,
     Image,
@@ -72,10 +76,12 @@ pub enum Task {
     Init,
     Large,
     Manual,
+    Naive,
     Pack,
     Page,
     Schedule,
     Settle,
+    Verify,
     Watch,
     Why,
 }
@@ -88,7 +94,11 @@ pub struct Group {
 }
 
 /// The commands of this program, in groups.
-pub const GROUPS: [Group; 5] = [
+pub const GROUPS: [Group; 6] = [
+    Group {
+        title: "Models",
+        tasks: &[Task::Expand],
+    },
     Group {
         title: "Runs in detail",
         tasks: &[
@@ -98,6 +108,8 @@ pub const GROUPS: [Group; 5] = [
             Task::Cuts,
             Task::Schedule,
             Task::Explain,
+            Task::Naive,
+            Task::Verify,
         ],
     },
     Group {
@@ -145,6 +157,7 @@ impl Task {
             Task::Csv => csv(),
             Task::Cuts => cuts(),
             Task::Dot => dot(),
+            Task::Expand => expand(),
             Task::Explain => explain(),
             Task::Generate => generate(),
             Task::Image => image(),
@@ -153,10 +166,12 @@ impl Task {
             Task::Init => init(),
             Task::Large => large(),
             Task::Manual => &MANUAL,
+            Task::Naive => naive(),
             Task::Pack => pack(),
             Task::Page => page(),
             Task::Schedule => schedule(),
             Task::Settle => settle(),
+            Task::Verify => verify(),
             Task::Watch => watch(),
             Task::Why => &WHY,
         }

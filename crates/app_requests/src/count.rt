@@ -1,8 +1,11 @@
 //! `count`: how many nodes have each value, round by round.
+ghost use Rattle.std.specs.Prelude.{IfOk, IfSome};
+ghost use Rattle.app_requests.specs.Requests.{HasRuns};
 
 use crate::arguments::{
-    EVERY, FIELD, FIELD_ARGUMENT, FROM, NETWORK, PROGRAM, PlanPaths, ROUNDS, span_in,
+    EVERY, FIELD, FIELD_ARGUMENT, FLAG, FROM, NETWORK, PROGRAM, PlanPaths, ROUNDS, span_in,
 };
+use crate::constants::{RunConstants, VARIED, Varied, run_constants_in};
 use app_table::{Argument, Choice, Command, Kind, OPTION, Reading, Value, WordsFault, number};
 use run_counts::{CountFormat, FigureKind};
 use run_watch::Span;
@@ -77,15 +80,25 @@ const FORMAT: Argument = Argument {
 /// `FORMAT`, as it is read.
 static FORMAT_ARGUMENT: Argument = FORMAT;
 
+const MEAN: Argument = Argument {
+    name: "mean",
+    help: "In place of each run the means of them all, where --const gives a constant several values: for each round how many runs are counted in it, and for each column the mean and the standard deviation of the sample",
+    ..FLAG
+};
+
+/// `MEAN`, as it is read.
+static MEAN_ARGUMENT: Argument = MEAN;
+
 /// `count` and what it takes.
 static COUNT: Command = Command {
     name: "count",
     aliases: &[],
     called: "unison count",
     about: "Count how many nodes have each value, round by round, with sums and extremes",
-    notes: "Prints, for the rounds FIRST, FIRST + K, FIRST + 2 K and so on, up to LAST, how many nodes have each value of a field: a column for each value that occurs, or lines of round, value and nodes where there are more than 64.\nAn example: unison count examples/life.rules examples/glider.toml --rounds 0..4\nAnother one: unison count examples/distance.rules examples/path.toml --rounds 0..9 --until dist=4294967295\n",
+    notes: "Prints, for the rounds FIRST, FIRST + K, FIRST + 2 K and so on, up to LAST, how many nodes have each value of a field: a column for each value that occurs, or lines of round, value and nodes where there are more than 64.\nAn example: unison count examples/life.rules examples/glider.toml --rounds 0..4\nAnother one: unison count examples/distance.rules examples/path.toml --rounds 0..9 --until dist=4294967295\nThree runs of a model, with one of its constants at three values: unison count examples/models/pagerank.model examples/cookbook/pagerank.toml --rounds 100..100 --field rank --most rank --const passed_on=80,85,90\n",
     arguments: &[
-        PROGRAM, NETWORK, ROUNDS, EVERY, COUNTED, UNTIL, SUM, LEAST, MOST, FORMAT, FROM,
+        PROGRAM, NETWORK, ROUNDS, EVERY, COUNTED, UNTIL, SUM, LEAST, MOST, FORMAT, MEAN, FROM,
+        VARIED,
     ],
     subcommands: &[],
 };
@@ -109,10 +122,22 @@ pub struct UntilWord {
     pub value: u32,
 }
 
+/// Which runs are counted.
+#[derive(Drop)]
+pub struct RunsWords {
+    /// The texts of the plan of each run, with the constants that have one value.
+    pub plan: PlanPaths,
+    /// The constant that has another value in each run; where there is none, one run is counted.
+    pub varied: Option<Varied>,
+    /// Whether the means of the runs are shown in place of each run: only where a constant has several values.
+    pub means: bool,
+}
+
 /// What `count` is asked for.
 #[derive(Drop)]
 pub struct CountRequest {
-    pub plan: PlanPaths,
+    /// The runs that are counted.
+    pub runs: RunsWords,
     /// The rounds that are counted.
     pub span: Span,
     /// The field whose values are counted, where it is named.
@@ -208,16 +233,43 @@ fn format_in(reading: &mut Reading) -> CountFormat {
     }
 }
 
+/// Whether means are asked for, which is refused where no constant has several values.
+fn means_in(reading: &mut Reading, several: bool) -> bool {
+    let means = reading.has(&MEAN_ARGUMENT);
+    if means && !several {
+        reading.refuse_words(
+            "--mean: there are means of several runs alone; --const NAME=FIRST..LAST asks for them",
+        );
+    }
+    means
+}
+
+/// The runs that are asked for.
+fn runs_in(reading: &mut Reading) -> RunsWords
+    ensures runs { IfSome result.varied HasRuns }
+{
+    let RunConstants { given, varied } = run_constants_in(reading);
+    let means = means_in(reading, varied.is_some());
+    let plan = PlanPaths::with(reading, given);
+    RunsWords {
+        plan,
+        varied,
+        means,
+    }
+}
+
 /// What plain words ask for, where they name rounds.
-fn request_in(reading: &mut Reading) -> Option<CountRequest> {
+fn request_in(reading: &mut Reading) -> Option<CountRequest>
+    ensures runs { IfSome result (λ r. IfSome r.runs.varied HasRuns) }
+{
     let figures = figures_in(reading);
     let until = until_in(reading);
     let format = format_in(reading);
     let span = span_in(reading)?;
     let field = reading.text(&FIELD_ARGUMENT);
-    let plan = PlanPaths::of(reading);
+    let runs = runs_in(reading);
     Some(CountRequest {
-        plan,
+        runs,
         span,
         field,
         figures,
@@ -228,7 +280,9 @@ fn request_in(reading: &mut Reading) -> Option<CountRequest> {
 
 impl CountRequest {
     /// What the words ask for, the command's name first.
-    pub fn parse(alloc: Global, line: &[String]) -> Result<CountRequest, WordsFault> {
+    pub fn parse(alloc: Global, line: &[String]) -> Result<CountRequest, WordsFault>
+        ensures runs { IfOk result (λ r. IfSome r.runs.varied HasRuns) }
+    {
         let mut reading = Reading::of(alloc, count(), line)?;
         let asked = request_in(&mut reading);
         reading.end_some(asked)

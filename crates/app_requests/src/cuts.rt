@@ -3,6 +3,7 @@ ghost use Rattle.std.specs.Prelude.{◌≤◌, IfOk};
 ghost use Rattle.rounds_plan.specs.Configs.{most_rounds};
 
 use crate::arguments::{FLAG, FROM, NAMES, NAMES_ARGUMENT, NETWORK, PROGRAM, PlanPaths, ROUND};
+use crate::constants::CONSTANT;
 use app_table::{Argument, Choice, Command, Kind, OPTION, Reading, Value, WordsFault};
 use std::alloc::Global;
 
@@ -54,7 +55,7 @@ static CUTS: Command = Command {
     called: "unison cuts",
     about: "Tell where values were cut at 4294967295",
     notes: "Prints a line for each `+`, `*` and `total` of the program whose value was cut in a round up to T: its place, the first round and node, and how often. An occasion is a node in a round.\nAn example: unison cuts examples/distance.rules examples/path.toml --rounds 2\n",
-    arguments: &[PROGRAM, NETWORK, LAST, BELOW, FORMAT, NAMES, FROM],
+    arguments: &[PROGRAM, NETWORK, LAST, BELOW, FORMAT, NAMES, FROM, CONSTANT],
     subcommands: &[],
 };
 

@@ -3,9 +3,10 @@ ghost use Rattle.std.specs.Prelude.{◌≤◌, IfOk, IfSome};
 ghost use Rattle.rounds_plan.specs.Configs.{most_rounds};
 
 use crate::arguments::{
-    EVERY, FIELD, FIELD_ARGUMENT, FROM, NAMES, NAMES_ARGUMENT, NETWORK, PROGRAM, PlanPaths, ROUND,
-    ROUNDS, WIDTH, span_in,
+    EVERY, FIELD, FIELD_ARGUMENT, FLAG, FROM, NAMES, NAMES_ARGUMENT, NETWORK, PROGRAM, PlanPaths,
+    ROUND, ROUNDS, WIDTH, span_in,
 };
+use crate::constants::CONSTANT;
 use app_table::{Argument, Command, Kind, OPTION, Reading, WordsFault};
 use link_net::MOST_NODES;
 use run_watch::Span;
@@ -21,6 +22,15 @@ const GRID: Argument = Argument {
 
 /// `GRID`, as it is read.
 static GRID_ARGUMENT: Argument = GRID;
+
+const COUNTS: Argument = Argument {
+    name: "counts",
+    help: "Draw how many nodes have each value, as curves over the rounds: at most 64 values and 10000 rounds",
+    ..FLAG
+};
+
+/// `COUNTS`, as it is read.
+static COUNTS_ARGUMENT: Argument = COUNTS;
 
 const DRAWN_ROUND: Argument = Argument {
     name: "rounds",
@@ -39,9 +49,11 @@ static IMAGE: Command = Command {
     name: "image",
     aliases: &[],
     called: "unison image",
-    about: "Make a picture of rounds, nodes across and rounds down, or of one round as a grid",
-    notes: "Prints an SVG picture: nodes across and rounds down, or with --grid the nodes of one round as cells.\nAn example: unison image examples/rule_110.rules examples/row.toml --rounds 0..30 > run.svg\nAnother one: unison image examples/life.rules examples/glider.toml --rounds 8..8 --grid 8 > frame.svg\n",
-    arguments: &[PROGRAM, NETWORK, ROUNDS, EVERY, FIELD, GRID, FROM],
+    about: "Make a picture of rounds, nodes across and rounds down, of one round as a grid, or of counts as curves",
+    notes: "Prints an SVG picture: nodes across and rounds down, with --grid the nodes of one round as cells, or with --counts a curve for each value that occurs, of how many nodes have it. Where more than 64 values occur, the curves are refused; count prints the numbers.\nAn example: unison image examples/rule_110.rules examples/row.toml --rounds 0..30 > run.svg\nAnother one: unison image examples/life.rules examples/glider.toml --rounds 8..8 --grid 8 > frame.svg\nA third one: unison image examples/distance.rules examples/karate.toml --rounds 0..5 --counts > curves.svg\n",
+    arguments: &[
+        PROGRAM, NETWORK, ROUNDS, EVERY, FIELD, COUNTS, GRID, FROM, CONSTANT,
+    ],
     subcommands: &[],
 };
 
@@ -57,7 +69,7 @@ static DOT: Command = Command {
     called: "unison dot",
     about: "Print a network in a round for Graphviz, coloured and labelled",
     notes: "Prints the network for Graphviz, each node with its name or number, its value, and the colour of the value.\nAn example: unison dot examples/distance.rules examples/path.toml --rounds 2 | dot -Tsvg > network.svg\n",
-    arguments: &[PROGRAM, NETWORK, DRAWN_ROUND, FIELD, NAMES, FROM],
+    arguments: &[PROGRAM, NETWORK, DRAWN_ROUND, FIELD, NAMES, FROM, CONSTANT],
     subcommands: &[],
 };
 
@@ -74,6 +86,8 @@ pub struct ImageRequest {
     pub span: Span,
     /// The field that gives the colours, where it is named.
     pub field: Option<String>,
+    /// Whether curves are drawn, of how many nodes have each value.
+    pub counts: bool,
     /// How many cells a line of the grid has; 0 for none.
     pub grid: u32,
 }
@@ -90,6 +104,15 @@ pub struct DotRequest {
     pub names: Option<String>,
 }
 
+/// Refuses curves beside a grid.
+fn check_manner(reading: &mut Reading, counts: bool, grid: u32) {
+    if counts && grid > 0 {
+        reading.refuse_words(
+            "--counts draws curves over rounds, and --grid the cells of one round: one of them is wanted",
+        );
+    }
+}
+
 /// Refuses a grid of more than one round.
 fn check_frame(reading: &mut Reading, span: &Span, grid: u32) {
     if grid > 0 && span.first() != span.last() {
@@ -104,7 +127,9 @@ fn image_in(reading: &mut Reading) -> Option<ImageRequest>
     ensures within { IfSome result (λ r. r.grid ≤ MOST_NODES) }
 {
     let grid = reading.number_or(&GRID_ARGUMENT, 0);
+    let counts = reading.has(&COUNTS_ARGUMENT);
     let span = span_in(reading)?;
+    check_manner(reading, counts, grid);
     check_frame(reading, &span, grid);
     let field = reading.text(&FIELD_ARGUMENT);
     let plan = PlanPaths::of(reading);
@@ -112,6 +137,7 @@ fn image_in(reading: &mut Reading) -> Option<ImageRequest>
         plan,
         span,
         field,
+        counts,
         grid,
     })
 }

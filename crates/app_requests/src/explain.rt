@@ -3,10 +3,11 @@ ghost use Rattle.std.specs.Prelude.{◌≤◌, IfOk};
 ghost use Rattle.rounds_plan.specs.Configs.{most_rounds};
 
 use crate::arguments::{FILE, FLAG, FROM, NETWORK, PROGRAM, PlanPaths, ROUND};
+use crate::constants::CONSTANT;
 use app_table::{Argument, Command, Kind, OPTION, Reading, WordsFault};
 use std::alloc::Global;
 
-const SCHEDULE: Argument = Argument {
+pub(crate) const SCHEDULE: Argument = Argument {
     name: "schedule",
     value_name: "SCHEDULE",
     help: "The file of the steps: lines `read NODE SLOT` and `write NODE`, or - for standard input",
@@ -14,9 +15,9 @@ const SCHEDULE: Argument = Argument {
 };
 
 /// `SCHEDULE`, as it is read.
-static SCHEDULE_ARGUMENT: Argument = SCHEDULE;
+pub(crate) static SCHEDULE_ARGUMENT: Argument = SCHEDULE;
 
-const STOP: Argument = Argument {
+pub(crate) const STOP: Argument = Argument {
     name: "stop",
     kind: Kind::Required,
     value: ROUND,
@@ -26,7 +27,7 @@ const STOP: Argument = Argument {
 };
 
 /// `STOP`, as it is read.
-static STOP_ARGUMENT: Argument = STOP;
+pub(crate) static STOP_ARGUMENT: Argument = STOP;
 
 const COUNTS: Argument = Argument {
     name: "counts",
@@ -44,7 +45,7 @@ static EXPLAIN: Command = Command {
     called: "unison explain",
     about: "Tell what each step of a schedule does, and why it is refused",
     notes: "Prints each step of the schedule with its answer, and at the end how many there were of each.\nAn example: unison schedule sweeps examples/distance.rules examples/path.toml --stop 2 | unison explain examples/distance.rules examples/path.toml - --stop 2 --counts\n",
-    arguments: &[PROGRAM, NETWORK, SCHEDULE, STOP, COUNTS, FROM],
+    arguments: &[PROGRAM, NETWORK, SCHEDULE, STOP, COUNTS, FROM, CONSTANT],
     subcommands: &[],
 };
 

@@ -4,12 +4,14 @@ use crate::arguments::{
     EVERY, FILE, FILE_OPTION, FLAG, FROM, FROM_ARGUMENT, PROGRAM, PROGRAM_ARGUMENT, ROUND, ROUNDS,
     span_in,
 };
+use crate::constants::{CONSTANT, constants_in};
 use crate::init::{
     OVERLAP, RandomWord, SEED, SET, SET_ARGUMENT, SET_RANDOM, SET_RANDOM_ARGUMENT, SetWord,
     overlap_in, random_in, sets_in,
 };
 use crate::settle::{DEFAULT_LIMIT, LIMIT, LIMIT_ARGUMENT, REPORT, REPORT_ARGUMENT};
 use app_table::{Argument, Choice, Command, Kind, OPTION, Reading, Subcommand, Value, WordsFault};
+use model_rules::Given;
 use run_watch::Span;
 use std::alloc::Global;
 
@@ -167,7 +169,7 @@ const WAYS: [Subcommand; 5] = [
         notes: "",
         arguments: &[
             PROGRAM, PACKED, LAST, FROM, SET, SET_FILE, SET_RANDOM, OVERLAP, SEED, COUNT, FORMAT,
-            ONE_FIELD, THREADS, SEQUENTIAL,
+            ONE_FIELD, THREADS, SEQUENTIAL, CONSTANT,
         ],
     },
     Subcommand {
@@ -190,6 +192,7 @@ const WAYS: [Subcommand; 5] = [
             COLUMN_FORMAT,
             THREADS,
             SEQUENTIAL,
+            CONSTANT,
         ],
     },
     Subcommand {
@@ -198,7 +201,7 @@ const WAYS: [Subcommand; 5] = [
         notes: "Prints `settles R`, `repeats R P` or `open T`, as unison settle --help says.\n",
         arguments: &[
             PROGRAM, PACKED, LIMIT, REPORT, FROM, SET, SET_FILE, SET_RANDOM, OVERLAP, SEED,
-            THREADS, SEQUENTIAL,
+            THREADS, SEQUENTIAL, CONSTANT,
         ],
     },
 ];
@@ -245,6 +248,8 @@ pub struct StartWords {
 pub struct LargeTexts {
     /// The path of the program's text.
     pub program: String,
+    /// The constants of the program that are given values, where it is a model.
+    pub constants: Vec<Given>,
     /// The path of the network's binary file.
     pub network: String,
     /// The path of the report from which the rounds go on, where they do; the words ask for no initial values then.
@@ -469,6 +474,7 @@ fn threads_in(reading: &mut Reading) -> Option<u32> {
 /// What rounds begin with, and how many threads make them.
 fn texts_in(reading: &mut Reading) -> LargeTexts {
     let program = reading.needed_text(&PROGRAM_ARGUMENT);
+    let constants = constants_in(reading);
     let network = reading.needed_text(&PACKED_ARGUMENT);
     check_start(reading);
     let from = reading.text(&FROM_ARGUMENT);
@@ -476,6 +482,7 @@ fn texts_in(reading: &mut Reading) -> LargeTexts {
     let threads = threads_in(reading);
     LargeTexts {
         program,
+        constants,
         network,
         from,
         start,

@@ -3,28 +3,34 @@
 
 mod arguments;
 mod commands;
+mod constants;
 mod count;
 mod csv;
 mod cuts;
 mod draw;
+mod expand;
 mod explain;
 mod generate;
 mod import;
 mod info;
 mod init;
 mod large;
+mod naive;
 mod pack;
 mod page;
 mod schedule;
 mod settle;
+mod verify;
 mod watch;
 
 pub use arguments::PlanPaths;
 pub use commands::{GROUPS, Group, Task, check_completion, check_manual};
-pub use count::{CountRequest, FigureWord, UntilWord};
+pub use constants::{Varied, constants_among};
+pub use count::{CountRequest, FigureWord, RunsWords, UntilWord};
 pub use csv::CsvRequest;
 pub use cuts::{CutsFormat, CutsRequest};
 pub use draw::{DotRequest, ImageRequest};
+pub use expand::ExpandRequest;
 pub use explain::ExplainRequest;
 pub use generate::{GenerateRequest, Topology, Weights};
 pub use import::{Format, ImportRequest};
@@ -34,8 +40,10 @@ pub use large::{
     ColumnFormat, FileWord, LargeRequest, LargeTexts, RoundsView, StartWords, StatesFormat,
     StatesView,
 };
+pub use naive::NaiveRequest;
 pub use pack::PackRequest;
 pub use page::{PageRequest, PageRun, PageView};
 pub use schedule::{Limits, Listing, ScheduleRequest, StepsManner, Writing};
 pub use settle::SettleRequest;
+pub use verify::VerifyRequest;
 pub use watch::{View, WatchRequest};

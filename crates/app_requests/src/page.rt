@@ -6,6 +6,7 @@ use crate::arguments::{
     EVERY, EVERY_ARGUMENT, FILE_OPTION, FROM, NAMES, NAMES_ARGUMENT, NETWORK, ONLY, PROGRAM,
     PlanPaths, ROUND, ROUNDS, WIDTH, only_in, span_in,
 };
+use crate::constants::CONSTANT;
 use app_table::{Argument, Command, Kind, OPTION, Reading, WordsFault};
 use link_net::MOST_NODES;
 use run_watch::Span;
@@ -78,6 +79,7 @@ static PAGE: Command = Command {
         NAMES,
         GRID,
         FROM,
+        CONSTANT,
         VIEWER,
     ],
     subcommands: &[],

@@ -5,6 +5,7 @@ ghost use Rattle.app_requests.specs.Requests.{AreWithin, IsScheduleWithin};
 use crate::arguments::{
     FILE, FROM, NAMES, NAMES_ARGUMENT, NETWORK, NUMBER, PROGRAM, PlanPaths, ROUND,
 };
+use crate::constants::CONSTANT;
 use app_table::{Argument, Command, Kind, OPTION, Reading, Subcommand, Value, WordsFault};
 use rounds_plan::MOST_ROUNDS;
 use std::alloc::{AllocError, Global};
@@ -78,11 +79,11 @@ const LINES: Argument = Argument {
 static LINES_ARGUMENT: Argument = LINES;
 
 /// What a manner that names no node takes.
-const OF_ALL: [Argument; 7] = [PROGRAM, NETWORK, STOP, COUNT, SEED, REFUSED, FROM];
+const OF_ALL: [Argument; 8] = [PROGRAM, NETWORK, STOP, COUNT, SEED, REFUSED, FROM, CONSTANT];
 
 /// What a manner that names a node takes.
-const OF_A_NODE: [Argument; 9] = [
-    NODE, PROGRAM, NETWORK, NAMES, STOP, COUNT, SEED, REFUSED, FROM,
+const OF_A_NODE: [Argument; 10] = [
+    NODE, PROGRAM, NETWORK, NAMES, STOP, COUNT, SEED, REFUSED, FROM, CONSTANT,
 ];
 
 const MANNERS: [Subcommand; 6] = [
@@ -120,7 +121,7 @@ const MANNERS: [Subcommand; 6] = [
         name: "write",
         about: "A schedule from a script, a line such as `4 reads 7` for each step",
         notes: "The lines: `4 reads 7`, `4 reads all`, `4 moves`, `4 turn` (reads all and moves), `sweep` (a turn of each node), and `repeat 3 {` and `}` around others; what stands behind # is a comment.\nAn example: printf 'sweep\\n0 turn\\n' | unison schedule write - examples/distance.rules examples/path.toml\n",
-        arguments: &[LINES, PROGRAM, NETWORK, NAMES, FROM],
+        arguments: &[LINES, PROGRAM, NETWORK, NAMES, FROM, CONSTANT],
     },
 ];
 

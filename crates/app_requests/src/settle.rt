@@ -3,6 +3,7 @@ ghost use Rattle.std.specs.Prelude.{◌≤◌, IfOk};
 ghost use Rattle.rounds_plan.specs.Configs.{most_rounds};
 
 use crate::arguments::{FLAG, FROM, NETWORK, PROGRAM, PlanPaths, ROUND};
+use crate::constants::CONSTANT;
 use app_table::{Argument, Command, OPTION, Reading, WordsFault};
 use std::alloc::Global;
 
@@ -36,7 +37,7 @@ static SETTLE: Command = Command {
     called: "unison settle",
     about: "Tell from which round on nothing changes, or all states come again",
     notes: "Prints `settles R` where nothing changes after round R, the first such one; `repeats R P` where from round R on all states come again every P rounds, both the least; `open T` where neither is so up to round T.\nAn example: unison settle examples/distance.rules examples/path.toml --report\n",
-    arguments: &[PROGRAM, NETWORK, LIMIT, REPORT, FROM],
+    arguments: &[PROGRAM, NETWORK, LIMIT, REPORT, FROM, CONSTANT],
     subcommands: &[],
 };
 

@@ -4,6 +4,7 @@ use crate::arguments::{
     EVERY, FLAG, FROM, NAMES, NAMES_ARGUMENT, NETWORK, ONLY, PROGRAM, PlanPaths, ROUNDS, only_in,
     span_in,
 };
+use crate::constants::CONSTANT;
 use app_table::{Argument, Choice, Command, OPTION, Reading, Value, WordsFault};
 use run_watch::{Format, Span};
 use std::alloc::Global;
@@ -63,6 +64,7 @@ static WATCH: Command = Command {
         CHANGES,
         TABLE_NAMES,
         FROM,
+        CONSTANT,
     ],
     subcommands: &[],
 };

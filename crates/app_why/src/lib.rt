@@ -21,5 +21,7 @@ mod syntax;
 mod told;
 
 pub use finding::{Finding, why};
+pub use near::nearest;
 pub use place::{Place, line_from, place_at};
+pub use shown::shown_in;
 pub use told::{Named, Texts};

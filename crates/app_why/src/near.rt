@@ -8,8 +8,8 @@ fn tolerance(word: &str) -> usize {
     (word.len() / 3).max(1)
 }
 
-/// The first of the words that has the fewest letters to change, where they are few.
-pub(crate) fn nearest<'w>(
+/// The first of the words that has the fewest letters to change, where they are few: one in three of the word's at most, or one.
+pub fn nearest<'w>(
     alloc: Global,
     word: &str,
     words: &[&'w str],

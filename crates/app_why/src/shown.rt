@@ -125,19 +125,37 @@ pub(crate) fn shown(
     part: &str,
     name: &str,
 ) -> Result<String, AllocError> {
-    let mut out = String::new(alloc);
     let named = match told.part {
         Some(part) => text_of(texts, part),
         None => None,
     };
-    if let Some(named) = named {
-        put_place(&mut out, named, told.at)?;
-    }
     let what = told.what.as_str();
-    write!(out, "{part} {name}: {what}\n")?;
-    if let (Some(named), Some(at)) = (named, told.at) {
+    let what = format!(in alloc; "{part} {name}: {what}")?;
+    match named {
+        Some(named) => shown_in(alloc, named, told.at, what.as_str(), told.hint.as_str()),
+        None => {
+            let mut out = format!(in alloc; "{what}\n")?;
+            put_hint(&mut out, told.hint.as_str())?;
+            Ok(out)
+        }
+    }
+}
+
+/// What is told of the byte `at` of a text, counted from 0, or of the text where no byte is known: the name of the text
+/// with the line and the column, what is wrong, the line with a mark below the byte, and what to do. Each line ends with LF.
+pub fn shown_in(
+    alloc: Global,
+    named: Named,
+    at: Option<usize>,
+    what: &str,
+    hint: &str,
+) -> Result<String, AllocError> {
+    let mut out = String::new(alloc);
+    put_place(&mut out, named, at)?;
+    write!(out, "{what}\n")?;
+    if let Some(at) = at {
         put_picture(alloc, &mut out, named.text, at, place_at(named.text, at))?;
     }
-    put_hint(&mut out, told.hint.as_str())?;
+    put_hint(&mut out, hint)?;
     Ok(out)
 }

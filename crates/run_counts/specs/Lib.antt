@@ -1,5 +1,9 @@
-pub mod Figures
-pub mod Rows
-pub mod Tables
 pub mod Counts
+pub mod Ensembles
+pub mod Figures
+pub mod MeanTables
 pub mod Records
+pub mod Rows
+pub mod RunTables
+pub mod Spread
+pub mod Tables

@@ -1,5 +1,5 @@
 -- What a reader of CSV gets back: the numbers of its lines.
-use Rattle.std.specs.Prelude.{◌<◌, ◌^◌, ℕ, List, ◌∷◌, ◌++◌, All, map}
+use Rattle.std.specs.Prelude.{◌<◌, ◌^◌, ℕ, List, [], ◌∷◌, ◌++◌, All, map}
 use Rattle.std.specs.Fmt.{decimal}
 use Rattle.run_watch.specs.Records.{IsRecord}
 use Rattle.run_counts.specs.declared.asked.CountFormat.TheVariants.{Csv}
@@ -24,8 +24,8 @@ AreSmall numbers = All (λ n. n < 2 ^ 64) numbers
 
 -- the line of a round is one line, which commas cut into the decimals of its numbers
 abbrev pub WideLinesAreRecords : Type 0
-WideLinesAreRecords = (names : List (List ℕ)) (values : List ℕ) (row : RowView) → AreSmall (row.round ∷ wide_numbers values row) → IsRecord (wide_text Csv names values row) (map decimal (row.round ∷ wide_numbers values row))
+WideLinesAreRecords = (names : List (List ℕ)) (values : List ℕ) (row : RowView) → AreSmall (row.round ∷ wide_numbers values row) → IsRecord (wide_text Csv [] names values row) (map decimal (row.round ∷ wide_numbers values row))
 
 -- and so is the line of a value that occurs in a round
 abbrev pub LongLinesAreRecords : Type 0
-LongLinesAreRecords = (names : List (List ℕ)) (row : RowView) (c : ℕ × ℕ) → AreSmall (row.round ∷ long_numbers row c) → IsRecord (long_text Csv names row c) (map decimal (row.round ∷ long_numbers row c))
+LongLinesAreRecords = (names : List (List ℕ)) (row : RowView) (c : ℕ × ℕ) → AreSmall (row.round ∷ long_numbers row c) → IsRecord (long_text Csv [] names row c) (map decimal (row.round ∷ long_numbers row c))

@@ -1,5 +1,5 @@
 -- Which rounds are counted, and what is counted of each.
-use Rattle.std.specs.Prelude.{◌≡◌, ◌↔◌, ◌==◌, ℕ, Bool, false, not, List, [], ◌∷◌, All, Contains, length, map, Option, Some, None, if◌then◌else◌}
+use Rattle.std.specs.Prelude.{◌≡◌, ◌↔◌, ◌==◌, ◌<◌, ◌^◌, ℕ, Bool, false, not, List, [], ◌∷◌, All, Contains, length, map, Option, Some, None, if◌then◌else◌}
 use Rattle.std.specs.List.{flat_map, list_any}
 use Rattle.std.specs.List.Sorted.{IsStrictlyIncreasing}
 use Rattle.rule_check.specs.declared.state.State.{State}
@@ -18,6 +18,11 @@ pub record RowView : Type 0 where
   pub round : ℕ
   pub counts : List (ℕ × ℕ)
   pub figures : List (Figure × ℕ)
+
+-- what holds of every row: its numbers fit 48 bits
+pub record IsRow (row : RowView) : Type 0 where
+  pub counts : All (λ c. c.1 < 2 ^ 48) row.counts
+  pub figures : All (λ f. f.1 < 2 ^ 48) row.figures
 
 -- no round is counted behind one with these states: no node has the value
 abbrev pub is_over : Option Until → List State → Bool
@@ -44,10 +49,14 @@ pub record AreRows (p : PlanView) (span : SpanView) (counting : Counting) (rows 
 abbrev pub keys_of : RowView → List ℕ
 keys_of row = map (λ c. c.0) row.counts
 
--- the values are those that occur in one of the rounds, by rising number
-pub record AreValues (rows : List RowView) (values : List ℕ) : Type 0 where
+-- the numbers by rising number, each once
+pub record AreOnce (numbers values : List ℕ) : Type 0 where
   pub rising : IsStrictlyIncreasing values
-  pub each : (v : ℕ) → Contains values v ↔ Contains (flat_map keys_of rows) v
+  pub each : (v : ℕ) → Contains values v ↔ Contains numbers v
+
+-- the values are those that occur in one of the rounds, by rising number
+abbrev pub AreValues : List RowView → List ℕ → Type 0
+AreValues rows values = AreOnce (flat_map keys_of rows) values
 
 -- the number beside a value, and 0 where it has none
 abbrev pub count_in : List (ℕ × ℕ) → ℕ → ℕ

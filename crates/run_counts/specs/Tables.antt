@@ -34,10 +34,10 @@ abbrev pub cell_text : CountFormat → List ℕ → ℕ → List ℕ
 cell_text Csv heading n = codes "," ++ decimal n
 cell_text Json heading n = codes ",\"" ++ (heading ++ (codes "\":" ++ decimal n))
 
--- what begins a line of round t
-abbrev pub line_start : CountFormat → ℕ → List ℕ
-line_start Csv t = decimal t
-line_start Json t = codes "{\"round\":" ++ decimal t
+-- what begins a line of round t: what stands before the round, and the round
+abbrev pub line_start : CountFormat → List ℕ → ℕ → List ℕ
+line_start Csv head t = head ++ decimal t
+line_start Json head t = codes "{" ++ (head ++ (codes "\"round\":" ++ decimal t))
 
 -- what ends a line
 abbrev pub line_end : CountFormat → List ℕ
@@ -49,19 +49,19 @@ abbrev pub figures_text : CountFormat → List (List ℕ) → List (Figure × �
 figures_text format names figures = flat_map (λ f. cell_text format (figure_name names f.0) f.1) figures ++ line_end format
 
 -- the line of a round: for each value how many nodes have it, and the figures
-abbrev pub wide_text : CountFormat → List (List ℕ) → List ℕ → RowView → List ℕ
-wide_text format names values row =
-    line_start format row.round ++ (flat_map (λ v. cell_text format (decimal v) (count_in row.counts v)) values ++ figures_text format names row.figures)
+abbrev pub wide_text : CountFormat → List ℕ → List (List ℕ) → List ℕ → RowView → List ℕ
+wide_text format head names values row =
+    line_start format head row.round ++ (flat_map (λ v. cell_text format (decimal v) (count_in row.counts v)) values ++ figures_text format names row.figures)
 
 -- the line of a value that occurs in a round: the value, how many nodes have it, and the round's figures
-abbrev pub long_text : CountFormat → List (List ℕ) → RowView → ℕ × ℕ → List ℕ
-long_text format names row c =
-    line_start format row.round ++ (cell_text format (codes "value") c.0 ++ (cell_text format (codes "nodes") c.1 ++ figures_text format names row.figures))
+abbrev pub long_text : CountFormat → List ℕ → List (List ℕ) → RowView → ℕ × ℕ → List ℕ
+long_text format head names row c =
+    line_start format head row.round ++ (cell_text format (codes "value") c.0 ++ (cell_text format (codes "nodes") c.1 ++ figures_text format names row.figures))
 
 -- the lines of a round: one where each value has a column, else one for each value that occurs in it
-abbrev pub row_text : CountFormat → List (List ℕ) → List ℕ → RowView → List ℕ
-row_text format names values row = if has_columns values then wide_text format names values row else flat_map (long_text format names row) row.counts
+abbrev pub row_text : CountFormat → List ℕ → List (List ℕ) → List ℕ → RowView → List ℕ
+row_text format head names values row = if has_columns values then wide_text format head names values row else flat_map (long_text format head names row) row.counts
 
 -- the lines of all rounds behind the headings
 abbrev pub table_text : CountFormat → List (List ℕ) → List Figure → List ℕ → List RowView → List ℕ
-table_text format names figures values rows = opening_text format names figures values ++ flat_map (row_text format names values) rows
+table_text format names figures values rows = opening_text format names figures values ++ flat_map (row_text format [] names values) rows

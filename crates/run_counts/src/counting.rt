@@ -1,5 +1,5 @@
 //! The rounds of a plan, as they are counted.
-ghost use Rattle.std.specs.Prelude.{◌≡◌, ◌++◌, Err, IfOk, IfErr, MatchOption, None, map};
+ghost use Rattle.std.specs.Prelude.{◌≡◌, ◌≢◌, ◌++◌, Err, IfOk, IfErr, MatchOption, None, Some, map};
 ghost use Rattle.rule_check.specs.Value.{names_of};
 ghost use Rattle.run_watch.specs.declared.fault.WatchFault.TheVariants.{Memory};
 ghost use Rattle.run_watch.specs.Watching.{missing_of};
@@ -9,10 +9,9 @@ ghost use Rattle.run_counts.specs.Tables.{table_text};
 use crate::asked::{Counting, Figure, Until};
 use crate::columns::put_opening;
 use crate::lines::put_rows;
-use crate::rows::rows_of;
+use crate::rows::counted_rows;
 use crate::table::Row;
 use crate::values::values_of;
-use lockstep::Course;
 use rounds_plan::{MOST_ROUNDS, Plan};
 use rule_check::Program;
 use run_watch::{Progress, Span, WatchFault};
@@ -52,7 +51,7 @@ fn missing_place(count: u32, counting: &Counting<'_>) -> Option<u32>
 }
 
 /// Why the rounds cannot be counted, whatever memory there is.
-fn refusal(plan: &Plan, span: &Span, counting: &Counting<'_>) -> Option<WatchFault>
+pub(crate) fn refusal(plan: &Plan, span: &Span, counting: &Counting<'_>) -> Option<WatchFault>
     ensures { result ≡ refusal_of plan.now span.now counting.now }
 {
     if span.last() > MOST_ROUNDS {
@@ -77,7 +76,7 @@ fn table_with(
 {
     let mut out = String::new(alloc);
     put_opening(&mut out, program, counting, values)?;
-    put_rows(&mut out, counting.format, program, values, rows)?;
+    put_rows(&mut out, counting.format, "", program, values, rows)?;
     Ok(out.into_bytes())
 }
 
@@ -93,9 +92,7 @@ fn text_of<P: Progress>(
     requires fits { refusal_of plan.now span.now counting.now ≡ None }
     ensures text { IfOk result (λ v. IsCounted plan.now span.now counting.now v.items) }
 {
-    let course = Course::new(alloc, plan)?;
-    let mut walk = course.shared_walk(rt, alloc)?;
-    let rows = rows_of(rt, alloc, &mut walk, span, counting, progress)?;
+    let rows = counted_rows(rt, alloc, plan, span, counting, progress)?;
     let values = values_of(alloc, &rows)?;
     let text = table_with(alloc, plan.program(), counting, &values, &rows)?;
     Ok(text)
@@ -122,7 +119,7 @@ pub fn counted<P: Progress>(
 ) -> Result<Vec<u8>, WatchFault>
     ensures text { IfOk result (λ v. IsCounted plan.now span.now counting.now v.items) }
     ensures fits { IfOk result (λ _. refusal_of plan.now span.now counting.now ≡ None) }
-    ensures refused { IfErr result (λ fault. fault ≡ Memory → refusal_of plan.now span.now counting.now ≡ None) }
+    ensures refused { IfErr result (λ fault. fault ≢ Memory → refusal_of plan.now span.now counting.now ≡ Some fault) }
     ensures at_once { MatchOption (refusal_of plan.now span.now counting.now) (Unit {0}) (λ fault. result ≡ Err fault) }
 {
     if let Some(fault) = refusal(plan, span, counting) {

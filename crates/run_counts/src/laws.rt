@@ -1,6 +1,7 @@
 //! Laws of counting.
 ghost use Rattle.run_counts.specs.Counts.{CellsAreCounts};
 ghost use Rattle.run_counts.specs.Records.{LongLinesAreRecords, WideLinesAreRecords};
+ghost use Rattle.run_counts.specs.Spread.{DeviationsAreNearest, MeansAreNearest};
 
 /// The number that stands under a value in the line of a round is the number of nodes that have this value after it: 0
 /// where none has it, which then may have it after another round.
@@ -14,4 +15,12 @@ pub fn cells_are_counts()
 pub fn csv_is_read_back()
     ensures rounds { WideLinesAreRecords }
     ensures values { LongLinesAreRecords }
+{}
+
+/// A mean is the number of ten-thousandths that is nearest to the sum divided by how many numbers there are, and of two
+/// that are as near the greater. A deviation is the one nearest to the root of the sample's variance: of the sum of the
+/// squares of the numbers' distances from their mean, divided by one less than how many there are.
+pub fn means_are_nearest()
+    ensures means { MeansAreNearest }
+    ensures deviations { DeviationsAreNearest }
 {}

@@ -14,7 +14,7 @@ use rule_check::Program;
 use std::alloc::AllocError;
 
 /// A number under a heading.
-fn put_named(
+pub(crate) fn put_named(
     out: &mut String,
     format: CountFormat,
     heading: &str,
@@ -61,21 +61,26 @@ fn put_figure(
     write!(out, "\":{number}")
 }
 
-/// What begins a line of a round.
-fn put_start(out: &mut String, format: CountFormat, round: u32) -> Result<(), AllocError>
-    ensures text { OnOk result (string_bytes out.new ≡ string_bytes out.old ++ line_start format round) }
+/// What begins a line of a round: what stands before the round, and the round.
+pub(crate) fn put_start(
+    out: &mut String,
+    format: CountFormat,
+    head: &str,
+    round: u32,
+) -> Result<(), AllocError>
+    ensures text { OnOk result (string_bytes out.new ≡ string_bytes out.old ++ line_start format head.now round) }
 {
     match format {
-        CountFormat::Csv => write!(out, "{round}"),
+        CountFormat::Csv => write!(out, "{head}{round}"),
         CountFormat::Json => {
-            out.push_str("{\"round\":")?;
-            write!(out, "{round}")
+            out.push_str("{")?;
+            write!(out, "{head}\"round\":{round}")
         }
     }
 }
 
 /// What ends a line.
-fn end_of(format: CountFormat) -> &'static str
+pub(crate) fn end_of(format: CountFormat) -> &'static str
     ensures text { result.now ≡ line_end format }
 {
     match format {
@@ -131,13 +136,14 @@ fn put_counts(
 fn put_wide(
     out: &mut String,
     format: CountFormat,
+    head: &str,
     program: &Program,
     values: &[u32],
     row: &Row,
 ) -> Result<(), AllocError>
-    ensures text { OnOk result (string_bytes out.new ≡ string_bytes out.old ++ wide_text format (names_of program.now) values.now row.now) }
+    ensures text { OnOk result (string_bytes out.new ≡ string_bytes out.old ++ wide_text format head.now (names_of program.now) values.now row.now) }
 {
-    put_start(out, format, row.round())?;
+    put_start(out, format, head, row.round())?;
     put_counts(out, format, values, row)?;
     put_line_end(out, format, program, row.figures())
 }
@@ -146,13 +152,14 @@ fn put_wide(
 fn put_value(
     out: &mut String,
     format: CountFormat,
+    head: &str,
     program: &Program,
     row: &Row,
     count: (u32, u64),
 ) -> Result<(), AllocError>
-    ensures text { OnOk result (string_bytes out.new ≡ string_bytes out.old ++ long_text format (names_of program.now) row.now count) }
+    ensures text { OnOk result (string_bytes out.new ≡ string_bytes out.old ++ long_text format head.now (names_of program.now) row.now count) }
 {
-    put_start(out, format, row.round())?;
+    put_start(out, format, head, row.round())?;
     put_named(out, format, "value", u64::from(count.0))?;
     put_named(out, format, "nodes", count.1)?;
     put_line_end(out, format, program, row.figures())
@@ -162,13 +169,14 @@ fn put_value(
 fn put_long(
     out: &mut String,
     format: CountFormat,
+    head: &str,
     program: &Program,
     row: &Row,
 ) -> Result<(), AllocError>
-    ensures text { OnOk result (string_bytes out.new ≡ string_bytes out.old ++ flat_map (long_text format (names_of program.now) row.now) row.now.counts) }
+    ensures text { OnOk result (string_bytes out.new ≡ string_bytes out.old ++ flat_map (long_text format head.now (names_of program.now) row.now) row.now.counts) }
 {
     for count in row.counts() {
-        put_value(out, format, program, row, *count)?;
+        put_value(out, format, head, program, row, *count)?;
     }
     Ok(())
 }
@@ -177,31 +185,33 @@ fn put_long(
 fn put_row(
     out: &mut String,
     format: CountFormat,
+    head: &str,
     program: &Program,
     values: &[u32],
     row: &Row,
 ) -> Result<(), AllocError>
-    ensures text { OnOk result (string_bytes out.new ≡ string_bytes out.old ++ row_text format (names_of program.now) values.now row.now) }
+    ensures text { OnOk result (string_bytes out.new ≡ string_bytes out.old ++ row_text format head.now (names_of program.now) values.now row.now) }
 {
     if has_columns(values) {
-        put_wide(out, format, program, values, row)
+        put_wide(out, format, head, program, values, row)
     } else {
-        put_long(out, format, program, row)
+        put_long(out, format, head, program, row)
     }
 }
 
-/// The lines of all rounds.
+/// The lines of rounds, each behind this head.
 pub(crate) fn put_rows(
     out: &mut String,
     format: CountFormat,
+    head: &str,
     program: &Program,
     values: &[u32],
     rows: &[Row],
 ) -> Result<(), AllocError>
-    ensures text { OnOk result (string_bytes out.new ≡ string_bytes out.old ++ flat_map (row_text format (names_of program.now) values.now) rows.now) }
+    ensures text { OnOk result (string_bytes out.new ≡ string_bytes out.old ++ flat_map (row_text format head.now (names_of program.now) values.now) rows.now) }
 {
     for row in rows {
-        put_row(out, format, program, values, row)?;
+        put_row(out, format, head, program, values, row)?;
     }
     Ok(())
 }

@@ -10,8 +10,8 @@ use crate::asked::{Counting, Until};
 use crate::figures::{figures_of, value_in};
 use crate::table::Row;
 use large_rounds::count_values;
-use lockstep::RoundWalk;
-use rounds_plan::Config;
+use lockstep::{Course, RoundWalk};
+use rounds_plan::{Config, Plan};
 use rule_check::State;
 use run_watch::{Progress, Span};
 use std::alloc::{AllocError, Global};
@@ -90,4 +90,24 @@ pub(crate) fn rows_of<P: Progress>(
         }
     }
     Ok(rows)
+}
+
+/// The rounds of a span of a plan, up to the one that ends them, as they are counted, in one pass over the rounds: none
+/// is computed twice. Each round is shared among as many threads as there are processors where it has enough to compute
+/// for them. The form that is asked for makes no difference, and a field that the program does not have is 0.
+pub fn counted_rows<P: Progress>(
+    rt: &(impl Threads + Sync),
+    alloc: Global,
+    plan: &Plan,
+    span: &Span,
+    counting: &Counting<'_>,
+    progress: &mut P,
+) -> Result<Vec<Row>, AllocError>
+    requires late { plan.now.start ≤ span.now.first }
+    requires few { span.now.last ≤ most_rounds }
+    ensures rows { IfOk result (λ rows. AreRows plan.now span.now counting.now rows.items) }
+{
+    let course = Course::new(alloc, plan)?;
+    let mut walk = course.shared_walk(rt, alloc)?;
+    rows_of(rt, alloc, &mut walk, span, counting, progress)
 }

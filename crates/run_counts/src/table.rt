@@ -1,28 +1,34 @@
 //! A round as it is counted.
-ghost use Rattle.std.specs.Prelude.{◌≡◌};
+ghost use Rattle.std.specs.Prelude.{◌≡◌, ◌<◌, ◌^◌, All, map, slice_index_or};
+ghost use Rattle.run_counts.specs.Rows.{count_in};
 
 use crate::asked::Figure;
+use crate::values::count_in;
 use std::marker::Model;
 
 /// A round as it is counted. A contract sees its parts.
 #[derive(Drop)]
-pub(crate) struct Row {
+pub struct Row {
     round: u32,
     counts: Vec<(u32, u64)>,
     figures: Vec<(Figure, u64)>,
 }
 
 impl Model for Row {
-    ghost use Rattle.run_counts.specs.Rows.{RowView};
+    ghost use Rattle.run_counts.specs.Rows.{IsRow, RowView};
 
     ghost Value = { RowView };
 
     ghost view = { λ r. record { round = r.round; counts = r.counts.items; figures = r.figures.items } };
+
+    ghost invariant = { λ r. IsRow (record { round = r.round; counts = r.counts.items; figures = r.figures.items }) };
 }
 
 impl Row {
     /// A round with these numbers.
     pub(crate) fn new(round: u32, counts: Vec<(u32, u64)>, figures: Vec<(Figure, u64)>) -> Row
+        requires counts { All (λ c. c.1 < 2 ^ 48) counts.items }
+        requires figures { All (λ f. f.1 < 2 ^ 48) figures.items }
         ensures row { result ≡ record { round = round; counts = counts.items; figures = figures.items } }
     {
         Row {
@@ -33,17 +39,26 @@ impl Row {
     }
 
     /// The round.
-    pub(crate) fn round(&self) -> u32
+    pub fn round(&self) -> u32
         ensures round { result ≡ self.now.round }
     {
         self.round
     }
 
-    /// How many nodes have each value that occurs, by rising value.
-    pub(crate) fn counts(&self) -> &[(u32, u64)]
+    /// Each value that occurs, by rising value, with how many nodes have it.
+    pub fn counts(&self) -> &[(u32, u64)]
         ensures counts { result.now ≡ self.now.counts }
     {
         self.counts.as_slice()
+    }
+
+    /// How many nodes have a value.
+    #[tactic(auto, using(crate::proofs::Means::count_small))]
+    pub(crate) fn count(&self, value: u32) -> u64
+        ensures count { result ≡ count_in self.now.counts value }
+        ensures small { result < 2 ^ 48 }
+    {
+        count_in(self.counts.as_slice(), value)
     }
 
     /// The further numbers, each beside what it is.
@@ -51,5 +66,16 @@ impl Row {
         ensures figures { result.now ≡ self.now.figures }
     {
         self.figures.as_slice()
+    }
+
+    /// The further number at a place, and 0 past the last.
+    pub(crate) fn figure(&self, place: usize) -> u64
+        ensures figure { result ≡ slice_index_or (map (λ f. f.1) self.now.figures) place 0 }
+        ensures small { result < 2 ^ 48 }
+    {
+        match self.figures.get(place) {
+            Some(figure) => figure.1,
+            None => 0,
+        }
     }
 }

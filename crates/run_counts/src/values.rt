@@ -1,8 +1,10 @@
 //! The values that occur in rounds.
 ghost use Rattle.std.specs.Prelude.{◌≡◌, ◌++◌, IfOk, OnOk, map};
 ghost use Rattle.std.specs.List.{flat_map};
-ghost use Rattle.run_counts.specs.Rows.{AreValues, count_in, keys_of};
+ghost use Rattle.run_counts.specs.Ensembles.{rows_in};
+ghost use Rattle.run_counts.specs.Rows.{AreOnce, AreValues, count_in, keys_of};
 
+use crate::runs::Run;
 use crate::table::Row;
 use std::alloc::{AllocError, Global};
 
@@ -16,30 +18,56 @@ fn put_keys(keys: &mut Vec<u32>, counts: &[(u32, u64)]) -> Result<(), AllocError
     Ok(())
 }
 
-/// The values that occur in each of the rounds, one round behind the other.
-fn keys_of(alloc: Global, rows: &[Row]) -> Result<Vec<u32>, AllocError>
-    ensures keys { IfOk result (λ keys. keys.items ≡ flat_map keys_of rows.now) }
+/// Puts the values that occur in each of the rounds behind the others, one round behind the other.
+fn put_all_keys(keys: &mut Vec<u32>, rows: &[Row]) -> Result<(), AllocError>
+    ensures keys { OnOk result (keys.new.items ≡ keys.old.items ++ flat_map keys_of rows.now) }
+{
+    for row in rows {
+        put_keys(keys, row.counts())?;
+    }
+    Ok(())
+}
+
+/// The values that occur in the rounds of each of the runs, one run behind the other.
+fn keys_in(alloc: Global, runs: &[Run]) -> Result<Vec<u32>, AllocError>
+    ensures keys { IfOk result (λ keys. keys.items ≡ flat_map (λ run. flat_map keys_of run.rows) runs.now) }
 {
     let mut keys = Vec::new(alloc);
-    for row in rows {
-        put_keys(&mut keys, row.counts())?;
+    for run in runs {
+        put_all_keys(&mut keys, run.rows())?;
     }
     Ok(keys)
 }
 
-/// The values that occur in one of the rounds, by rising number.
-pub(crate) fn values_of(alloc: Global, rows: &[Row]) -> Result<Vec<u32>, AllocError>
-    ensures values { IfOk result (λ values. AreValues rows.now values.items) }
+/// The numbers by rising number, each once.
+fn once(mut numbers: Vec<u32>) -> Result<Vec<u32>, AllocError>
+    ensures once { IfOk result (λ values. AreOnce numbers.items values.items) }
 {
-    let mut values = keys_of(alloc, rows)?;
-    values.sort()?;
-    values.dedup();
-    Ok(values)
+    numbers.sort()?;
+    numbers.dedup();
+    Ok(numbers)
 }
 
-/// How many nodes have a value, where these are the counts of those that occur.
-pub(crate) fn count_in(counts: &[(u32, u64)], value: u32) -> u64
-    ensures { result ≡ count_in counts.now value }
+/// The values that occur in one of the rounds, by rising number.
+pub fn values_of(alloc: Global, rows: &[Row]) -> Result<Vec<u32>, AllocError>
+    ensures values { IfOk result (λ values. AreValues rows.now values.items) }
+{
+    let mut keys = Vec::new(alloc);
+    put_all_keys(&mut keys, rows)?;
+    once(keys)
+}
+
+/// The values that occur in one of the rounds of one of the runs, by rising number.
+pub(crate) fn values_in(alloc: Global, runs: &[Run]) -> Result<Vec<u32>, AllocError>
+    ensures values { IfOk result (λ values. AreValues (rows_in runs.now) values.items) }
+{
+    let keys = keys_in(alloc, runs)?;
+    once(keys)
+}
+
+/// How many nodes have a value, where these are the counts of those that occur: 0 where it is not among them.
+pub fn count_in(counts: &[(u32, u64)], value: u32) -> u64
+    ensures count { result ≡ count_in counts.now value }
 {
     for count in counts {
         if count.0 == value {

@@ -1,5 +1,5 @@
 //! What is cut in all rounds up to one, in one pass over them.
-ghost use Rattle.std.specs.Prelude.{◌≡◌, ◌≤◌, map, Err, IfErr, IfOk, MatchOption, None, OnOk};
+ghost use Rattle.std.specs.Prelude.{◌≡◌, ◌≢◌, ◌≤◌, map, Err, IfErr, IfOk, MatchOption, None, OnOk, Some};
 ghost use Rattle.rounds_plan.specs.Configs.{most_rounds};
 ghost use Rattle.rounds_plan.specs.declared.fault.RoundFault.{RoundFault};
 ghost use Rattle.run_cuts.specs.Operators.{operators_of};
@@ -91,7 +91,7 @@ pub fn cuts(
 ) -> Result<Vec<Cut>, RoundFault>
     ensures cuts { IfOk result (λ v. v.items ≡ cuts_of plan.now rounds below (operators_of source.now)) }
     ensures fits { IfOk result (λ _. refusal_of plan.now rounds ≡ None) }
-    ensures refused { IfErr result (λ fault. fault ≡ RoundFault.Memory → refusal_of plan.now rounds ≡ None) }
+    ensures refused { IfErr result (λ fault. fault ≢ RoundFault.Memory → refusal_of plan.now rounds ≡ Some fault) }
     ensures at_once { MatchOption (refusal_of plan.now rounds) (Unit {0}) (λ fault. result ≡ Err fault) }
 {
     if rounds > MOST_ROUNDS {

@@ -4,3 +4,5 @@ pub mod EachLink
 pub mod LinkLines
 pub mod EachCell
 pub mod CellTexts
+pub mod EachPoint
+pub mod EachValue

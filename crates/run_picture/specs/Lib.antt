@@ -4,3 +4,4 @@ pub mod Frames
 pub mod Drawn
 pub mod DrawnLinks
 pub mod Placed
+pub mod Curves

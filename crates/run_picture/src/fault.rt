@@ -5,7 +5,8 @@ ghost use Rattle.run_picture.specs.declared.fault.PictureFault.TheVariants.{Memo
 use std::alloc::{AllocError, AllocFailed};
 use thiserror::Error;
 
-/// Why there is no picture. Where several hold, the first in this order; `Memory` comes only where no other holds.
+/// Why there is no picture. Where several hold, the first in this order; `Memory` comes only where no other holds, but for
+/// `TooManyValues`, which is known only after the rounds.
 #[derive(Clone, Copy, Debug, PartialEq, Eq, Error)]
 pub enum PictureFault {
     /// The last round is above 1,000,000,000.
@@ -23,6 +24,15 @@ pub enum PictureFault {
     /// There would be more than 1,000,000 cells.
     #[error("TooManyCells")]
     TooManyCells,
+    /// There would be a single round, of which no curve is drawn.
+    #[error("OneRound")]
+    OneRound,
+    /// A curve would have more than 10,000 points.
+    #[error("TooManyPoints")]
+    TooManyPoints,
+    /// There would be more than 64 curves, one for each value that occurs.
+    #[error("TooManyValues")]
+    TooManyValues,
     /// Out of memory.
     #[error("Memory")]
     Memory,

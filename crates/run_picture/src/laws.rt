@@ -1,4 +1,5 @@
 //! Laws of pictures.
+ghost use Rattle.run_picture.specs.Curves.{EachRoundHasItsPoint, EachValueHasItsCurve};
 ghost use Rattle.run_picture.specs.DrawnLinks.{EachLinkIsDrawnOnce, LinesTellLinks};
 ghost use Rattle.run_picture.specs.Placed.{EachCellHasItsPlace, TextTellsCells};
 ghost use Rattle.run_picture.specs.Shades.{SameClassSameValue};
@@ -20,4 +21,11 @@ pub fn each_link_is_drawn_once()
 pub fn each_cell_has_its_place()
     ensures places { EachCellHasItsPlace }
     ensures tell { TextTellsCells }
+{}
+
+/// A value has a curve exactly where some node has it after one of the rounds of the span. The curve has one point for
+/// each round, in order, and no other; how high it stands is the number of nodes that have the value after the round.
+pub fn each_round_has_its_point()
+    ensures curves { EachValueHasItsCurve }
+    ensures points { EachRoundHasItsPoint }
 {}

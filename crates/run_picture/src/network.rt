@@ -1,5 +1,5 @@
 //! Networks for Graphviz.
-ghost use Rattle.std.specs.Prelude.{◌≡◌, ◌≤◌, ◌++◌, Err, IfOk, IfErr, MatchOption, None, OnOk, length, map, string_bytes};
+ghost use Rattle.std.specs.Prelude.{◌≡◌, ◌≢◌, ◌≤◌, ◌++◌, Err, IfOk, IfErr, MatchOption, None, OnOk, Some, length, map, string_bytes};
 ghost use Rattle.run_picture.specs.declared.fault.PictureFault.TheVariants.{Memory};
 ghost use Rattle.run_picture.specs.Drawn.{graph_text, head_text, network_text};
 ghost use Rattle.run_picture.specs.Frames.{refusal_of};
@@ -82,7 +82,8 @@ pub fn network_dot(
 ) -> Result<Vec<u8>, PictureFault>
     ensures text { IfOk result (λ v. v.items ≡ network_text plan.now (map string_bytes labels.now) round field) }
     ensures fits { IfOk result (λ _. refusal_of plan.now round round field ≡ None) }
-    ensures refused { IfErr result (λ fault. fault ≡ Memory → refusal_of plan.now round round field ≡ None) }
+    ensures refused { IfErr result (λ fault. fault ≢ Memory → refusal_of plan.now round round field ≡ Some fault) }
+    ensures memory { IfErr result (λ fault. fault ≡ Memory → refusal_of plan.now round round field ≡ None) }
     ensures at_once { MatchOption (refusal_of plan.now round round field) (Unit {0}) (λ fault. result ≡ Err fault) }
 {
     if let Some(fault) = refusal(plan, round, round, field) {

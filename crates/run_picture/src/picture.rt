@@ -1,5 +1,5 @@
 //! Pictures of rounds.
-ghost use Rattle.std.specs.Prelude.{◌≡◌, Err, IfOk, IfErr, MatchOption, None, length};
+ghost use Rattle.std.specs.Prelude.{◌≡◌, ◌≢◌, Err, IfOk, IfErr, MatchOption, None, Some, length};
 ghost use Rattle.run_picture.specs.declared.fault.PictureFault.TheVariants.{Memory};
 ghost use Rattle.run_picture.specs.Frames.{grid_refusal, time_refusal, values_after, values_in};
 ghost use Rattle.run_picture.specs.Sheets.{picture_text};
@@ -96,7 +96,8 @@ pub fn time_picture<P: Progress>(
 ) -> Result<Vec<u8>, PictureFault>
     ensures text { IfOk result (λ v. v.items ≡ picture_text (length plan.now.network) (values_in plan.now span.now field)) }
     ensures fits { IfOk result (λ _. time_refusal plan.now span.now field ≡ None) }
-    ensures refused { IfErr result (λ fault. fault ≡ Memory → time_refusal plan.now span.now field ≡ None) }
+    ensures refused { IfErr result (λ fault. fault ≢ Memory → time_refusal plan.now span.now field ≡ Some fault) }
+    ensures memory { IfErr result (λ fault. fault ≡ Memory → time_refusal plan.now span.now field ≡ None) }
     ensures at_once { MatchOption (time_refusal plan.now span.now field) (Unit {0}) (λ fault. result ≡ Err fault) }
 {
     if let Some(fault) = time_refusal(plan, span, field) {
@@ -122,7 +123,8 @@ pub fn grid_picture(
 ) -> Result<Vec<u8>, PictureFault>
     ensures text { IfOk result (λ v. v.items ≡ picture_text width (values_after plan.now field round)) }
     ensures fits { IfOk result (λ _. grid_refusal plan.now round field width ≡ None) }
-    ensures refused { IfErr result (λ fault. fault ≡ Memory → grid_refusal plan.now round field width ≡ None) }
+    ensures refused { IfErr result (λ fault. fault ≢ Memory → grid_refusal plan.now round field width ≡ Some fault) }
+    ensures memory { IfErr result (λ fault. fault ≡ Memory → grid_refusal plan.now round field width ≡ None) }
     ensures at_once { MatchOption (grid_refusal plan.now round field width) (Unit {0}) (λ fault. result ≡ Err fault) }
 {
     if let Some(fault) = grid_refusal(plan, round, field, width) {

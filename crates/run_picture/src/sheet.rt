@@ -48,7 +48,7 @@ fn legend_top(width: u32, count: u32) -> u32
 
 /// The first line, for a size in pixels.
 #[tactic(auto, unfolding(crate::specs::Sheets::opening_text))]
-fn put_opening(out: &mut String, width: u32, height: u32) -> Result<(), AllocError>
+pub(crate) fn put_opening(out: &mut String, width: u32, height: u32) -> Result<(), AllocError>
     ensures text { OnOk result (string_bytes out.new ≡ string_bytes out.old ++ opening_text width height) }
 {
     write!(
@@ -96,7 +96,7 @@ fn put_styles(out: &mut String, count: usize) -> Result<(), AllocError>
 
 /// The styles, and a white ground.
 #[tactic(auto, unfolding(crate::specs::Sheets::style_text))]
-fn put_style(out: &mut String) -> Result<(), AllocError>
+pub(crate) fn put_style(out: &mut String) -> Result<(), AllocError>
     ensures text { OnOk result (string_bytes out.new ≡ string_bytes out.old ++ style_text) }
 {
     out.push_str("<style>text{font:12px sans-serif}.key{stroke:#888888}")?;

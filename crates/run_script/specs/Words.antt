@@ -40,9 +40,13 @@ called_in (Some names) word = position (bytes_eq word) names
 abbrev pub node_of : Neighbours → ℕ → Option ℕ
 node_of network u = if nat_lt u (length network) then Some u else None
 
--- the node of the network that a word calls; places of words are counted from 1
+-- the node of the network that a word calls, where it calls one
+abbrev pub node_called : Neighbours → Option (List (List ℕ)) → List ℕ → Option ℕ
+node_called network names word = option_and_then (node_of network) (called_in names word)
+
+-- the same of a word of a line; places of words are counted from 1
 abbrev pub node_at : Neighbours → Option (List (List ℕ)) → ℕ → ℕ → List ℕ → Result ℕ StepTextFault
-node_at network names line place word = ok_or (option_and_then (node_of network) (called_in names word)) (NoNode line place)
+node_at network names line place word = ok_or (node_called network names word) (NoNode line place)
 
 -- the slot of a node at which a neighbour stands: its place among the node's neighbours
 abbrev pub slot_at : Neighbours → ℕ → ℕ → ℕ → Result ℕ StepTextFault

@@ -13,4 +13,6 @@ mod text;
 
 pub use fault::StepTextFault;
 pub use laws::beginnings_end;
+pub use line_reader::next_said;
+pub use nodes::{node_called, number_in};
 pub use text::written;

@@ -23,8 +23,9 @@ fn is_comment(word: &str) -> bool
     }
 }
 
-/// The next word of a line, where it does not begin a comment, and what stands behind it.
-fn next_said(text: &str) -> Option<(&str, &str)>
+/// The next word of a line, where it does not begin a comment, and what stands behind it; none where no word is left or a
+/// comment begins. Words are parted by blanks, tabs, CRs and commas.
+pub fn next_said(text: &str) -> Option<(&str, &str)>
     ensures { MatchOption result (words_in text.now ≡ []) (λ x. words_in text.now ≡ x.0.now ∷ words_in x.1.now) }
 {
     let (word, rest) = next_word(text)?;

@@ -1,7 +1,7 @@
 //! Nodes, slots and counts that words call.
 ghost use Rattle.std.specs.Prelude.{◌≡◌};
 ghost use Rattle.std.specs.Option.{option_map};
-ghost use Rattle.run_script.specs.Words.{number_in, called_in, node_at, slot_at, count_at};
+ghost use Rattle.run_script.specs.Words.{number_in, called_in, node_called, node_at, slot_at, count_at};
 
 use crate::fault::StepTextFault;
 use link_net::Network;
@@ -11,8 +11,9 @@ use report_text::read_number;
 /// The most times that lines may be repeated.
 const MOST_REPEATS: u32 = 1_000_000;
 
-/// The number whose spelling a word is, without leading zeros.
-fn number_in(word: &str) -> Option<u32>
+/// The number from 0 to 4,294,967,295 whose spelling in decimal digits a word is, without leading zeros; none where it is no
+/// number's.
+pub fn number_in(word: &str) -> Option<u32>
     ensures { result ≡ number_in word.now }
 {
     let (number, rest) = read_number(word.as_bytes())?;
@@ -32,6 +33,18 @@ fn called_in(names: Option<&NodeNames>, word: &str) -> Option<u32>
     }
 }
 
+/// The node of the network that a word calls: by its number, in decimal digits without leading zeros, or, where names are
+/// given, by its name alone; none where it calls none.
+pub fn node_called(network: &Network, names: Option<&NodeNames>, word: &str) -> Option<u32>
+    ensures { result ≡ node_called network.now (option_map (λ n. n.now) names.entry) word.now }
+{
+    let node = called_in(names, word)?;
+    if node >= network.nodes() {
+        return None;
+    }
+    Some(node)
+}
+
 /// The node that a word calls, which is the word at this place of a line.
 pub(crate) fn node_at(
     network: &Network,
@@ -42,13 +55,8 @@ pub(crate) fn node_at(
 ) -> Result<u32, StepTextFault>
     ensures { result ≡ node_at network.now (option_map (λ n. n.now) names.entry) line place word.now }
 {
-    match called_in(names, word) {
-        Some(node) => {
-            if node >= network.nodes() {
-                return Err(StepTextFault::NoNode { line, word: place });
-            }
-            Ok(node)
-        }
+    match node_called(network, names, word) {
+        Some(node) => Ok(node),
         None => Err(StepTextFault::NoNode { line, word: place }),
     }
 }

@@ -1,5 +1,5 @@
 //! Rounds that are watched.
-ghost use Rattle.std.specs.Prelude.{◌≡◌, ◌≤◌, ◌<◌, ◌++◌, [], All, Err, IfOk, IfErr, MatchOption, None, OnOk, codes, length, slice_index_or, string_bytes};
+ghost use Rattle.std.specs.Prelude.{◌≡◌, ◌≢◌, ◌≤◌, ◌<◌, ◌++◌, [], All, Err, IfOk, IfErr, MatchOption, None, OnOk, Some, codes, length, slice_index_or, string_bytes};
 ghost use Rattle.std.specs.List.{flat_map};
 ghost use Rattle.rule_check.specs.Value.{names_of};
 ghost use Rattle.rounds_plan.specs.Configs.{most_rounds};
@@ -175,7 +175,7 @@ pub fn watched<P: Progress>(
 ) -> Result<Vec<u8>, WatchFault>
     ensures text { IfOk result (λ v. v.items ≡ watch_text plan.now span.now show.now) }
     ensures fits { IfOk result (λ _. refusal_of plan.now span.now show.now ≡ None) }
-    ensures refused { IfErr result (λ fault. fault ≡ Memory → refusal_of plan.now span.now show.now ≡ None) }
+    ensures refused { IfErr result (λ fault. fault ≢ Memory → refusal_of plan.now span.now show.now ≡ Some fault) }
     ensures at_once { MatchOption (refusal_of plan.now span.now show.now) (Unit {0}) (λ fault. result ≡ Err fault) }
 {
     if let Some(fault) = refusal(plan, span, show) {

@@ -1,5 +1,8 @@
 //! `count PROGRAM NETWORK --rounds FIRST..LAST`: how many nodes have each value, round by round.
+ghost use Rattle.std.specs.Prelude.{IfSome};
+ghost use Rattle.app_requests.specs.Requests.{HasRuns};
 
+use crate::count_runs::runs_text;
 use crate::plan_texts::plan_at;
 use crate::progress::Telling;
 use crate::watch::no_rounds;
@@ -7,7 +10,7 @@ use app_files::{Ending, coloured_field, field_place, path_in, print_out, read_on
 use app_requests::{CountRequest, FigureWord, UntilWord};
 use rounds_plan::Plan;
 use rule_check::Program;
-use run_counts::{Counting, Figure, FigureKind, Until, counted};
+use run_counts::{CountFormat, Counting, Figure, FigureKind, Until, counted};
 use std::alloc::Global;
 use std::thread::Threads;
 
@@ -60,6 +63,44 @@ fn until_for(
     Ok(Some(Until { field, value }))
 }
 
+/// What is counted, where fields have their places.
+#[derive(Drop)]
+pub(crate) struct Counted {
+    format: CountFormat,
+    field: u32,
+    figures: Vec<Figure>,
+    until: Option<Until>,
+}
+
+impl Counted {
+    /// What is asked for, where this is the program.
+    pub(crate) fn of(
+        alloc: Global,
+        program: &Program,
+        asked: &CountRequest,
+    ) -> Result<Counted, Ending> {
+        let field = coloured_field(alloc, program, &asked.field)?;
+        let figures = figures_for(alloc, program, &asked.figures)?;
+        let until = until_for(alloc, program, &asked.until)?;
+        Ok(Counted {
+            format: asked.format,
+            field,
+            figures,
+            until,
+        })
+    }
+
+    /// The same, as rounds are counted by it.
+    pub(crate) fn counting(&self) -> Counting<'_> {
+        Counting {
+            format: self.format,
+            field: self.field,
+            figures: &self.figures,
+            until: self.until,
+        }
+    }
+}
+
 /// The text of the rounds, counted so.
 fn counted_text(
     rt: &HostRuntime,
@@ -84,61 +125,59 @@ fn counted_text(
     }
 }
 
-/// The text of the rounds of a plan.
-fn text_of(
+/// The text of the rounds of one run.
+fn run_text(
     rt: &HostRuntime,
     threads: &(impl Threads + Sync),
-    plan: &Plan,
     asked: &CountRequest,
 ) -> Result<Vec<u8>, Ending> {
-    let program = plan.program();
-    let field = coloured_field(rt.alloc(), program, &asked.field)?;
-    let figures = figures_for(rt.alloc(), program, &asked.figures)?;
-    let until = until_for(rt.alloc(), program, &asked.until)?;
-    let counting = Counting {
-        format: asked.format,
-        field,
-        figures: &figures,
-        until,
-    };
-    counted_text(rt, threads, plan, asked, &counting)
+    let plan = plan_at(rt, &asked.runs.plan)?;
+    let found = Counted::of(rt.alloc(), plan.program(), asked)?;
+    counted_text(rt, threads, &plan, asked, &found.counting())
 }
 
 /// The text of the rounds that are asked for.
-fn text_for(
+fn text_for<R: Threads + Sync>(
     rt: &HostRuntime,
-    threads: &(impl Threads + Sync),
+    threads: &R,
     asked: &CountRequest,
-) -> Result<Vec<u8>, Ending> {
-    let plan = plan_at(rt, &asked.plan)?;
-    text_of(rt, threads, &plan, asked)
+) -> Result<Vec<u8>, Ending>
+    requires runs { IfSome asked.now.runs.varied HasRuns }
+{
+    match &asked.runs.varied {
+        None => run_text(rt, threads, asked),
+        Some(varied) => runs_text(rt, threads, asked, varied),
+    }
 }
 
 /// Refuses standard input for more than one of the texts.
 fn check_paths(alloc: Global, asked: &CountRequest) -> Result<(), Ending> {
+    let plan = &asked.runs.plan;
     let paths = [
-        asked.plan.program.as_str(),
-        asked.plan.network.as_str(),
-        path_in(&asked.plan.from),
+        plan.program.as_str(),
+        plan.network.as_str(),
+        path_in(&plan.from),
     ];
     read_once(alloc, &paths)
 }
 
 /// Prints the counts that are asked for. The status with which the program ends.
-fn put_counts(
+fn put_counts<R: Threads + Sync>(
     rt: &HostRuntime,
-    threads: &(impl Threads + Sync),
+    threads: &R,
     asked: &CountRequest,
-) -> Result<u8, Ending> {
+) -> Result<u8, Ending>
+    requires runs { IfSome asked.now.runs.varied HasRuns }
+{
     check_paths(rt.alloc(), asked)?;
     let text = text_for(rt, threads, asked)?;
     print_out(rt, &text)
 }
 
-/// Counts the nodes of a plan that have each value, round by round. The status with which the program ends.
-pub(crate) fn count_rounds(
+/// Counts the nodes that have each value, round by round, in one run or in several. The status with which the program ends.
+pub(crate) fn count_rounds<R: Threads + Sync>(
     rt: &HostRuntime,
-    threads: &(impl Threads + Sync),
+    threads: &R,
     words: &[String],
 ) -> Result<u8, Ending> {
     let asked = CountRequest::parse(rt.alloc(), words)?;

@@ -2,7 +2,7 @@
 
 use crate::labels::labels_at;
 use crate::plan_texts::plan_with;
-use app_files::{Ending, bytes_at, name_at, path_in, print_out, read_once};
+use app_files::{Ending, path_in, print_out, program_at, program_name, read_once};
 use app_jobs::{ServeFault, program_of};
 use app_requests::{CutsFormat, CutsRequest};
 use app_why::place_at;
@@ -83,8 +83,9 @@ fn text_with(
     let nodes = plan.network().nodes();
     let labels = labels_at(rt, labels_form(asked.format), &asked.names, nodes)?;
     let sites = sites_of(rt.alloc(), program)?;
+    let name = program_name(rt.alloc(), asked.plan.program.as_str())?;
     let telling = Telling {
-        name: name_at(asked.plan.program.as_str()),
+        name: name.as_str(),
         sites: &sites,
         labels: &labels,
         rounds: asked.rounds,
@@ -97,7 +98,7 @@ fn text_with(
 
 /// What is told of the texts that are named.
 fn text_for(rt: &HostRuntime, asked: &CutsRequest) -> Result<Vec<u8>, Ending> {
-    let program = bytes_at(rt, asked.plan.program.as_str())?;
+    let program = program_at(rt, asked.plan.program.as_str(), &asked.plan.constants)?;
     let plan = plan_with(rt, &asked.plan, &program)?;
     text_with(rt, &program, &plan, asked)
 }

@@ -29,7 +29,7 @@ pub(crate) fn steps_at(rt: &HostRuntime, path: &str) -> Result<Vec<Step>, Ending
 }
 
 /// The ending where the plan has no world.
-fn no_world(fault: OpenFault) -> Ending {
+pub(crate) fn no_world(fault: OpenFault) -> Ending {
     match fault {
         OpenFault::Memory => Ending::Memory,
         fault => Ending::Served(ServeFault::Replay(ReplayFault::Opening(fault))),

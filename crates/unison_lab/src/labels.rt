@@ -76,6 +76,25 @@ pub(crate) fn check_count(alloc: Global, names: &NodeNames, nodes: u32) -> Resul
     )))
 }
 
+/// Refuses names that are not as many as the network has nodes.
+fn check_names(alloc: Global, names: &Option<NodeNames>, nodes: u32) -> Result<(), Ending> {
+    match names {
+        Some(names) => check_count(alloc, names, nodes),
+        None => Ok(()),
+    }
+}
+
+/// The names by which nodes are called, as many as the network has nodes.
+pub(crate) fn names_for(
+    rt: &HostRuntime,
+    path: &Option<String>,
+    nodes: u32,
+) -> Result<Option<NodeNames>, Ending> {
+    let names = names_at(rt, path)?;
+    check_names(rt.alloc(), &names, nodes)?;
+    Ok(names)
+}
+
 /// What stands for so many nodes, which have names or, where there are none, their numbers.
 fn labels_of(
     alloc: Global,

@@ -3,8 +3,10 @@
 
 mod cells;
 mod count;
+mod count_runs;
 mod csv_text;
 mod cuts;
+mod expand;
 mod explain;
 mod generate;
 mod help;
@@ -12,6 +14,7 @@ mod import;
 mod info;
 mod init;
 mod labels;
+mod naive;
 mod names;
 mod page;
 mod page_size;
@@ -21,22 +24,27 @@ mod progress;
 mod refusals;
 mod schedule;
 mod settle;
+mod text_lines;
+mod verify;
 mod watch;
 mod why;
 
 use crate::count::count_rounds;
 use crate::csv_text::print_csv;
 use crate::cuts::tell_cuts;
+use crate::expand::expand_model;
 use crate::explain::explain_schedule;
 use crate::generate::generate_network;
 use crate::help::{help_text, print_completion, print_manual};
 use crate::import::import_network;
 use crate::info::show_info;
 use crate::init::init_network;
+use crate::naive::tell_naive;
 use crate::page::make_page;
 use crate::picture::{make_dot, make_image};
 use crate::schedule::make_schedule;
 use crate::settle::settle_rounds;
+use crate::verify::verify_trace;
 use crate::watch::watch_rounds;
 use crate::why::why_command;
 use app_files::{Ending, print_ending, words_of};
@@ -74,6 +82,7 @@ fn run_task(
         Task::Csv => print_csv(rt, words),
         Task::Cuts => tell_cuts(rt, words),
         Task::Dot => make_dot(rt, threads, words),
+        Task::Expand => expand_model(rt, words),
         Task::Explain => explain_schedule(rt, words),
         Task::Generate => generate_network(rt, words),
         Task::Image => make_image(rt, threads, words),
@@ -82,9 +91,11 @@ fn run_task(
         Task::Init => init_network(rt, words),
         Task::Large | Task::Pack => of_large(rt, task),
         Task::Manual => print_manual(rt, words),
+        Task::Naive => tell_naive(rt, words),
         Task::Page => make_page(rt, threads, words),
         Task::Schedule => make_schedule(rt, words),
         Task::Settle => settle_rounds(rt, threads, words),
+        Task::Verify => verify_trace(rt, words),
         Task::Watch => watch_rounds(rt, threads, words),
         Task::Why => why_command(rt, words),
     }

@@ -7,7 +7,10 @@ use crate::watch::no_rounds;
 use app_files::{Ending, coloured_field, path_in, print_out, read_once};
 use app_requests::{DotRequest, ImageRequest, PlanPaths};
 use rounds_plan::Plan;
-use run_picture::{MOST_CELLS, PictureFault, grid_picture, network_dot, time_picture};
+use run_picture::{
+    MOST_CELLS, MOST_CURVES, MOST_POINTS, PictureFault, count_picture, grid_picture, network_dot,
+    time_picture,
+};
 use run_watch::{Format, WatchFault};
 use std::alloc::Global;
 use std::thread::Threads;
@@ -19,19 +22,44 @@ fn too_many_cells(alloc: Global) -> Ending {
     ))
 }
 
+/// The ending where curves would have too many points.
+fn too_many_points(alloc: Global) -> Ending {
+    Ending::refused(format!(in alloc;
+        "image TooManyPoints\na curve has at most {MOST_POINTS} points, one for each round; --every K shows fewer rounds"
+    ))
+}
+
+/// The ending where there would be too many curves.
+fn too_many_values(alloc: Global) -> Ending {
+    Ending::refused(format!(in alloc;
+        "image TooManyValues\nat most {MOST_CURVES} values have curves, and more occur in these rounds; unison count prints how many nodes have each"
+    ))
+}
+
+/// The ending where one round alone would have curves.
+fn one_round(alloc: Global) -> Ending {
+    Ending::refused(String::from_str(
+        alloc,
+        "image OneRound\ncurves go over two rounds or more, as in --rounds 0..8",
+    ))
+}
+
 /// The ending where there is no picture.
 fn no_picture(alloc: Global, fault: PictureFault) -> Ending {
     match fault {
         PictureFault::TooManyRounds => no_rounds(WatchFault::TooManyRounds),
         PictureFault::RoundsBelowStart => no_rounds(WatchFault::RoundsBelowStart),
         PictureFault::TooManyCells => too_many_cells(alloc),
+        PictureFault::OneRound => one_round(alloc),
+        PictureFault::TooManyPoints => too_many_points(alloc),
+        PictureFault::TooManyValues => too_many_values(alloc),
         PictureFault::NoField { .. } | PictureFault::NoWidth | PictureFault::Memory => {
             Ending::Memory
         }
     }
 }
 
-/// The picture of rounds, or of one of them as a grid, coloured by a field.
+/// The picture of rounds, or of one of them as a grid, coloured by a field, or the curves of its counts.
 fn drawn(
     rt: &HostRuntime,
     threads: &(impl Threads + Sync),
@@ -44,6 +72,9 @@ fn drawn(
         return grid_picture(threads, rt.alloc(), plan, round, field, asked.grid);
     }
     let mut telling = Telling::new(rt, &asked.span, plan.network().nodes());
+    if asked.counts {
+        return count_picture(threads, rt.alloc(), plan, &asked.span, field, &mut telling);
+    }
     time_picture(threads, rt.alloc(), plan, &asked.span, field, &mut telling)
 }
 

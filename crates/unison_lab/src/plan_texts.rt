@@ -1,6 +1,6 @@
 //! Plans of the texts that the words name.
 
-use app_files::{Ending, bytes_at, bytes_where};
+use app_files::{Ending, bytes_at, bytes_where, program_at};
 use app_jobs::plan_from;
 use app_requests::PlanPaths;
 use rounds_plan::Plan;
@@ -8,7 +8,7 @@ use std::alloc::Global;
 use std::sync::Arc;
 
 /// The plan of these texts.
-fn plan_of(
+pub(crate) fn plan_of(
     alloc: Global,
     program: &[u8],
     network: &[u8],
@@ -37,7 +37,7 @@ pub(crate) fn plan_with(
 
 /// The plan of the texts at these paths.
 pub(crate) fn plan_at(rt: &HostRuntime, paths: &PlanPaths) -> Result<Plan, Ending> {
-    let program = bytes_at(rt, paths.program.as_str())?;
+    let program = program_at(rt, paths.program.as_str(), &paths.constants)?;
     plan_with(rt, paths, &program)
 }
 

@@ -1,8 +1,8 @@
 //! `schedule MANNER PROGRAM NETWORK`: schedules, made in a manner or from a script.
 
-use crate::labels::check_count;
-use crate::names::names_at;
+use crate::labels::names_for;
 use crate::plan_texts::plan_at;
+use crate::text_lines::line_at;
 use app_files::{Ending, bytes_at, name_at, path_in, print_out, read_once};
 use app_jobs::ServeFault;
 use app_requests::{Limits, Listing, PlanPaths, ScheduleRequest, StepsManner, Writing};
@@ -16,25 +16,6 @@ use std::alloc::{AllocError, Global};
 use std::sync::Arc;
 use unison_trace::{ReplayFault, write_schedule};
 use unison_world::{OpenFault, Step};
-
-/// Refuses names that are not as many as the network has nodes.
-fn check_names(alloc: Global, names: &Option<NodeNames>, nodes: u32) -> Result<(), Ending> {
-    match names {
-        Some(names) => check_count(alloc, names, nodes),
-        None => Ok(()),
-    }
-}
-
-/// The names by which nodes are called, as many as the network has nodes.
-fn names_for(
-    rt: &HostRuntime,
-    path: &Option<String>,
-    nodes: u32,
-) -> Result<Option<NodeNames>, Ending> {
-    let names = names_at(rt, path)?;
-    check_names(rt.alloc(), &names, nodes)?;
-    Ok(names)
-}
 
 /// The ending where a word calls no node.
 fn no_node(alloc: Global, word: &str, named: bool, nodes: u32) -> Ending {
@@ -189,13 +170,6 @@ fn line_in(fault: StepTextFault) -> u64 {
         | StepTextFault::RepeatWithoutEnd { line } => line,
         StepTextFault::Memory => 0,
     }
-}
-
-/// The line of a text with this number, counted from 1, where it is UTF-8.
-fn line_at(text: &[u8], line: u64) -> &str {
-    let place = line.saturating_sub(1) as usize;
-    let bytes = text.split(|byte| *byte == b'\n').nth(place).unwrap_or(&[]);
-    str::from_utf8(bytes).unwrap_or("")
 }
 
 /// What is told where lines say no steps: the file, the place, what was expected, and what stands there.

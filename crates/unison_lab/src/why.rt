@@ -1,14 +1,23 @@
 //! `why COMMAND WORDS..`: why a command refuses its texts.
 
-use app_files::{Ending, Text, path_in, print_fault, read_once, text_at, text_where, write_out};
+use app_files::{
+    Ending, ModelRefusal, Text, check_constants, is_model, path_in, print_fault, program_name,
+    read_once, refusal_of, text_at, text_where, write_out,
+};
 use app_jobs::ServeFault;
+use app_requests::constants_among;
 use app_why::{Finding, Named, Texts, why};
 use app_words::{Request, UsageFault, command_as, job_by};
+use model_program::{ModelProgramFault, expanded};
+use model_rules::Given;
 use std::alloc::{AllocError, Global};
 
 /// What stands behind the help of `why`.
 const EXAMPLE: &str =
     "The words are those of the command; - is standard input where a file is read.\nAn example: unison why lockstep examples/distance.rules examples/path.toml --rounds 2\n";
+
+/// The status of a command whose program is refused.
+const BAD_PROGRAM: u8 = 3;
 
 /// What an option's number may be.
 fn allowed(option: &str) -> &'static str {
@@ -72,7 +81,7 @@ fn check_paths(alloc: Global, request: &Request) -> Result<(), Ending> {
 
 /// The texts of a request.
 #[derive(Drop)]
-struct Given {
+struct ReadTexts {
     program: Text,
     network: Option<Text>,
     report: Option<Text>,
@@ -94,10 +103,10 @@ fn read_first(rt: &HostRuntime, request: &Request) -> Result<(Text, Option<Text>
 }
 
 /// The texts of a request, read in the order in which its command reads them.
-fn read(rt: &HostRuntime, request: &Request) -> Result<Given, Ending> {
+fn read(rt: &HostRuntime, request: &Request) -> Result<ReadTexts, Ending> {
     let (program, network) = read_first(rt, request)?;
     let (report, schedule) = read_rest(rt, request)?;
-    Ok(Given {
+    Ok(ReadTexts {
         program,
         network,
         report,
@@ -122,7 +131,7 @@ fn named_where(text: &Option<Text>) -> Option<Named<'_>> {
 }
 
 /// What is found in the texts.
-fn finding_of(alloc: Global, request: &Request, read: &Given) -> Result<Finding, AllocError> {
+fn finding_of(alloc: Global, request: &Request, read: &ReadTexts) -> Result<Finding, AllocError> {
     let texts = Texts {
         program: named(&read.program),
         network: named_where(&read.network),
@@ -132,18 +141,62 @@ fn finding_of(alloc: Global, request: &Request, read: &Given) -> Result<Finding,
     why(alloc, &request.job, &texts)
 }
 
-/// What is found in the texts of a request.
-fn finding_in(rt: &HostRuntime, request: &Request) -> Result<Finding, Ending> {
-    check_paths(rt.alloc(), request)?;
-    let given = read(rt, request)?;
-    let finding = finding_of(rt.alloc(), request, &given)?;
-    Ok(finding)
+/// What is found: in the texts of a job, or in the model that its program is.
+#[derive(Drop)]
+enum Found {
+    Job(Finding),
+    Model { refusal: ModelRefusal, text: String },
 }
 
-/// What is found in the texts that the words name.
-fn finding_for(rt: &HostRuntime, words: &[String]) -> Result<Finding, Ending> {
-    let request = request_of(rt.alloc(), words)?;
-    finding_in(rt, &request)
+/// What is found in a model that has no program.
+fn found_in_model(
+    alloc: Global,
+    program: &Text,
+    constants: &[Given],
+    fault: ModelProgramFault,
+) -> Result<Found, AllocError> {
+    let refusal = refusal_of(alloc, &program.bytes, constants, fault)?;
+    let text = refusal.found(alloc, named(program))?;
+    Ok(Found::Model { refusal, text })
+}
+
+/// The program that a model is expanded to, with its name.
+fn program_text(
+    alloc: Global,
+    path: &str,
+    text: &[u8],
+    constants: &[Given],
+) -> Result<Text, ModelProgramFault> {
+    let bytes = expanded(alloc, text, constants)?;
+    let name = program_name(alloc, path)?;
+    Ok(Text { name, bytes })
+}
+
+/// What is found in the texts that were read for a request.
+fn found_in(
+    alloc: Global,
+    request: &Request,
+    constants: &[Given],
+    mut read: ReadTexts,
+) -> Result<Found, AllocError> {
+    let path = request.program.as_str();
+    if is_model(path) {
+        match program_text(alloc, path, &read.program.bytes, constants) {
+            Ok(program) => read.program = program,
+            Err(fault) => return found_in_model(alloc, &read.program, constants, fault),
+        }
+    }
+    let finding = finding_of(alloc, request, &read)?;
+    Ok(Found::Job(finding))
+}
+
+/// What is found in the texts of a request.
+fn found_for(rt: &HostRuntime, request: &Request, constants: &[Given]) -> Result<Found, Ending> {
+    check_paths(rt.alloc(), request)?;
+    check_constants(rt.alloc(), request.program.as_str(), constants)?;
+    let read = read(rt, request)?;
+    let found = found_in(rt.alloc(), request, constants, read)?;
+    Ok(found)
 }
 
 /// The status with which a command would end that has this fault, which is printed, or none.
@@ -157,9 +210,26 @@ fn status_of(rt: &HostRuntime, fault: &Option<ServeFault>) -> u8 {
     }
 }
 
+/// Prints what is found. The status with which the command would end.
+fn put_found(rt: &HostRuntime, found: &Found) -> Result<u8, Ending> {
+    match found {
+        Found::Job(finding) => {
+            write_out(rt, finding.text.as_bytes())?;
+            Ok(status_of(rt, &finding.fault))
+        }
+        Found::Model { refusal, text } => {
+            write_out(rt, text.as_bytes())?;
+            let kind = refusal.kind;
+            let _ = eprintln!(rt; "fault: model {kind}");
+            Ok(BAD_PROGRAM)
+        }
+    }
+}
+
 /// Tells why a command refuses its texts. The status with which that command would end.
 pub(crate) fn why_command(rt: &HostRuntime, words: &[String]) -> Result<u8, Ending> {
-    let finding = finding_for(rt, words)?;
-    write_out(rt, finding.text.as_bytes())?;
-    Ok(status_of(rt, &finding.fault))
+    let (constants, words) = constants_among(rt.alloc(), words)?;
+    let request = request_of(rt.alloc(), &words)?;
+    let found = found_for(rt, &request, &constants)?;
+    put_found(rt, &found)
 }

@@ -4,7 +4,7 @@ use crate::arrays::column_at;
 use crate::network::network_at;
 use crate::reports::report_at;
 use app_files::{
-    Ending, NodeCalls, bytes_at, drawn_parts, field_place, list_path, listed_nodes, path_in,
+    Ending, NodeCalls, drawn_parts, field_place, list_path, listed_nodes, path_in, program_at,
     read_once,
 };
 use app_jobs::program_of;
@@ -207,9 +207,9 @@ fn states_of(
     Ok(states)
 }
 
-/// The program whose text stands at a path.
-fn program_at(rt: &HostRuntime, path: &str) -> Result<Program, Ending> {
-    let text = bytes_at(rt, path)?;
+/// The program that these words name.
+fn program_for(rt: &HostRuntime, texts: &LargeTexts) -> Result<Program, Ending> {
+    let text = program_at(rt, texts.program.as_str(), &texts.constants)?;
     match program_of(rt.alloc(), &text) {
         Ok((_source, program)) => Ok(program),
         Err(fault) => Err(Ending::Served(fault)),
@@ -264,7 +264,7 @@ fn check_paths(alloc: Global, texts: &LargeTexts) -> Result<(), Ending> {
 /// What rounds begin with by these words.
 pub(crate) fn start_at(rt: &HostRuntime, texts: &LargeTexts) -> Result<Start, Ending> {
     check_paths(rt.alloc(), texts)?;
-    let program = program_at(rt, texts.program.as_str())?;
+    let program = program_for(rt, texts)?;
     let network = network_at(rt, texts.network.as_str())?;
     let opening = opening_for(rt, &program, &network, texts)?;
     Ok(Start {

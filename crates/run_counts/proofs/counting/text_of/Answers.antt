@@ -1,8 +1,6 @@
-use Rattle.std.proofs.Common.{◌≡◌, ◌∙◌, ℕ, List, ap, subst}
+use Rattle.std.proofs.Common.{◌∙◌, ℕ, List, ap, subst}
 use Rattle.rule_check.specs.Value.{Rules, names_of}
-use Rattle.rounds_plan.specs.Plans.{PlanView}
-use Rattle.lockstep.specs.Walking.{RoundView}
-use Rattle.run_counts.specs.Rows.{AreRows, AreValues, RowView}
+use Rattle.run_counts.specs.Rows.{AreValues, RowView}
 use Rattle.run_counts.specs.Tables.{table_text}
 use Rattle.run_counts.proofs.counting.text_of.Goals as goal
 
@@ -12,13 +10,12 @@ returns g c =
     let counting = c.args.counting.now in
     let rows = c.in_ok-rows.rows.items in
     let values = c.in_ok-values.values.items in
-    let plan_is : c.in_ok-walk.walk.plan ≡ p = ap (λ (v : RoundView). v.plan) c.in_ok-walk.ensures.start ∙ c.in_ok-course.ensures.plan in
     let text = λ (r : Rules) (vs : List ℕ) (rs : List RowView). table_text counting.format (names_of r) counting.figures.now vs rs in
     record {
       text = record {
         rows = rows;
         values = values;
-        rows_are = subst (λ (q : PlanView). AreRows q c.args.span.now counting rows) plan_is c.in_ok-rows.ensures.rows;
+        rows_are = c.in_ok-rows.ensures.rows;
         values_are = subst (λ (rs : List RowView). AreValues rs values) c.deref.ensures.value c.in_ok-values.ensures.values;
         spelled =
             c.in_ok-text.ensures.text

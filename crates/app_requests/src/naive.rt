@@ -1,0 +1,60 @@
+//! `naive`: what the steps of a schedule come to where no node waits.
+ghost use Rattle.std.specs.Prelude.{◌≤◌, IfOk};
+ghost use Rattle.rounds_plan.specs.Configs.{most_rounds};
+
+use crate::arguments::{FROM, NETWORK, PROGRAM, PlanPaths};
+use crate::constants::CONSTANT;
+use crate::explain::{SCHEDULE, SCHEDULE_ARGUMENT, STOP, STOP_ARGUMENT};
+use app_table::{Command, Reading, WordsFault};
+use std::alloc::Global;
+
+/// `naive` and what it takes.
+static NAIVE: Command = Command {
+    name: "naive",
+    aliases: &[],
+    called: "unison naive",
+    about: "Make the steps of a schedule by nodes that do not wait, and tell where they go wrong",
+    notes: "Prints what replay prints, but by nodes that read whatever a neighbour has now and move whenever they are named; where a state is not that of the rounds, that one beside it, and at the end the first step that went wrong.\nAn example: unison schedule sweeps examples/swap.rules examples/pair.toml --stop 2 | unison naive examples/swap.rules examples/pair.toml - --stop 2\n",
+    arguments: &[PROGRAM, NETWORK, SCHEDULE, STOP, FROM, CONSTANT],
+    subcommands: &[],
+};
+
+/// The table of `naive`.
+pub(crate) fn naive() -> &'static Command {
+    &NAIVE
+}
+
+/// What `naive` is asked for.
+#[derive(Drop)]
+pub struct NaiveRequest {
+    pub plan: PlanPaths,
+    /// The path of the schedule.
+    pub schedule: String,
+    /// The round at which a node stops, counted from round 0.
+    pub stop: u32,
+}
+
+/// What plain words ask for.
+fn request_in(reading: &mut Reading) -> NaiveRequest
+    ensures within { result.stop ≤ most_rounds }
+{
+    let stop = reading.number_or(&STOP_ARGUMENT, 0);
+    let schedule = reading.needed_text(&SCHEDULE_ARGUMENT);
+    let plan = PlanPaths::of(reading);
+    NaiveRequest {
+        plan,
+        schedule,
+        stop,
+    }
+}
+
+impl NaiveRequest {
+    /// What the words ask for, the command's name first.
+    pub fn parse(alloc: Global, line: &[String]) -> Result<NaiveRequest, WordsFault>
+        ensures within { IfOk result (λ r. r.stop ≤ most_rounds) }
+    {
+        let mut reading = Reading::of(alloc, naive(), line)?;
+        let asked = request_in(&mut reading);
+        reading.end(asked)
+    }
+}

@@ -1,0 +1,59 @@
+//! `verify`: a trace of an asynchronous run, checked.
+
+use crate::arguments::{FILE, FROM, NAMES, NAMES_ARGUMENT, NETWORK, PROGRAM, PlanPaths};
+use crate::constants::CONSTANT;
+use app_table::{Argument, Command, Reading, WordsFault};
+use std::alloc::Global;
+
+const TRACE: Argument = Argument {
+    name: "trace",
+    value_name: "TRACE",
+    help: "The file of the trace: lines `NODE reads NODE: FIELD=VALUE ..` and `NODE moves: FIELD=VALUE ..`, or JSON objects, or - for standard input",
+    ..FILE
+};
+
+/// `TRACE`, as it is read.
+static TRACE_ARGUMENT: Argument = TRACE;
+
+/// `verify` and what it takes.
+static VERIFY: Command = Command {
+    name: "verify",
+    aliases: &[],
+    called: "unison verify",
+    about: "Check a trace of an asynchronous run that was made elsewhere",
+    notes: "Prints that all lines of the trace hold, and how often each node has moved, or the first line that does not, and why. The status is 0 where all hold, else 1.\nAn example: printf '0 reads 1: s=7\\n0 moves: s=7\\n' | unison verify examples/swap.rules examples/pair.toml -\n",
+    arguments: &[PROGRAM, NETWORK, TRACE, NAMES, FROM, CONSTANT],
+    subcommands: &[],
+};
+
+/// The table of `verify`.
+pub(crate) fn verify() -> &'static Command {
+    &VERIFY
+}
+
+/// What `verify` is asked for.
+#[derive(Drop)]
+pub struct VerifyRequest {
+    pub plan: PlanPaths,
+    /// The path of the trace.
+    pub trace: String,
+    /// The path of the names of the nodes, where they are called by names.
+    pub names: Option<String>,
+}
+
+/// What plain words ask for.
+fn request_in(reading: &mut Reading) -> VerifyRequest {
+    let trace = reading.needed_text(&TRACE_ARGUMENT);
+    let names = reading.text(&NAMES_ARGUMENT);
+    let plan = PlanPaths::of(reading);
+    VerifyRequest { plan, trace, names }
+}
+
+impl VerifyRequest {
+    /// What the words ask for, the command's name first.
+    pub fn parse(alloc: Global, line: &[String]) -> Result<VerifyRequest, WordsFault> {
+        let mut reading = Reading::of(alloc, verify(), line)?;
+        let asked = request_in(&mut reading);
+        reading.end(asked)
+    }
+}

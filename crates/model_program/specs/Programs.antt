@@ -1,0 +1,52 @@
+-- The text of a program that the text of a model is expanded to, and why there is none.
+use Rattle.std.specs.Prelude.{ℕ, List, length, map, true, None, ◌≡◌, ◌≤◌}
+use Rattle.rule_lang.specs.Tree.{ItemTree as RuleTree}
+use Rattle.rule_lang.specs.Program.{HasProgram}
+use Rattle.rule_check.specs.declared.state.State.{State}
+use Rattle.rule_check.specs.declared.state.Near.{Near}
+use Rattle.rule_check.specs.Value.{Here, next_state, names_of}
+use Rattle.rule_check.specs.Items.{rules_of as program_of}
+use Rattle.model_text.specs.Tree.{ItemTree}
+use Rattle.model_text.specs.Models.{HasModel, IsRefusedAs as IsNoModelAs}
+use Rattle.model_rules.specs.Bounds.{IsAccepted}
+use Rattle.model_rules.specs.Models.{GivenTree, draws_of, fields_of, in_states, initials_of, model_next, setting, worths_by}
+use Rattle.model_rules.specs.Naming.{naming_fault}
+use Rattle.model_program.specs.declared.fault.ModelProgramFault.{ModelProgramFault}
+use Rattle.model_program.specs.declared.fault.ModelProgramFault.TheVariants.{Text, Expansion, UnknownGiven, Length, Spelling, Memory}
+
+-- the initial values of a program's fields, in order
+abbrev pub openings_of : List RuleTree → List ℕ
+openings_of rules = map (λ f. f.opening) (program_of rules).fields
+
+-- The program is the model's, where the caller sets these constants. It has the model's fields. From some depth on at which names
+-- are looked up, the next state of each node is the model's, whatever the round, the number, the state and the neighbours are; and
+-- the initial values are the model's, at whatever node its expressions are valued, and states where their fields have some. The
+-- model's names are in order, and the program is accepted.
+pub record IsProgramOf (items : List ItemTree) (given : List GivenTree) (rules : List RuleTree) : Type 0 where
+  pub fields : names_of (program_of rules) ≡ fields_of items
+  pub next : (k : ℕ) × ((n : ℕ) → k ≤ n → (round id : ℕ) (own : State) (nears : List Near)
+      → next_state (program_of rules) round id own nears ≡ model_next items (worths_by items (setting items given) n) round id own nears)
+  pub initial : (k : ℕ) × ((n : ℕ) → k ≤ n → (here : Here) → here.names ≡ fields_of items
+      → openings_of rules ≡ initials_of items (draws_of items) (worths_by items (setting items given) n) here)
+  pub states : in_states items items (openings_of rules) ≡ true
+  pub named : naming_fault items given ≡ None
+  pub accepted : IsAccepted rules
+
+-- The text is a model's, and the bytes are the text of a program that is the model's and that can be read: it is not too long.
+pub record IsExpanded (text : List ℕ) (given : List GivenTree) (bytes : List ℕ) : Type 0 where
+  pub items : List ItemTree
+  pub rules : List RuleTree
+  pub model : HasModel text items
+  pub program : HasProgram bytes rules
+  pub same : IsProgramOf items given rules
+  pub fits : length bytes ≤ 65536
+
+-- Why a text has no program: it is no model, for this reason, or it is one, and is not expanded. Running out of memory can come
+-- in place of each but a text that is too long.
+abbrev pub IsRefusedAs : List ℕ → ModelProgramFault → Type 0
+IsRefusedAs text (Text fault) = IsNoModelAs text fault
+IsRefusedAs text (Expansion cause at) = (items : List ItemTree) × HasModel text items
+IsRefusedAs text (UnknownGiven place) = (items : List ItemTree) × HasModel text items
+IsRefusedAs text Length = (items : List ItemTree) × HasModel text items
+IsRefusedAs text Spelling = (items : List ItemTree) × HasModel text items
+IsRefusedAs text Memory = length text ≤ 65536

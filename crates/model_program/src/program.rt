@@ -1,0 +1,42 @@
+//! From the text of a model to that of its program.
+
+ghost use Rattle.std.specs.Prelude.{IfOk, IfErr};
+ghost use Rattle.model_rules.specs.ScopeView.{givens_of};
+ghost use Rattle.model_program.specs.Programs.{IsExpanded, IsRefusedAs};
+
+use crate::fault::ModelProgramFault;
+use crate::places::rule_lines;
+use crate::read_back::read_back;
+use crate::spelling::spelled;
+use model_rules::{Given, expand_model};
+use model_text::{Item, read_model};
+use rule_lang::Item as Rule;
+use std::alloc::{AllocError, Global};
+
+/// The text of the rules, each behind a comment with the line of the model on which its name stands.
+fn text_of(
+    alloc: Global,
+    text: &[u8],
+    items: &[Item],
+    rules: &[Rule],
+) -> Result<Vec<u8>, AllocError> {
+    let lines = rule_lines(alloc, text, items)?;
+    let bytes = spelled(alloc, &lines, rules)?;
+    Ok(bytes)
+}
+
+/// The text of the program that the model of a text is expanded to, where the caller sets these constants: one line for
+/// each field and each next value, in the model's order and in the canonical spelling, behind a comment `# line 7` with the
+/// line of the model, counted from 1, on which the name of the field or the next value stands. The program is the model's:
+/// it has its fields, and the next state of each node is the model's, whatever the round, the number, the state and the
+/// neighbours are. `ModelProgramFault` says when each error comes.
+pub fn expanded(alloc: Global, text: &[u8], given: &[Given]) -> Result<Vec<u8>, ModelProgramFault>
+    ensures program { IfOk result (λ bytes. IsExpanded text.now (givens_of given.now) bytes.items) }
+    ensures refused { IfErr result (IsRefusedAs text.now) }
+{
+    let items = read_model(alloc, text)?;
+    let rules = expand_model(&items, given, alloc)?;
+    let bytes = text_of(alloc, text, &items, &rules)?;
+    read_back(alloc, &bytes, &rules)?;
+    Ok(bytes)
+}

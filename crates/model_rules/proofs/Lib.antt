@@ -1,0 +1,13 @@
+pub mod Values
+pub mod DrawTermValues
+pub mod Drawn
+pub mod Truths
+pub mod Meanings
+pub mod Expanded
+pub mod Refused
+pub mod Sound
+pub mod Differing
+pub mod Accepted
+pub mod Counting
+pub mod Fits
+pub mod Keeping

@@ -1,0 +1,36 @@
+-- What a program has to be, so that it is read and accepted.
+use Rattle.std.specs.Prelude.{ℕ, ◌≡◌, ◌≤◌, false, List, length, Option, None}
+use Rattle.std.specs.List.{AllByRecursion}
+use Rattle.rule_lang.specs.Tree.{Tree, ItemTree, FieldTree, NextTree, depth}
+use Rattle.rule_lang.specs.Canonical.{program_text}
+use Rattle.rule_check.specs.Items.{rules_of, nexts_of}
+use Rattle.rule_check.specs.WellFormed.{names_unknown, looks_outside, nests, all_parts, first_fault}
+
+-- an expression that a program with these fields may have: it has no other names, names no neighbour outside of an
+-- aggregate, and has no aggregate in an aggregate
+pub record IsAllowed (names : List (List ℕ)) (body : Tree) : Type 0 where
+  pub known : names_unknown names body ≡ false
+  pub inside : looks_outside body ≡ false
+  pub flat : nests body ≡ false
+
+-- an expression that a next value may have
+pub record IsFit (names : List (List ℕ)) (body : Tree) : Type 0 where
+  pub allowed : IsAllowed names body
+  pub shallow : depth body ≤ 64
+
+-- an item of a program with these fields, whatever its name is
+abbrev pub IsFitRule : List (List ℕ) → ItemTree → Type 0
+IsFitRule names (FieldTree name value) = Unit {0}
+IsFitRule names (NextTree name body) = IsFit names body
+
+-- no more than 16 aggregates, and no more than 65,536 bytes
+pub record IsWithin (items : List ItemTree) : Type 0 where
+  pub few_aggregates : length (all_parts (nexts_of items)) ≤ 16
+  pub short : length (program_text items) ≤ 65536
+
+-- The checker of programs finds no fault in these items, none is deeper than 64, and their text has no more than 65,536
+-- bytes.
+pub record IsAccepted (items : List ItemTree) : Type 0 where
+  pub faultless : first_fault (rules_of items) ≡ None
+  pub shallow : AllByRecursion (λ n. depth n.body ≤ 64) (nexts_of items)
+  pub short : length (program_text items) ≤ 65536

@@ -1,0 +1,14 @@
+pub mod Draws
+pub mod Terms
+pub mod DrawTerms
+pub mod TermView
+pub mod Meaning
+pub mod Frames
+pub mod ScopeView
+pub mod Operators
+pub mod Refusals
+pub mod Models
+pub mod Expansions
+pub mod Bounds
+pub mod Naming
+pub mod Counts

@@ -1,0 +1,70 @@
+//! The values of constants.
+
+ghost use Rattle.std.specs.Prelude.{◌≡◌, Some, IfOk};
+ghost use Rattle.rule_check.specs.Table.{operate};
+ghost use Rattle.model_rules.specs.TermView.{term_of};
+ghost use Rattle.model_rules.specs.Frames.{IsAmount};
+
+use crate::fault::{Cause, ExpandFault, wrong};
+use crate::term::Term;
+use rule_lang::Op;
+
+/// The value, where it is a word.
+fn in_range(value: Option<u32>, at: u32) -> Result<u32, ExpandFault>
+    ensures same { IfOk result (λ v. value ≡ Some v) }
+{
+    match value {
+        Some(value) => Ok(value),
+        None => Err(wrong(Cause::OutOfRange, at)),
+    }
+}
+
+/// A sum, a difference, a product, a quotient or a remainder, where it is a word without being cut.
+fn computed(op: Op, left: u32, right: u32, at: u32) -> Result<u32, ExpandFault>
+    ensures exact { IfOk result (λ v. v ≡ operate op left right) }
+{
+    match op {
+        Op::Plus => in_range(left.checked_add(right), at),
+        Op::Minus => in_range(left.checked_sub(right), at),
+        Op::Times => in_range(left.checked_mul(right), at),
+        Op::Quot => in_range(left.checked_div(right), at),
+        Op::Rem => in_range(left.checked_rem(right), at),
+        Op::BitAnd
+        | Op::BitOr
+        | Op::BitXor
+        | Op::Equal
+        | Op::Differ
+        | Op::Less
+        | Op::LessEq
+        | Op::Greater
+        | Op::GreaterEq
+        | Op::Min
+        | Op::Max => Err(wrong(Cause::NotConstant, at)),
+    }
+}
+
+/// The value of a term that is made of numbers alone, at a place of the text.
+pub fn amount(term: &Term, at: u32) -> Result<u32, ExpandFault>
+    ensures exact { IfOk result (λ v. IsAmount (term_of term.now) v) }
+{
+    match term {
+        Term::Number(value) => Ok(*value),
+        Term::Infix(op, left, right) => {
+            let left = amount(left, at)?;
+            let right = amount(right, at)?;
+            let value = computed(*op, left, right, at)?;
+            Ok(value)
+        }
+        Term::Own(_)
+        | Term::Id
+        | Term::Degree
+        | Term::Round
+        | Term::Parameter(_)
+        | Term::Near(_)
+        | Term::NearId
+        | Term::NearWeight
+        | Term::Not(_)
+        | Term::Over(_, _)
+        | Term::Choice(_, _, _) => Err(wrong(Cause::NotConstant, at)),
+    }
+}

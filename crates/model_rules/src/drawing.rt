@@ -1,0 +1,167 @@
+//! Random numbers and chances of a model as terms.
+
+ghost use Rattle.std.specs.Prelude.{◌≡◌, ◌^◌, IfOk, IfSome};
+ghost use Rattle.model_rules.specs.Frames.{Means, MeansDrawn};
+ghost use Rattle.model_rules.specs.Meaning.{chance, draw_number};
+ghost use Rattle.model_rules.specs.ScopeView.{frame_of, knowns_of, IsSeedLet};
+ghost use Rattle.model_rules.specs.TermView.{term_of};
+ghost use Rattle.model_rules.specs.Terms.{NumberTerm};
+ghost use Rattle.model_text.specs.Tree.{ChanceOfTree};
+
+use crate::draw::{at_node, on_link};
+use crate::fault::{Cause, ExpandFault, wrong};
+use crate::names::inside_only;
+use crate::operators::{Source, between};
+use crate::scope::{Known, Scope, let_of};
+use crate::term::Term;
+use model_text::Decimal;
+use rule_lang::Op;
+use std::alloc::Global;
+
+/// The number of the draw at a place of the text: how many stand before it.
+fn number_for(draws: &[u32], at: u32) -> usize
+    ensures exact { result ≡ draw_number draws.now at }
+{
+    for (k, place) in draws.iter().enumerate() {
+        if *place == at {
+            return k;
+        }
+    }
+    draws.len()
+}
+
+/// The number of the draw, as a word.
+fn numbered(draws: &[u32], at: u32) -> Result<u32, ExpandFault>
+    ensures exact { IfOk result (λ number. number ≡ draw_number draws.now at) }
+{
+    let number = number_for(draws, at);
+    if number < 65536 {
+        Ok(number as u32)
+    } else {
+        Err(wrong(Cause::TooLong, at))
+    }
+}
+
+/// The number that a constant is.
+fn constant(known: &Known, at: u32) -> Result<u32, ExpandFault>
+    ensures exact { IfOk result (λ value. term_of known.now.term ≡ NumberTerm value) }
+{
+    match &known.term {
+        Term::Number(value) => Ok(*value),
+        _ => Err(wrong(Cause::NotConstant, at)),
+    }
+}
+
+/// The seed.
+fn seed_among(lets: &[Known], at: u32) -> Result<u32, ExpandFault>
+    ensures known { IfOk result (λ seed. IsSeedLet (knowns_of lets.now) seed) }
+{
+    match let_of(lets, "seed") {
+        Some(known) => constant(known, at),
+        None => Err(wrong(Cause::Ring, at)),
+    }
+}
+
+/// What the draw at a place of the text gives at the node.
+#[tactic(auto, using(crate::proofs::Meanings::node_drawn))]
+fn drawn_at_node(scope: &Scope, at: u32, alloc: Global) -> Result<Term, ExpandFault>
+    ensures means { IfOk result (λ t. MeansDrawn (frame_of scope.now) Source.Node at (term_of t)) }
+{
+    let seed = seed_among(&scope.lets, at)?;
+    let number = numbered(&scope.draws, at)?;
+    let term = at_node(seed, number, alloc)?;
+    Ok(term)
+}
+
+/// What the draw at a place of the text gives for the link to the neighbour.
+#[tactic(auto, using(crate::proofs::Meanings::link_drawn))]
+fn drawn_on_link(scope: &Scope, at: u32, alloc: Global) -> Result<Term, ExpandFault>
+    ensures means { IfOk result (λ t. MeansDrawn (frame_of scope.now) Source.Link at (term_of t)) }
+{
+    let seed = seed_among(&scope.lets, at)?;
+    let number = numbered(&scope.draws, at)?;
+    let term = on_link(seed, number, alloc)?;
+    Ok(term)
+}
+
+/// What the draw at a place of the text gives, at the node or for the link to the neighbour; the second in an aggregate.
+pub fn random_term(
+    source: Source,
+    scope: &Scope,
+    inside: bool,
+    at: u32,
+    alloc: Global,
+) -> Result<Term, ExpandFault>
+    ensures means { IfOk result (λ t. MeansDrawn (frame_of scope.now) source at (term_of t)) }
+{
+    match source {
+        Source::Node => drawn_at_node(scope, at, alloc),
+        Source::Link => {
+            inside_only(inside, at)?;
+            drawn_on_link(scope, at, alloc)
+        }
+    }
+}
+
+/// A number below which a draw is to be, if it is a constant, is from 1 to 65536.
+pub fn check_bound(bound: &Term, at: u32) -> Result<(), ExpandFault> {
+    match bound {
+        Term::Number(k) => {
+            if *k == 0 || *k > 65536 {
+                return Err(wrong(Cause::OutOfRange, at));
+            }
+            Ok(())
+        }
+        _ => Ok(()),
+    }
+}
+
+/// Ten to a number of places, of 9 at most.
+fn unit(places: u32) -> Option<u64>
+    ensures exact { IfSome result (λ unit. unit ≡ 10 ^ places) }
+{
+    match places {
+        0 => Some(1),
+        1 => Some(10),
+        2 => Some(100),
+        3 => Some(1_000),
+        4 => Some(10_000),
+        5 => Some(100_000),
+        6 => Some(1_000_000),
+        7 => Some(10_000_000),
+        8 => Some(100_000_000),
+        9 => Some(1_000_000_000),
+        _ => None,
+    }
+}
+
+/// The number nearest to 65,536 times a decimal from 0 to 1.
+pub fn chance_of(decimal: &Decimal, at: u32) -> Result<u32, ExpandFault>
+    ensures exact { IfOk result (λ value. value ≡ chance decimal.now.numerator decimal.now.places) }
+{
+    let Some(unit) = unit(decimal.places) else {
+        return Err(wrong(Cause::OutOfRange, at));
+    };
+    if unit == 0 || unit > 1_000_000_000 {
+        return Err(wrong(Cause::OutOfRange, at));
+    }
+    let value = (u64::from(decimal.numerator) * 131_072 + unit) / (2 * unit);
+    if value > 65536 {
+        return Err(wrong(Cause::OutOfRange, at));
+    }
+    Ok(value as u32)
+}
+
+/// Whether a draw at the node is below a chance.
+pub fn chance_term(
+    decimal: &Decimal,
+    scope: &Scope,
+    at: u32,
+    alloc: Global,
+) -> Result<Term, ExpandFault>
+    ensures means { IfOk result (λ t. Means (frame_of scope.now) (ChanceOfTree at decimal.now) (term_of t)) }
+{
+    let value = chance_of(decimal, at)?;
+    let draw = drawn_at_node(scope, at, alloc)?;
+    Ok(between(Op::Less, draw, Term::Number(value), alloc)?)
+}

@@ -1,0 +1,102 @@
+//! Terms put in the place of parameters.
+
+ghost use Rattle.std.specs.Prelude.{◌≡◌, IfErr, IfOk, slice_get};
+ghost use Rattle.model_rules.specs.Refusals.{item_at, IsTooLong};
+ghost use Rattle.model_rules.specs.Terms.{filled, term_or};
+ghost use Rattle.model_rules.specs.TermView.{term_of, terms_of};
+
+use crate::fault::ExpandFault;
+use crate::room::Room;
+use crate::term::Term;
+use std::alloc::Global;
+
+/// An equal term.
+pub fn copy(term: &Term, alloc: Global, room: &mut Room) -> Result<Term, ExpandFault>
+    ensures exact { IfOk result (λ t. term_of t ≡ term_of term.now) }
+    ensures item { item_at room.new ≡ item_at room.old }
+    ensures refused { IfErr result (IsTooLong (item_at room.old)) }
+{
+    room.take()?;
+    match term {
+        Term::Number(n) => Ok(Term::Number(*n)),
+        Term::Own(name) => Ok(Term::Own(String::from_str(alloc, name)?)),
+        Term::Id => Ok(Term::Id),
+        Term::Degree => Ok(Term::Degree),
+        Term::Round => Ok(Term::Round),
+        Term::Parameter(k) => Ok(Term::Parameter(*k)),
+        Term::Near(name) => Ok(Term::Near(String::from_str(alloc, name)?)),
+        Term::NearId => Ok(Term::NearId),
+        Term::NearWeight => Ok(Term::NearWeight),
+        Term::Infix(op, a, b) => {
+            let a = Box::new(alloc, copy(a, alloc, room)?)?;
+            let b = Box::new(alloc, copy(b, alloc, room)?)?;
+            Ok(Term::Infix(*op, a, b))
+        }
+        Term::Not(a) => Ok(Term::Not(Box::new(alloc, copy(a, alloc, room)?)?)),
+        Term::Over(agg, a) => Ok(Term::Over(*agg, Box::new(alloc, copy(a, alloc, room)?)?)),
+        Term::Choice(a, b, c) => {
+            let a = Box::new(alloc, copy(a, alloc, room)?)?;
+            let b = Box::new(alloc, copy(b, alloc, room)?)?;
+            let c = Box::new(alloc, copy(c, alloc, room)?)?;
+            Ok(Term::Choice(a, b, c))
+        }
+    }
+}
+
+/// The argument at this place, or 0 where there is none.
+fn argument(
+    arguments: &[Term],
+    k: usize,
+    alloc: Global,
+    room: &mut Room,
+) -> Result<Term, ExpandFault>
+    ensures exact { IfOk result (λ t. term_of t ≡ term_or (slice_get (terms_of arguments.now) k)) }
+    ensures item { item_at room.new ≡ item_at room.old }
+    ensures refused { IfErr result (IsTooLong (item_at room.old)) }
+{
+    match arguments.get(k) {
+        Some(term) => copy(term, alloc, room),
+        None => Ok(Term::Number(0)),
+    }
+}
+
+/// The term with the arguments in place of its parameters.
+pub fn fill(
+    term: &Term,
+    arguments: &[Term],
+    alloc: Global,
+    room: &mut Room,
+) -> Result<Term, ExpandFault>
+    ensures exact { IfOk result (λ t. term_of t ≡ filled (terms_of arguments.now) (term_of term.now)) }
+    ensures item { item_at room.new ≡ item_at room.old }
+    ensures refused { IfErr result (IsTooLong (item_at room.old)) }
+{
+    room.take()?;
+    match term {
+        Term::Number(n) => Ok(Term::Number(*n)),
+        Term::Own(name) => Ok(Term::Own(String::from_str(alloc, name)?)),
+        Term::Id => Ok(Term::Id),
+        Term::Degree => Ok(Term::Degree),
+        Term::Round => Ok(Term::Round),
+        Term::Parameter(k) => Ok(argument(arguments, *k, alloc, room)?),
+        Term::Near(name) => Ok(Term::Near(String::from_str(alloc, name)?)),
+        Term::NearId => Ok(Term::NearId),
+        Term::NearWeight => Ok(Term::NearWeight),
+        Term::Infix(op, a, b) => {
+            let a = Box::new(alloc, fill(a, arguments, alloc, room)?)?;
+            let b = Box::new(alloc, fill(b, arguments, alloc, room)?)?;
+            Ok(Term::Infix(*op, a, b))
+        }
+        Term::Not(a) => Ok(Term::Not(Box::new(alloc, fill(a, arguments, alloc, room)?)?)),
+        Term::Over(agg, a) => {
+            let a = Box::new(alloc, fill(a, arguments, alloc, room)?)?;
+            Ok(Term::Over(*agg, a))
+        }
+        Term::Choice(a, b, c) => {
+            let a = Box::new(alloc, fill(a, arguments, alloc, room)?)?;
+            let b = Box::new(alloc, fill(b, arguments, alloc, room)?)?;
+            let c = Box::new(alloc, fill(c, arguments, alloc, room)?)?;
+            Ok(Term::Choice(a, b, c))
+        }
+    }
+}

@@ -1,0 +1,201 @@
+//! Terms of names.
+
+ghost use Rattle.std.specs.Prelude.{◌≡◌, ◌&&◌, ◌||◌, IfErr, IfOk, OnOk, Some, None, Err, true, false, length, map, string_bytes};
+ghost use Rattle.std.specs.List.{list_any};
+ghost use Rattle.model_text.specs.Tree.{NameTree, NearTree, ArgumentTree, ApplyTree};
+ghost use Rattle.model_rules.specs.TermView.{term_of, terms_of};
+ghost use Rattle.model_rules.specs.Terms.{looks, gathers};
+ghost use Rattle.model_rules.specs.Frames.{Means, MeansEach, IsFilled, IsMoved};
+ghost use Rattle.model_rules.specs.ScopeView.{frame_of, known_of, knowns_of};
+ghost use Rattle.model_rules.specs.declared.fault.Cause.{Cause};
+ghost use Rattle.model_rules.specs.declared.fault.Cause.TheVariants.{NeighbourOutside};
+ghost use Rattle.model_rules.specs.declared.fault.ExpandFault.TheVariants.{At};
+ghost use Rattle.model_rules.specs.Refusals.{item_at, IsTooLong, let_for, unknown_cause, put_cause, seen_cause, apply_cause, name_cause, near_cause};
+
+use crate::fault::{Cause, ExpandFault, wrong};
+use crate::fill::fill;
+use crate::room::Room;
+use crate::scope::{Known, Scope, let_of, place_of};
+use crate::seen::seen;
+use crate::term::Term;
+use crate::tests::{has_aggregate, looks_outside, needs_neighbours};
+use std::alloc::Global;
+
+/// A form of the neighbour stands in an aggregate.
+pub fn inside_only(inside: bool, at: u32) -> Result<(), ExpandFault>
+    ensures ok { OnOk result (inside ≡ true) }
+    ensures refused { IfErr result (λ fault. (inside ≡ false) × (fault ≡ At NeighbourOutside at)) }
+{
+    if inside {
+        Ok(())
+    } else {
+        Err(wrong(Cause::NeighbourOutside, at))
+    }
+}
+
+/// Whether one of the terms names the neighbour outside of an aggregate.
+fn some_looks(terms: &[Term]) -> bool
+    ensures exact { result ≡ list_any looks (terms_of terms.now) }
+{
+    for term in terms {
+        if looks_outside(term) {
+            return true;
+        }
+    }
+    false
+}
+
+/// Whether an aggregate of the let would stand in one, or an argument that names the neighbour.
+fn clashes(term: &Term, arguments: &[Term], inside: bool) -> bool
+    ensures exact { result ≡ (gathers (term_of term.now) && (inside || list_any looks (terms_of arguments.now))) }
+{
+    has_aggregate(term) && (inside || some_looks(arguments))
+}
+
+/// Why a let is not put in with these arguments, if it is not.
+fn put_in_cause(known: &Known, arguments: &[Term], inside: bool) -> Option<Cause>
+    ensures exact { result ≡ put_cause (known_of known.now) (length arguments.now) (inside || list_any looks (terms_of arguments.now)) }
+{
+    if known.count != arguments.len() {
+        return Some(Cause::WrongCount);
+    }
+    if looks_outside(&known.term) {
+        return Some(Cause::NeighbourOutside);
+    }
+    if clashes(&known.term, arguments, inside) {
+        return Some(Cause::NestedAggregate);
+    }
+    None
+}
+
+/// The term of a let with these arguments.
+fn put_in(
+    known: &Known,
+    arguments: &[Term],
+    at: u32,
+    inside: bool,
+    alloc: Global,
+    room: &mut Room,
+) -> Result<Term, ExpandFault>
+    ensures filled { IfOk result (λ t. IsFilled (term_of known.now.term) (terms_of arguments.now) (term_of t)) }
+    ensures item { item_at room.new ≡ item_at room.old }
+    ensures at_once { (cause : Cause) → put_cause (known_of known.now) (length arguments.now) (inside || list_any looks (terms_of arguments.now)) ≡ Some cause → result ≡ Err (At cause at) }
+    ensures refused { IfErr result (λ fault. put_cause (known_of known.now) (length arguments.now) (inside || list_any looks (terms_of arguments.now)) ≡ None → IsTooLong (item_at room.old) fault) }
+{
+    match put_in_cause(known, arguments, inside) {
+        Some(cause) => Err(wrong(cause, at)),
+        None => fill(&known.term, arguments, alloc, room),
+    }
+}
+
+/// What is wrong with a name that is not known: it is that of a later let, or of nothing.
+fn unknown(name: &str, at: u32, scope: &Scope, cause: Cause) -> ExpandFault
+    ensures exact { result ≡ At (unknown_cause (map string_bytes scope.now.later.items) name.now cause) at }
+{
+    match place_of(&scope.later, name) {
+        Some(_) => wrong(Cause::Ring, at),
+        None => wrong(cause, at),
+    }
+}
+
+/// The term of a name.
+#[tactic(auto, using(crate::proofs::Refused::name_parameter, crate::proofs::Refused::name_field, crate::proofs::Refused::name_let))]
+pub fn name_term(
+    name: &str,
+    at: u32,
+    scope: &Scope,
+    inside: bool,
+    alloc: Global,
+    room: &mut Room,
+) -> Result<Term, ExpandFault>
+    ensures means { IfOk result (λ t. Means (frame_of scope.now) (NameTree name.now at) (term_of t)) }
+    ensures item { item_at room.new ≡ item_at room.old }
+    ensures at_once { (cause : Cause) → name_cause (frame_of scope.now) (map string_bytes scope.now.later.items) name.now inside ≡ Some cause → result ≡ Err (At cause at) }
+    ensures refused { IfErr result (λ fault. name_cause (frame_of scope.now) (map string_bytes scope.now.later.items) name.now inside ≡ None → IsTooLong (item_at room.old) fault) }
+{
+    if let Some(k) = place_of(&scope.parameters, name) {
+        return Ok(Term::Parameter(k));
+    }
+    if let Some(_) = place_of(&scope.fields, name) {
+        return Ok(Term::Own(String::from_str(alloc, name)?));
+    }
+    match let_of(&scope.lets, name) {
+        Some(known) => put_in(known, &[], at, inside, alloc, room),
+        None => Err(unknown(name, at, scope, Cause::UnknownName)),
+    }
+}
+
+/// Why a let is not seen at a neighbour, if it is not.
+fn seen_let_cause(known: &Known) -> Option<Cause>
+    ensures exact { result ≡ seen_cause (known_of known.now) }
+{
+    if known.count != 0 {
+        return Some(Cause::WrongCount);
+    }
+    if needs_neighbours(&known.term) || looks_outside(&known.term) {
+        return Some(Cause::NotSeen);
+    }
+    None
+}
+
+/// The term of a let as seen from a neighbour.
+fn seen_let(known: &Known, at: u32, alloc: Global, room: &mut Room) -> Result<Term, ExpandFault>
+    ensures moved { IfOk result (λ t. IsMoved (term_of known.now.term) (term_of t)) }
+    ensures item { item_at room.new ≡ item_at room.old }
+    ensures at_once { (cause : Cause) → seen_cause (known_of known.now) ≡ Some cause → result ≡ Err (At cause at) }
+    ensures refused { IfErr result (λ fault. seen_cause (known_of known.now) ≡ None → IsTooLong (item_at room.old) fault) }
+{
+    match seen_let_cause(known) {
+        Some(cause) => Err(wrong(cause, at)),
+        None => seen(&known.term, alloc, room),
+    }
+}
+
+/// The term of a name behind `n.`.
+#[tactic(auto, using(crate::proofs::Refused::near_field, crate::proofs::Refused::near_let, crate::proofs::Refused::near_outside))]
+pub fn near_term(
+    name: &str,
+    at: u32,
+    scope: &Scope,
+    inside: bool,
+    alloc: Global,
+    room: &mut Room,
+) -> Result<Term, ExpandFault>
+    ensures means { IfOk result (λ t. Means (frame_of scope.now) (NearTree name.now at) (term_of t)) }
+    ensures item { item_at room.new ≡ item_at room.old }
+    ensures at_once { (cause : Cause) → near_cause (frame_of scope.now) (map string_bytes scope.now.later.items) name.now inside ≡ Some cause → result ≡ Err (At cause at) }
+    ensures refused { IfErr result (λ fault. near_cause (frame_of scope.now) (map string_bytes scope.now.later.items) name.now inside ≡ None → IsTooLong (item_at room.old) fault) }
+{
+    if !inside {
+        return Err(wrong(Cause::NeighbourOutside, at));
+    }
+    if let Some(_) = place_of(&scope.fields, name) {
+        return Ok(Term::Near(String::from_str(alloc, name)?));
+    }
+    match let_of(&scope.lets, name) {
+        Some(known) => seen_let(known, at, alloc, room),
+        None => Err(unknown(name, at, scope, Cause::UnknownNear)),
+    }
+}
+
+/// The term of a let with arguments, by its name.
+pub fn applied(
+    name: &str,
+    at: u32,
+    arguments: &[Term],
+    scope: &Scope,
+    inside: bool,
+    alloc: Global,
+    room: &mut Room,
+) -> Result<Term, ExpandFault>
+    ensures means { (trees : ArgumentTree) → MeansEach (frame_of scope.now) trees (terms_of arguments.now)
+        → IfOk result (λ t. Means (frame_of scope.now) (ApplyTree name.now at trees) (term_of t)) }
+    ensures item { item_at room.new ≡ item_at room.old }
+    ensures at_once { (cause : Cause) → apply_cause (let_for (knowns_of scope.now.lets.items) name.now) (map string_bytes scope.now.later.items) name.now (length arguments.now) (inside || list_any looks (terms_of arguments.now)) ≡ Some cause → result ≡ Err (At cause at) }
+    ensures refused { IfErr result (λ fault. apply_cause (let_for (knowns_of scope.now.lets.items) name.now) (map string_bytes scope.now.later.items) name.now (length arguments.now) (inside || list_any looks (terms_of arguments.now)) ≡ None → IsTooLong (item_at room.old) fault) }
+{
+    match let_of(&scope.lets, name) {
+        Some(known) => put_in(known, arguments, at, inside, alloc, room),
+        None => Err(unknown(name, at, scope, Cause::UnknownName)),
+    }
+}

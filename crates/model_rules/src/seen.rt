@@ -1,0 +1,45 @@
+//! Terms as seen from a neighbour.
+
+ghost use Rattle.std.specs.Prelude.{◌≡◌, IfErr, IfOk};
+ghost use Rattle.model_rules.specs.Refusals.{item_at, IsTooLong};
+ghost use Rattle.model_rules.specs.Terms.{seen_near};
+ghost use Rattle.model_rules.specs.TermView.{term_of};
+
+use crate::fault::ExpandFault;
+use crate::room::Room;
+use crate::term::Term;
+use std::alloc::Global;
+
+/// The term as seen from a neighbour: of its fields and its number. What a neighbour does not know is 0,
+/// and so are parameters.
+pub fn seen(term: &Term, alloc: Global, room: &mut Room) -> Result<Term, ExpandFault>
+    ensures exact { IfOk result (λ t. term_of t ≡ seen_near (term_of term.now)) }
+    ensures item { item_at room.new ≡ item_at room.old }
+    ensures refused { IfErr result (IsTooLong (item_at room.old)) }
+{
+    room.take()?;
+    match term {
+        Term::Number(n) => Ok(Term::Number(*n)),
+        Term::Own(name) => Ok(Term::Near(String::from_str(alloc, name)?)),
+        Term::Id => Ok(Term::NearId),
+        Term::Round => Ok(Term::Round),
+        Term::Degree
+        | Term::Parameter(_)
+        | Term::Near(_)
+        | Term::NearId
+        | Term::NearWeight
+        | Term::Over(_, _) => Ok(Term::Number(0)),
+        Term::Infix(op, a, b) => {
+            let a = Box::new(alloc, seen(a, alloc, room)?)?;
+            let b = Box::new(alloc, seen(b, alloc, room)?)?;
+            Ok(Term::Infix(*op, a, b))
+        }
+        Term::Not(a) => Ok(Term::Not(Box::new(alloc, seen(a, alloc, room)?)?)),
+        Term::Choice(a, b, c) => {
+            let a = Box::new(alloc, seen(a, alloc, room)?)?;
+            let b = Box::new(alloc, seen(b, alloc, room)?)?;
+            let c = Box::new(alloc, seen(c, alloc, room)?)?;
+            Ok(Term::Choice(a, b, c))
+        }
+    }
+}

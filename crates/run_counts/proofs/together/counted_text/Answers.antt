@@ -1,0 +1,31 @@
+use Rattle.std.proofs.Common.{◌∙◌, ℕ, List, ap, rules, subst}
+use Rattle.run_counts.specs.Ensembles.{RunView, names_in, rows_in}
+use Rattle.run_counts.specs.Rows.{AreValues}
+use Rattle.run_counts.specs.RunTables.{runs_text}
+use Rattle.run_counts.proofs.Means.{all_fit}
+use Rattle.run_counts.proofs.together.counted_text.Goals as goal
+
+pub runs_of-requires : goal.runs_of-requires
+runs_of-requires g c = (search rules, all_fit c.args.span.now c.args.counting.now c.args.ensemble.now.variants.now c.requires.fits)
+
+pub returns : goal.returns
+returns g c =
+    let e = c.args.ensemble.now in
+    let counting = c.args.counting.now in
+    let runs = c.in_ok-runs.runs.items in
+    let values = c.in_ok-values.values.items in
+    let names = names_in e.variants.now in
+    let text = λ (ns : List (List ℕ)) (vs : List ℕ) (rs : List RunView). runs_text counting.format e.name.now ns counting.figures.now vs rs in
+    record {
+      text = record {
+        runs = runs;
+        values = values;
+        runs_are = c.in_ok-runs.ensures.runs;
+        values_are = subst (λ (rs : List RunView). AreValues (rows_in rs) values) c.deref.ensures.value c.in_ok-values.ensures.values;
+        spelled =
+            c.in_ok-text.ensures.text
+            ∙ ap (λ (ns : List (List ℕ)). text ns c.deref-2.result.now c.deref-3.result.now) c.first_program-program.ensures.names
+            ∙ ap (λ (vs : List ℕ). text names vs c.deref-3.result.now) c.deref-2.ensures.value
+            ∙ ap (text names values) c.deref-3.ensures.value;
+      };
+    }

@@ -1,0 +1,40 @@
+use Rattle.std.proofs.Common.{◌∙◌, ◌≤◌, ℕ, List, ap, length, rules, subst, sym}
+use Rattle.run_counts.specs.declared.mean_columns.Column.{Column}
+use Rattle.run_counts.specs.Ensembles.{IsRunOf, RunView, most_runs, names_in, rows_in}
+use Rattle.run_counts.specs.MeanTables.{columns_of, means_text}
+use Rattle.run_counts.specs.Rows.{AreValues}
+use Rattle.run_counts.proofs.Means.{all_fit, as_many}
+use Rattle.run_counts.proofs.together.means_text.Goals as goal
+
+pub runs_of-requires : goal.runs_of-requires
+runs_of-requires g c = (search rules, all_fit c.args.span.now c.args.counting.now c.args.ensemble.now.variants.now c.requires.fits)
+
+pub means_table-requires : goal.means_table-requires
+means_table-requires g c =
+    let e = c.args.ensemble.now in
+    let same = as_many (IsRunOf c.args.span.now c.args.counting.now) e.variants.now c.in_ok-runs.runs.items c.in_ok-runs.ensures.runs ∙ ap (λ (rs : List RunView). length rs) (sym c.deref-4.ensures.value) in
+    record { few = subst (λ (n : ℕ). n ≤ most_runs) same c.requires.few }
+
+pub returns : goal.returns
+returns g c =
+    let e = c.args.ensemble.now in
+    let counting = c.args.counting.now in
+    let runs = c.in_ok-runs.runs.items in
+    let values = c.in_ok-values.values.items in
+    let names = names_in e.variants.now in
+    let columns = columns_of values counting.figures.now in
+    let text = λ (ns : List (List ℕ)) (cs : List Column) (rs : List RunView). means_text counting.format ns cs rs in
+    record {
+      text = record {
+        runs = runs;
+        values = values;
+        runs_are = c.in_ok-runs.ensures.runs;
+        values_are = subst (λ (rs : List RunView). AreValues (rows_in rs) values) c.deref.ensures.value c.in_ok-values.ensures.values;
+        spelled =
+            c.in_ok-text.ensures.text
+            ∙ ap (λ (ns : List (List ℕ)). text ns c.deref-3.result.now c.deref-4.result.now) c.first_program-program.ensures.names
+            ∙ ap (λ (cs : List Column). text names cs c.deref-4.result.now)
+            (c.deref-3.ensures.value ∙ c.in_ok-columns.ensures.columns ∙ ap (λ (vs : List ℕ). columns_of vs counting.figures.now) c.deref-2.ensures.value)
+            ∙ ap (text names columns) c.deref-4.ensures.value;
+      };
+    }

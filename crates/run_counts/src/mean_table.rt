@@ -1,0 +1,233 @@
+//! The text of the means of runs that are counted together.
+ghost use Rattle.std.specs.Prelude.{◌≡◌, ◌≤◌, ◌<◌, ◌^◌, ◌+◌, ◌++◌, All, IfOk, OnOk, length, map, slice_get, string_bytes};
+ghost use Rattle.std.specs.List.{flat_map, range_with_len};
+ghost use Rattle.std.specs.Option.{option_to_list};
+ghost use Rattle.rule_check.specs.Value.{names_of};
+ghost use Rattle.run_counts.specs.Ensembles.{most_runs};
+ghost use Rattle.run_counts.specs.MeanTables.{cell_start, column_name, deviation_text, longest, mean_cells, mean_text, means_text, number_in, rows_at};
+
+use crate::asked::CountFormat;
+use crate::lines::{end_of, put_named, put_start};
+use crate::mean_columns::{Column, put_means_opening};
+use crate::runs::Run;
+use crate::spread::{deviation_of, mean_of, put_four_digits};
+use rule_check::Program;
+use std::alloc::{AllocError, Global};
+
+/// Puts the number that a run has in a column at a place behind the others, where it has so many rows.
+fn put_number(
+    numbers: &mut Vec<u64>,
+    run: &Run,
+    place: usize,
+    column: Column,
+) -> Result<(), AllocError>
+    requires small { All (λ n. n < 2 ^ 48) numbers.old.items }
+    ensures numbers { OnOk result (numbers.new.items ≡ numbers.old.items ++ map (number_in column) (option_to_list (slice_get run.now.rows place))) }
+    ensures small { OnOk result (All (λ n. n < 2 ^ 48) numbers.new.items) }
+    ensures few { OnOk result (length numbers.new.items ≤ length numbers.old.items + 1) }
+{
+    if let Some(row) = run.rows().get(place) {
+        numbers.push(column.number_in(row))?;
+    }
+    Ok(())
+}
+
+/// Puts the round that a run has at a place behind the others, where it has so many rows.
+fn put_round(rounds: &mut Vec<u32>, run: &Run, place: usize) -> Result<(), AllocError>
+    ensures rounds { OnOk result (rounds.new.items ≡ rounds.old.items ++ map (λ row. row.round) (option_to_list (slice_get run.now.rows place))) }
+    ensures few { OnOk result (length rounds.new.items ≤ length rounds.old.items + 1) }
+{
+    if let Some(row) = run.rows().get(place) {
+        rounds.push(row.round())?;
+    }
+    Ok(())
+}
+
+/// The numbers that the runs have in a column at a place.
+fn numbers_at(
+    alloc: Global,
+    runs: &[Run],
+    place: usize,
+    column: Column,
+) -> Result<Vec<u64>, AllocError>
+    ensures numbers { IfOk result (λ numbers. numbers.items ≡ map (number_in column) (rows_at place runs.now)) }
+    ensures small { IfOk result (λ numbers. All (λ n. n < 2 ^ 48) numbers.items) }
+    ensures few { IfOk result (λ numbers. length numbers.items ≤ length runs.now) }
+{
+    let mut numbers = Vec::new(alloc);
+    for run in runs {
+        put_number(&mut numbers, run, place, column)?;
+    }
+    Ok(numbers)
+}
+
+/// The round of each row that the runs have at a place.
+fn rounds_at(alloc: Global, runs: &[Run], place: usize) -> Result<Vec<u32>, AllocError>
+    ensures rounds { IfOk result (λ rounds. rounds.items ≡ map (λ row. row.round) (rows_at place runs.now)) }
+    ensures few { IfOk result (λ rounds. length rounds.items ≤ length runs.now) }
+{
+    let mut rounds = Vec::new(alloc);
+    for run in runs {
+        put_round(&mut rounds, run, place)?;
+    }
+    Ok(rounds)
+}
+
+/// What stands before a number of a column.
+fn put_cell_start(
+    out: &mut String,
+    format: CountFormat,
+    program: &Program,
+    column: Column,
+    kind: &str,
+) -> Result<(), AllocError>
+    ensures text { OnOk result (string_bytes out.new ≡ string_bytes out.old ++ cell_start format (column_name (names_of program.now) column ++ kind.now)) }
+{
+    if format == CountFormat::Csv {
+        return out.push_str(",");
+    }
+    out.push_str(",\"")?;
+    column.put_name(out, program)?;
+    write!(out, "{kind}\":")
+}
+
+/// The standard deviation of numbers.
+fn put_deviation(out: &mut String, format: CountFormat, numbers: &[u64]) -> Result<(), AllocError>
+    requires few { length numbers.now ≤ most_runs }
+    requires small { All (λ n. n < 2 ^ 48) numbers.now }
+    ensures text { OnOk result (string_bytes out.new ≡ string_bytes out.old ++ deviation_text format numbers.now) }
+{
+    if numbers.len() > 1 {
+        return put_four_digits(out, deviation_of(numbers));
+    }
+    match format {
+        CountFormat::Csv => Ok(()),
+        CountFormat::Json => out.push_str("null"),
+    }
+}
+
+/// The mean of a column's numbers, and their standard deviation.
+fn put_cells(
+    out: &mut String,
+    format: CountFormat,
+    program: &Program,
+    column: Column,
+    numbers: &[u64],
+) -> Result<(), AllocError>
+    requires some { 1 ≤ length numbers.now }
+    requires few { length numbers.now ≤ most_runs }
+    requires small { All (λ n. n < 2 ^ 48) numbers.now }
+    ensures text { OnOk result (string_bytes out.new ≡ string_bytes out.old ++ mean_cells format (names_of program.now) column numbers.now) }
+{
+    put_cell_start(out, format, program, column, " mean")?;
+    put_four_digits(out, mean_of(numbers))?;
+    put_cell_start(out, format, program, column, " deviation")?;
+    put_deviation(out, format, numbers)
+}
+
+/// The means and deviations of a column at a place.
+fn put_column(
+    alloc: Global,
+    out: &mut String,
+    format: CountFormat,
+    program: &Program,
+    column: Column,
+    runs: &[Run],
+    place: usize,
+) -> Result<(), AllocError>
+    requires some { 1 ≤ length (rows_at place runs.now) }
+    requires few { length runs.now ≤ most_runs }
+    ensures text { OnOk result (string_bytes out.new ≡ string_bytes out.old ++ mean_cells format (names_of program.now) column (map (number_in column) (rows_at place runs.now))) }
+{
+    let numbers = numbers_at(alloc, runs, place, column)?;
+    put_cells(out, format, program, column, &numbers)
+}
+
+/// The means and deviations of all columns at a place.
+fn put_columns(
+    alloc: Global,
+    out: &mut String,
+    format: CountFormat,
+    program: &Program,
+    columns: &[Column],
+    runs: &[Run],
+    place: usize,
+) -> Result<(), AllocError>
+    requires some { 1 ≤ length (rows_at place runs.now) }
+    requires few { length runs.now ≤ most_runs }
+    ensures text { OnOk result (string_bytes out.new ≡ string_bytes out.old ++ flat_map (λ c. mean_cells format (names_of program.now) c (map (number_in c) (rows_at place runs.now))) columns.now) }
+{
+    for column in columns {
+        put_column(alloc, out, format, program, *column, runs, place)?;
+    }
+    Ok(())
+}
+
+/// The line of the round at a place.
+fn put_line(
+    alloc: Global,
+    out: &mut String,
+    format: CountFormat,
+    program: &Program,
+    columns: &[Column],
+    runs: &[Run],
+    place: usize,
+) -> Result<(), AllocError>
+    requires few { length runs.now ≤ most_runs }
+    ensures text { OnOk result (string_bytes out.new ≡ string_bytes out.old ++ mean_text format (names_of program.now) columns.now (rows_at place runs.now)) }
+{
+    let rounds = rounds_at(alloc, runs, place)?;
+    let Some(round) = rounds.first() else {
+        return Ok(());
+    };
+    put_start(out, format, "", *round)?;
+    put_named(out, format, "runs", rounds.len() as u64)?;
+    put_columns(alloc, out, format, program, columns, runs, place)?;
+    out.push_str(end_of(format))
+}
+
+/// How many rows the runs have at most.
+fn longest(runs: &[Run]) -> usize
+    ensures longest { result ≡ longest runs.now }
+{
+    let mut most = 0;
+    for run in runs {
+        most = most.max(run.rows().len());
+    }
+    most
+}
+
+/// The lines of all rounds.
+fn put_lines(
+    alloc: Global,
+    out: &mut String,
+    format: CountFormat,
+    program: &Program,
+    columns: &[Column],
+    runs: &[Run],
+) -> Result<(), AllocError>
+    requires few { length runs.now ≤ most_runs }
+    ensures text { OnOk result (string_bytes out.new ≡ string_bytes out.old ++ flat_map (λ k. mean_text format (names_of program.now) columns.now (rows_at k runs.now)) (range_with_len 0 (longest runs.now))) }
+{
+    for place in 0..longest(runs) {
+        put_line(alloc, out, format, program, columns, runs, place)?;
+    }
+    Ok(())
+}
+
+/// The text of the means of columns.
+pub(crate) fn means_table(
+    alloc: Global,
+    format: CountFormat,
+    program: &Program,
+    columns: &[Column],
+    runs: &[Run],
+) -> Result<Vec<u8>, AllocError>
+    requires few { length runs.now ≤ most_runs }
+    ensures text { IfOk result (λ v. v.items ≡ means_text format (names_of program.now) columns.now runs.now) }
+{
+    let mut out = String::new(alloc);
+    put_means_opening(&mut out, format, program, columns)?;
+    put_lines(alloc, &mut out, format, program, columns, runs)?;
+    Ok(out.into_bytes())
+}

@@ -1,0 +1,98 @@
+//! The runs of an ensemble, each counted by itself.
+ghost use Rattle.std.specs.Prelude.{◌≡◌, All, IfOk, None};
+ghost use Rattle.std.specs.List.{AllZip};
+ghost use Rattle.run_counts.specs.Counts.{refusal_of};
+ghost use Rattle.run_counts.specs.Ensembles.{IsRunOf};
+
+use crate::asked::Counting;
+use crate::ensemble::Variant;
+use crate::rows::rows_of;
+use crate::table::Row;
+use lockstep::Course;
+use rayon::prelude::*;
+use run_watch::{Progress, Span};
+use std::alloc::{AllocError, Global};
+use std::marker::Model;
+use std::thread::Threads;
+
+/// The rounds of a run, as they are counted. A contract sees its parts.
+#[derive(Drop)]
+pub(crate) struct Run {
+    value: u32,
+    rows: Vec<Row>,
+}
+
+impl Model for Run {
+    ghost use Rattle.run_counts.specs.Ensembles.{RunView};
+
+    ghost Value = { RunView };
+
+    ghost view = { λ r. record { value = r.value; rows = r.rows.items } };
+}
+
+impl Run {
+    /// The value of what varies.
+    pub(crate) fn value(&self) -> u32
+        ensures value { result ≡ self.now.value }
+    {
+        self.value
+    }
+
+    /// The rounds, in order.
+    pub(crate) fn rows(&self) -> &[Row]
+        ensures rows { result.now ≡ self.now.rows }
+    {
+        self.rows.as_slice()
+    }
+}
+
+/// Nobody is told how far the rounds are.
+#[derive(Drop)]
+struct Silent;
+
+impl Progress for Silent {
+    fn reached(&mut self, _round: u32) {}
+}
+
+/// The run of a variant, in one thread.
+fn run_of(
+    rt: &(impl Threads + Sync),
+    alloc: Global,
+    variant: &Variant<'_>,
+    span: &Span,
+    counting: &Counting<'_>,
+) -> Result<Run, AllocError>
+    requires fits { refusal_of variant.now.plan.now span.now counting.now ≡ None }
+    ensures run { IfOk result (IsRunOf span.now counting.now variant.now) }
+{
+    let course = Course::new(alloc, variant.plan)?;
+    let mut walk = course.walk(alloc)?;
+    let rows = rows_of(rt, alloc, &mut walk, span, counting, &mut Silent)?;
+    Ok(Run {
+        value: variant.value,
+        rows,
+    })
+}
+
+/// The runs of variants, in their order, made side by side by as many threads as there are processors.
+pub(crate) fn runs_of<R: Threads + Sync>(
+    rt: &R,
+    alloc: Global,
+    variants: &[Variant<'_>],
+    span: &Span,
+    counting: &Counting<'_>,
+) -> Result<Vec<Run>, AllocError>
+    requires fits { All (λ v. refusal_of v.plan.now span.now counting.now ≡ None) variants.now }
+    ensures runs { IfOk result (λ runs. AllZip (IsRunOf span.now counting.now) variants.now runs.items) }
+{
+    let runs = variants
+        .par_iter()
+        .map(
+            |variant: &Variant<'_>| -> Result<Run, AllocError>
+                requires { refusal_of variant.now.plan.now span.now counting.now ≡ None }
+                ensures { IfOk result (IsRunOf span.entry.now counting.entry.now variant.now) }
+            { run_of(rt, alloc, variant, span, counting) },
+        )
+        .collect::<Result<Vec<Run>, AllocError>>(rt, alloc)?;
+    runs
+}

@@ -1,0 +1,140 @@
+//! The rounds of several runs, as they are counted together.
+ghost use Rattle.std.specs.Prelude.{◌≡◌, ◌≢◌, ◌≤◌, All, Err, IfErr, IfOk, MatchOption, None, Some, length};
+ghost use Rattle.std.specs.List.{AllZip};
+ghost use Rattle.rule_check.specs.Value.{names_of};
+ghost use Rattle.run_watch.specs.declared.fault.WatchFault.TheVariants.{Memory};
+ghost use Rattle.run_counts.specs.Counts.{refusal_of};
+ghost use Rattle.run_counts.specs.Ensembles.{most_runs, names_in, refusal_in};
+ghost use Rattle.run_counts.specs.MeanTables.{AreMeans};
+ghost use Rattle.run_counts.specs.RunTables.{AreCounted};
+
+use crate::asked::Counting;
+use crate::counting::refusal;
+use crate::ensemble::{Ensemble, Variant};
+use crate::mean_columns::columns_of;
+use crate::mean_table::means_table;
+use crate::run_table::runs_table;
+use crate::runs::runs_of;
+use crate::values::values_in;
+use rule_check::Program;
+use run_watch::{Span, WatchFault};
+use std::alloc::{AllocError, Global};
+use std::thread::Threads;
+
+/// How many runs are counted together at most.
+pub const MOST_RUNS: usize = 1000;
+
+/// Why the first of the runs that cannot be counted cannot, whatever memory there is.
+fn refusal_in(span: &Span, counting: &Counting<'_>, variants: &[Variant<'_>]) -> Option<WatchFault>
+    ensures { result ≡ refusal_in span.now counting.now variants.now }
+{
+    for variant in variants {
+        if let Some(fault) = refusal(variant.plan, span, counting) {
+            return Some(fault);
+        }
+    }
+    None
+}
+
+/// The program of the first run.
+fn first_program<'a>(variants: &[Variant<'a>]) -> &'a Program
+    requires some { 1 ≤ length variants.now }
+    ensures names { names_of result.now ≡ names_in variants.now }
+{
+    variants[0].plan.program()
+}
+
+/// The text of runs, where nothing refuses them.
+fn counted_text<R: Threads + Sync>(
+    rt: &R,
+    alloc: Global,
+    ensemble: &Ensemble<'_>,
+    span: &Span,
+    counting: &Counting<'_>,
+) -> Result<Vec<u8>, AllocError>
+    requires some { 1 ≤ length ensemble.now.variants.now }
+    requires fits { refusal_in span.now counting.now ensemble.now.variants.now ≡ None }
+    ensures text { IfOk result (λ v. AreCounted ensemble.now span.now counting.now v.items) }
+{
+    let runs = runs_of(rt, alloc, ensemble.variants, span, counting)?;
+    let values = values_in(alloc, &runs)?;
+    let program = first_program(ensemble.variants);
+    let text = runs_table(alloc, ensemble.name, program, counting, &values, &runs)?;
+    Ok(text)
+}
+
+/// The text of the means of runs, where nothing refuses them.
+fn means_text<R: Threads + Sync>(
+    rt: &R,
+    alloc: Global,
+    ensemble: &Ensemble<'_>,
+    span: &Span,
+    counting: &Counting<'_>,
+) -> Result<Vec<u8>, AllocError>
+    requires some { 1 ≤ length ensemble.now.variants.now }
+    requires few { length ensemble.now.variants.now ≤ most_runs }
+    requires fits { refusal_in span.now counting.now ensemble.now.variants.now ≡ None }
+    ensures text { IfOk result (λ v. AreMeans ensemble.now span.now counting.now v.items) }
+{
+    let runs = runs_of(rt, alloc, ensemble.variants, span, counting)?;
+    let values = values_in(alloc, &runs)?;
+    let columns = columns_of(alloc, &values, counting.figures)?;
+    let program = first_program(ensemble.variants);
+    let text = means_table(alloc, counting.format, program, &columns, &runs)?;
+    Ok(text)
+}
+
+/// What `counted` gives of each of several runs, in one table: the lines of a run behind those of the run before, each
+/// with the run's value of what varies in a column in front. A column for each value stands there where 64 values at
+/// most occur in all rounds of all runs. The runs are made side by side by as many threads as there are processors.
+///
+/// The fault is that of the first run that has one, as `counted` tells it, before anything is done; `Memory` only where
+/// none has one.
+pub fn counted_runs<R: Threads + Sync>(
+    rt: &R,
+    alloc: Global,
+    ensemble: &Ensemble<'_>,
+    span: &Span,
+    counting: &Counting<'_>,
+) -> Result<Vec<u8>, WatchFault>
+    requires some { 1 ≤ length ensemble.now.variants.now }
+    ensures text { IfOk result (λ v. AreCounted ensemble.now span.now counting.now v.items) }
+    ensures fits { IfOk result (λ _. refusal_in span.now counting.now ensemble.now.variants.now ≡ None) }
+    ensures refused { IfErr result (λ fault. fault ≢ Memory → refusal_in span.now counting.now ensemble.now.variants.now ≡ Some fault) }
+    ensures at_once { MatchOption (refusal_in span.now counting.now ensemble.now.variants.now) (Unit {0}) (λ fault. result ≡ Err fault) }
+{
+    if let Some(fault) = refusal_in(span, counting, ensemble.variants) {
+        return Err(fault);
+    }
+    let text = counted_text(rt, alloc, ensemble, span, counting)?;
+    Ok(text)
+}
+
+/// The mean and the standard deviation, over several runs, of what `counted` gives of each of them: for each round a
+/// line of the round, how many runs are counted in it, and for each column the mean of its numbers in these runs and the
+/// standard deviation of the sample, both with four digits behind the point and rounded to the nearest. There is no
+/// deviation where one run is counted. Where more than 64 values occur in all rounds of all runs, there are columns for
+/// the further numbers alone.
+///
+/// The fault is that of the first run that has one, as `counted` tells it, before anything is done; `Memory` only where
+/// none has one.
+pub fn mean_counts<R: Threads + Sync>(
+    rt: &R,
+    alloc: Global,
+    ensemble: &Ensemble<'_>,
+    span: &Span,
+    counting: &Counting<'_>,
+) -> Result<Vec<u8>, WatchFault>
+    requires some { 1 ≤ length ensemble.now.variants.now }
+    requires few { length ensemble.now.variants.now ≤ most_runs }
+    ensures text { IfOk result (λ v. AreMeans ensemble.now span.now counting.now v.items) }
+    ensures fits { IfOk result (λ _. refusal_in span.now counting.now ensemble.now.variants.now ≡ None) }
+    ensures refused { IfErr result (λ fault. fault ≢ Memory → refusal_in span.now counting.now ensemble.now.variants.now ≡ Some fault) }
+    ensures at_once { MatchOption (refusal_in span.now counting.now ensemble.now.variants.now) (Unit {0}) (λ fault. result ≡ Err fault) }
+{
+    if let Some(fault) = refusal_in(span, counting, ensemble.variants) {
+        return Err(fault);
+    }
+    let text = means_text(rt, alloc, ensemble, span, counting)?;
+    Ok(text)
+}

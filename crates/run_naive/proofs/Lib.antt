@@ -1,0 +1,11 @@
+mod Opened
+mod Machine
+mod Kept
+mod Compared
+mod First
+mod Seen
+mod Noting
+mod Lines
+mod Early
+mod Copies
+mod Phases

@@ -1,0 +1,5 @@
+pub mod Naive
+pub mod Differences
+pub mod Telling
+pub mod Keeping
+pub mod Phases

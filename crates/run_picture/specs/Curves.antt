@@ -1,0 +1,200 @@
+-- Curves of counts as SVG: how many nodes have each value, round by round.
+use Rattle.std.specs.Prelude.{◌≡◌, ◌↔◌, ◌⊎◌, ℕ, ◌+◌, ◌-◌, ◌*◌, ◌/◌, ◌<◌, ◌≤◌, List, [], ◌∷◌, ◌++◌, codes, if◌then◌else◌, length, map, nat_le, nat_lt, Contains, Option, Some, None}
+use Rattle.std.specs.Fmt.{decimal}
+use Rattle.std.specs.List.{count_by, flat_map, range_with_len}
+use Rattle.std.specs.Option.{option_or}
+use Rattle.large_rounds.specs.Counts.{has_value}
+use Rattle.rounds_plan.specs.Lockstep.{lockstep_states}
+use Rattle.rounds_plan.specs.Plans.{PlanView}
+use Rattle.run_watch.specs.Spans.{SpanView, count_of, rounds_in}
+use Rattle.run_counts.specs.declared.asked.Counting.{Counting}
+use Rattle.run_counts.specs.Rows.{AreRows, AreValues, RowView, count_in}
+use Rattle.run_picture.specs.declared.fault.PictureFault.{PictureFault}
+use Rattle.run_picture.specs.declared.fault.PictureFault.TheVariants.{OneRound, TooManyPoints, TooManyValues}
+use Rattle.run_picture.specs.Frames.{refusal_of}
+use Rattle.run_picture.specs.Shades.{KeyView, class_of, colour_of, key_of}
+use Rattle.run_picture.specs.Sheets.{legend_lines, legend_text, opening_text, style_text, value_text}
+
+-- ---- what is drawn
+
+-- the rows are those of all rounds of a span, counted by a field
+pub record AreFieldRows (p : PlanView) (span : SpanView) (field : ℕ) (rows : List RowView) : Type 0 where
+  pub counting : Counting
+  pub of_field : counting.field ≡ field
+  pub all_rounds : counting.until ≡ None
+  pub rows_are : AreRows p span counting rows
+
+-- the rows are those of all rounds of a span, and the values are those that occur in one of them, by rising number
+pub record AreCounted (p : PlanView) (span : SpanView) (field : ℕ) (rows : List RowView) (values : List ℕ) : Type 0 where
+  pub rows_are : AreFieldRows p span field rows
+  pub values_are : AreValues rows values
+
+-- the most points of a curve
+abbrev pub most_points : ℕ
+most_points = 10000
+
+-- the most curves
+abbrev pub most_curves : ℕ
+most_curves = 64
+
+-- why there are no curves of the rounds of a span, of what is known before they are counted
+abbrev pub curves_refusal : PlanView → SpanView → ℕ → Option PictureFault
+curves_refusal p span field =
+    option_or (refusal_of p span.first span.last field) (if nat_le (count_of span) 1 then Some OneRound else if nat_lt most_points (count_of span) then Some TooManyPoints else None)
+
+-- ---- the axes
+
+-- The plot begins 64 pixels from the left and 24 from the top; it is 640 pixels wide and 320 high. The legend begins 388 pixels from the top.
+abbrev pub curves_legend : ℕ
+curves_legend = 388
+
+-- where a round stands, in pixels from the left: the first of a span at the left of the plot, the last at its right
+abbrev pub round_place : SpanView → ℕ → ℕ
+round_place span t = 64 + (t - span.first) * 640 / (span.last - span.first)
+
+-- where a number of nodes stands, in pixels from the top: 0 at the bottom of the plot, all nodes at its top
+abbrev pub count_place : ℕ → ℕ → ℕ
+count_place nodes n = 344 - n * 320 / nodes
+
+-- the steps that an axis may have
+abbrev pub axis_steps : List ℕ
+axis_steps =
+    1 ∷ 2 ∷ 5 ∷ 10 ∷ 20 ∷ 50 ∷ 100 ∷ 200 ∷ 500 ∷ 1000 ∷ 2000 ∷ 5000 ∷ 10000 ∷ 20000 ∷ 50000 ∷ 100000 ∷ 200000 ∷ 500000 ∷ 1000000 ∷ 2000000 ∷ 5000000 ∷ 10000000 ∷ 20000000
+    ∷ 50000000 ∷ 100000000 ∷ []
+
+-- the first of these steps of which ten reach over a distance, and 1000000000 where none does
+abbrev pub first_step : List ℕ → ℕ → ℕ
+first_step [] distance = 1000000000
+first_step (step ∷ steps) distance = if nat_le distance (10 * step) then step else first_step steps distance
+
+-- the step of an axis that goes over a distance
+abbrev pub step_over : ℕ → ℕ
+step_over distance = first_step axis_steps distance
+
+-- how often a step goes into a number, rounded up
+abbrev pub lowest_times : ℕ → ℕ → ℕ
+lowest_times step number = (number + step - 1) / step
+
+-- the multiples of a step from a first number to a last one
+abbrev pub multiples : ℕ → ℕ → ℕ → List ℕ
+multiples step first last = map (λ times. times * step) (range_with_len (lowest_times step first) (last / step + 1 - lowest_times step first))
+
+-- the numbers that stand at an axis from a first number to a last one
+abbrev pub ticks : ℕ → ℕ → List ℕ
+ticks first last = multiples (step_over (last - first)) first last
+
+-- the line of a round from the top of the plot to its bottom, and the round below
+unfoldable pub round_line : ℕ → ℕ → List ℕ
+round_line x t = codes "<path class=\"grid\" d=\"M" ++ (decimal x ++ (codes " 24v320\"/><text x=\"" ++ (decimal x ++ (codes "\" y=\"360\" text-anchor=\"middle\">" ++ (decimal t ++ codes "</text>\n")))))
+
+-- the line of a number of nodes from the left of the plot to its right, and the number beside it
+unfoldable pub count_line : ℕ → ℕ → List ℕ
+count_line y n = codes "<path class=\"grid\" d=\"M64 " ++ (decimal y ++ (codes "h640\"/><text x=\"58\" y=\"" ++ (decimal (y + 4) ++ (codes "\" text-anchor=\"end\">" ++ (decimal n ++ codes "</text>\n")))))
+
+-- the lines of an axis of rounds, and of one of numbers of nodes
+abbrev pub round_lines : SpanView → List ℕ
+round_lines span = flat_map (λ t. round_line (round_place span t) t) (ticks span.first span.last)
+
+abbrev pub count_lines : ℕ → List ℕ
+count_lines nodes = flat_map (λ n. count_line (count_place nodes n) n) (ticks 0 nodes)
+
+-- the styles of all that is drawn
+unfoldable pub styles_text : List ℕ
+styles_text =
+    style_text
+    ++ codes "<style>polyline{fill:none;stroke-width:2;stroke-linejoin:round;shape-rendering:auto;vector-effect:non-scaling-stroke}.edge{stroke:#888888;stroke-width:4}.grid{stroke:#dddddd}.axis{fill:none;stroke:#000000}</style>\n"
+
+-- the two axes, and what they are called
+abbrev pub axes_text : List ℕ
+axes_text =
+    codes "<path class=\"axis\" d=\"M64 24v320h640\"/><text x=\"58\" y=\"14\" text-anchor=\"end\">nodes</text><text x=\"384\" y=\"378\" text-anchor=\"middle\">round</text>\n"
+
+-- ---- the curves
+
+-- a point: a round, and a number of nodes
+unfoldable pub point_text : ℕ → ℕ → List ℕ
+point_text t n = decimal t ++ (codes "," ++ (decimal n ++ codes " "))
+
+-- the points of a value: for each round how many nodes have it
+abbrev pub points_text : List RowView → ℕ → List ℕ
+points_text rows v = flat_map (λ row. point_text row.round (count_in row.counts v)) rows
+
+-- the value of a curve, which is told where the pointer rests on it
+unfoldable pub title_text : ℕ → List ℕ
+title_text v = codes "<title>" ++ (value_text v ++ codes "</title>")
+
+-- the points of a value as a line, with an attribute of this name and value
+unfoldable pub line_text : List ℕ → List ℕ → List RowView → ℕ → List ℕ
+line_text name value rows v = codes "<polyline " ++ (name ++ (codes "=\"" ++ (value ++ (codes "\" points=\"" ++ (points_text rows v ++ codes "\"/>")))))
+
+-- the curve of a value: an edge, and on it a line in the colour of the value
+unfoldable pub curve_text : KeyView → List RowView → ℕ → List ℕ
+curve_text key rows v =
+    codes "<g>" ++ (title_text v ++ (line_text (codes "class") (codes "edge") rows v ++ (line_text (codes "stroke") (colour_of (class_of key v)) rows v ++ codes "</g>\n")))
+
+-- Where curves are drawn, in numbers of rounds and of nodes: a view from a first round over so many, and of 0 to all nodes, fills the plot, turned so that more nodes stand higher.
+unfoldable pub view_text : ℕ → ℕ → ℕ → List ℕ
+view_text first across nodes =
+    codes "<svg x=\"64\" y=\"24\" width=\"640\" height=\"320\" viewBox=\""
+    ++ (decimal first
+    ++ (codes " 0 "
+    ++ (decimal across
+    ++ (codes " " ++ (decimal nodes ++ (codes "\" preserveAspectRatio=\"none\" overflow=\"visible\"><g transform=\"translate(0 " ++ (decimal nodes ++ codes ") scale(1 -1)\">\n")))))))
+
+-- the curves of values
+abbrev pub curves_text : SpanView → ℕ → KeyView → List RowView → List ℕ → List ℕ
+curves_text span nodes key rows values = view_text span.first (span.last - span.first) nodes ++ (flat_map (curve_text key rows) values ++ codes "</g></svg>\n")
+
+-- the plot: its axes, and the curves of values
+unfoldable pub plot_text : SpanView → ℕ → KeyView → List RowView → List ℕ → List ℕ
+plot_text span nodes key rows values = round_lines span ++ (count_lines nodes ++ (axes_text ++ curves_text span nodes key rows values))
+
+-- the size of the whole in pixels from the top to the bottom
+abbrev pub curves_height : KeyView → ℕ
+curves_height key = curves_legend + 18 * legend_lines key
+
+-- the plot of values in the colours of a key, and the legend of the key
+unfoldable pub plotted : SpanView → ℕ → KeyView → List RowView → List ℕ → List ℕ
+plotted span nodes key rows values =
+    opening_text 744 (curves_height key) ++ (styles_text ++ (plot_text span nodes key rows values ++ (legend_text key curves_legend ++ codes "</svg>\n")))
+
+-- the picture of the curves of values in the rounds of a span
+abbrev pub curves_picture : SpanView → ℕ → List RowView → List ℕ → List ℕ
+curves_picture span nodes rows values = plotted span nodes (key_of values) rows values
+
+-- the text is the picture of how many nodes have each value of a field, in each round of a span
+pub record IsCountPicture (p : PlanView) (span : SpanView) (field : ℕ) (text : List ℕ) : Type 0 where
+  pub rows : List RowView
+  pub values : List ℕ
+  pub counted : AreCounted p span field rows values
+  pub few : length values ≤ most_curves
+  pub spelled : text ≡ curves_picture span (length p.network) rows values
+
+-- more values of a field occur in the rounds of a span than there may be curves
+pub record HasManyValues (p : PlanView) (span : SpanView) (field : ℕ) : Type 0 where
+  pub rows : List RowView
+  pub values : List ℕ
+  pub counted : AreCounted p span field rows values
+  pub many : most_curves < length values
+
+-- why there is no picture, memory aside: what is known before rounds are counted, or else that too many values occur
+abbrev pub IsCurveFault : PlanView → SpanView → ℕ → PictureFault → Type 0
+IsCurveFault p span field fault = (curves_refusal p span field ≡ Some fault) ⊎ ((fault ≡ TooManyValues) × (curves_refusal p span field ≡ None) × HasManyValues p span field)
+
+-- ---- laws
+
+-- how many nodes have a value of a field after round t
+abbrev pub nodes_with : PlanView → ℕ → ℕ → ℕ → ℕ
+nodes_with p field v t = count_by (has_value field v) (lockstep_states p t (length p.network))
+
+-- The curve of a value has one point for each round of the span, in order; its height is the number of nodes that have the value after the round.
+abbrev pub EachRoundHasItsPoint : Type 0
+EachRoundHasItsPoint =
+    (p : PlanView) (span : SpanView) (field : ℕ) (rows : List RowView) (values : List ℕ) (v : ℕ) → AreCounted p span field rows values
+    → points_text rows v ≡ flat_map (λ t. point_text t (nodes_with p field v t)) (rounds_in span)
+
+-- A value has a curve exactly where some node has it after one of the rounds of the span.
+abbrev pub EachValueHasItsCurve : Type 0
+EachValueHasItsCurve =
+    (p : PlanView) (span : SpanView) (field : ℕ) (rows : List RowView) (values : List ℕ) (v : ℕ) → AreCounted p span field rows values
+    → Contains values v ↔ ((t : ℕ) × Contains (rounds_in span) t × (1 ≤ nodes_with p field v t))

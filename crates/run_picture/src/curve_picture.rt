@@ -1,0 +1,126 @@
+//! How many nodes have each value, round by round, as curves.
+ghost use Rattle.std.specs.Prelude.{◌≡◌, ◌≢◌, Err, IfOk, IfErr, MatchOption, None};
+ghost use Rattle.run_picture.specs.declared.fault.PictureFault.TheVariants.{Memory, TooManyValues};
+ghost use Rattle.run_picture.specs.Curves.{AreFieldRows, HasManyValues, IsCountPicture, IsCurveFault, curves_refusal};
+
+use crate::curves::curves_picture;
+use crate::fault::PictureFault;
+use crate::values::refusal;
+use rounds_plan::Plan;
+use run_counts::{CountFormat, Counting, Row, counted_rows, values_of};
+use run_watch::{Progress, Span};
+use std::alloc::{AllocError, Global};
+use std::thread::Threads;
+
+/// The most points of a curve.
+pub const MOST_POINTS: u32 = 10_000;
+
+/// The most curves of a picture.
+pub const MOST_CURVES: usize = 64;
+
+/// Why there are no curves of the rounds of a span, of what is known before they are counted.
+fn curves_refusal(plan: &Plan, span: &Span, field: u32) -> Option<PictureFault>
+    ensures { result ≡ curves_refusal plan.now span.now field }
+{
+    if let Some(fault) = refusal(plan, span.first(), span.last(), field) {
+        return Some(fault);
+    }
+    if span.steps() == 0 {
+        return Some(PictureFault::OneRound);
+    }
+    if span.steps() >= MOST_POINTS {
+        return Some(PictureFault::TooManyPoints);
+    }
+    None
+}
+
+/// The rounds of a span, counted by a field.
+fn field_rows<P: Progress>(
+    rt: &(impl Threads + Sync),
+    alloc: Global,
+    plan: &Plan,
+    span: &Span,
+    field: u32,
+    progress: &mut P,
+) -> Result<Vec<Row>, AllocError>
+    requires fits { curves_refusal plan.now span.now field ≡ None }
+    ensures rows { IfOk result (λ rows. AreFieldRows plan.now span.now field rows.items) }
+{
+    let counting = Counting {
+        format: CountFormat::Csv,
+        field,
+        figures: &[],
+        until: None,
+    };
+    counted_rows(rt, alloc, plan, span, &counting, progress)
+}
+
+/// The picture of counted rounds, where not too many values occur in them.
+fn picture_of(
+    alloc: Global,
+    plan: &Plan,
+    span: &Span,
+    field: u32,
+    rows: &[Row],
+) -> Result<Vec<u8>, PictureFault>
+    requires fits { curves_refusal plan.now span.now field ≡ None }
+    requires rows { AreFieldRows plan.now span.now field rows.now }
+    ensures text { IfOk result (λ v. IsCountPicture plan.now span.now field v.items) }
+    ensures refused { IfErr result (λ fault. fault ≢ Memory → (fault ≡ TooManyValues) × HasManyValues plan.now span.now field) }
+{
+    let values = values_of(alloc, rows)?;
+    if values.len() > MOST_CURVES {
+        return Err(PictureFault::TooManyValues);
+    }
+    let text = curves_picture(alloc, span, plan.network().nodes(), rows, &values)?;
+    Ok(text)
+}
+
+/// The picture of the rounds of a span, where nothing that is known before they are counted refuses it.
+fn count_text<P: Progress>(
+    rt: &(impl Threads + Sync),
+    alloc: Global,
+    plan: &Plan,
+    span: &Span,
+    field: u32,
+    progress: &mut P,
+) -> Result<Vec<u8>, PictureFault>
+    requires fits { curves_refusal plan.now span.now field ≡ None }
+    ensures text { IfOk result (λ v. IsCountPicture plan.now span.now field v.items) }
+    ensures refused { IfErr result (λ fault. fault ≢ Memory → (fault ≡ TooManyValues) × HasManyValues plan.now span.now field) }
+{
+    let rows = field_rows(rt, alloc, plan, span, field, progress)?;
+    picture_of(alloc, plan, span, field, &rows)
+}
+
+/// The curves of a field as SVG: how many nodes have each value in each round of a span of a plan, the rounds to the
+/// right and the nodes upwards, with axes. Each value that a node has in one of these rounds has a curve, coloured as in
+/// `time_picture`, and below the curves stands which colour is which value. The points of a curve are whole numbers,
+/// `each_round_has_its_point` says which. In one pass over the rounds: none is computed twice. Each round is shared among
+/// as many threads as there are processors where it has enough to compute for them.
+///
+/// `TooManyRounds` comes where the last round is above 1,000,000,000, else `RoundsBelowStart` where the first lies
+/// before the plan's start, else `NoField` where the program has no field at this place, else `OneRound` where the span
+/// has a single round, and else `TooManyPoints` where it has more than 10,000, all before anything is done; and else
+/// `TooManyValues` after the rounds, where more than 64 values occur in them; `Memory` only where none of those comes
+/// that are known before anything is done.
+pub fn count_picture<P: Progress>(
+    rt: &(impl Threads + Sync),
+    alloc: Global,
+    plan: &Plan,
+    span: &Span,
+    field: u32,
+    progress: &mut P,
+) -> Result<Vec<u8>, PictureFault>
+    ensures text { IfOk result (λ v. IsCountPicture plan.now span.now field v.items) }
+    ensures fits { IfOk result (λ _. curves_refusal plan.now span.now field ≡ None) }
+    ensures refused { IfErr result (λ fault. fault ≢ Memory → IsCurveFault plan.now span.now field fault) }
+    ensures memory { IfErr result (λ fault. fault ≡ Memory → curves_refusal plan.now span.now field ≡ None) }
+    ensures at_once { MatchOption (curves_refusal plan.now span.now field) (Unit {0}) (λ fault. result ≡ Err fault) }
+{
+    if let Some(fault) = curves_refusal(plan, span, field) {
+        return Err(fault);
+    }
+    let text = count_text(rt, alloc, plan, span, field, progress)?;
+    Ok(text)
+}

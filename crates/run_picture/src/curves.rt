@@ -1,0 +1,198 @@
+//! Curves of counts, as SVG.
+ghost use Rattle.std.specs.Prelude.{◌≡◌, ◌++◌, ◌<◌, ◌≤◌, OnOk, IfOk, string_bytes};
+ghost use Rattle.std.specs.List.{flat_map};
+ghost use Rattle.run_picture.specs.Curves.{axes_text, curve_text, curves_height, curves_picture, curves_text, line_text, plot_text, plotted, point_text, points_text, styles_text, title_text, view_text};
+
+use crate::axes::{put_count_lines, put_round_lines};
+use crate::colour::{class_of, colour_of};
+use crate::key::{Key, key_of};
+use crate::legend::{legend_lines, put_legend, put_value};
+use crate::sheet::{put_opening, put_style};
+use run_counts::{Row, count_in};
+use run_watch::Span;
+use std::alloc::{AllocError, Global};
+
+/// Where the legend begins, in pixels from the top.
+const LEGEND_TOP: u32 = 388;
+
+/// A point: a round, and a number of nodes.
+#[tactic(auto, unfolding(crate::specs::Curves::point_text))]
+fn put_point(out: &mut String, round: u32, nodes: u64) -> Result<(), AllocError>
+    ensures text { OnOk result (string_bytes out.new ≡ string_bytes out.old ++ point_text round nodes) }
+{
+    write!(out, "{round},{nodes} ")
+}
+
+/// The points of a value.
+fn put_points(out: &mut String, rows: &[Row], value: u32) -> Result<(), AllocError>
+    ensures text { OnOk result (string_bytes out.new ≡ string_bytes out.old ++ points_text rows.now value) }
+{
+    for row in rows {
+        put_point(out, row.round(), count_in(row.counts(), value))?;
+    }
+    Ok(())
+}
+
+/// The value of a curve.
+#[tactic(auto, unfolding(crate::specs::Curves::title_text))]
+fn put_title(out: &mut String, value: u32) -> Result<(), AllocError>
+    ensures text { OnOk result (string_bytes out.new ≡ string_bytes out.old ++ title_text value) }
+{
+    out.push_str("<title>")?;
+    put_value(out, value)?;
+    out.push_str("</title>")
+}
+
+/// The points of a value as a line, with an attribute.
+#[tactic(auto, unfolding(crate::specs::Curves::line_text))]
+fn put_line(
+    out: &mut String,
+    name: &str,
+    attribute: &str,
+    rows: &[Row],
+    value: u32,
+) -> Result<(), AllocError>
+    ensures text { OnOk result (string_bytes out.new ≡ string_bytes out.old ++ line_text name.now attribute.now rows.now value) }
+{
+    write!(out, "<polyline {name}=\"{attribute}\" points=\"")?;
+    put_points(out, rows, value)?;
+    out.push_str("\"/>")
+}
+
+/// The curve of a value: an edge, and on it a line in the colour of the value.
+#[tactic(auto, unfolding(crate::specs::Curves::curve_text))]
+fn put_curve(out: &mut String, key: &Key, rows: &[Row], value: u32) -> Result<(), AllocError>
+    ensures text { OnOk result (string_bytes out.new ≡ string_bytes out.old ++ curve_text key.now rows.now value) }
+{
+    let colour = colour_of(class_of(key, value));
+    out.push_str("<g>")?;
+    put_title(out, value)?;
+    put_line(out, "class", "edge", rows, value)?;
+    put_line(out, "stroke", colour, rows, value)?;
+    out.push_str("</g>\n")
+}
+
+/// The curves of values, one behind the other.
+fn put_each(out: &mut String, key: &Key, rows: &[Row], values: &[u32]) -> Result<(), AllocError>
+    ensures text { OnOk result (string_bytes out.new ≡ string_bytes out.old ++ flat_map (curve_text key.now rows.now) values.now) }
+{
+    for value in values {
+        put_curve(out, key, rows, *value)?;
+    }
+    Ok(())
+}
+
+/// What stands before the curves: where they are drawn.
+#[tactic(auto, unfolding(crate::specs::Curves::view_text))]
+fn put_view(out: &mut String, first: u32, across: u32, nodes: u32) -> Result<(), AllocError>
+    ensures text { OnOk result (string_bytes out.new ≡ string_bytes out.old ++ view_text first across nodes) }
+{
+    write!(
+        out,
+        "<svg x=\"64\" y=\"24\" width=\"640\" height=\"320\" viewBox=\"{first} 0 {across} {nodes}\" preserveAspectRatio=\"none\" overflow=\"visible\"><g transform=\"translate(0 {nodes}) scale(1 -1)\">\n"
+    )
+}
+
+/// The curves of values, over the plot.
+fn put_curves(
+    out: &mut String,
+    span: &Span,
+    nodes: u32,
+    key: &Key,
+    rows: &[Row],
+    values: &[u32],
+) -> Result<(), AllocError>
+    ensures text { OnOk result (string_bytes out.new ≡ string_bytes out.old ++ curves_text span.now nodes key.now rows.now values.now) }
+{
+    put_view(out, span.first(), span.last() - span.first(), nodes)?;
+    put_each(out, key, rows, values)?;
+    out.push_str("</g></svg>\n")
+}
+
+/// The two axes.
+fn put_axes(out: &mut String) -> Result<(), AllocError>
+    ensures text { OnOk result (string_bytes out.new ≡ string_bytes out.old ++ axes_text) }
+{
+    out.push_str(
+        "<path class=\"axis\" d=\"M64 24v320h640\"/><text x=\"58\" y=\"14\" text-anchor=\"end\">nodes</text><text x=\"384\" y=\"378\" text-anchor=\"middle\">round</text>\n",
+    )
+}
+
+/// The plot: its axes, and the curves.
+#[tactic(auto, unfolding(crate::specs::Curves::plot_text))]
+fn put_plot(
+    out: &mut String,
+    alloc: Global,
+    span: &Span,
+    nodes: u32,
+    key: &Key,
+    rows: &[Row],
+    values: &[u32],
+) -> Result<(), AllocError>
+    requires wide { span.now.first < span.now.last }
+    requires some { 1 ≤ nodes }
+    ensures text { OnOk result (string_bytes out.new ≡ string_bytes out.old ++ plot_text span.now nodes key.now rows.now values.now) }
+{
+    put_round_lines(out, alloc, span)?;
+    put_count_lines(out, alloc, nodes)?;
+    put_axes(out)?;
+    put_curves(out, span, nodes, key, rows, values)
+}
+
+/// The styles of all that is drawn.
+#[tactic(auto, unfolding(crate::specs::Curves::styles_text))]
+fn put_styles(out: &mut String) -> Result<(), AllocError>
+    ensures text { OnOk result (string_bytes out.new ≡ string_bytes out.old ++ styles_text) }
+{
+    put_style(out)?;
+    out.push_str(
+        "<style>polyline{fill:none;stroke-width:2;stroke-linejoin:round;shape-rendering:auto;vector-effect:non-scaling-stroke}.edge{stroke:#888888;stroke-width:4}.grid{stroke:#dddddd}.axis{fill:none;stroke:#000000}</style>\n",
+    )
+}
+
+/// The size of the whole in pixels from the top to the bottom.
+fn curves_height(key: &Key) -> u32
+    ensures height { result ≡ curves_height key.now }
+{
+    LEGEND_TOP + 18 * legend_lines(key)
+}
+
+/// The plot in the colours of a key, and the legend of the key.
+#[tactic(auto, unfolding(crate::specs::Curves::plotted))]
+fn put_sheet(
+    out: &mut String,
+    alloc: Global,
+    span: &Span,
+    nodes: u32,
+    key: &Key,
+    rows: &[Row],
+    values: &[u32],
+) -> Result<(), AllocError>
+    requires wide { span.now.first < span.now.last }
+    requires some { 1 ≤ nodes }
+    ensures text { OnOk result (string_bytes out.new ≡ string_bytes out.old ++ plotted span.now nodes key.now rows.now values.now) }
+{
+    put_opening(out, 744, curves_height(key))?;
+    put_styles(out)?;
+    put_plot(out, alloc, span, nodes, key, rows, values)?;
+    put_legend(out, key, LEGEND_TOP)?;
+    out.push_str("</svg>\n")
+}
+
+/// The picture of the curves of values in the rounds of a span.
+pub(crate) fn curves_picture(
+    alloc: Global,
+    span: &Span,
+    nodes: u32,
+    rows: &[Row],
+    values: &[u32],
+) -> Result<Vec<u8>, AllocError>
+    requires wide { span.now.first < span.now.last }
+    requires some { 1 ≤ nodes }
+    ensures text { IfOk result (λ v. v.items ≡ curves_picture span.now nodes rows.now values.now) }
+{
+    let key = key_of(alloc, values)?;
+    let mut out = String::new(alloc);
+    put_sheet(&mut out, alloc, span, nodes, &key, rows, values)?;
+    Ok(out.into_bytes())
+}

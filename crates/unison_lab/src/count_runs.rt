@@ -1,0 +1,184 @@
+//! `count` of several runs of a model, in each of which a constant has another value.
+ghost use Rattle.std.specs.Prelude.{◌≡◌, ◌≤◌, IfOk, length};
+ghost use Rattle.app_requests.specs.Requests.{HasRuns};
+ghost use Rattle.run_counts.specs.Ensembles.{most_runs};
+
+use crate::count::Counted;
+use crate::plan_texts::plan_of;
+use crate::watch::no_rounds;
+use app_files::{Ending, bytes_at, bytes_where, check_model, expanded_text};
+use app_requests::{CountRequest, PlanPaths, Varied};
+use model_rules::Given;
+use rounds_plan::Plan;
+use run_counts::{Ensemble, Variant, counted_runs, mean_counts};
+use std::alloc::{AllocError, Global};
+use std::thread::Threads;
+
+/// The texts of all runs, each read once.
+#[derive(Drop)]
+struct Texts {
+    model: Vec<u8>,
+    network: Vec<u8>,
+    report: Option<Vec<u8>>,
+}
+
+/// A run that can be made.
+#[derive(Drop)]
+struct Run {
+    /// The value that the constant has in it.
+    value: u32,
+    plan: Plan,
+}
+
+/// The texts at these paths; the program is to be a model.
+fn texts_at(rt: &HostRuntime, paths: &PlanPaths) -> Result<Texts, Ending> {
+    check_model(rt.alloc(), paths.program.as_str())?;
+    let model = bytes_at(rt, paths.program.as_str())?;
+    let network = bytes_at(rt, paths.network.as_str())?;
+    let report = bytes_where(rt, &paths.from)?;
+    Ok(Texts {
+        model,
+        network,
+        report,
+    })
+}
+
+/// Puts a constant with this value behind the others.
+fn put_given(
+    constants: &mut Vec<Given>,
+    alloc: Global,
+    name: &str,
+    value: u32,
+) -> Result<(), AllocError> {
+    let name = String::from_str(alloc, name)?;
+    constants.push(Given { name, value })?;
+    Ok(())
+}
+
+/// The constants of a run: those of all runs, and behind them the one that has this value.
+fn constants_with(
+    alloc: Global,
+    given: &[Given],
+    name: &str,
+    value: u32,
+) -> Result<Vec<Given>, AllocError> {
+    let mut constants = Vec::new(alloc);
+    for constant in given {
+        put_given(
+            &mut constants,
+            alloc,
+            constant.name.as_str(),
+            constant.value,
+        )?;
+    }
+    put_given(&mut constants, alloc, name, value)?;
+    Ok(constants)
+}
+
+/// The plan of the run in which the constant of this name has this value.
+fn plan_for(
+    alloc: Global,
+    paths: &PlanPaths,
+    texts: &Texts,
+    name: &str,
+    value: u32,
+) -> Result<Plan, Ending> {
+    let constants = constants_with(alloc, &paths.constants, name, value)?;
+    let program = expanded_text(alloc, paths.program.as_str(), &texts.model, &constants)?;
+    plan_of(alloc, &program, &texts.network, &texts.report)
+}
+
+/// The runs of these texts, one for each value of the constant.
+fn runs_of(
+    alloc: Global,
+    paths: &PlanPaths,
+    texts: &Texts,
+    varied: &Varied,
+) -> Result<Vec<Run>, Ending>
+    ensures each { IfOk result (λ runs. length runs.items ≡ length varied.now.values.items) }
+{
+    let mut runs = Vec::new(alloc);
+    for value in &varied.values {
+        let value = *value;
+        let plan = plan_for(alloc, paths, texts, varied.name.as_str(), value)?;
+        runs.push(Run { value, plan })?;
+    }
+    Ok(runs)
+}
+
+/// The runs that are asked for, one for each value of the constant.
+fn runs_at(rt: &HostRuntime, paths: &PlanPaths, varied: &Varied) -> Result<Vec<Run>, Ending>
+    ensures each { IfOk result (λ runs. length runs.items ≡ length varied.now.values.items) }
+{
+    let texts = texts_at(rt, paths)?;
+    runs_of(rt.alloc(), paths, &texts, varied)
+}
+
+/// The runs as they are counted together.
+fn variants_of<'a>(alloc: Global, runs: &'a [Run]) -> Result<Vec<Variant<'a>>, AllocError>
+    ensures each { IfOk result (λ variants. length variants.items ≡ length runs.now) }
+{
+    let mut variants = Vec::with_capacity(alloc, runs.len())?;
+    for run in runs {
+        let value = run.value;
+        let plan = &run.plan;
+        variants.push(Variant { value, plan })?;
+    }
+    Ok(variants)
+}
+
+/// The text of runs, of each or of their means, counted so.
+fn ensemble_text<R: Threads + Sync>(
+    rt: &HostRuntime,
+    threads: &R,
+    asked: &CountRequest,
+    found: &Counted,
+    ensemble: &Ensemble<'_>,
+) -> Result<Vec<u8>, Ending>
+    requires some { 1 ≤ length ensemble.now.variants.now }
+    requires few { length ensemble.now.variants.now ≤ most_runs }
+{
+    let counting = found.counting();
+    let text = if asked.runs.means {
+        mean_counts(threads, rt.alloc(), ensemble, &asked.span, &counting)
+    } else {
+        counted_runs(threads, rt.alloc(), ensemble, &asked.span, &counting)
+    };
+    match text {
+        Ok(text) => Ok(text),
+        Err(fault) => Err(no_rounds(fault)),
+    }
+}
+
+/// The text of these runs, of which the first says which fields there are.
+fn text_of<R: Threads + Sync>(
+    rt: &HostRuntime,
+    threads: &R,
+    asked: &CountRequest,
+    name: &str,
+    runs: &[Run],
+) -> Result<Vec<u8>, Ending>
+    requires some { 1 ≤ length runs.now }
+    requires few { length runs.now ≤ most_runs }
+{
+    let found = Counted::of(rt.alloc(), runs[0].plan.program(), asked)?;
+    let variants = variants_of(rt.alloc(), runs)?;
+    let ensemble = Ensemble {
+        name,
+        variants: &variants,
+    };
+    ensemble_text(rt, threads, asked, &found, &ensemble)
+}
+
+/// The text of the runs that are asked for, one for each value of a constant.
+pub(crate) fn runs_text<R: Threads + Sync>(
+    rt: &HostRuntime,
+    threads: &R,
+    asked: &CountRequest,
+    varied: &Varied,
+) -> Result<Vec<u8>, Ending>
+    requires runs { HasRuns varied.now }
+{
+    let runs = runs_at(rt, &asked.runs.plan, varied)?;
+    text_of(rt, threads, asked, varied.name.as_str(), &runs)
+}

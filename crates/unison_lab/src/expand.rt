@@ -1,0 +1,22 @@
+//! `expand MODEL`: the program that a model is expanded to.
+
+use app_files::{Ending, Text, expanded_text, print_out, text_at};
+use app_requests::ExpandRequest;
+
+/// Prints the program that the model of a text is expanded to. The status with which the program ends.
+fn put_program(rt: &HostRuntime, text: &Text, asked: &ExpandRequest) -> Result<u8, Ending> {
+    let bytes = expanded_text(
+        rt.alloc(),
+        text.name.as_str(),
+        &text.bytes,
+        &asked.constants,
+    )?;
+    print_out(rt, &bytes)
+}
+
+/// Prints the program that a model is expanded to. The status with which the program ends.
+pub(crate) fn expand_model(rt: &HostRuntime, words: &[String]) -> Result<u8, Ending> {
+    let asked = ExpandRequest::parse(rt.alloc(), words)?;
+    let text = text_at(rt, asked.model.as_str())?;
+    put_program(rt, &text, &asked)
+}

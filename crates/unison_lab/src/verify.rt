@@ -1,0 +1,390 @@
+//! `verify PROGRAM NETWORK TRACE`: a trace of an asynchronous run that was made elsewhere, checked.
+
+use crate::labels::names_for;
+use crate::plan_texts::shared_plan;
+use crate::text_lines::line_at;
+use app_files::{Ending, bytes_at, name_at, path_in, read_once, write_out};
+use app_requests::VerifyRequest;
+use net_names::NodeNames;
+use rounds_plan::Plan;
+use run_verify::{Verified, VerifyFault, verify};
+use std::alloc::{AllocError, Global};
+use std::sync::Arc;
+
+/// The most nodes of which each one's count is told.
+const MOST_TOLD: usize = 16;
+
+/// The status where a line does not hold.
+const UNHELD: u8 = 1;
+
+/// Puts what a node is called: its name, or `node` and its number.
+fn put_node(out: &mut String, names: Option<&NodeNames>, node: u32) -> Result<(), AllocError> {
+    match names {
+        Some(names) => out.push_str(names.name(node).unwrap_or("")),
+        None => write!(out, "node {node}"),
+    }
+}
+
+/// Puts what a node is called and its count.
+fn put_count(
+    out: &mut String,
+    names: Option<&NodeNames>,
+    node: u32,
+    count: u32,
+) -> Result<(), AllocError> {
+    put_node(out, names, node)?;
+    write!(out, " has count {count}")
+}
+
+/// A node, and how often it has moved.
+#[derive(Clone, Copy)]
+struct Moves {
+    node: u32,
+    count: u32,
+}
+
+/// The first node with the least count, and the first with the greatest.
+fn extremes_of(counts: &[u32]) -> (Moves, Moves) {
+    let first = counts.first().copied().unwrap_or(0);
+    let mut least = Moves {
+        node: 0,
+        count: first,
+    };
+    let mut greatest = least;
+    let mut node: u32 = 0;
+    for count in counts {
+        let count = *count;
+        if count < least.count {
+            least = Moves { node, count };
+        }
+        if count > greatest.count {
+            greatest = Moves { node, count };
+        }
+        node = node.saturating_add(1);
+    }
+    (least, greatest)
+}
+
+/// Puts the least and the greatest count, each with the first node that has it.
+fn put_extremes(
+    out: &mut String,
+    names: Option<&NodeNames>,
+    counts: &[u32],
+) -> Result<(), AllocError> {
+    let (least, greatest) = extremes_of(counts);
+    write!(out, "least count {}: ", least.count)?;
+    put_node(out, names, least.node)?;
+    write!(out, "\ngreatest count {}: ", greatest.count)?;
+    put_node(out, names, greatest.node)?;
+    out.push_str("\n")
+}
+
+/// Puts the count of each node, a line each.
+fn put_counts(
+    out: &mut String,
+    names: Option<&NodeNames>,
+    counts: &[u32],
+) -> Result<(), AllocError> {
+    let mut node: u32 = 0;
+    for count in counts {
+        put_count(out, names, node, *count)?;
+        out.push_str("\n")?;
+        node = node.saturating_add(1);
+    }
+    Ok(())
+}
+
+/// What is told of a trace that holds.
+fn held_text(
+    alloc: Global,
+    names: Option<&NodeNames>,
+    found: &Verified,
+) -> Result<String, AllocError> {
+    let mut out = String::new(alloc);
+    let s = if found.lines == 1 { "" } else { "s" };
+    let hold = if found.lines == 1 { "holds" } else { "hold" };
+    write!(
+        &mut out,
+        "{} step{s} {hold}, {} with values\n",
+        found.lines, found.valued
+    )?;
+    put_extremes(&mut out, names, &found.counts)?;
+    if found.counts.len() <= MOST_TOLD {
+        put_counts(&mut out, names, &found.counts)?;
+    }
+    Ok(out)
+}
+
+/// The line of which a fault tells.
+fn line_in(fault: VerifyFault) -> u64 {
+    match fault {
+        VerifyFault::NotUtf8 { line }
+        | VerifyFault::ControlCharacter { line }
+        | VerifyFault::LongLine { line }
+        | VerifyFault::NoSuchLine { line }
+        | VerifyFault::NotJson { line }
+        | VerifyFault::NoStep { line }
+        | VerifyFault::NoNode { line }
+        | VerifyFault::NotNeighbour { line }
+        | VerifyFault::BadField { line }
+        | VerifyFault::FieldTwice { line }
+        | VerifyFault::BadState { line }
+        | VerifyFault::Stopped { line, .. }
+        | VerifyFault::Already { line, .. }
+        | VerifyFault::Behind { line, .. }
+        | VerifyFault::NotReady { line, .. }
+        | VerifyFault::Differs { line, .. } => line,
+        VerifyFault::Memory => 0,
+    }
+}
+
+/// What nodes and fields are called by.
+#[derive(Clone, Copy)]
+struct Telling<'a> {
+    plan: &'a Plan,
+    names: Option<&'a NodeNames>,
+}
+
+/// A value that a line gives and its state does not have.
+#[derive(Clone, Copy)]
+struct Difference {
+    mover: u32,
+    node: u32,
+    count: u32,
+    round: u32,
+    field: u32,
+    given: u32,
+    due: u32,
+}
+
+impl Telling<'_> {
+    /// Puts what a node is called.
+    fn put_node(&self, out: &mut String, node: u32) -> Result<(), AllocError> {
+        put_node(out, self.names, node)
+    }
+
+    /// Puts what a node is called and its count.
+    fn put_count(&self, out: &mut String, node: u32, count: u32) -> Result<(), AllocError> {
+        put_count(out, self.names, node, count)
+    }
+
+    /// Puts the counts of two nodes, on a line.
+    fn put_both(
+        &self,
+        out: &mut String,
+        node: u32,
+        own: u32,
+        neighbour: u32,
+        other: u32,
+    ) -> Result<(), AllocError> {
+        self.put_count(out, node, own)?;
+        out.push_str(", ")?;
+        self.put_count(out, neighbour, other)?;
+        out.push_str("\n")
+    }
+
+    /// Puts whose state a read takes, and after which round.
+    fn put_read(&self, out: &mut String, found: Difference) -> Result<(), AllocError> {
+        self.put_both(out, found.mover, found.round, found.node, found.count)?;
+        self.put_node(out, found.mover)?;
+        out.push_str(" reads the state of ")?;
+        self.put_node(out, found.node)?;
+        if found.count > found.round {
+            out.push_str(" before its last move,")?;
+        }
+        write!(out, " after round {}", found.round)
+    }
+
+    /// Puts to which state a move leads.
+    fn put_move(&self, out: &mut String, found: Difference) -> Result<(), AllocError> {
+        self.put_count(out, found.mover, found.count)?;
+        out.push_str("\n")?;
+        self.put_node(out, found.mover)?;
+        write!(out, " moves to its state after round {}", found.round)
+    }
+
+    /// Puts that a value is another one, and why.
+    fn put_difference(&self, out: &mut String, found: Difference) -> Result<(), AllocError> {
+        if found.mover == found.node {
+            self.put_move(out, found)?;
+        } else {
+            self.put_read(out, found)?;
+        }
+        let field = self.plan.program().field_name(found.field).unwrap_or("");
+        let Difference { due, given, .. } = found;
+        write!(out, ": {field}={due}, not {field}={given}\n")
+    }
+
+    /// Puts that a node has read, or has not read, a neighbour since it last moved.
+    fn put_read_of(
+        &self,
+        out: &mut String,
+        node: u32,
+        verb: &str,
+        neighbour: u32,
+    ) -> Result<(), AllocError> {
+        self.put_node(out, node)?;
+        out.push_str(verb)?;
+        self.put_node(out, neighbour)?;
+        out.push_str(" since it last moved\n")
+    }
+
+    /// Puts that a neighbour is behind a node.
+    fn put_behind(
+        &self,
+        out: &mut String,
+        node: u32,
+        own: u32,
+        neighbour: u32,
+        other: u32,
+    ) -> Result<(), AllocError> {
+        self.put_both(out, node, own, neighbour, other)?;
+        self.put_node(out, neighbour)?;
+        out.push_str(" is behind, and is read when it has moved again\n")
+    }
+
+    /// Puts that a node stands at the last round.
+    fn put_stopped(&self, out: &mut String, node: u32) -> Result<(), AllocError> {
+        self.put_node(out, node)?;
+        out.push_str(" stands at round 1000000000, the last that there is\n")
+    }
+
+    /// Puts why a line does not hold. Whether it says a step at all.
+    fn put_reason(&self, out: &mut String, fault: VerifyFault) -> Result<bool, AllocError> {
+        match fault {
+            VerifyFault::Stopped { node, .. } => self.put_stopped(out, node)?,
+            VerifyFault::Already {
+                node,
+                neighbour,
+                ..
+            } => self.put_read_of(out, node, " has read ", neighbour)?,
+            VerifyFault::NotReady {
+                node,
+                neighbour,
+                ..
+            } => self.put_read_of(out, node, " has not read ", neighbour)?,
+            VerifyFault::Behind {
+                node,
+                neighbour,
+                own,
+                other,
+                ..
+            } => self.put_behind(out, node, own, neighbour, other)?,
+            VerifyFault::Differs {
+                mover,
+                node,
+                count,
+                round,
+                field,
+                given,
+                due,
+                ..
+            } => self.put_difference(
+                out,
+                Difference {
+                    mover,
+                    node,
+                    count,
+                    round,
+                    field,
+                    given,
+                    due,
+                },
+            )?,
+            _ => return Ok(false),
+        }
+        Ok(true)
+    }
+}
+
+/// What is told of the first line that does not hold, where it says a step.
+fn unheld_text(
+    alloc: Global,
+    telling: Telling<'_>,
+    name: &str,
+    text: &[u8],
+    fault: VerifyFault,
+) -> Result<Option<String>, AllocError> {
+    let line = line_in(fault);
+    let said = line_at(text, line).trim_end();
+    let mut out = format!(in alloc; "{name}:{line}: `{said}` does not hold\n")?;
+    if telling.put_reason(&mut out, fault)? {
+        Ok(Some(out))
+    } else {
+        Ok(None)
+    }
+}
+
+/// The ending where a line says no step.
+fn no_step(alloc: Global, name: &str, text: &[u8], fault: VerifyFault) -> Ending {
+    if fault == VerifyFault::Memory {
+        return Ending::Memory;
+    }
+    let found = line_at(text, line_in(fault)).trim_end();
+    Ending::refused(format!(in alloc; "trace\n{name}: {fault}, found `{found}`"))
+}
+
+/// Prints what is told of a trace that does not hold. The status with which the program ends.
+fn put_unheld(
+    rt: &HostRuntime,
+    telling: Telling<'_>,
+    name: &str,
+    text: &[u8],
+    fault: VerifyFault,
+) -> Result<u8, Ending> {
+    let Some(told) = unheld_text(rt.alloc(), telling, name, text, fault)? else {
+        return Err(no_step(rt.alloc(), name, text, fault));
+    };
+    write_out(rt, told.as_bytes())?;
+    Ok(UNHELD)
+}
+
+/// Prints what is told of a trace that holds. The status with which the program ends.
+fn put_held(rt: &HostRuntime, names: Option<&NodeNames>, found: &Verified) -> Result<u8, Ending> {
+    let told = held_text(rt.alloc(), names, found)?;
+    write_out(rt, told.as_bytes())?;
+    Ok(0)
+}
+
+/// Prints what is told of the trace that the text is. The status with which the program ends.
+fn put_verdict(
+    rt: &HostRuntime,
+    plan: &Arc<Plan>,
+    names: Option<&NodeNames>,
+    name: &str,
+    text: &[u8],
+) -> Result<u8, Ending> {
+    let shared = Arc::try_clone(plan)?;
+    match verify(rt.alloc(), shared, names, text) {
+        Ok(found) => put_held(rt, names, &found),
+        Err(fault) => put_unheld(rt, Telling { plan, names }, name, text, fault),
+    }
+}
+
+/// Prints what is told of a trace on a plan. The status with which the program ends.
+fn put_told(rt: &HostRuntime, plan: &Arc<Plan>, asked: &VerifyRequest) -> Result<u8, Ending> {
+    let names = names_for(rt, &asked.names, plan.network().nodes())?;
+    let path = asked.trace.as_str();
+    let text = bytes_at(rt, path)?;
+    put_verdict(rt, plan, names.as_ref(), name_at(path), &text)
+}
+
+/// Refuses standard input for more than one of the texts.
+fn check_paths(alloc: Global, asked: &VerifyRequest) -> Result<(), Ending> {
+    let paths = [
+        asked.plan.program.as_str(),
+        asked.plan.network.as_str(),
+        path_in(&asked.plan.from),
+        path_in(&asked.names),
+        asked.trace.as_str(),
+    ];
+    read_once(alloc, &paths)
+}
+
+/// Checks the trace that the words name. The status with which the program ends.
+pub(crate) fn verify_trace(rt: &HostRuntime, words: &[String]) -> Result<u8, Ending> {
+    let asked = VerifyRequest::parse(rt.alloc(), words)?;
+    check_paths(rt.alloc(), &asked)?;
+    let plan = shared_plan(rt, &asked.plan)?;
+    put_told(rt, &plan, &asked)
+}
