@@ -228,6 +228,13 @@ fn name_words(cause: Cause) -> CauseWords {
             ".",
             "states are declared by an item: states NAME { A, B, .. }",
         ),
+        cause => field_words(cause),
+    }
+}
+
+/// What is told of fields and of what leads back to itself.
+fn field_words(cause: Cause) -> CauseWords {
+    match cause {
         Cause::NoField => of_name(
             "NoField",
             "no field is called ",

@@ -157,6 +157,31 @@ struct Difference {
     due: u32,
 }
 
+/// The value that does not agree, where that is the fault.
+fn difference_in(fault: VerifyFault) -> Option<Difference> {
+    match fault {
+        VerifyFault::Differs {
+            mover,
+            node,
+            count,
+            round,
+            field,
+            given,
+            due,
+            ..
+        } => Some(Difference {
+            mover,
+            node,
+            count,
+            round,
+            field,
+            given,
+            due,
+        }),
+        _ => None,
+    }
+}
+
 impl Telling<'_> {
     /// Puts what a node is called.
     fn put_node(&self, out: &mut String, node: u32) -> Result<(), AllocError> {
@@ -270,28 +295,10 @@ impl Telling<'_> {
                 other,
                 ..
             } => self.put_behind(out, node, own, neighbour, other)?,
-            VerifyFault::Differs {
-                mover,
-                node,
-                count,
-                round,
-                field,
-                given,
-                due,
-                ..
-            } => self.put_difference(
-                out,
-                Difference {
-                    mover,
-                    node,
-                    count,
-                    round,
-                    field,
-                    given,
-                    due,
-                },
-            )?,
-            _ => return Ok(false),
+            fault => match difference_in(fault) {
+                Some(difference) => self.put_difference(out, difference)?,
+                None => return Ok(false),
+            },
         }
         Ok(true)
     }
