@@ -52,6 +52,17 @@ const GRID: Argument = Argument {
 /// `GRID`, as it is read.
 static GRID_ARGUMENT: Argument = GRID;
 
+const NODE_FIELD: Argument = Argument {
+    name: "node-field",
+    kind: Kind::Repeated,
+    value_name: "FIELD",
+    help: "With --names, show names for this field's values too, which are numbers of nodes; as often as wanted",
+    ..OPTION
+};
+
+/// `NODE_FIELD`, as it is read.
+static NODE_FIELD_ARGUMENT: Argument = NODE_FIELD;
+
 const VIEWER: Argument = Argument {
     name: "viewer",
     help: "The viewer into which the run is put; unison names that of its own folder, viewer/page.html",
@@ -77,6 +88,7 @@ static PAGE: Command = Command {
         STOP,
         ONLY,
         NAMES,
+        NODE_FIELD,
         GRID,
         FROM,
         CONSTANT,
@@ -106,6 +118,8 @@ pub struct PageView {
     pub only: Option<Vec<String>>,
     /// The path of the names of the nodes, where they are shown.
     pub names: Option<String>,
+    /// The fields whose values are shown by the names of the nodes.
+    pub node_fields: Vec<String>,
     /// How many cells a line of the grid has; 0 for none.
     pub grid: u32,
 }
@@ -172,6 +186,14 @@ fn run_in(reading: &mut Reading) -> Option<PageRun>
     }
 }
 
+/// The fields whose values are shown by the names of the nodes, which are given then.
+fn node_fields_in(reading: &mut Reading) -> Vec<String> {
+    if reading.has(&NODE_FIELD_ARGUMENT) && !reading.has(&NAMES_ARGUMENT) {
+        reading.refuse_words("--node-field goes with --names");
+    }
+    reading.texts(&NODE_FIELD_ARGUMENT)
+}
+
 /// How the run is shown.
 fn view_in(reading: &mut Reading) -> PageView
     ensures within { result.grid ≤ MOST_NODES }
@@ -179,7 +201,13 @@ fn view_in(reading: &mut Reading) -> PageView
     let grid = reading.number_or(&GRID_ARGUMENT, 0);
     let only = only_in(reading);
     let names = reading.text(&NAMES_ARGUMENT);
-    PageView { only, names, grid }
+    let node_fields = node_fields_in(reading);
+    PageView {
+        only,
+        names,
+        node_fields,
+        grid,
+    }
 }
 
 /// The path of the viewer, which has to be there.

@@ -1,4 +1,4 @@
--- Pages are closed, and nest three deep.
+-- Pages are closed, and nest four deep.
 use Rattle.std.proofs.Common.{◌≡◌, ◌≤◌, ◌+◌, ◌∷◌, ◌++◌, ℕ, List, [], true, arith, codes, length, map, nat_lt, refl, string_bytes}
 use Rattle.std.specs.List.{AllByRecursion, filter, flat_map}
 use Rattle.std.specs.Prelude.{Option, Some, None}
@@ -14,7 +14,7 @@ use Rattle.unison_world.specs.declared.step.Step.{Step}
 use Rattle.unison_world.specs.declared.step.Step.TheVariants.{Read, Write}
 use Rattle.run_page.specs.declared.look.Look.{Look}
 use Rattle.run_page.specs.Closed.{IsClosed, ItemsAreClosed, MembersAreClosed, is_closed}
-use Rattle.run_page.specs.Pages.{headed, links_of, links_up, listed, numbers, rounds_page, settling_data, shown_names, states_of, step_data, stepped, texts, values_at, whole}
+use Rattle.run_page.specs.Pages.{headed, legend_of, links_of, links_up, listed, numbers, rounds_page, settling_data, shown_names, states_of, step_data, stepped, texts, value_names, values_at, whole}
 
 -- closed, and no deeper than so
 abbrev Shaped : ℕ → Data → Type 0
@@ -53,6 +53,11 @@ numbers_shaped ns = listed_shaped 0 (map whole ns) (mapped 0 whole whole_shaped 
 texts_shaped : (ts : List (List ℕ)) → Shaped 2 (texts ts)
 texts_shaped ts = listed_shaped 1 (map numbers ts) (mapped 1 numbers numbers_shaped ts)
 
+legend_shaped : (look : Look) → Shaped 3 (legend_of look)
+legend_shaped look =
+    listed_shaped 2 (map (λ k. texts (value_names look k)) look.fields.now)
+    (mapped 2 (λ (k : ℕ). texts (value_names look k)) (λ (k : ℕ). texts_shaped (value_names look k)) look.fields.now)
+
 links_shaped : (network : Neighbours) → Shaped 2 (listed (links_of network))
 links_shaped network =
     listed_shaped 1 (links_of network)
@@ -74,14 +79,15 @@ step_shaped : (step : Step) → Shaped 1 (step_data step)
 step_shaped (Read node slot) = numbers_shaped (node ∷ (slot ∷ []))
 step_shaped (Write node) = numbers_shaped (node ∷ [])
 
-headed_shaped : (p : PlanView) (look : Look) (manner : List ℕ) (rest : Members) → is_closed manner ≡ true → MembersAreClosed rest → members_depth rest ≤ 2
-    → MembersAreClosed (headed p look manner rest) × (members_depth (headed p look manner rest) ≤ 2)
+headed_shaped : (p : PlanView) (look : Look) (manner : List ℕ) (rest : Members) → is_closed manner ≡ true → MembersAreClosed rest → members_depth rest ≤ 3
+    → MembersAreClosed (headed p look manner rest) × (members_depth (headed p look manner rest) ≤ 3)
 headed_shaped p look manner rest closed others shallow =
     let fields = texts_shaped (shown_names p look) in
+    let legend = legend_shaped look in
     let links = links_shaped p.network in
     let names = texts_shaped (map string_bytes look.labels.now) in (
-      (refl, fields.0, (refl, refl, (refl, links.0, (refl, closed, (refl, names.0, (refl, refl, (refl, refl, others))))))),
-      omega (arith, fields.1, links.1, names.1, shallow),
+      (refl, fields.0, (refl, refl, (refl, legend.0, (refl, links.0, (refl, closed, (refl, names.0, (refl, refl, (refl, refl, others)))))))),
+      omega (arith, fields.1, legend.1, links.1, names.1, shallow),
     )
 
 -- a page of rounds

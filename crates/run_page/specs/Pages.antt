@@ -1,7 +1,7 @@
 -- The data of a page, as JSON. Members stand by rising name; numbers are whole, and text from outside is the array of its bytes.
-use Rattle.std.specs.Prelude.{ℕ, max, List, [], ◌∷◌, map, codes, length, slice_index, slice_index_or, string_bytes, nat_lt, Option, Some, None}
+use Rattle.std.specs.Prelude.{ℕ, max, List, [], ◌∷◌, map, codes, length, slice_get, slice_index, slice_index_or, string_bytes, nat_lt, Option, Some, None}
 use Rattle.std.specs.List.{filter, flat_map, fold}
-use Rattle.std.specs.Option.{unwrap_or}
+use Rattle.std.specs.Option.{option_map, unwrap_or}
 use Rattle.rule_check.specs.declared.state.State.{State}
 use Rattle.rule_check.specs.Value.{names_of}
 use Rattle.link_net.specs.Neighbours.{Neighbours, numbers_below, row}
@@ -47,6 +47,14 @@ links_of network = flat_map (λ u. links_up u (row network u)) (numbers_below (l
 abbrev pub shown_names : PlanView → Look → List (List ℕ)
 shown_names p look = map (λ k. slice_index_or (names_of p.program) k []) look.fields.now
 
+-- the names of the values 0, 1, 2, .. of the field at place k; none where its values have no names
+abbrev pub value_names : Look → ℕ → List (List ℕ)
+value_names look k = unwrap_or (option_map (λ names. map string_bytes names.items) (slice_get look.names.now k)) []
+
+-- those of each shown field
+abbrev pub legend_of : Look → Data
+legend_of look = listed (map (λ k. texts (value_names look k)) look.fields.now)
+
 -- the values of a state's shown fields
 abbrev pub shown : List ℕ → State → List ℕ
 shown fields state = map (λ k. slice_index state.words k) fields
@@ -68,11 +76,12 @@ abbrev pub headed : PlanView → Look → List ℕ → Members → Members
 headed p look manner rest =
     member (codes "fields") (texts (shown_names p look))
     (member (codes "grid") (whole (unwrap_or look.grid 0))
+    (member (codes "legend") (legend_of look)
     (member (codes "links") (listed (links_of p.network))
     (member (codes "manner") (string manner)
     (member (codes "names") (texts (map string_bytes look.labels.now))
     (member (codes "nodes") (whole (length p.network))
-    (member (codes "phase") (whole p.phase) rest))))))
+    (member (codes "phase") (whole p.phase) rest)))))))
 
 -- what becomes of the rounds, or nothing where it is not known
 abbrev pub settling_data : Option Settling → List Data

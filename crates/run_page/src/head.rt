@@ -3,7 +3,7 @@ ghost use Rattle.std.specs.Prelude.{◌≡◌, ◌<◌, [], All, IfOk, length, m
 ghost use Rattle.rule_check.specs.Value.{names_of};
 ghost use Rattle.serde_json.specs.Data.{no_members};
 ghost use Rattle.serde_json.specs.View.{members_view, view};
-ghost use Rattle.run_page.specs.Pages.{headed, texts};
+ghost use Rattle.run_page.specs.Pages.{headed, legend_of, texts, value_names};
 
 use crate::links::links;
 use crate::look::Look;
@@ -34,14 +34,36 @@ fn field_names(alloc: Global, program: &Program, fields: &[u32]) -> Result<Value
     Ok(Value::Array(items))
 }
 
-/// The names of the nodes.
-fn node_names(alloc: Global, labels: &[String]) -> Result<Value, AllocError>
-    ensures { IfOk result (λ v. view v ≡ texts (map string_bytes labels.now)) }
+/// These names.
+fn names(alloc: Global, given: &[String]) -> Result<Value, AllocError>
+    ensures { IfOk result (λ v. view v ≡ texts (map string_bytes given.now)) }
 {
-    let mut items = Vec::with_capacity(alloc, labels.len())?;
-    for label in labels {
-        let name = bytes(alloc, label.as_str())?;
+    let mut items = Vec::with_capacity(alloc, given.len())?;
+    for text in given {
+        let name = bytes(alloc, text.as_str())?;
         items.push(name)?;
+    }
+    Ok(Value::Array(items))
+}
+
+/// The names of the values of the field at a place.
+fn value_names<'a>(look: &Look<'a>, place: u32) -> &'a [String]
+    ensures { map string_bytes result.now ≡ value_names look.now place }
+{
+    match look.names.get(place as usize) {
+        Some(names) => names.as_slice(),
+        None => &[],
+    }
+}
+
+/// The names of the values of each shown field.
+fn legend(alloc: Global, look: &Look<'_>) -> Result<Value, AllocError>
+    ensures { IfOk result (λ v. view v ≡ legend_of look.now) }
+{
+    let mut items = Vec::with_capacity(alloc, look.fields.len())?;
+    for place in look.fields {
+        let values = names(alloc, value_names(look, *place))?;
+        items.push(values)?;
     }
     Ok(Value::Array(items))
 }
@@ -59,24 +81,18 @@ pub(crate) fn head(
     let mut members = Map::new(alloc);
     let fields = field_names(alloc, plan.program(), look.fields)?;
     put(&mut members, alloc, "fields", fields)?;
-    put(
-        &mut members,
-        alloc,
-        "grid",
-        Value::from(look.grid.unwrap_or(0)),
-    )?;
+    let grid = Value::from(look.grid.unwrap_or(0));
+    put(&mut members, alloc, "grid", grid)?;
+    let legend = legend(alloc, look)?;
+    put(&mut members, alloc, "legend", legend)?;
     let links = links(alloc, plan.network())?;
     put(&mut members, alloc, "links", links)?;
     let manner = Value::try_from_str(alloc, manner)?;
     put(&mut members, alloc, "manner", manner)?;
-    let names = node_names(alloc, look.labels)?;
+    let names = names(alloc, look.labels)?;
     put(&mut members, alloc, "names", names)?;
-    put(
-        &mut members,
-        alloc,
-        "nodes",
-        Value::from(plan.network().nodes()),
-    )?;
+    let nodes = Value::from(plan.network().nodes());
+    put(&mut members, alloc, "nodes", nodes)?;
     put(&mut members, alloc, "phase", Value::from(plan.phase()))?;
     Ok(members)
 }

@@ -82,12 +82,12 @@ fn text<P: Progress>(
 /// threads as there are processors where it has enough to compute for them.
 ///
 /// The data is a JSON object with these members, by rising name: `fields`, the names of the shown fields in the order shown;
-/// `grid`, how many nodes stand in a row, 0 where they are not drawn as a grid; `links`, each link once as its two nodes, the
-/// smaller one first, and its weight, by rising numbers; `manner`, the text `rounds`; `names`, the names of the nodes; `nodes`, how
-/// many there are; `phase`, at which they open; `rounds`, the rounds of the span; `settling`, what becomes of the rounds, as
-/// `["settles", round]`, `["repeats", round, period]` or `["open", limit]`, and empty where it is not known; and `states`, for each of
-/// these rounds the values of the shown fields, node by node. Names stand as the arrays of their bytes, so that no byte of the
-/// data is a `<`.
+/// `grid`, how many nodes stand in a row, 0 where they are not drawn as a grid; `legend`, for each shown field the names of its
+/// values 0, 1, 2, .., none where they have no names; `links`, each link once as its two nodes, the smaller one first, and its
+/// weight, by rising numbers; `manner`, the text `rounds`; `names`, the names of the nodes; `nodes`, how many there are; `phase`,
+/// at which they open; `rounds`, the rounds of the span; `settling`, what becomes of the rounds, as `["settles", round]`,
+/// `["repeats", round, period]` or `["open", limit]`, and empty where it is not known; and `states`, for each of these rounds the
+/// values of the shown fields, node by node. Names stand as the arrays of their bytes, so that no byte of the data is a `<`.
 ///
 /// `TooManyRounds` comes where the last round is above 1,000,000,000, else `RoundsBelowStart` where the first lies before the
 /// plan's start, else `NoField` with the first place of those that are to be shown at which the program has no field, and else

@@ -17,6 +17,7 @@ mod labels;
 mod naive;
 mod names;
 mod page;
+mod page_names;
 mod page_size;
 mod picture;
 mod plan_texts;

@@ -2,6 +2,7 @@
 
 use crate::explain::steps_at;
 use crate::labels::labels_at;
+use crate::page_names::value_names;
 use crate::page_size::{check_size, steps_too_many};
 use crate::plan_texts::plan_at;
 use crate::progress::Telling;
@@ -132,7 +133,7 @@ fn grid_of(width: u32) -> Option<u32> {
     if width > 0 { Some(width) } else { None }
 }
 
-/// The data of what is asked for, these fields and names being shown.
+/// The data of what is asked for, these fields and names being shown, where the values of each field have these names.
 fn data_with(
     rt: &HostRuntime,
     threads: &(impl Threads + Sync),
@@ -140,9 +141,13 @@ fn data_with(
     asked: &PageRequest,
     fields: &[u32],
     labels: &[String],
+    states: &[Vec<String>],
 ) -> Result<Vec<u8>, Ending> {
+    let node_fields = asked.view.node_fields.as_slice();
+    let names = value_names(rt.alloc(), plan.program(), states, node_fields, labels)?;
     let look = Look {
         fields,
+        names: names.as_slice(),
         labels,
         grid: grid_of(asked.view.grid),
     };
@@ -159,7 +164,7 @@ fn data_of(
 ) -> Result<Vec<u8>, Ending> {
     let nodes = plan.network().nodes();
     let labels = labels_at(rt, Format::Report, &asked.view.names, nodes)?;
-    data_with(rt, threads, plan, asked, fields, &labels)
+    data_with(rt, threads, plan, asked, fields, &labels, &[])
 }
 
 /// The data of what is asked for.
