@@ -161,6 +161,6 @@ export class CurvePicture {
   /** How many nodes have each value in the shown round at a place, in words. */
   words(place) {
     const parts = [...(this.counts ?? [])].filter(([, numbers]) => numbers[place] > 0);
-    return parts.map(([value, numbers]) => `${valueWords(value)}: ${numbers[place]}`).join(", ");
+    return parts.map(([value, numbers]) => `${valueWords(this.run, this.field, value)}: ${numbers[place]}`).join(", ");
   }
 }

@@ -35,6 +35,12 @@ function textsOf(names, what) {
   return names.map(textOf);
 }
 
+/** For each field the names of its values 0, 1, 2, ..; an empty list where they have none. */
+function legendOf(legend, fields) {
+  demand(Array.isArray(legend) && legend.length === fields.length, "This page has not a list of names of values for each field.");
+  return legend.map((names) => textsOf(names, "names of values"));
+}
+
 /**
  * The links, each once, with both ends and its weight, and for each node its neighbours by rising number: those of node u stand in `near`
  * from `offsets[u]` up to `offsets[u + 1]`, slot j at place j of them, and `along` has the number of the link to each.
@@ -141,6 +147,7 @@ class Run {
     this.nodes = raw.nodes;
     this.phase = raw.phase;
     this.fields = textsOf(raw.fields, "fields");
+    this.legend = legendOf(raw.legend, this.fields);
     this.names = textsOf(raw.names, "names");
     this.grid = isBelow(raw.grid, raw.nodes + 1) ? raw.grid : 0;
     Object.assign(this, networkOf(raw.nodes, raw.links));
@@ -167,6 +174,11 @@ class Run {
   /** What a node is called: its name, or its number where it has none. */
   called(node) {
     return node < this.names.length ? this.names[node] : String(node);
+  }
+
+  /** The name of a value of a field, or null where it has none. */
+  valueName(field, value) {
+    return value < this.legend[field].length ? this.legend[field][value] : null;
   }
 
   /** The value of a field of a node in the shown round at this place. */

@@ -7,7 +7,8 @@ import { Problem, readRun } from "./data.js";
 import { layoutFor, MOST_DRAWN } from "./layout.js";
 import { longestText, NetworkPicture } from "./network.js";
 import { readPaints } from "./paper.js";
-import { byId, calledElement, element, showAround, showLegend, showNode, showPhases, Table } from "./panel.js";
+import { byId, element, elementsOf, showAround, showLegend, showNode, showPhases, Table } from "./panel.js";
+import { registerValues } from "./registers.js";
 import { Scene } from "./scene.js";
 import { TimePicture } from "./time.js";
 
@@ -292,7 +293,7 @@ class Page {
     const { kind } = this.scene.colouring;
     byId("scale-label").hidden = kind !== "even" && kind !== "rank";
     byId("scale").value = kind;
-    showLegend(this.scene.colouring);
+    showLegend(this.scene);
     this.fit();
     this.draw();
   }
@@ -300,7 +301,7 @@ class Page {
   /** Takes the sizes of the canvases. */
   fit() {
     if (this.network) {
-      this.network.prepare(this.paints, longestText(this.scene.colouring));
+      this.network.prepare(this.paints, longestText(this.run, this.scene.field, this.scene.colouring));
     }
     this.curves.prepare(this.paints, this.scene.colouring, this.scene.field);
     this.time.prepare(this.paints, this.scene.colouring, this.scene.field);
@@ -345,39 +346,28 @@ class Page {
     return `${words}: ${all} of ${run.nodes} changed${since}${field}`;
   }
 
-  /** The step in words; its line, answer and the counts stand above the picture of the counts. */
+  /** The step in words; its line, what it did, its answer and the counts stand above the picture of the counts. */
   tellStep() {
     const { scene } = this;
     const step = scene.step();
     const { least, greatest } = scene.machine.extent();
     byId("step").textContent = step ? step.text : "no step yet";
-    byId("words").textContent = step ? step.words : "all nodes begin";
+    byId("words").replaceChildren(...elementsOf(scene.told()));
     byId("answer").setAttribute("aria-live", this.controls.isPlaying ? "off" : "polite");
     showAround(scene, (at) => this.controls.leap(at));
     byId("answer").className = step ? (step.answer === "Taken" || step.answer === "Moved" ? "done" : "refused") : "";
-    byId("spread").replaceChildren(...this.stepNames(), `counts: least ${least}, greatest ${greatest}`);
+    byId("spread").textContent = `${step ? `${step.words}; ` : ""}counts: least ${least}, greatest ${greatest}`;
     return `step ${scene.at} of ${scene.last}`;
-  }
-
-  /** Who reads whom, or who writes. */
-  stepNames() {
-    const { active } = this.scene;
-    if (!active) {
-      return [];
-    }
-    const call = (node) => [node < this.run.names.length ? "" : "node ", calledElement(this.run, node)];
-    return [...call(active.node), active.isWrite ? " writes" : " reads", ...(active.other >= 0 ? [" ", ...call(active.other)] : []), "; "];
   }
 
   /** What is shown, for tests and for people at the console. */
   shown() {
     const { run, scene } = this;
-    const nodes = Array.from({ length: run.nodes }, (_, node) => node);
-    const values = nodes.map((node) => run.fields.map((_, field) => scene.value(node, field)));
+    const values = nodesOf(run, (node) => run.fields.map((_, field) => scene.value(node, field)));
     if (!run.steps) {
       return { at: scene.at, round: run.rounds[scene.at], fields: run.fields, values };
     }
-    return { at: scene.at, step: scene.step(), counts: nodes.map((node) => scene.count(node)), phases: nodes.map((node) => scene.phase(node)), fields: run.fields, values };
+    return { at: scene.at, step: scene.step(), counts: nodesOf(run, (node) => scene.count(node)), phases: nodesOf(run, (node) => scene.phase(node)), fields: run.fields, values };
   }
 
   /** The points of a node, and of a node's cell at a shown round, in the window. */
@@ -385,6 +375,11 @@ class Page {
     const box = byId(canvas).getBoundingClientRect();
     return { x: box.left + spot.x, y: box.top + spot.y };
   }
+}
+
+/** What something gives for each node. */
+function nodesOf(run, give) {
+  return Array.from({ length: run.nodes }, (_, node) => give(node));
 }
 
 /** The page's face for tests and for people at the console; viewer/README.md tells it. */
@@ -396,12 +391,13 @@ function faceOf(page) {
     nodes: run.nodes,
     last: page.scene.last,
     layout: page.layout ? page.layout.kind : null,
-    names: Array.from({ length: run.nodes }, (_, node) => run.called(node)),
+    names: nodesOf(run, (node) => run.called(node)),
     go: (at) => {
       page.controls.leap(at);
       return page.scene.at;
     },
     shown: () => page.shown(),
+    registers: () => (run.steps ? nodesOf(run, (node) => registerValues(page.scene.machine, node)) : null),
     changed: () => page.scene.changes().all,
     field: (field) => page.choose(field),
     select: (node) => page.select(node),

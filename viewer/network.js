@@ -443,8 +443,10 @@ export class NetworkPicture {
   }
 }
 
-/** The longest text that a value of the colouring's field has. */
-export function longestText({ range }) {
-  const texts = range.least <= range.greatest ? [shortValue(range.least), shortValue(range.greatest)] : [""];
-  return texts.reduce((one, other) => (other.length > one.length ? other : one));
+/** The longest text that a value of the field of the colours has in a node. */
+export function longestText(run, field, { range }) {
+  const values = range.least <= range.greatest ? [range.least, range.greatest] : [];
+  const named = field < 0 ? [] : run.legend[field].map((_, value) => value);
+  const texts = [...values, ...named].map((value) => shortValue(run, field, value));
+  return texts.reduce((one, other) => (other.length > one.length ? other : one), "");
 }

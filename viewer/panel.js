@@ -3,6 +3,7 @@
 import { PHASES, pixelOf } from "./colours.js";
 import { ANSWERS, NONE } from "./data.js";
 import { sheet, valueWords } from "./paper.js";
+import { apart, copyAt, registerOf, stateParts } from "./registers.js";
 import { stepText } from "./steps.js";
 
 /** How many neighbours of a node are named. */
@@ -35,17 +36,22 @@ export function calledElement(run, node) {
   return element("bdi", run.called(node), "called");
 }
 
+/** The texts and elements of parts; what is apart stands so that its letters may run either way. */
+export function elementsOf(parts) {
+  return parts.map((part) => (part.apart === undefined ? part : element("bdi", part.apart)));
+}
+
 /** An entry of the legend: a swatch and its words. */
 function swatch(colour, words) {
   const entry = element("li");
   const patch = element("span", "", "swatch");
   patch.style.backgroundColor = colour;
-  entry.append(patch, element("span", words));
+  entry.append(patch, element("bdi", words));
   return entry;
 }
 
 /** The scale of a legend, from its least to its greatest value. */
-function ramp(colouring) {
+function ramp({ run, field, colouring }) {
   const shades = colouring.colours.length - 1;
   const canvas = sheet(shades, 1);
   canvas.className = "ramp";
@@ -55,18 +61,20 @@ function ramp(colouring) {
   new Uint32Array(image.data.buffer).set(colouring.colours.slice(0, shades).map(pixelOf));
   canvas.getContext("2d").putImageData(image, 0, 0);
   const entry = element("li");
-  entry.append(element("span", String(colouring.range.least)), canvas, element("span", String(colouring.range.greatest)));
+  const [least, greatest] = [colouring.range.least, colouring.range.greatest].map((value) => element("bdi", valueWords(run, field, value)));
+  entry.append(least, canvas, greatest);
   entry.append(element("span", colouring.kind === "rank" ? "by rank" : "", "soft"));
   return entry;
 }
 
-/** Shows the colours of the values. */
-export function showLegend(colouring) {
+/** Shows the colours of the values of the scene's field. */
+export function showLegend(scene) {
+  const { run, field, colouring } = scene;
   const entries = [];
   if (colouring.kind === "few") {
-    entries.push(...colouring.values.map((value, place) => swatch(colouring.colours[place], String(value))));
+    entries.push(...colouring.values.map((value, place) => swatch(colouring.colours[place], valueWords(run, field, value))));
   } else if (colouring.kind !== "plain") {
-    entries.push(ramp(colouring));
+    entries.push(ramp(scene));
   }
   if (colouring.range.hasNone) {
     entries.push(swatch(colouring.colours[colouring.colours.length - 1], `\u2013 none (${NONE})`));
@@ -94,10 +102,10 @@ function line(...parts) {
   return made;
 }
 
-/** The fields of a node with their values, in the shown round at this place. */
+/** The fields of a node with their values, in the shown round at this place. Names are set apart, so that their letters may run either way. */
 function valueLine({ run }, node, place, before = "") {
-  const texts = run.fields.map((name, field) => `${name} = ${valueWords(run.value(place, node, field))}`);
-  return element("p", before + texts.join(", "));
+  const parts = run.fields.flatMap((name, field) => [`${field > 0 ? ", " : ""}${name} = `, element("bdi", valueWords(run, field, run.value(place, node, field)))]);
+  return line(before, ...parts);
 }
 
 /** The state of a node at the place among the rounds at which the pointer is. */
@@ -107,15 +115,29 @@ function pointedLines(scene, node) {
   return isOther ? [valueLine(scene, node, place, `${scene.isSteps ? "at count" : "in round"} ${scene.run.rounds[place]}: `)] : [];
 }
 
-/** The neighbours of a node, with the value of the field of the colours, and the weights of the links where they are not all 1. */
+/** What is noted of a neighbour: its value of the field of the colours, its count and what was taken of it, and the weight of the link where that is not 1. */
+function neighbourNotes(scene, node, slot) {
+  const { run, machine } = scene;
+  const other = run.neighbours(node)[slot];
+  const weight = run.weights[run.along[run.offsets[node] + slot]];
+  const place = scene.isSteps ? copyAt(machine, node, slot) : -1;
+  const taken = place < 0 ? ["not read"] : ["taken ", ...stateParts(run, other, place)];
+  return [
+    scene.field < 0 ? [] : [apart(valueWords(run, scene.field, scene.value(other, scene.field)))],
+    scene.isSteps ? [`count ${scene.count(other)}`] : [],
+    scene.isSteps ? taken : [],
+    weight === 1 ? [] : [`weight ${weight}`],
+  ].filter((parts) => parts.length > 0);
+}
+
+/** The neighbours of a node, each with what is noted of it; of single steps this is the node's desk. */
 function neighbourLine(scene, node) {
   const { run } = scene;
-  const made = line(run.degree(node) === 1 ? "1 neighbour: " : `${run.degree(node)} neighbours${run.degree(node) > 0 ? ": " : ""}`);
+  const read = scene.isSteps ? `, ${scene.machine.readsOf(node)} of them read for the next move` : "";
+  const made = line(`${run.degree(node)} ${run.degree(node) === 1 ? "neighbour" : "neighbours"}${read}${run.degree(node) > 0 ? ": " : ""}`);
   run.neighbours(node).subarray(0, MOST_NEIGHBOURS).forEach((other, slot) => {
-    const weight = run.weights[run.along[run.offsets[node] + slot]];
-    const notes = [scene.field < 0 ? "" : scene.text(other), scene.isSteps ? `count ${scene.count(other)}` : "", weight === 1 ? "" : `weight ${weight}`];
-    const note = notes.filter((text) => text !== "").join(", ");
-    made.append(slot > 0 ? "; " : "", calledElement(run, other), note ? ` (${note})` : "");
+    const notes = neighbourNotes(scene, node, slot).flatMap((parts, place) => [place > 0 ? ", " : " (", ...parts]);
+    made.append(slot > 0 ? "; " : "", calledElement(run, other), ...elementsOf(notes), notes.length > 0 ? ")" : "");
   });
   if (run.degree(node) > MOST_NEIGHBOURS) {
     made.append("; and others");
@@ -123,10 +145,11 @@ function neighbourLine(scene, node) {
   return made;
 }
 
-/** The count, phase and reads of a node. */
-function countLine(scene, node) {
-  const reads = `${scene.machine.readsOf(node)} of ${scene.run.degree(node)} neighbours read since`;
-  return element("p", `count ${scene.count(node)}, phase ${scene.phase(node)}, ${reads}`);
+/** The count of a node, and its register: the phase, the state now, and the one before its last move. */
+function registerLine(scene, node) {
+  const { now, before } = registerOf(scene.machine, node);
+  const front = [`count ${scene.count(node)}, phase ${scene.phase(node)}; now `, ...stateParts(scene.run, node, now)];
+  return line(...elementsOf([...front, "; before ", ...stateParts(scene.run, node, before)]));
 }
 
 /** Shows the node that is pointed at, or else the chosen one. */
@@ -137,10 +160,8 @@ export function showNode(scene) {
     return;
   }
   const number = node < scene.run.names.length ? element("span", ` (node ${node})`, "soft") : "";
-  const lines = [line(node < scene.run.names.length ? "" : "node ", calledElement(scene.run, node), number), valueLine(scene, node, scene.place(node)), ...pointedLines(scene, node)];
-  if (scene.isSteps) {
-    lines.push(countLine(scene, node));
-  }
+  const lines = [line(node < scene.run.names.length ? "" : "node ", calledElement(scene.run, node), number)];
+  lines.push(scene.isSteps ? registerLine(scene, node) : valueLine(scene, node, scene.place(node)), ...pointedLines(scene, node));
   byId("node").replaceChildren(...lines, neighbourLine(scene, node));
 }
 
@@ -160,6 +181,20 @@ export function showAround(scene, leap) {
   byId("around").replaceChildren(...entries);
 }
 
+/** The values of a node in the round at a place as they stand in the table: their names, or the numbers. */
+function valueCells({ run }, node, place) {
+  return run.fields.map((_, field) => run.valueName(field, run.value(place, node, field)) ?? String(run.value(place, node, field)));
+}
+
+/** What stands of a node in the table behind its number and its name. */
+function cellsOf(scene, node) {
+  if (!scene.isSteps) {
+    return valueCells(scene, node, scene.place(node));
+  }
+  const { now, before } = registerOf(scene.machine, node);
+  return [String(scene.count(node)), String(scene.phase(node)), ...valueCells(scene, node, now), ...valueCells(scene, node, before)];
+}
+
 /** The table of all values, so many nodes at once. */
 export class Table {
   constructor(scene) {
@@ -177,7 +212,8 @@ export class Table {
 
   /** The headings behind number and name. */
   headings() {
-    return [...(this.scene.isSteps ? ["count", "phase"] : []), ...this.scene.run.fields];
+    const { fields } = this.scene.run;
+    return this.scene.isSteps ? ["count", "phase", ...fields, ...fields.map((name) => `${name} before`)] : fields;
   }
 
   /** Goes so many nodes on or back. */
@@ -211,10 +247,8 @@ export class Table {
     }
     this.rows.forEach((row, place) => {
       const node = this.first + place;
-      const values = this.scene.run.fields.map((_, field) => this.scene.value(node, field));
-      const texts = [...(this.scene.isSteps ? [this.scene.count(node), this.scene.phase(node)] : []), ...values].map(String);
       row.className = node === this.scene.chosen ? "chosen" : "";
-      texts.forEach((text, column) => {
+      cellsOf(this.scene, node).forEach((text, column) => {
         row.cells[column + 2].textContent = text;
       });
     });

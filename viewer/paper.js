@@ -2,6 +2,9 @@
 
 import { NONE } from "./data.js";
 
+/** How many characters of a value's name stand in a node. */
+const SHORT_NAME = 9;
+
 /** The font of labels at a size in pixels. */
 export function fontOf(size, weight = "400") {
   return `${weight} ${size}px system-ui, -apple-system, "Segoe UI", Roboto, "Helvetica Neue", Arial, sans-serif`;
@@ -55,13 +58,21 @@ export function shortened(text, most) {
   return characters.length > most ? characters.slice(0, most - 1).join("") + "\u2026" : text;
 }
 
-/** A value as it stands in a node: a dash for none. */
-export function shortValue(value) {
+/** A value of a field as it stands in a node: its name, a dash for none, or the number. */
+export function shortValue(run, field, value) {
+  const name = run.valueName(field, value);
+  if (name !== null) {
+    return shortened(name, SHORT_NAME);
+  }
   return value === NONE ? "\u2013" : String(value);
 }
 
-/** A value in words: none beside its number. */
-export function valueWords(value) {
+/** A value of a field in words: its name, or the number, and none beside its number. */
+export function valueWords(run, field, value) {
+  const name = run.valueName(field, value);
+  if (name !== null) {
+    return name;
+  }
   return value === NONE ? `none (${NONE})` : String(value);
 }
 

@@ -104,6 +104,68 @@ class Counts:
         return [(node, slot) for slot in range(len(self.rows[node]))] + [(node,)]
 
 
+class Registers:
+    """Nodes with registers and desks, as they are built: a node shows a phase and two states, and a reader sees by the phases alone whether its neighbour is
+    level, one ahead or one behind. A move goes to what `state_of(node, moves)` gives; states are lists of values of these fields."""
+
+    def __init__(self, rows, phase, stop, fields, state_of):
+        self.rows, self.stop, self.fields, self.state_of = rows, stop, fields, state_of
+        self.moves = [0] * len(rows)
+        self.phases = [phase] * len(rows)
+        self.now = [state_of(node, 0) for node in range(len(rows))]
+        self.before = list(self.now)
+        self.desks = [[None] * len(row) for row in rows]
+
+    def worded(self, state):
+        return ", ".join(f"{name}={value}" for name, value in zip(self.fields, state)) or "nothing that is shown"
+
+    def read(self, node, slot):
+        """Reads, and tells it."""
+        if slot >= len(self.rows[node]):
+            return f"node {node} reads slot {slot}, and has no such slot: its slots are numbered below {len(self.rows[node])}"
+        other = self.rows[node][slot]
+        front = f"node {node} reads node {other}"
+        if self.moves[node] == self.stop:
+            return f"{front}: stands at the stop, and reads no more"
+        if self.desks[node][slot] is not None:
+            return f"{front} once more: has its state of this round already, {self.worded(self.desks[node][slot])}"
+        ahead = (self.phases[other] - self.phases[node]) % 3
+        if ahead == 2:
+            return f"{front}, which is one behind: waits until it has moved"
+        self.desks[node][slot] = self.before[other] if ahead == 1 else self.now[other]
+        if ahead == 0:
+            return f"{front}, which has moved as often: takes {self.worded(self.now[other])}"
+        return f"{front}, which is one ahead: takes {self.worded(self.before[other])}, its previous state (it holds {self.worded(self.now[other])})"
+
+    def write(self, node):
+        """Moves, and tells it."""
+        read = len(self.rows[node]) - self.desks[node].count(None)
+        if self.moves[node] == self.stop:
+            return f"node {node} does not move: stands at the stop"
+        if read < len(self.rows[node]):
+            return f"node {node} does not move: has read {read} of {len(self.rows[node])} neighbours"
+        self.moves[node] += 1
+        self.phases[node] = (self.phases[node] + 1) % 3
+        self.before[node], self.now[node] = self.now[node], self.state_of(node, self.moves[node])
+        self.desks[node] = [None] * len(self.rows[node])
+        return f"node {node} moves: {self.worded(self.now[node])}, its {ordinal(self.moves[node])} move"
+
+    def make(self, step):
+        """Makes a step, and tells it."""
+        node, *slot = step
+        if node >= len(self.rows):
+            return f"there is no node {node}: nodes are numbered below {len(self.rows)}"
+        return self.read(node, slot[0]) if slot else self.write(node)
+
+    def shown(self):
+        return [{"now": self.now[node], "before": self.before[node], "desk": self.desks[node]} for node in range(len(self.rows))]
+
+
+def ordinal(count):
+    ending = "th" if count % 100 in (11, 12, 13) else {1: "st", 2: "nd", 3: "rd"}.get(count % 10, "th")
+    return f"{count}{ending}"
+
+
 def lines(steps):
     """The schedule of steps."""
     return "".join(f"read {step[0]} {step[1]}\n" if len(step) == 2 else f"write {step[0]}\n" for step in steps)

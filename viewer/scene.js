@@ -3,6 +3,7 @@
 import { colouringOf } from "./colours.js";
 import { ANSWERS, MOVED, TAKEN } from "./data.js";
 import { shortValue } from "./paper.js";
+import { plainText, toldParts } from "./registers.js";
 import { answerWords, lookedAt, Machine, stepText } from "./steps.js";
 
 /** What is shown: where in the run, the field that gives the colours, the nodes that are chosen and pointed at. */
@@ -67,7 +68,7 @@ export class Scene {
 
   /** The value of the field of the colours, as it stands in a node. */
   text(node) {
-    return this.field < 0 ? "" : shortValue(this.value(node, this.field));
+    return this.field < 0 ? "" : shortValue(this.run, this.field, this.value(node, this.field));
   }
 
   /** Whether a node has another state than in the round that was shown before. */
@@ -123,13 +124,18 @@ export class Scene {
     return links;
   }
 
-  /** The step that led here: its line in a schedule, its answer, and the answer in words; null before any step. */
+  /** What the step that led here did, told with what stands in registers, in parts; before any step that there was none. */
+  told() {
+    return this.isSteps && this.at > 0 ? toldParts(this.machine, this.at - 1) : ["all nodes begin"];
+  }
+
+  /** The step that led here: its line in a schedule, its answer, the answer in words, and what it did; null before any step. */
   step() {
     if (!this.isSteps || this.at === 0) {
       return null;
     }
     const step = this.at - 1;
-    return { text: stepText(this.run, step), answer: ANSWERS[this.run.steps.answer[step]], words: answerWords(this.machine, step) };
+    return { text: stepText(this.run, step), answer: ANSWERS[this.run.steps.answer[step]], words: answerWords(this.machine, step), told: plainText(this.told()) };
   }
 
   /** Behind how many steps a node comes to a count, told by its place among the rounds; -1 where it never does. */

@@ -1,0 +1,108 @@
+// What stands in registers and on desks, by the counts: a node that has moved t times shows its state of round t and that of the round before.
+
+import { ANSWERS } from "./data.js";
+import { lookedAt } from "./steps.js";
+
+/** A text from outside, which is set apart so that its letters may run either way. */
+export function apart(text) {
+  return { apart: text };
+}
+
+/** The text of parts, each a text or one that is set apart. */
+export function plainText(parts) {
+  return parts.map((part) => part.apart ?? part).join("");
+}
+
+/** A node by its name, or as `node` and its number. */
+export function nodeParts(run, node) {
+  return node < run.names.length ? [apart(run.names[node])] : [`node ${node}`];
+}
+
+/** The shown fields of a node in the round at a place, as `s=1, t=0`. */
+export function stateParts(run, node, place) {
+  const valueOf = (field) => apart(run.valueName(field, run.value(place, node, field)) ?? String(run.value(place, node, field)));
+  const parts = run.fields.flatMap((name, field) => [`${field > 0 ? ", " : ""}${name}=`, valueOf(field)]);
+  return parts.length > 0 ? parts : ["nothing that is shown"];
+}
+
+/** The places among the rounds of the two states of a node's register: now, and before its last move; before the first both are the initial one. */
+export function registerOf(machine, node) {
+  const now = machine.moves[node];
+  return { now, before: Math.max(0, now - 1) };
+}
+
+/** The place among the rounds of what a node has on its desk from the neighbour at a slot: of its own round; -1 where nothing was read since its last move. */
+export function copyAt(machine, node, slot) {
+  return machine.marks[machine.run.offsets[node] + slot] ? machine.moves[node] : -1;
+}
+
+/** The values of the shown fields of a node in the round at a place. */
+function valuesAt(run, node, place) {
+  return run.fields.map((_, field) => run.value(place, node, field));
+}
+
+/** The values in the register of a node, and for each of its slots those on its desk, or null. */
+export function registerValues(machine, node) {
+  const { run } = machine;
+  const { now, before } = registerOf(machine, node);
+  const desk = Array.from(run.neighbours(node), (other, slot) => {
+    const place = copyAt(machine, node, slot);
+    return place < 0 ? null : valuesAt(run, other, place);
+  });
+  return { now: valuesAt(run, node, now), before: valuesAt(run, node, before), desk };
+}
+
+/** A count of moves, as `1st`. */
+function ordinal(count) {
+  const endings = ["th", "st", "nd", "rd"];
+  const isTeen = count % 100 >= 11 && count % 100 <= 13;
+  return `${count}${isTeen ? "th" : endings[count % 10] ?? "th"}`;
+}
+
+/** How far the neighbour is that a reader looks at, and which of its two states is taken. */
+function takenParts(machine, node, other) {
+  const { run } = machine;
+  const [mine, theirs] = [machine.moves[node], machine.moves[other]];
+  if (theirs === mine) {
+    return [", which has moved as often: takes ", ...stateParts(run, other, mine)];
+  }
+  return [", which is one ahead: takes ", ...stateParts(run, other, mine), ", its previous state (it holds ", ...stateParts(run, other, theirs), ")"];
+}
+
+/** What a read did, in parts; the machine stands behind it. */
+function readParts(machine, step, answer) {
+  const { run } = machine;
+  const node = run.steps.node[step];
+  const other = lookedAt(run, step);
+  const reads = [...nodeParts(run, node), " reads ", ...(other >= 0 ? nodeParts(run, other) : [`slot ${run.steps.slot[step]}`])];
+  const ends = {
+    Taken: () => takenParts(machine, node, other),
+    Behind: () => [", which is one behind: waits until it has moved"],
+    Already: () => [" once more: has its state of this round already, ", ...stateParts(run, other, machine.moves[node])],
+    Stopped: () => [": stands at the stop, and reads no more"],
+    NoSlot: () => [`, and has no such slot: its slots are numbered below ${run.degree(node)}`],
+  };
+  return [...reads, ...ends[answer]()];
+}
+
+/** What a write did, in parts; the machine stands behind it. */
+function writeParts(machine, step, answer) {
+  const { run } = machine;
+  const node = run.steps.node[step];
+  const ends = {
+    Moved: () => [" moves: ", ...stateParts(run, node, machine.moves[node]), `, its ${ordinal(machine.moves[node])} move`],
+    NotReady: () => [` does not move: has read ${machine.readsOf(node)} of ${run.degree(node)} neighbours`],
+    Stopped: () => [" does not move: stands at the stop"],
+  };
+  return [...nodeParts(run, node), ...ends[answer]()];
+}
+
+/** What a step did, told with what stands in registers, in parts; the machine stands behind it. */
+export function toldParts(machine, step) {
+  const { run } = machine;
+  const answer = ANSWERS[run.steps.answer[step]];
+  if (answer === "NoNode") {
+    return [`there is no node ${run.steps.node[step]}: nodes are numbered below ${run.nodes}`];
+  }
+  return run.steps.writes[step] ? writeParts(machine, step, answer) : readParts(machine, step, answer);
+}
