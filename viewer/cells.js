@@ -1,6 +1,5 @@
 // The network as cells in rows: for grids, and for networks with more nodes than can be drawn one by one.
 
-import { PHASES } from "./colours.js";
 import { fitCanvas, fontOf, sheet } from "./paper.js";
 
 /** Cells of so many pixels have lines between them. */
@@ -75,13 +74,13 @@ export class CellPicture {
     }
   }
 
-  /** Frames in cells: their phases, or whose value of the field changed. */
+  /** Frames in cells: the rings of the scene. */
   drawFrames(context, scene) {
+    const rings = scene.rings(this.paints);
     for (let node = 0; node < this.run.nodes; node += 1) {
-      if (scene.isSteps) {
-        this.frame(context, node, PHASES[scene.phase(node)], 3);
-      } else if (scene.marksChanges && scene.isRecoloured(node)) {
-        this.frame(context, node, this.paints.ink, 1.5);
+      const ring = rings.find(({ isIn }) => isIn(node));
+      if (ring) {
+        this.frame(context, node, ring.colour, scene.isSteps ? 3 : 1.5);
       }
     }
   }

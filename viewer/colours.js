@@ -20,6 +20,9 @@ const SAMPLES = 60000;
 /** The three phases, told apart by people who are colour-blind, too. */
 export const PHASES = ["#1e88e5", "#d81b60", "#ffc107"];
 
+/** The ring about nodes that do not wait and differ from the rounds. */
+export const DIFFERS = "#d55e00";
+
 /** Red, green and blue of a colour in six hexadecimal digits. */
 function channelsOf(colour) {
   return [1, 3, 5].map((place) => parseInt(colour.slice(place, place + 2), 16));
@@ -50,12 +53,12 @@ function scaleAt(part) {
   return colourOf(lower.map((value, at) => value + (upper[at] - value) * (place - below)));
 }
 
-/** What a field has over the whole run: its least and greatest value, its distinct values where they are few, whether one is none. */
+/** What a field has over the whole run, where nodes wait and where they do not: its least and greatest value, its distinct values where they are few, whether one is none. */
 export function rangeOf(run, field) {
   const width = run.fields.length;
   const range = { least: NONE, greatest: 0, few: new Set(), hasNone: false };
   let last = -1;
-  for (const values of run.states) {
+  for (const values of [...run.states, ...run.written]) {
     for (let place = field; place < values.length; place += width) {
       if (values[place] !== last) {
         last = values[place];

@@ -108,6 +108,26 @@ function stepsOf(raw) {
   return steps;
 }
 
+/** The states that steps write where nodes do not wait, step by step, as flat arrays. */
+function writtenOf(raw) {
+  demand(Array.isArray(raw.written) && raw.written.length === raw.steps.length, "This page has not as many states that steps write as steps.");
+  return raw.written.map((values) => Uint32Array.from(values));
+}
+
+/** Each state that is written where nodes do not wait has a value for each field, and stands where a node moves, to a round that the page has. */
+function demandWrites(run) {
+  const moves = new Uint32Array(run.nodes);
+  run.written.forEach((values, step) => {
+    const node = run.steps.node[step];
+    const isMove = run.steps.writes[step] === 1 && node < run.nodes && run.rounds[0] + moves[node] < run.stop;
+    demand(values.length === (isMove ? run.fields.length : 0), `What step ${step + 1} of this page writes where nodes do not wait is no state of its node.`);
+    if (isMove) {
+      moves[node] += 1;
+      demand(moves[node] < run.states.length, "A node of this page moves on, without waiting, to a round whose states the page does not have.");
+    }
+  });
+}
+
 /** The answers that a write can have, and those that a read can have, where there is such a node and such a slot. */
 const WRITE_ANSWERS = ["Moved", "NotReady", "Stopped"];
 const READ_ANSWERS = ["Taken", "Behind", "Already", "Stopped"];
@@ -156,8 +176,11 @@ class Run {
     this.settling = raw.settling || [];
     this.stop = raw.stop;
     this.steps = raw.manner === "steps" ? stepsOf(raw) : null;
+    this.isNaive = this.steps !== null && raw.written !== undefined;
+    this.written = this.isNaive ? writtenOf(raw) : [];
     if (this.steps) {
       demandAnswers(this);
+      demandWrites(this);
     }
   }
 

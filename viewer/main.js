@@ -5,6 +5,7 @@ import { Controls } from "./controls.js";
 import { CurvePicture } from "./curves.js";
 import { Problem, readRun } from "./data.js";
 import { layoutFor, MOST_DRAWN } from "./layout.js";
+import { NaiveScene } from "./naive.js";
 import { longestText, NetworkPicture } from "./network.js";
 import { readPaints } from "./paper.js";
 import { byId, element, elementsOf, showAround, showLegend, showNode, showPhases, Table } from "./panel.js";
@@ -48,17 +49,20 @@ class Page {
     this.run = run;
     this.scene = new Scene(run);
     this.layout = layoutFor(run);
-    this.network = this.networkPicture();
+    this.network = this.networkPicture("network");
+    this.naive = run.isNaive ? new NaiveScene(this.scene) : null;
+    this.naiveNetwork = run.isNaive ? this.networkPicture("naive") : null;
     this.time = new TimePicture(byId("time"), run);
     this.curves = new CurvePicture(byId("curves"), run);
     this.scale = null;
     byId("stage").hidden = false;
     byId("table-part").hidden = false;
-    this.table = new Table(this.scene);
+    this.table = new Table(this.scene, this.naive);
     this.controls = new Controls(this.scene.last, (at) => this.go(at));
     this.say();
     this.offer();
     this.bindNetwork();
+    this.bindNaive();
     this.bindTime();
     this.bindWindow();
     this.scene.go(0);
@@ -66,12 +70,12 @@ class Page {
   }
 
   /** The picture of the network: cells, nodes and links, or none where there are too many. */
-  networkPicture() {
+  networkPicture(canvas) {
     if (!this.layout) {
       return null;
     }
     const Picture = this.layout.cells ? CellPicture : NetworkPicture;
-    return new Picture(byId("network"), this.run, this.layout);
+    return new Picture(byId(canvas), this.run, this.layout);
   }
 
   /** Says what stays the same. */
@@ -86,11 +90,14 @@ class Page {
     byId("answer").hidden = !run.steps;
     byId("around").hidden = !run.steps;
     byId("changes-label").hidden = run.steps !== null;
+    byId("naive-theorem").hidden = !run.isNaive;
+    byId("naive-told").hidden = !run.isNaive;
+    byId("naive-frame").hidden = this.naiveNetwork === null;
     byId("kind").textContent = this.layout ? this.layout.kind : "";
     byId("time-title").textContent = run.steps ? "How far each node is: nodes across, counts up" : "All rounds: nodes across, rounds down";
     byId("time-part").setAttribute("aria-label", run.steps ? "The counts" : "The rounds");
     if (run.steps) {
-      showPhases();
+      showPhases(run.isNaive);
     }
     if (!this.network) {
       byId("network").hidden = true;
@@ -176,6 +183,17 @@ class Page {
     byId("zoom").hidden = !(this.network instanceof NetworkPicture);
     if (this.network instanceof NetworkPicture) {
       this.bindZoom(canvas);
+    }
+  }
+
+  /** Lets the pointer choose nodes in the network of those that do not wait. */
+  bindNaive() {
+    if (this.naiveNetwork) {
+      const canvas = byId("naive");
+      const nodeAt = (event) => this.naiveNetwork.nodeAt(event.offsetX, event.offsetY);
+      canvas.addEventListener("pointermove", (event) => this.point(nodeAt(event)));
+      canvas.addEventListener("pointerleave", () => this.point(-1));
+      canvas.addEventListener("click", (event) => this.select(nodeAt(event)));
     }
   }
 
@@ -272,6 +290,7 @@ class Page {
     sizes.observe(byId("network").parentElement);
     sizes.observe(byId("time").parentElement);
     sizes.observe(byId("curves").parentElement);
+    sizes.observe(byId("naive").parentElement);
   }
 
   /** Prepares the pictures once before the next frame. */
@@ -300,8 +319,8 @@ class Page {
 
   /** Takes the sizes of the canvases. */
   fit() {
-    if (this.network) {
-      this.network.prepare(this.paints, longestText(this.run, this.scene.field, this.scene.colouring));
+    for (const picture of [this.network, this.naiveNetwork].filter((one) => one !== null)) {
+      picture.prepare(this.paints, longestText(this.run, this.scene.field, this.scene.colouring));
     }
     this.curves.prepare(this.paints, this.scene.colouring, this.scene.field);
     this.time.prepare(this.paints, this.scene.colouring, this.scene.field);
@@ -323,13 +342,27 @@ class Page {
     if (this.network) {
       this.network.draw(this.scene);
     }
+    this.drawNaive();
     this.time.draw(this.scene);
     this.curves.draw(this.scene);
     byId("network").setAttribute("aria-label", `The network: ${told}`);
     byId("time").setAttribute("aria-label", `${byId("time-title").textContent}; ${told}`);
     byId("curves").setAttribute("aria-label", `How many nodes have each value; ${told}; ${this.curves.words(this.scene.row)}`);
-    showNode(this.scene);
+    showNode(this.scene, this.naive);
     this.table.show();
+  }
+
+  /** Shows the nodes that do not wait, where the page has them. */
+  drawNaive() {
+    if (!this.naive) {
+      return;
+    }
+    this.naive.follow();
+    byId("naive-told").replaceChildren("Without waiting: ", ...elementsOf(this.naive.told()));
+    byId("naive").setAttribute("aria-label", `The network of nodes that do not wait: ${byId("naive-told").textContent}`);
+    if (this.naiveNetwork) {
+      this.naiveNetwork.draw(this.naive);
+    }
   }
 
   /** The shown round in words, with how many nodes changed. */
@@ -398,11 +431,13 @@ function faceOf(page) {
     },
     shown: () => page.shown(),
     registers: () => (run.steps ? nodesOf(run, (node) => registerValues(page.scene.machine, node)) : null),
+    naive: () => (page.naive ? page.naive.shown() : null),
     changed: () => page.scene.changes().all,
     field: (field) => page.choose(field),
     select: (node) => page.select(node),
     isPlaying: () => page.controls.isPlaying,
     nodeSpot: (node) => (page.network ? page.spotOf("network", page.network.spot(node)) : null),
+    naiveSpot: (node) => (page.naiveNetwork ? page.spotOf("naive", page.naiveNetwork.spot(node)) : null),
     timeSpot: (node, place) => page.spotOf("time", page.time.spot(node, place)),
     counts: () => (page.curves.counts === null ? null : [...page.curves.counts].map(([value, numbers]) => [value, [...numbers]])),
     curveSpot: (place, count) => page.spotOf("curves", page.curves.spot(place, count)),

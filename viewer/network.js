@@ -1,6 +1,5 @@
 // The network as nodes and links, drawn on a canvas.
 
-import { PHASES } from "./colours.js";
 import { fitCanvas, fontOf, sheet, shortValue, shortened } from "./paper.js";
 
 /** How near one can go. */
@@ -302,21 +301,16 @@ export class NetworkPicture {
     });
   }
 
-  /** The rings about nodes: their phases, or whose value of the field changed. */
+  /** The rings about nodes, of which small nodes in rounds have none. */
   drawRings(context, scene) {
-    const ring = (nodes, colour, wide) => {
+    const wide = this.radius >= 8 ? 3 + (scene.isSteps ? 1 : 0) : scene.isSteps && this.radius >= 4 ? 3 : 1.5;
+    const rings = scene.isSteps || this.radius >= 3 ? scene.rings(this.paints) : [];
+    for (const { colour, isIn } of rings) {
       context.strokeStyle = colour;
       context.lineWidth = wide;
       context.beginPath();
-      nodes.forEach((node) => this.disk(context, node, this.radius + wide / 2 + 0.5));
+      this.seen.filter(isIn).forEach((node) => this.disk(context, node, this.radius + wide / 2 + 0.5));
       context.stroke();
-    };
-    const nodes = this.seen;
-    if (scene.isSteps) {
-      const wide = this.radius >= 8 ? 4 : this.radius >= 4 ? 3 : 1.5;
-      PHASES.forEach((colour, phase) => ring(nodes.filter((node) => scene.phase(node) === phase), colour, wide));
-    } else if (scene.marksChanges && this.radius >= 3) {
-      ring(nodes.filter((node) => scene.isRecoloured(node)), this.paints.ink, this.radius >= 8 ? 3 : 1.5);
     }
   }
 

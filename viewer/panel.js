@@ -1,6 +1,6 @@
 // What stands beside the pictures in words: legend, the chosen node, the table of values. Text from outside is put in as text alone.
 
-import { PHASES, pixelOf } from "./colours.js";
+import { DIFFERS, PHASES, pixelOf } from "./colours.js";
 import { ANSWERS, NONE } from "./data.js";
 import { sheet, valueWords } from "./paper.js";
 import { apart, copyAt, registerOf, stateParts } from "./registers.js";
@@ -82,16 +82,19 @@ export function showLegend(scene) {
   byId("legend").replaceChildren(...entries);
 }
 
-/** Shows the colours of the phases. */
-export function showPhases() {
-  const entries = PHASES.map((colour, phase) => {
-    const entry = element("li");
-    const ring = element("span", "", "ring");
-    ring.style.borderColor = colour;
-    entry.append(ring, element("span", `phase ${phase}`));
-    return entry;
-  });
-  byId("phases").replaceChildren(...entries);
+/** An entry of the legend: a ring and its words. */
+function ringEntry(colour, words) {
+  const entry = element("li");
+  const ring = element("span", "", "ring");
+  ring.style.borderColor = colour;
+  entry.append(ring, element("span", words));
+  return entry;
+}
+
+/** Shows the colours of the phases, and where there are nodes that do not wait, that of those which differ from the rounds. */
+export function showPhases(isNaive) {
+  const entries = PHASES.map((colour, phase) => ringEntry(colour, `phase ${phase}`));
+  byId("phases").replaceChildren(...entries, ...(isNaive ? [ringEntry(DIFFERS, "differs from the rounds")] : []));
   byId("phases").hidden = false;
 }
 
@@ -152,8 +155,8 @@ function registerLine(scene, node) {
   return line(...elementsOf([...front, "; before ", ...stateParts(scene.run, node, before)]));
 }
 
-/** Shows the node that is pointed at, or else the chosen one. */
-export function showNode(scene) {
+/** Shows the node that is pointed at, or else the chosen one; where there are nodes that do not wait, how it stands among them. */
+export function showNode(scene, naive) {
   const node = scene.pointed >= 0 ? scene.pointed : scene.chosen;
   if (node < 0) {
     byId("node").replaceChildren(element("p", "Point at a node or choose one to see its values and its neighbours.", "soft"));
@@ -162,7 +165,8 @@ export function showNode(scene) {
   const number = node < scene.run.names.length ? element("span", ` (node ${node})`, "soft") : "";
   const lines = [line(node < scene.run.names.length ? "" : "node ", calledElement(scene.run, node), number)];
   lines.push(scene.isSteps ? registerLine(scene, node) : valueLine(scene, node, scene.place(node)), ...pointedLines(scene, node));
-  byId("node").replaceChildren(...lines, neighbourLine(scene, node));
+  lines.push(...(naive ? [line(...elementsOf(naive.nodeParts(node)))] : []), neighbourLine(scene, node));
+  byId("node").replaceChildren(...lines);
 }
 
 /** Shows the steps about the present one; each is a button that goes there. */
@@ -195,10 +199,17 @@ function cellsOf(scene, node) {
   return [String(scene.count(node)), String(scene.phase(node)), ...valueCells(scene, node, now), ...valueCells(scene, node, before)];
 }
 
+/** What stands in the table of a node that does not wait. */
+function naiveCells({ run, machine }, node) {
+  const values = machine.writtenValues(machine.last[node], node);
+  return [String(run.rounds[0] + machine.moves[node]), ...values.map((value, field) => run.valueName(field, value) ?? String(value))];
+}
+
 /** The table of all values, so many nodes at once. */
 export class Table {
-  constructor(scene) {
+  constructor(scene, naive) {
     this.scene = scene;
+    this.naive = naive;
     this.first = 0;
     this.part = byId("table-part");
     this.part.addEventListener("toggle", () => this.show());
@@ -213,7 +224,8 @@ export class Table {
   /** The headings behind number and name. */
   headings() {
     const { fields } = this.scene.run;
-    return this.scene.isSteps ? ["count", "phase", ...fields, ...fields.map((name) => `${name} before`)] : fields;
+    const naive = this.naive ? ["count without waiting", ...fields.map((name) => `${name} without waiting`)] : [];
+    return this.scene.isSteps ? ["count", "phase", ...fields, ...fields.map((name) => `${name} before`), ...naive] : fields;
   }
 
   /** Goes so many nodes on or back. */
@@ -248,7 +260,7 @@ export class Table {
     this.rows.forEach((row, place) => {
       const node = this.first + place;
       row.className = node === this.scene.chosen ? "chosen" : "";
-      cellsOf(this.scene, node).forEach((text, column) => {
+      [...cellsOf(this.scene, node), ...(this.naive ? naiveCells(this.naive, node) : [])].forEach((text, column) => {
         row.cells[column + 2].textContent = text;
       });
     });

@@ -18,11 +18,20 @@ export function nodeParts(run, node) {
   return node < run.names.length ? [apart(run.names[node])] : [`node ${node}`];
 }
 
+/** Values of the shown fields, as `s=1, t=0`. */
+export function valueParts(run, values) {
+  const parts = run.fields.flatMap((name, field) => [`${field > 0 ? ", " : ""}${name}=`, apart(run.valueName(field, values[field]) ?? String(values[field]))]);
+  return parts.length > 0 ? parts : ["nothing that is shown"];
+}
+
+/** The values of the shown fields of a node in the round at a place. */
+export function valuesAt(run, node, place) {
+  return run.fields.map((_, field) => run.value(place, node, field));
+}
+
 /** The shown fields of a node in the round at a place, as `s=1, t=0`. */
 export function stateParts(run, node, place) {
-  const valueOf = (field) => apart(run.valueName(field, run.value(place, node, field)) ?? String(run.value(place, node, field)));
-  const parts = run.fields.flatMap((name, field) => [`${field > 0 ? ", " : ""}${name}=`, valueOf(field)]);
-  return parts.length > 0 ? parts : ["nothing that is shown"];
+  return valueParts(run, valuesAt(run, node, place));
 }
 
 /** The places among the rounds of the two states of a node's register: now, and before its last move; before the first both are the initial one. */
@@ -34,11 +43,6 @@ export function registerOf(machine, node) {
 /** The place among the rounds of what a node has on its desk from the neighbour at a slot: of its own round; -1 where nothing was read since its last move. */
 export function copyAt(machine, node, slot) {
   return machine.marks[machine.run.offsets[node] + slot] ? machine.moves[node] : -1;
-}
-
-/** The values of the shown fields of a node in the round at a place. */
-function valuesAt(run, node, place) {
-  return run.fields.map((_, field) => run.value(place, node, field));
 }
 
 /** The values in the register of a node, and for each of its slots those on its desk, or null. */
@@ -53,7 +57,7 @@ export function registerValues(machine, node) {
 }
 
 /** A count of moves, as `1st`. */
-function ordinal(count) {
+export function ordinal(count) {
   const endings = ["th", "st", "nd", "rd"];
   const isTeen = count % 100 >= 11 && count % 100 <= 13;
   return `${count}${isTeen ? "th" : endings[count % 10] ?? "th"}`;
@@ -69,20 +73,24 @@ function takenParts(machine, node, other) {
   return [", which is one ahead: takes ", ...stateParts(run, other, mine), ", its previous state (it holds ", ...stateParts(run, other, theirs), ")"];
 }
 
+/** Who reads whom. */
+export function readerParts(run, step) {
+  const other = lookedAt(run, step);
+  return [...nodeParts(run, run.steps.node[step]), " reads ", ...(other >= 0 ? nodeParts(run, other) : [`slot ${run.steps.slot[step]}`])];
+}
+
 /** What a read did, in parts; the machine stands behind it. */
 function readParts(machine, step, answer) {
   const { run } = machine;
   const node = run.steps.node[step];
   const other = lookedAt(run, step);
-  const reads = [...nodeParts(run, node), " reads ", ...(other >= 0 ? nodeParts(run, other) : [`slot ${run.steps.slot[step]}`])];
   const ends = {
     Taken: () => takenParts(machine, node, other),
     Behind: () => [", which is one behind: waits until it has moved"],
     Already: () => [" once more: has its state of this round already, ", ...stateParts(run, other, machine.moves[node])],
     Stopped: () => [": stands at the stop, and reads no more"],
-    NoSlot: () => [`, and has no such slot: its slots are numbered below ${run.degree(node)}`],
   };
-  return [...reads, ...ends[answer]()];
+  return [...readerParts(run, step), ...ends[answer]()];
 }
 
 /** What a write did, in parts; the machine stands behind it. */
@@ -97,12 +105,25 @@ function writeParts(machine, step, answer) {
   return [...nodeParts(run, node), ...ends[answer]()];
 }
 
+/** What is told of a step that names no node, or no slot, in parts; null of others. */
+export function missingParts(run, step) {
+  const node = run.steps.node[step];
+  if (node >= run.nodes) {
+    return [`there is no node ${node}: nodes are numbered below ${run.nodes}`];
+  }
+  if (!run.steps.writes[step] && lookedAt(run, step) < 0) {
+    return [...readerParts(run, step), `, and has no such slot: its slots are numbered below ${run.degree(node)}`];
+  }
+  return null;
+}
+
 /** What a step did, told with what stands in registers, in parts; the machine stands behind it. */
 export function toldParts(machine, step) {
   const { run } = machine;
   const answer = ANSWERS[run.steps.answer[step]];
-  if (answer === "NoNode") {
-    return [`there is no node ${run.steps.node[step]}: nodes are numbered below ${run.nodes}`];
+  const missing = missingParts(run, step);
+  if (missing) {
+    return missing;
   }
   return run.steps.writes[step] ? writeParts(machine, step, answer) : readParts(machine, step, answer);
 }

@@ -1,6 +1,6 @@
 // What is shown at one place of a run: the states, and of single steps the counts, phases and the step itself.
 
-import { colouringOf } from "./colours.js";
+import { colouringOf, PHASES } from "./colours.js";
 import { ANSWERS, MOVED, TAKEN } from "./data.js";
 import { shortValue } from "./paper.js";
 import { plainText, toldParts } from "./registers.js";
@@ -54,6 +54,14 @@ export class Scene {
 
   phase(node) {
     return (this.run.phase + this.count(node)) % 3;
+  }
+
+  /** The rings about nodes: of single steps their phases, else those whose value of the field of the colours changed. */
+  rings(paints) {
+    if (this.isSteps) {
+      return PHASES.map((colour, phase) => ({ colour, isIn: (node) => this.phase(node) === phase }));
+    }
+    return this.marksChanges ? [{ colour: paints.ink, isIn: (node) => this.isRecoloured(node) }] : [];
   }
 
   /** The value that a node has in a field. */

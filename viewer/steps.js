@@ -8,17 +8,14 @@ const LEAST_STRIDE = 1000;
 /** How many bytes all snapshots may take. */
 const SNAPSHOT_BYTES = 48_000_000;
 
-/**
- * The count machine at some step: for each node how often it has moved since all nodes began (`moves`), and for each slot whether it was
- * read since the last move (`marks`, laid out as the neighbours are). It follows the answers that the page holds.
- */
-export class Machine {
-  constructor(run) {
+/** A machine that goes through the steps of a run, back and forth: what it keeps are flat arrays by name, of which it takes snapshots on its way. */
+export class Walk {
+  constructor(run, parts) {
     this.run = run;
     this.at = 0;
-    this.moves = new Uint32Array(run.nodes);
-    this.marks = new Uint8Array(run.near.length);
-    const bytes = 4 * run.nodes + run.near.length;
+    this.names = Object.keys(parts);
+    Object.assign(this, parts);
+    const bytes = this.names.reduce((sum, name) => sum + this[name].byteLength, 0);
     this.stride = Math.max(LEAST_STRIDE, Math.ceil((run.steps.many * bytes) / SNAPSHOT_BYTES));
     this.snapshots = [];
     this.remember();
@@ -28,7 +25,13 @@ export class Machine {
 
   /** Keeps what stands here, to come back to it. */
   remember() {
-    this.snapshots.push({ moves: this.moves.slice(), marks: this.marks.slice() });
+    this.snapshots.push(this.names.map((name) => this[name].slice()));
+  }
+
+  /** Takes what was kept in a snapshot. */
+  recall(place) {
+    this.names.forEach((name, part) => this[name].set(this.snapshots[place][part]));
+    this.at = place * this.stride;
   }
 
   /** Makes the steps up to this one, and takes the snapshots that are not taken yet. */
@@ -42,6 +45,25 @@ export class Machine {
     }
   }
 
+  /** Stands behind so many steps, from the last snapshot before them, or from where it stands. */
+  goTo(step) {
+    const place = Math.min(Math.floor(step / this.stride), this.snapshots.length - 1);
+    if (step < this.at || this.at < place * this.stride) {
+      this.recall(place);
+    }
+    this.walkTo(step);
+  }
+}
+
+/**
+ * The count machine at some step: for each node how often it has moved since all nodes began (`moves`), and for each slot whether it was
+ * read since the last move (`marks`, laid out as the neighbours are). It follows the answers that the page holds.
+ */
+export class Machine extends Walk {
+  constructor(run) {
+    super(run, { moves: new Uint32Array(run.nodes), marks: new Uint8Array(run.near.length) });
+  }
+
   /** Makes one step: only those that were taken, or moved a node, change something. */
   make(step) {
     const { node, slot, answer } = this.run.steps;
@@ -52,17 +74,6 @@ export class Machine {
       this.moves[node[step]] += 1;
       this.marks.fill(0, offsets[node[step]], offsets[node[step] + 1]);
     }
-  }
-
-  /** Stands behind so many steps, from the last snapshot before them, or from where it stands. */
-  goTo(step) {
-    const place = Math.min(Math.floor(step / this.stride), this.snapshots.length - 1);
-    if (step < this.at || this.at < place * this.stride) {
-      this.moves.set(this.snapshots[place].moves);
-      this.marks.set(this.snapshots[place].marks);
-      this.at = place * this.stride;
-    }
-    this.walkTo(step);
   }
 
   /** How many slots of a node were read since its last move. */

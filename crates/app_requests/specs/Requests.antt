@@ -13,7 +13,7 @@ use Rattle.app_requests.specs.declared.schedule.ScheduleRequest.TheVariants as r
 -- the run of a page stops at a round
 abbrev pub IsRunWithin : PageRun → Type 0
 IsRunWithin (Rounds span) = Unit {0}
-IsRunWithin (Steps schedule stop) = stop ≤ most_rounds
+IsRunWithin (Steps schedule stop naive) = stop ≤ most_rounds
 
 -- steps stop at a round, there are 1000000 at most, and not all of them are refused ones
 abbrev pub AreWithin : Limits → Type 0

@@ -7,7 +7,7 @@ use crate::arguments::{
     PlanPaths, ROUND, ROUNDS, WIDTH, only_in, span_in,
 };
 use crate::constants::CONSTANT;
-use app_table::{Argument, Command, Kind, OPTION, Reading, WordsFault};
+use app_table::{Argument, Command, FLAG, Kind, OPTION, Reading, WordsFault};
 use link_net::MOST_NODES;
 use run_watch::Span;
 use std::alloc::Global;
@@ -40,6 +40,15 @@ const STOP: Argument = Argument {
 
 /// `STOP`, as it is read.
 static STOP_ARGUMENT: Argument = STOP;
+
+const NAIVE: Argument = Argument {
+    name: "naive",
+    help: "With --steps, show beside them the same steps by nodes that do not wait",
+    ..FLAG
+};
+
+/// `NAIVE`, as it is read.
+static NAIVE_ARGUMENT: Argument = NAIVE;
 
 const GRID: Argument = Argument {
     name: "grid",
@@ -86,6 +95,7 @@ static PAGE: Command = Command {
         EVERY,
         STEPS,
         STOP,
+        NAIVE,
         ONLY,
         NAMES,
         NODE_FIELD,
@@ -106,9 +116,16 @@ pub(crate) fn page() -> &'static Command {
 #[derive(Drop)]
 pub enum PageRun {
     /// These lockstep rounds.
-    Rounds { span: Span },
-    /// The steps of the schedule at a path, of nodes that stop at a round.
-    Steps { schedule: String, stop: u32 },
+    Rounds {
+        span: Span,
+    },
+    /// The steps of the schedule at a path, of nodes that stop at a round; naively, beside them the same steps by nodes that do
+    /// not wait.
+    Steps {
+        schedule: String,
+        stop: u32,
+        naive: bool,
+    },
 }
 
 /// How a run is shown on a page.
@@ -143,6 +160,9 @@ fn rounds_in(reading: &mut Reading) -> Option<PageRun>
             "--stop goes with --steps; the last of the rounds stands in --rounds FIRST..LAST",
         );
     }
+    if reading.has(&NAIVE_ARGUMENT) {
+        reading.refuse_words("--naive goes with --steps");
+    }
     let span = span_in(reading)?;
     Some(PageRun::Rounds { span })
 }
@@ -164,7 +184,12 @@ fn steps_in(reading: &mut Reading) -> PageRun
     check_steps(reading);
     let stop = reading.number_or(&STOP_ARGUMENT, 0);
     let schedule = reading.needed_text(&STEPS_ARGUMENT);
-    PageRun::Steps { schedule, stop }
+    let naive = reading.has(&NAIVE_ARGUMENT);
+    PageRun::Steps {
+        schedule,
+        stop,
+        naive,
+    }
 }
 
 /// The run that is shown, where one is named.

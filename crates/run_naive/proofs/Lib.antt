@@ -9,3 +9,4 @@ mod Lines
 mod Early
 mod Copies
 mod Phases
+mod Writing

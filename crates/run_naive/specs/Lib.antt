@@ -1,5 +1,6 @@
 pub mod Naive
 pub mod Differences
 pub mod Telling
+pub mod Writing
 pub mod Keeping
 pub mod Phases

@@ -9,6 +9,8 @@ mod opening;
 mod rounds;
 mod stepping;
 mod telling;
+mod writing;
 
 pub use laws::{phases_keep_the_rounds, right_copies_keep_the_round};
 pub use telling::told;
+pub use writing::{Writes, naive_writes};

@@ -3,6 +3,7 @@ ghost use Rattle.std.specs.Prelude.{◌≡◌, ℕ, ◌-◌, ◌<◌, ◌≤◌,
 ghost use Rattle.rounds_plan.specs.Configs.{most_rounds};
 ghost use Rattle.run_naive.specs.Naive.{node_in};
 ghost use Rattle.run_naive.specs.Keeping.{AreAllCompared, AreAllKnown, AreCompared, AreKnown, Before, past_of, shown};
+ghost use Rattle.run_naive.specs.Writing.{greatest_count};
 
 use crate::comparing::{compare_moves, note_lockstep};
 use crate::difference::Difference;
@@ -20,7 +21,8 @@ pub(crate) struct Comparison {
 }
 
 /// The greatest count of nodes, or the plan's start where none is above it.
-fn most_moves(plan: &Plan, nodes: &[Node]) -> u32
+pub(crate) fn most_moves(plan: &Plan, nodes: &[Node]) -> u32
+    ensures exact { result ≡ greatest_count plan.now (map shown nodes.now) }
     ensures late { plan.now.start ≤ result }
     ensures most { (u : ℕ) → u < length nodes.now → (node_in (map shown nodes.now) u).moves ≤ result }
     ensures few { (m : ℕ) → plan.now.start ≤ m → ((u : ℕ) → u < length nodes.now → (node_in (map shown nodes.now) u).moves ≤ m) → result ≤ m }

@@ -17,7 +17,7 @@ use std::alloc::{AllocError, Global};
 use unison_world::Step;
 
 /// The state of a node now; 0 in each word where there is no such node.
-fn state_now(nodes: &[Node], node: u32) -> State
+pub(crate) fn state_now(nodes: &[Node], node: u32) -> State
     ensures exact { result ≡ state_now_in (map shown nodes.now) node }
 {
     match nodes.get(node as usize) {
@@ -76,7 +76,7 @@ fn write(
 }
 
 /// One step, with its number, counted from 1.
-fn step(
+pub(crate) fn step(
     plan: &Plan,
     stop: u32,
     nodes: &mut [Node],

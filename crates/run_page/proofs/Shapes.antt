@@ -4,17 +4,18 @@ use Rattle.std.specs.List.{AllByRecursion, filter, flat_map}
 use Rattle.std.specs.Prelude.{Option, Some, None}
 use Rattle.link_net.specs.Neighbours.{Neighbours, numbers_below, row}
 use Rattle.rounds_plan.specs.Plans.{PlanView}
+use Rattle.rule_check.specs.declared.state.State.{State}
 use Rattle.run_settle.specs.declared.settling.Settling.{Settling}
 use Rattle.run_settle.specs.declared.settling.Settling.TheVariants.{Settles, Repeats, Open}
 use Rattle.run_watch.specs.Spans.{SpanView, rounds_in}
-use Rattle.serde_json.specs.Data.{Data, Members, no_members, member, depth, items_depth, members_depth}
+use Rattle.serde_json.specs.Data.{Data, object, Members, no_members, member, depth, items_depth, members_depth}
 use Rattle.serde_json.specs.Read.{max_depth}
 use Rattle.serde_json.specs.View.{items_of}
 use Rattle.unison_world.specs.declared.step.Step.{Step}
 use Rattle.unison_world.specs.declared.step.Step.TheVariants.{Read, Write}
 use Rattle.run_page.specs.declared.look.Look.{Look}
 use Rattle.run_page.specs.Closed.{IsClosed, ItemsAreClosed, MembersAreClosed, is_closed}
-use Rattle.run_page.specs.Pages.{headed, legend_of, links_of, links_up, listed, numbers, rounds_page, settling_data, shown_names, states_of, step_data, stepped, texts, value_names, values_at, whole}
+use Rattle.run_page.specs.Pages.{headed, legend_of, links_of, links_up, listed, numbers, rounds_page, settling_data, shown, shown_names, states_of, step_data, stepped, stepped_naively, texts, value_names, values_at, whole, writes_of, written_data}
 
 -- closed, and no deeper than so
 abbrev Shaped : ℕ → Data → Type 0
@@ -103,18 +104,39 @@ rounds_shaped p span look settling =
     let all = headed_shaped p look (codes "rounds") rest refl (refl, rounds.0, (refl, becomes.0, (refl, states.0, tt))) (omega (arith, rounds.1, becomes.1, states.1)) in
     (all.0, omega (arith, all.1))
 
--- a page of steps
-pub steps_shaped : (p : PlanView) (stop : ℕ) (steps : List Step) (look : Look) (answers rounds : List ℕ)
-    → IsClosed (stepped p stop steps look answers rounds) × (depth (stepped p stop steps look answers rounds) ≤ max_depth)
-steps_shaped p stop steps look answers rounds =
+-- what is said of steps, before others
+stepped_shaped : (p : PlanView) (stop : ℕ) (steps : List Step) (look : Look) (answers rounds : List ℕ) (rest : Members) → MembersAreClosed rest → members_depth rest ≤ 3
+    → MembersAreClosed (stepped p stop steps look answers rounds rest) × (members_depth (stepped p stop steps look answers rounds rest) ≤ 3)
+stepped_shaped p stop steps look answers rounds rest closed shallow =
     let codes_of = numbers_shaped answers in
     let reached = numbers_shaped rounds in
     let states = states_shaped p look.fields.now rounds in
     let all_steps = listed_shaped 1 (map step_data steps) (mapped 1 step_data step_shaped steps) in
-    let rest =
+    let others =
     member (codes "rounds") (numbers rounds)
     (member (codes "states") (states_of p look.fields.now rounds)
     (member (codes "steps") (listed (map step_data steps))
-    (member (codes "stop") (whole stop) no_members))) in
-    let all = headed_shaped p look (codes "steps") rest refl (refl, reached.0, (refl, states.0, (refl, all_steps.0, (refl, refl, tt)))) (omega (arith, reached.1, states.1, all_steps.1)) in
+    (member (codes "stop") (whole stop) rest))) in
+    let all =
+    headed_shaped p look (codes "steps") others refl (refl, reached.0, (refl, states.0, (refl, all_steps.0, (refl, refl, closed)))) (omega (arith, reached.1, states.1, all_steps.1, shallow)) in
     ((refl, codes_of.0, all.0), omega (arith, codes_of.1, all.1))
+
+-- a page of steps
+pub steps_shaped : (p : PlanView) (stop : ℕ) (steps : List Step) (look : Look) (answers rounds : List ℕ)
+    → IsClosed (object (stepped p stop steps look answers rounds no_members)) × (depth (object (stepped p stop steps look answers rounds no_members)) ≤ max_depth)
+steps_shaped p stop steps look answers rounds =
+    let all = stepped_shaped p stop steps look answers rounds no_members tt (omega arith) in
+    (all.0, omega (arith, all.1))
+
+written_shaped : (fields : List ℕ) (state : Option State) → Shaped 1 (written_data fields state)
+written_shaped fields None = numbers_shaped []
+written_shaped fields (Some state) = numbers_shaped (shown fields state)
+
+-- a page of steps that are also made by nodes that do not wait
+pub naive_shaped : (p : PlanView) (stop : ℕ) (steps : List Step) (look : Look) (answers rounds : List ℕ) (states : List (Option State))
+    → IsClosed (stepped_naively p stop steps look answers rounds states) × (depth (stepped_naively p stop steps look answers rounds states) ≤ max_depth)
+naive_shaped p stop steps look answers rounds states =
+    let fields = look.fields.now in
+    let writes = listed_shaped 1 (map (written_data fields) states) (mapped 1 (written_data fields) (written_shaped fields) states) in
+    let all = stepped_shaped p stop steps look answers rounds (member (codes "written") (writes_of fields states) no_members) (refl, writes.0, tt) (omega (arith, writes.1)) in
+    (all.0, omega (arith, all.1))

@@ -12,6 +12,7 @@ use Rattle.run_settle.specs.declared.settling.Settling.TheVariants.{Settles, Rep
 use Rattle.run_watch.specs.Spans.{SpanView, rounds_in}
 use Rattle.serde_json.specs.Data.{Data, unsigned, number, string, array, object, Members, no_members, member}
 use Rattle.serde_json.specs.View.{items_of}
+use Rattle.run_naive.specs.Writing.{all_written, last_count}
 use Rattle.unison_trace.specs.Histories.{run_of, answers_of}
 use Rattle.unison_world.specs.declared.step.Step.{Step}
 use Rattle.unison_world.specs.declared.step.Step.TheVariants.{Read, Write}
@@ -119,17 +120,38 @@ code_of NoSlot = 7
 abbrev pub reached : PlanView → ℕ → List Step → SpanView
 reached p stop steps = record { first = p.start; last = fold max p.start (run_of p stop steps).moves; every = 1 }
 
--- the data of steps with these answers and these rounds
-abbrev pub stepped : PlanView → ℕ → List Step → Look → List ℕ → List ℕ → Data
-stepped p stop steps look answers rounds =
-    object
-    (member (codes "answers") (numbers answers)
+-- what is said of steps with these answers and these rounds
+abbrev pub stepped : PlanView → ℕ → List Step → Look → List ℕ → List ℕ → Members → Members
+stepped p stop steps look answers rounds rest =
+    member (codes "answers") (numbers answers)
     (headed p look (codes "steps")
     (member (codes "rounds") (numbers rounds)
     (member (codes "states") (states_of p look.fields.now rounds)
     (member (codes "steps") (listed (map step_data steps))
-    (member (codes "stop") (whole stop) no_members))))))
+    (member (codes "stop") (whole stop) rest)))))
 
 -- the data of a page of steps: their answers, and the rounds that they reach
 abbrev pub steps_page : PlanView → ℕ → List Step → Look → Data
-steps_page p stop steps look = stepped p stop steps look (map code_of (answers_of p stop steps)) (rounds_in (reached p stop steps))
+steps_page p stop steps look = object (stepped p stop steps look (map code_of (answers_of p stop steps)) (rounds_in (reached p stop steps)) no_members)
+
+-- each round from the plan's start up to the greatest count after the steps, be they made by nodes that wait or by nodes that do not
+abbrev pub reached_naively : PlanView → ℕ → List Step → SpanView
+reached_naively p stop steps = record { first = p.start; last = max (reached p stop steps).last (last_count p stop steps); every = 1 }
+
+-- the shown values of the state to which a step moved its node, or nothing where it moved none
+abbrev pub written_data : List ℕ → Option State → Data
+written_data fields None = numbers []
+written_data fields (Some state) = numbers (shown fields state)
+
+-- those of each of these steps
+abbrev pub writes_of : List ℕ → List (Option State) → Data
+writes_of fields states = listed (map (written_data fields) states)
+
+-- the data of steps with these answers, these rounds, and these states to which they move nodes that do not wait
+abbrev pub stepped_naively : PlanView → ℕ → List Step → Look → List ℕ → List ℕ → List (Option State) → Data
+stepped_naively p stop steps look answers rounds states =
+    object (stepped p stop steps look answers rounds (member (codes "written") (writes_of look.fields.now states) no_members))
+
+-- the data of a page of steps that are also made by nodes that do not wait
+abbrev pub naive_page : PlanView → ℕ → List Step → Look → Data
+naive_page p stop steps look = stepped_naively p stop steps look (map code_of (answers_of p stop steps)) (rounds_in (reached_naively p stop steps)) (all_written p stop steps)

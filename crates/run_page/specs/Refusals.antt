@@ -11,7 +11,7 @@ use Rattle.unison_world.specs.declared.step.Step.{Step}
 use Rattle.run_page.specs.declared.fault.PageFault.{PageFault}
 use Rattle.run_page.specs.declared.fault.PageFault.TheVariants.{TooManyRounds, RoundsBelowStart, StopTooLarge, StopBelowStart, NoField, TooManyValues, Memory}
 use Rattle.run_page.specs.declared.look.Look.{Look}
-use Rattle.run_page.specs.Pages.{reached}
+use Rattle.run_page.specs.Pages.{reached, reached_naively}
 
 -- the greatest number of values of a page
 abbrev pub most_values : ℕ
@@ -47,6 +47,16 @@ opening_refusal p stop look =
 abbrev pub steps_refusal : PlanView → ℕ → List Step → Look → Option PageFault
 steps_refusal p stop steps look =
     option_or (opening_refusal p stop look) (values_refusal (values_in p look (count_of (reached p stop steps)) + length steps))
+
+-- how many values the states have to which so many steps move nodes
+abbrev pub values_written : Look → ℕ → ℕ
+values_written look steps = steps * max (length look.fields.now) 1
+
+-- the same of steps that are also made by nodes that do not wait: of each step the state to which it moves its node counts too
+abbrev pub naive_refusal : PlanView → ℕ → List Step → Look → Option PageFault
+naive_refusal p stop steps look =
+    option_or (opening_refusal p stop look)
+    (values_refusal (values_in p look (count_of (reached_naively p stop steps)) + (length steps + values_written look (length steps))))
 
 -- the fault is the one that is defined, or running out of memory, where what is known before memory is taken has none
 abbrev pub IsFault : Option PageFault → Option PageFault → PageFault → Type 0

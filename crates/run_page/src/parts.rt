@@ -38,7 +38,11 @@ fn word(state: &State, place: u32) -> u32
 }
 
 /// Adds the values of a state's shown fields.
-fn put_shown(items: &mut Vec<Value>, state: &State, fields: &[u32]) -> Result<(), AllocError>
+pub(crate) fn put_shown(
+    items: &mut Vec<Value>,
+    state: &State,
+    fields: &[u32],
+) -> Result<(), AllocError>
     ensures { OnOk result (map view items.new.items ≡ map view items.old.items ++ map whole (shown fields.now state.now)) }
 {
     for place in fields {

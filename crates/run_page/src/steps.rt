@@ -3,8 +3,9 @@ ghost use Rattle.std.specs.Prelude.{◌≡◌, ◌≢◌, ◌≤◌, ◌<◌, �
 ghost use Rattle.std.specs.Arc.{arc_value};
 ghost use Rattle.rounds_plan.specs.Configs.{most_rounds};
 ghost use Rattle.run_watch.specs.Spans.{rounds_in};
+ghost use Rattle.serde_json.specs.Data.{no_members, object};
 ghost use Rattle.serde_json.specs.Read.{read};
-ghost use Rattle.serde_json.specs.View.{view};
+ghost use Rattle.serde_json.specs.View.{members_view, view};
 ghost use Rattle.serde_json.specs.Written.{compact_text};
 ghost use Rattle.unison_world.specs.Counting.{answers, moves_of, run};
 ghost use Rattle.unison_world.specs.View.{opened, with_counts};
@@ -20,7 +21,7 @@ use crate::states::{round_numbers, states};
 use crate::text::text_of;
 use rounds_plan::{MOST_ROUNDS, Plan};
 use run_watch::{Progress, Span};
-use serde_json::{Value, put};
+use serde_json::{Map, Value, put};
 use std::alloc::{AllocError, Global};
 use std::sync::Arc;
 use std::thread::Threads;
@@ -35,7 +36,7 @@ impl Progress for Untold {
 }
 
 /// Why there is no data, whatever memory there is, by what is known before the first step.
-fn refusal(plan: &Plan, stop: u32, look: &Look<'_>) -> Option<PageFault>
+pub(crate) fn refusal(plan: &Plan, stop: u32, look: &Look<'_>) -> Option<PageFault>
     ensures { result ≡ opening_refusal plan.now stop look.now }
 {
     if stop > MOST_ROUNDS {
@@ -64,7 +65,7 @@ fn code_of(answer: Answer) -> u32
 }
 
 /// Makes the steps; the numbers of their answers.
-fn make(alloc: Global, world: &mut World, steps: &[Step]) -> Result<Value, AllocError>
+pub(crate) fn make(alloc: Global, world: &mut World, steps: &[Step]) -> Result<Value, AllocError>
     ensures answers { IfOk result (λ v. view v ≡ numbers_data (map code_of (answers world.old.plan.network world.old.stop world.old.counts steps.now))) }
     ensures made { OnOk result (world.new ≡ with_counts world.old (run world.old.plan.network world.old.stop world.old.counts steps.now)) }
 {
@@ -88,7 +89,7 @@ fn moves(world: &World, node: u32) -> u32
 }
 
 /// The greatest count, from the plan's start on.
-fn greatest_count(world: &World) -> u32
+pub(crate) fn greatest_count(world: &World) -> u32
     ensures count { result ≡ fold max world.now.plan.start world.now.counts.moves }
     ensures late { world.now.plan.start ≤ result }
     ensures limit { result ≤ most_rounds }
@@ -132,6 +133,34 @@ fn step_values(alloc: Global, steps: &[Step]) -> Result<Value, AllocError>
     Ok(Value::Array(items))
 }
 
+/// What is said of a plan's steps up to a stop, with these answers and the rounds of this span.
+pub(crate) fn stepped(
+    rt: &(impl Threads + Sync),
+    alloc: Global,
+    plan: &Plan,
+    stop: u32,
+    steps: &[Step],
+    look: &Look<'_>,
+    answers: Value,
+    span: &Span,
+) -> Result<Map<String, Value>, AllocError>
+    requires fields { All (λ place. place < length plan.now.program.fields) look.now.fields.now }
+    requires late { plan.now.start ≤ span.now.first }
+    requires few { span.now.last ≤ most_rounds }
+    ensures { IfOk result (λ m. (codes : List ℕ) → view answers ≡ numbers_data codes → members_view m.entries ≡ stepped plan.now stop steps.now look.now codes (rounds_in span.now) no_members) }
+{
+    let mut members = head(alloc, plan, look, "steps")?;
+    put(&mut members, alloc, "answers", answers)?;
+    let rounds = round_numbers(alloc, span)?;
+    put(&mut members, alloc, "rounds", rounds)?;
+    let states = states(rt, alloc, plan, span, look.fields, &mut Untold)?;
+    put(&mut members, alloc, "states", states)?;
+    let steps = step_values(alloc, steps)?;
+    put(&mut members, alloc, "steps", steps)?;
+    put(&mut members, alloc, "stop", Value::from(stop))?;
+    Ok(members)
+}
+
 /// The data of a plan's steps up to a stop, with these answers and the rounds of this span.
 fn page(
     rt: &(impl Threads + Sync),
@@ -146,17 +175,9 @@ fn page(
     requires fields { All (λ place. place < length plan.now.program.fields) look.now.fields.now }
     requires late { plan.now.start ≤ span.now.first }
     requires few { span.now.last ≤ most_rounds }
-    ensures { IfOk result (λ v. (codes : List ℕ) → view answers ≡ numbers_data codes → view v ≡ stepped plan.now stop steps.now look.now codes (rounds_in span.now)) }
+    ensures { IfOk result (λ v. (codes : List ℕ) → view answers ≡ numbers_data codes → view v ≡ object (stepped plan.now stop steps.now look.now codes (rounds_in span.now) no_members)) }
 {
-    let mut members = head(alloc, plan, look, "steps")?;
-    put(&mut members, alloc, "answers", answers)?;
-    let rounds = round_numbers(alloc, span)?;
-    put(&mut members, alloc, "rounds", rounds)?;
-    let states = states(rt, alloc, plan, span, look.fields, &mut Untold)?;
-    put(&mut members, alloc, "states", states)?;
-    let steps = step_values(alloc, steps)?;
-    put(&mut members, alloc, "steps", steps)?;
-    put(&mut members, alloc, "stop", Value::from(stop))?;
+    let members = stepped(rt, alloc, plan, stop, steps, look, answers, span)?;
     Ok(Value::Object(members))
 }
 

@@ -11,7 +11,7 @@ use app_files::{Ending, bytes_at, name_at, path_in, print_out, read_once, shown_
 use app_jobs::ServeFault;
 use app_requests::{PageRequest, PageRun};
 use rounds_plan::Plan;
-use run_page::{EmbedFault, Look, PageFault, embedded, rounds_data, steps_data};
+use run_page::{EmbedFault, Look, PageFault, embedded, naive_data, rounds_data, steps_data};
 use run_settle::{SettleFault, Settling, settle};
 use run_watch::{Format, Span, WatchFault};
 use std::alloc::Global;
@@ -83,16 +83,22 @@ fn rounds_text(
     told_rounds(rt, threads, plan, span, look, settling)
 }
 
-/// The data of steps on a plan.
+/// The data of steps on a plan, naively with those of nodes that do not wait.
 fn steps_on(
     alloc: Global,
     threads: &(impl Threads + Sync),
     plan: Arc<Plan>,
     steps: &[Step],
     stop: u32,
+    naive: bool,
     look: &Look<'_>,
 ) -> Result<Vec<u8>, Ending> {
-    match steps_data(threads, alloc, plan, stop, steps, look) {
+    let made = if naive {
+        naive_data(threads, alloc, plan, stop, steps, look)
+    } else {
+        steps_data(threads, alloc, plan, stop, steps, look)
+    };
+    match made {
         Ok(data) => Ok(data),
         Err(fault) => Err(no_data(alloc, fault)),
     }
@@ -105,11 +111,12 @@ fn steps_text(
     plan: Plan,
     schedule: &str,
     stop: u32,
+    naive: bool,
     look: &Look<'_>,
 ) -> Result<Vec<u8>, Ending> {
     let plan = Arc::new(rt.alloc(), plan)?;
     let steps = steps_at(rt, schedule)?;
-    steps_on(rt.alloc(), threads, plan, &steps, stop, look)
+    steps_on(rt.alloc(), threads, plan, &steps, stop, naive, look)
 }
 
 /// The data of the run that is asked for, these fields and names being shown.
@@ -122,9 +129,11 @@ fn run_text(
 ) -> Result<Vec<u8>, Ending> {
     match run {
         PageRun::Rounds { span } => rounds_text(rt, threads, &plan, span, look),
-        PageRun::Steps { schedule, stop } => {
-            steps_text(rt, threads, plan, schedule.as_str(), *stop, look)
-        }
+        PageRun::Steps {
+            schedule,
+            stop,
+            naive,
+        } => steps_text(rt, threads, plan, schedule.as_str(), *stop, *naive, look),
     }
 }
 
