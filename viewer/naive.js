@@ -2,7 +2,7 @@
 
 import { DIFFERS } from "./colours.js";
 import { shortValue } from "./paper.js";
-import { missingParts, nodeParts, ordinal, plainText, readerParts, stateParts, valueParts } from "./registers.js";
+import { missingParts, nodeParts, plainText, readerParts, stateParts, stoppedParts, valueParts } from "./registers.js";
 import { lookedAt, Walk } from "./steps.js";
 
 /** What stands where no step has moved a node yet, or nothing was copied: the initial state. */
@@ -74,18 +74,24 @@ export class NaiveMachine extends Walk {
 function copiedParts(machine, step) {
   const { run } = machine;
   const copy = machine.copies[run.offsets[run.steps.node[step]] + run.steps.slot[step]];
-  return [...readerParts(run, step), ": takes ", ...valueParts(run, machine.writtenValues(copy, lookedAt(run, step))), ", what it shows now"];
+  return [...readerParts(run, step), ": takes", ...valueParts(run, machine.writtenValues(copy, lookedAt(run, step))), ", its state now"];
 }
 
-/** To which state a move led, in parts, and which one the rounds have there where that is another. */
-function movedParts(machine, step) {
+/** The state of a node, in parts, and beside it that of the round where it is another. */
+function standingParts(machine, node) {
   const { run } = machine;
-  const node = run.steps.node[step];
+  const round = run.rounds[machine.moves[node]];
+  const right = machine.differs(node) ? [`; round ${round} has`, ...stateParts(run, node, machine.moves[node])] : [`, its state of round ${round}`];
+  return [...valueParts(run, machine.writtenValues(machine.last[node], node)), ...right];
+}
+
+/** To which state a move led, in parts. */
+function movedParts(machine, step) {
+  const node = machine.run.steps.node[step];
   if (machine.last[node] !== step) {
-    return [...nodeParts(run, node), " does not move: stands at the stop"];
+    return stoppedParts(machine, node, "move");
   }
-  const right = machine.differs(node) ? ["; the rounds have ", ...stateParts(run, node, machine.moves[node])] : [];
-  return [...nodeParts(run, node), " moves: ", ...valueParts(run, machine.writtenValues(step, node)), `, its ${ordinal(machine.moves[node])} move`, ...right];
+  return [...nodeParts(machine.run, node), " moves:", ...standingParts(machine, node)];
 }
 
 /** What a step did where nodes do not wait, in parts; the machine stands behind it. */
@@ -157,11 +163,9 @@ export class NaiveScene {
     return { counts: nodes.map((node) => this.count(node)), values, differs: nodes.map((node) => this.machine.differs(node)), told: plainText(this.told()) };
   }
 
-  /** How a node stands here, in parts, and what the rounds have where that is another state. */
+  /** How a node stands here, in parts. */
   nodeParts(node) {
-    const { machine, run } = this;
-    const right = machine.differs(node) ? ["; the rounds have ", ...stateParts(run, node, machine.moves[node])] : [];
-    return [`without waiting: count ${this.count(node)}, `, ...valueParts(run, machine.writtenValues(machine.last[node], node)), ...right];
+    return [`without waiting: count ${this.count(node)},`, ...standingParts(this.machine, node)];
   }
 
   /** What the step that led here did, and how many nodes differ, in parts. */

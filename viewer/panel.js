@@ -124,7 +124,7 @@ function neighbourNotes(scene, node, slot) {
   const other = run.neighbours(node)[slot];
   const weight = run.weights[run.along[run.offsets[node] + slot]];
   const place = scene.isSteps ? copyAt(machine, node, slot) : -1;
-  const taken = place < 0 ? ["not read"] : ["taken ", ...stateParts(run, other, place)];
+  const taken = place < 0 ? ["not read"] : ["taken", ...stateParts(run, other, place)];
   return [
     scene.field < 0 ? [] : [apart(valueWords(run, scene.field, scene.value(other, scene.field)))],
     scene.isSteps ? [`count ${scene.count(other)}`] : [],
@@ -151,8 +151,8 @@ function neighbourLine(scene, node) {
 /** The count of a node, and its register: the phase, the state now, and the one before its last move. */
 function registerLine(scene, node) {
   const { now, before } = registerOf(scene.machine, node);
-  const front = [`count ${scene.count(node)}, phase ${scene.phase(node)}; now `, ...stateParts(scene.run, node, now)];
-  return line(...elementsOf([...front, "; before ", ...stateParts(scene.run, node, before)]));
+  const front = [`count ${scene.count(node)}, phase ${scene.phase(node)}; now`, ...stateParts(scene.run, node, now)];
+  return line(...elementsOf([...front, "; before", ...stateParts(scene.run, node, before)]));
 }
 
 /** Shows the node that is pointed at, or else the chosen one; where there are nodes that do not wait, how it stands among them. */

@@ -18,10 +18,9 @@ export function nodeParts(run, node) {
   return node < run.names.length ? [apart(run.names[node])] : [`node ${node}`];
 }
 
-/** Values of the shown fields, as `s=1, t=0`. */
+/** Values of the shown fields as reports have them: ` s=1 t=0`. */
 export function valueParts(run, values) {
-  const parts = run.fields.flatMap((name, field) => [`${field > 0 ? ", " : ""}${name}=`, apart(run.valueName(field, values[field]) ?? String(values[field]))]);
-  return parts.length > 0 ? parts : ["nothing that is shown"];
+  return run.fields.flatMap((name, field) => [` ${name}=`, apart(run.valueName(field, values[field]) ?? String(values[field]))]);
 }
 
 /** The values of the shown fields of a node in the round at a place. */
@@ -29,7 +28,7 @@ export function valuesAt(run, node, place) {
   return run.fields.map((_, field) => run.value(place, node, field));
 }
 
-/** The shown fields of a node in the round at a place, as `s=1, t=0`. */
+/** The shown fields of a node in the round at a place, as reports have them. */
 export function stateParts(run, node, place) {
   return valueParts(run, valuesAt(run, node, place));
 }
@@ -56,27 +55,24 @@ export function registerValues(machine, node) {
   return { now: valuesAt(run, node, now), before: valuesAt(run, node, before), desk };
 }
 
-/** A count of moves, as `1st`. */
-export function ordinal(count) {
-  const endings = ["th", "st", "nd", "rd"];
-  const isTeen = count % 100 >= 11 && count % 100 <= 13;
-  return `${count}${isTeen ? "th" : endings[count % 10] ?? "th"}`;
-}
-
 /** How far the neighbour is that a reader looks at, and which of its two states is taken. */
 function takenParts(machine, node, other) {
   const { run } = machine;
   const [mine, theirs] = [machine.moves[node], machine.moves[other]];
   if (theirs === mine) {
-    return [", which has moved as often: takes ", ...stateParts(run, other, mine)];
+    return [", which has moved as often: takes", ...stateParts(run, other, mine)];
   }
-  return [", which is one ahead: takes ", ...stateParts(run, other, mine), ", its previous state (it holds ", ...stateParts(run, other, theirs), ")"];
+  return [", which is one ahead: takes", ...stateParts(run, other, mine), ", its previous state (it holds", ...stateParts(run, other, theirs), ")"];
+}
+
+/** That a node stands at the stop. */
+export function stoppedParts({ run }, node, does) {
+  return [...nodeParts(run, node), ` does not ${does}: it stands at the stop, round ${run.stop}`];
 }
 
 /** Who reads whom. */
 export function readerParts(run, step) {
-  const other = lookedAt(run, step);
-  return [...nodeParts(run, run.steps.node[step]), " reads ", ...(other >= 0 ? nodeParts(run, other) : [`slot ${run.steps.slot[step]}`])];
+  return [...nodeParts(run, run.steps.node[step]), " reads ", ...nodeParts(run, lookedAt(run, step))];
 }
 
 /** What a read did, in parts; the machine stands behind it. */
@@ -84,25 +80,32 @@ function readParts(machine, step, answer) {
   const { run } = machine;
   const node = run.steps.node[step];
   const other = lookedAt(run, step);
-  const ends = {
-    Taken: () => takenParts(machine, node, other),
-    Behind: () => [", which is one behind: waits until it has moved"],
-    Already: () => [" once more: has its state of this round already, ", ...stateParts(run, other, machine.moves[node])],
-    Stopped: () => [": stands at the stop, and reads no more"],
+  const reads = readerParts(run, step);
+  const tells = {
+    Taken: () => [...reads, ...takenParts(machine, node, other)],
+    Behind: () => [...reads, ", which is one behind: waits until ", ...nodeParts(run, other), " has moved"],
+    Already: () => [...reads, ", which it has read already: waits until it has moved itself"],
+    Stopped: () => stoppedParts(machine, node, "read"),
   };
-  return [...readerParts(run, step), ...ends[answer]()];
+  return tells[answer]();
+}
+
+/** The first neighbour of a node that it has not read since its last move. */
+function firstUnread({ run, marks }, node) {
+  return run.neighbours(node).find((_, slot) => !marks[run.offsets[node] + slot]);
 }
 
 /** What a write did, in parts; the machine stands behind it. */
 function writeParts(machine, step, answer) {
   const { run } = machine;
   const node = run.steps.node[step];
-  const ends = {
-    Moved: () => [" moves: ", ...stateParts(run, node, machine.moves[node]), `, its ${ordinal(machine.moves[node])} move`],
-    NotReady: () => [` does not move: has read ${machine.readsOf(node)} of ${run.degree(node)} neighbours`],
-    Stopped: () => [" does not move: stands at the stop"],
+  const read = () => `it has read ${machine.readsOf(node)} of ${run.degree(node)} neighbours`;
+  const tells = {
+    Moved: () => [...nodeParts(run, node), " moves:", ...stateParts(run, node, machine.moves[node]), `, its state of round ${machine.countOf(node)}`],
+    NotReady: () => [...nodeParts(run, node), ` does not move: ${read()}, and waits for `, ...nodeParts(run, firstUnread(machine, node))],
+    Stopped: () => stoppedParts(machine, node, "move"),
   };
-  return [...nodeParts(run, node), ...ends[answer]()];
+  return tells[answer]();
 }
 
 /** What is told of a step that names no node, or no slot, in parts; null of others. */
@@ -112,18 +115,14 @@ export function missingParts(run, step) {
     return [`there is no node ${node}: nodes are numbered below ${run.nodes}`];
   }
   if (!run.steps.writes[step] && lookedAt(run, step) < 0) {
-    return [...readerParts(run, step), `, and has no such slot: its slots are numbered below ${run.degree(node)}`];
+    return [...nodeParts(run, node), ` has no slot ${run.steps.slot[step]}: its slots are numbered below ${run.degree(node)}`];
   }
   return null;
 }
 
-/** What a step did, told with what stands in registers, in parts; the machine stands behind it. */
+/** What a step did, told with what stands in registers as `unison explain` tells it, in parts; the machine stands behind it. */
 export function toldParts(machine, step) {
   const { run } = machine;
   const answer = ANSWERS[run.steps.answer[step]];
-  const missing = missingParts(run, step);
-  if (missing) {
-    return missing;
-  }
-  return run.steps.writes[step] ? writeParts(machine, step, answer) : readParts(machine, step, answer);
+  return missingParts(run, step) ?? (run.steps.writes[step] ? writeParts(machine, step, answer) : readParts(machine, step, answer));
 }

@@ -117,38 +117,38 @@ class Registers:
         self.desks = [[None] * len(row) for row in rows]
 
     def worded(self, state):
-        return ", ".join(f"{name}={value}" for name, value in zip(self.fields, state)) or "nothing that is shown"
+        return "".join(f" {name}={value}" for name, value in zip(self.fields, state))
 
     def read(self, node, slot):
         """Reads, and tells it."""
         if slot >= len(self.rows[node]):
-            return f"node {node} reads slot {slot}, and has no such slot: its slots are numbered below {len(self.rows[node])}"
-        other = self.rows[node][slot]
-        front = f"node {node} reads node {other}"
+            return f"node {node} has no slot {slot}: its slots are numbered below {len(self.rows[node])}"
         if self.moves[node] == self.stop:
-            return f"{front}: stands at the stop, and reads no more"
+            return f"node {node} does not read: it stands at the stop, round {self.stop}"
+        other = self.rows[node][slot]
+        front = f"node {node} reads node {other}, which"
         if self.desks[node][slot] is not None:
-            return f"{front} once more: has its state of this round already, {self.worded(self.desks[node][slot])}"
+            return f"{front} it has read already: waits until it has moved itself"
         ahead = (self.phases[other] - self.phases[node]) % 3
         if ahead == 2:
-            return f"{front}, which is one behind: waits until it has moved"
+            return f"{front} is one behind: waits until node {other} has moved"
         self.desks[node][slot] = self.before[other] if ahead == 1 else self.now[other]
         if ahead == 0:
-            return f"{front}, which has moved as often: takes {self.worded(self.now[other])}"
-        return f"{front}, which is one ahead: takes {self.worded(self.before[other])}, its previous state (it holds {self.worded(self.now[other])})"
+            return f"{front} has moved as often: takes{self.worded(self.now[other])}"
+        return f"{front} is one ahead: takes{self.worded(self.before[other])}, its previous state (it holds{self.worded(self.now[other])})"
 
     def write(self, node):
         """Moves, and tells it."""
-        read = len(self.rows[node]) - self.desks[node].count(None)
         if self.moves[node] == self.stop:
-            return f"node {node} does not move: stands at the stop"
-        if read < len(self.rows[node]):
-            return f"node {node} does not move: has read {read} of {len(self.rows[node])} neighbours"
+            return f"node {node} does not move: it stands at the stop, round {self.stop}"
+        if None in self.desks[node]:
+            many, first = len(self.rows[node]), self.rows[node][self.desks[node].index(None)]
+            return f"node {node} does not move: it has read {many - self.desks[node].count(None)} of {many} neighbours, and waits for node {first}"
         self.moves[node] += 1
         self.phases[node] = (self.phases[node] + 1) % 3
         self.before[node], self.now[node] = self.now[node], self.state_of(node, self.moves[node])
         self.desks[node] = [None] * len(self.rows[node])
-        return f"node {node} moves: {self.worded(self.now[node])}, its {ordinal(self.moves[node])} move"
+        return f"node {node} moves:{self.worded(self.now[node])}, its state of round {self.moves[node]}"
 
     def make(self, step):
         """Makes a step, and tells it."""
@@ -159,11 +159,6 @@ class Registers:
 
     def shown(self):
         return [{"now": self.now[node], "before": self.before[node], "desk": self.desks[node]} for node in range(len(self.rows))]
-
-
-def ordinal(count):
-    ending = "th" if count % 100 in (11, 12, 13) else {1: "st", 2: "nd", 3: "rd"}.get(count % 10, "th")
-    return f"{count}{ending}"
 
 
 def lines(steps):
