@@ -9,4 +9,4 @@ mod Lines
 mod Early
 mod Copies
 mod Phases
-mod Writing
+mod Counted

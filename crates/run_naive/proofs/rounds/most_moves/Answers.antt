@@ -6,7 +6,7 @@ use Rattle.run_naive.specs.declared.node.Node.{Node}
 use Rattle.run_naive.specs.Naive.{NaiveNode, node_in, nobody}
 use Rattle.run_naive.specs.Keeping.{shown}
 use Rattle.run_naive.proofs.Seen.{shown_at}
-use Rattle.run_naive.proofs.Writing.{counts_more}
+use Rattle.run_naive.proofs.Counted.{counts_more}
 use Rattle.run_naive.proofs.rounds.most_moves.Goals as goal
 
 pub loop-this-preserved : goal.loop-this-preserved
