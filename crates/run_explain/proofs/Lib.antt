@@ -5,3 +5,5 @@ pub mod Nearing
 pub mod Way
 pub mod Reading
 pub mod Counting
+pub mod Previous
+pub mod Seeing

@@ -33,3 +33,9 @@ pub neighbours_known : (network : Neighbours) (u : ℕ) → unwrap_or (option_ma
 neighbours_known [] u = refl
 neighbours_known (r ∷ network) zero = refl
 neighbours_known (r ∷ network) (suc u) = neighbours_known network u
+
+-- a name that is looked up
+pub name_known : (names : List (List ℕ)) (u : ℕ) → unwrap_or (slice_get names u) [] ≡ get_or names u []
+name_known [] u = refl
+name_known (name ∷ names) zero = refl
+name_known (name ∷ names) (suc u) = name_known names u

@@ -1,5 +1,5 @@
 -- Steps told one by one.
-use Rattle.std.proofs.Common.{◌≡◌, ◌∙◌, ℕ, ◌+◌, max, nat_lt, Bool, true, false, if◌then◌else◌, List, [], ◌∷◌, ◌++◌, Ok, Err, sym, ap, append_assoc}
+use Rattle.std.proofs.Common.{◌≡◌, ◌∙◌, ℕ, ◌+◌, max, nat_lt, Bool, true, false, if◌then◌else◌, List, [], ◌∷◌, ◌++◌, Option, Ok, Err, sym, ap, append_assoc}
 use Rattle.std.specs.List.{fold}
 use Rattle.link_net.specs.Neighbours.{Neighbours}
 use Rattle.rounds_plan.specs.Configs.{most_rounds}
@@ -11,21 +11,23 @@ use Rattle.unison_world.specs.Counting.{Counts, at_start, answer_of, after, run,
 use Rattle.unison_world.specs.Opening.{opening_of}
 use Rattle.unison_world.specs.View.{WorldView, opened, world_after}
 use Rattle.run_explain.specs.declared.answered.Answered.{Answered}
+use Rattle.run_explain.specs.declared.show.Show.{Show}
 use Rattle.run_explain.specs.Differences.{difference_after, differences_after, greatest_difference}
 use Rattle.run_explain.specs.Summaries.{with_answer, answered_in, summary_lines}
 use Rattle.run_explain.specs.Telling.{step_line, counts_part, step_lines, told_text}
 
-module _ (network : Neighbours) (stop : ℕ) (c : Counts) (step : Step) (left rest : List Step) (is : left ≡ step ∷ rest) where
+module _ (names : Option (List (List ℕ))) (show : Show) (plan : PlanView) (stop : ℕ) (c : Counts) (step : Step) (left rest : List Step) (is : left ≡ step ∷ rest) where
   -- the line of the next step, and the counts after it
-  pub lines-next : (counts : Bool) (number : ℕ) (out mid new whole : List ℕ) → mid ≡ out ++ step_line network stop number c step → new ≡ mid ++ counts_part counts (after network stop c step)
-      → out ++ step_lines network stop counts number c left ≡ whole → new ++ step_lines network stop counts (number + 1) (after network stop c step) rest ≡ whole
-  lines-next counts number out mid new whole e f h =
-      let line = step_line network stop number c step in
-      let part = counts_part counts (after network stop c step) in
-      let more = step_lines network stop counts (number + 1) (after network stop c step) rest in
+  pub lines-next : (number : ℕ) (out mid new whole : List ℕ) → mid ≡ out ++ step_line names show plan stop number c step → new ≡ mid ++ counts_part show.counts (after plan.network stop c step)
+      → out ++ step_lines names show plan stop number c left ≡ whole → new ++ step_lines names show plan stop (number + 1) (after plan.network stop c step) rest ≡ whole
+  lines-next number out mid new whole e f h =
+      let line = step_line names show plan stop number c step in
+      let part = counts_part show.counts (after plan.network stop c step) in
+      let more = step_lines names show plan stop (number + 1) (after plan.network stop c step) rest in
       ap (λ t. t ++ more) f ∙ append_assoc mid part more ∙ ap (λ t. t ++ (part ++ more)) e ∙ append_assoc out line (part ++ more)
-      ∙ sym (ap (λ ss. out ++ step_lines network stop counts number c ss) is) ∙ h
+      ∙ sym (ap (λ ss. out ++ step_lines names show plan stop number c ss) is) ∙ h
 
+module _ (network : Neighbours) (stop : ℕ) (c : Counts) (step : Step) (left rest : List Step) (is : left ≡ step ∷ rest) where
   pub run-next : (whole : Counts) → run network stop c left ≡ whole → run network stop (after network stop c step) rest ≡ whole
   run-next whole h = sym (ap (run network stop c) is) ∙ h
 
@@ -49,18 +51,19 @@ step-made first w new step plan stop made = (
 )
 
 -- the lines and the summary are the whole
-pub told_whole : (plan : PlanView) (stop : ℕ) (counts : Bool) (steps : List Step) (first last : Counts) (answered : Answered) (difference : ℕ) (out mid new : List ℕ)
-    → first ≡ at_start plan.network plan.start → out ≡ [] → mid ≡ out ++ step_lines plan.network stop counts 1 first steps → last ≡ run plan.network stop first steps
+pub told_whole : (names : Option (List (List ℕ))) (show : Show) (plan : PlanView) (stop : ℕ) (steps : List Step) (first last : Counts) (answered : Answered) (difference : ℕ) (out mid new : List ℕ)
+    → first ≡ at_start plan.network plan.start → out ≡ [] → mid ≡ out ++ step_lines names show plan stop 1 first steps → last ≡ run plan.network stop first steps
     → answered ≡ answered_in (answers plan.network stop first steps) → difference ≡ greatest_difference plan.network stop first steps → new ≡ mid ++ summary_lines answered last difference
-    → new ≡ told_text plan stop counts steps
-told_whole plan stop counts steps first last answered difference out mid new begun none lines made tally far summary =
+    → new ≡ told_text names show plan stop steps
+told_whole names show plan stop steps first last answered difference out mid new begun none lines made tally far summary =
     let network = plan.network in
+    let told = λ (c : Counts). step_lines names show plan stop 1 c steps in
     summary
-    ∙ ap (λ t. t ++ summary_lines answered last difference) (lines ∙ ap (λ t. t ++ step_lines network stop counts 1 first steps) none)
-    ∙ ap (λ a. step_lines network stop counts 1 first steps ++ summary_lines a last difference) tally
-    ∙ ap (λ l. step_lines network stop counts 1 first steps ++ summary_lines (answered_in (answers network stop first steps)) l difference) made
-    ∙ ap (λ d. step_lines network stop counts 1 first steps ++ summary_lines (answered_in (answers network stop first steps)) (run network stop first steps) d) far
-    ∙ ap (λ f. step_lines network stop counts 1 f steps ++ summary_lines (answered_in (answers network stop f steps)) (run network stop f steps) (greatest_difference network stop f steps)) begun
+    ∙ ap (λ t. t ++ summary_lines answered last difference) (lines ∙ ap (λ t. t ++ told first) none)
+    ∙ ap (λ a. told first ++ summary_lines a last difference) tally
+    ∙ ap (λ l. told first ++ summary_lines (answered_in (answers network stop first steps)) l difference) made
+    ∙ ap (λ d. told first ++ summary_lines (answered_in (answers network stop first steps)) (run network stop first steps) d) far
+    ∙ ap (λ f. told f ++ summary_lines (answered_in (answers network stop f steps)) (run network stop f steps) (greatest_difference network stop f steps)) begun
 
 opens_by : (a b : Bool) (e f : OpenFault) (v w : WorldView) → (if a then Err e else if b then Err f else Ok v) ≡ Ok w → v ≡ w
 opens_by true b e f v w h = cc

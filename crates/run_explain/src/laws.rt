@@ -1,5 +1,6 @@
 //! Laws of steps that are told.
 ghost use Rattle.run_explain.specs.Differences.{DifferByOneAtMost};
+ghost use Rattle.run_explain.specs.Registers.{ReadsOwnRound};
 ghost use Rattle.run_explain.specs.Summaries.{EachIsCounted};
 ghost use Rattle.run_explain.specs.Words.{SpelledAsInSchedules};
 
@@ -17,4 +18,11 @@ pub fn spelled_as_in_schedules()
 /// The numbers of the answers in a summary add up to the number of steps.
 pub fn each_is_counted()
     ensures counted { EachIsCounted }
+{}
+
+/// Whatever steps were made before, a read that is taken takes the neighbour's lockstep state of the reader's own round: the
+/// current one where the neighbour has moved as often, the previous one where it has moved once more. And the phases of
+/// the two registers alone tell which it is.
+pub fn reads_own_round()
+    ensures reads { ReadsOwnRound }
 {}

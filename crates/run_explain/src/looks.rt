@@ -6,6 +6,7 @@ ghost use Rattle.unison_world.specs.Counting.{moves_of, marks_of};
 ghost use Rattle.unison_world.specs.Progress.{marks_in};
 ghost use Rattle.unison_world.specs.Turns.{neighbours_of};
 ghost use Rattle.run_explain.specs.Reads.{one_if_read};
+ghost use Rattle.run_explain.specs.Sentences.{first_unread};
 
 use link_net::Network;
 use unison_world::{Answer, Step, World};
@@ -64,4 +65,19 @@ pub(crate) fn slots_read(world: &World, node: u32) -> u32
         read += one_if_read(world.ask(Step::Read { node, slot }));
     }
     read
+}
+
+/// The first slot of a node that was not read since it last moved, or how many slots it has where each was.
+pub(crate) fn first_unread(world: &World, node: u32) -> u32
+    ensures { result ≡ first_unread world.now.counts node }
+{
+    // For the proof alone: the call tells what holds of every world.
+    let _nodes = world.nodes();
+    let slots = degree(world.plan().network(), node);
+    for slot in 0..slots {
+        if one_if_read(world.ask(Step::Read { node, slot })) == 0 {
+            return slot;
+        }
+    }
+    slots
 }

@@ -1,14 +1,18 @@
 use Rattle.std.proofs.Common.{◌≡◌, ◌+◌, ◌++◌, max, drop, string_bytes}
 use Rattle.std.specs.List.{fold}
+use Rattle.std.specs.Option.{option_map}
 use Rattle.unison_world.specs.Counting.{answers, run}
 use Rattle.run_explain.specs.Differences.{differences_after, greatest_difference}
+use Rattle.run_explain.specs.Registers.{HasPrevious}
 use Rattle.run_explain.specs.Summaries.{answered_in, total, with_answer}
 use Rattle.run_explain.specs.Telling.{step_lines}
 use Rattle.run_explain.proofs.telling.tell_steps.Given as goal
 
 abbrev pub invariant-loop-index : goal.invariant-loop-index
 invariant-loop-index l =
-    let network = l.initial.world.plan.network in
+    let plan = l.initial.world.plan in
+    let network = plan.network in
+    let names = option_map (λ n. n.now) l.names in
     let stop = l.initial.world.stop in
     let first = l.initial.world.counts in
     let here = l.world.counts in
@@ -16,7 +20,8 @@ invariant-loop-index l =
     record {
       same_plan : l.world.plan ≡ l.initial.world.plan;
       same_stop : l.world.stop ≡ l.initial.world.stop;
-      lines : string_bytes l.out ++ step_lines network stop l.counts (l.index + 1) here left ≡ string_bytes l.initial.out ++ step_lines network stop l.counts 1 first l.steps;
+      previous : HasPrevious l.world l.previous;
+      lines : string_bytes l.out ++ step_lines names l.show plan stop (l.index + 1) here left ≡ string_bytes l.initial.out ++ step_lines names l.show plan stop 1 first l.steps;
       made : run network stop here left ≡ run network stop first l.steps;
       tally : fold with_answer l.answered (answers network stop here left) ≡ answered_in (answers network stop first l.steps);
       far : fold max l.difference (differences_after network stop here left) ≡ greatest_difference network stop first l.steps;
