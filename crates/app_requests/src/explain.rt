@@ -2,9 +2,11 @@
 ghost use Rattle.std.specs.Prelude.{◌≤◌, IfOk};
 ghost use Rattle.rounds_plan.specs.Configs.{most_rounds};
 
-use crate::arguments::{FILE, FLAG, FROM, NETWORK, PROGRAM, PlanPaths, ROUND};
+use crate::arguments::{FILE, FLAG, FROM, NAMES, NAMES_ARGUMENT, NETWORK, PROGRAM, PlanPaths};
 use crate::constants::CONSTANT;
-use app_table::{Argument, Command, Kind, OPTION, Reading, WordsFault};
+use crate::schedule::{STOP, STOP_ARGUMENT};
+use app_table::{Argument, Command, Reading, WordsFault};
+use rounds_plan::MOST_ROUNDS;
 use std::alloc::Global;
 
 pub(crate) const SCHEDULE: Argument = Argument {
@@ -17,17 +19,14 @@ pub(crate) const SCHEDULE: Argument = Argument {
 /// `SCHEDULE`, as it is read.
 pub(crate) static SCHEDULE_ARGUMENT: Argument = SCHEDULE;
 
-pub(crate) const STOP: Argument = Argument {
-    name: "stop",
-    kind: Kind::Required,
-    value: ROUND,
-    value_name: "T",
-    help: "The round at which a node stops, counted from round 0: 0 to 1000000000",
-    ..OPTION
+const SLOTS: Argument = Argument {
+    name: "slots",
+    help: "Show each step as the schedule has it, by node and slot, and its answer by counts, without values",
+    ..FLAG
 };
 
-/// `STOP`, as it is read.
-pub(crate) static STOP_ARGUMENT: Argument = STOP;
+/// `SLOTS`, as it is read.
+static SLOTS_ARGUMENT: Argument = SLOTS;
 
 const COUNTS: Argument = Argument {
     name: "counts",
@@ -44,8 +43,10 @@ static EXPLAIN: Command = Command {
     aliases: &["tell"],
     called: "unison explain",
     about: "Tell what each step of a schedule does, and why it is refused",
-    notes: "Prints each step of the schedule with its answer, and at the end how many there were of each.\nAn example: unison schedule sweeps examples/distance.rules examples/path.toml --stop 2 | unison explain examples/distance.rules examples/path.toml - --stop 2 --counts\n",
-    arguments: &[PROGRAM, NETWORK, SCHEDULE, STOP, COUNTS, FROM, CONSTANT],
+    notes: "Prints for each step of the schedule a sentence with the values that are read or written, and at the end how many steps had each answer.\nAn example: unison schedule sweeps examples/distance.rules examples/path.toml --stop 2 | unison explain examples/distance.rules examples/path.toml - --counts\n",
+    arguments: &[
+        PROGRAM, NETWORK, SCHEDULE, STOP, NAMES, COUNTS, SLOTS, FROM, CONSTANT,
+    ],
     subcommands: &[],
 };
 
@@ -62,6 +63,10 @@ pub struct ExplainRequest {
     pub schedule: String,
     /// The round at which a node stops, counted from round 0.
     pub stop: u32,
+    /// The path of the names of the nodes, where they are called by names.
+    pub names: Option<String>,
+    /// Whether steps are shown by node and slot, without values.
+    pub slots: bool,
     /// Whether all counts are shown after each step.
     pub counts: bool,
 }
@@ -70,13 +75,16 @@ pub struct ExplainRequest {
 fn request_in(reading: &mut Reading) -> ExplainRequest
     ensures within { result.stop ≤ most_rounds }
 {
-    let stop = reading.number_or(&STOP_ARGUMENT, 0);
+    let stop = reading.number_or(&STOP_ARGUMENT, MOST_ROUNDS);
     let schedule = reading.needed_text(&SCHEDULE_ARGUMENT);
+    let names = reading.text(&NAMES_ARGUMENT);
     let plan = PlanPaths::of(reading);
     ExplainRequest {
         plan,
         schedule,
         stop,
+        names,
+        slots: reading.has(&SLOTS_ARGUMENT),
         counts: reading.has(&COUNTS_ARGUMENT),
     }
 }

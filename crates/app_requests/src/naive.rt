@@ -2,11 +2,23 @@
 ghost use Rattle.std.specs.Prelude.{◌≤◌, IfOk};
 ghost use Rattle.rounds_plan.specs.Configs.{most_rounds};
 
-use crate::arguments::{FROM, NETWORK, PROGRAM, PlanPaths};
+use crate::arguments::{FROM, NETWORK, PROGRAM, PlanPaths, ROUND};
 use crate::constants::CONSTANT;
-use crate::explain::{SCHEDULE, SCHEDULE_ARGUMENT, STOP, STOP_ARGUMENT};
-use app_table::{Command, Reading, WordsFault};
+use crate::explain::{SCHEDULE, SCHEDULE_ARGUMENT};
+use app_table::{Argument, Command, Kind, OPTION, Reading, WordsFault};
 use std::alloc::Global;
+
+const STOP: Argument = Argument {
+    name: "stop",
+    kind: Kind::Required,
+    value: ROUND,
+    value_name: "T",
+    help: "The round at which a node stops, counted from round 0: 0 to 1000000000",
+    ..OPTION
+};
+
+/// `STOP`, as it is read.
+static STOP_ARGUMENT: Argument = STOP;
 
 /// `naive` and what it takes.
 static NAIVE: Command = Command {

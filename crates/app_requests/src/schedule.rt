@@ -11,7 +11,7 @@ use rounds_plan::MOST_ROUNDS;
 use std::alloc::{AllocError, Global};
 use unison_trace::MOST_STEPS;
 
-const STOP: Argument = Argument {
+pub(crate) const STOP: Argument = Argument {
     name: "stop",
     value: ROUND,
     value_name: "T",
@@ -20,7 +20,7 @@ const STOP: Argument = Argument {
 };
 
 /// `STOP`, as it is read.
-static STOP_ARGUMENT: Argument = STOP;
+pub(crate) static STOP_ARGUMENT: Argument = STOP;
 
 const COUNT: Argument = Argument {
     name: "count",

@@ -1,11 +1,13 @@
-//! `explain PROGRAM NETWORK SCHEDULE --stop T`: what each step of a schedule does.
+//! `explain PROGRAM NETWORK SCHEDULE`: what each step of a schedule does.
 
+use crate::labels::names_for;
 use crate::plan_texts::shared_plan;
 use app_files::{Ending, bytes_at, path_in, print_out, read_once};
 use app_jobs::ServeFault;
 use app_requests::ExplainRequest;
+use net_names::NodeNames;
 use rounds_plan::Plan;
-use run_explain::told;
+use run_explain::{Show, told};
 use std::alloc::Global;
 use std::sync::Arc;
 use unison_trace::{ReplayFault, ScheduleFault, read_schedule};
@@ -41,9 +43,14 @@ fn told_on(
     alloc: Global,
     plan: Arc<Plan>,
     steps: &[Step],
+    names: Option<&NodeNames>,
     asked: &ExplainRequest,
 ) -> Result<Vec<u8>, Ending> {
-    match told(alloc, plan, asked.stop, steps, asked.counts) {
+    let show = Show {
+        slots: asked.slots,
+        counts: asked.counts,
+    };
+    match told(alloc, plan, asked.stop, steps, names, show) {
         Ok(text) => Ok(text),
         Err(fault) => Err(no_world(fault)),
     }
@@ -51,8 +58,9 @@ fn told_on(
 
 /// What is told on a plan of the schedule that is asked for.
 fn text_on(rt: &HostRuntime, plan: Arc<Plan>, asked: &ExplainRequest) -> Result<Vec<u8>, Ending> {
+    let names = names_for(rt, &asked.names, plan.network().nodes())?;
     let steps = steps_at(rt, asked.schedule.as_str())?;
-    told_on(rt.alloc(), plan, &steps, asked)
+    told_on(rt.alloc(), plan, &steps, names.as_ref(), asked)
 }
 
 /// What is told of the schedule that is asked for.
@@ -67,6 +75,7 @@ fn check_paths(alloc: Global, asked: &ExplainRequest) -> Result<(), Ending> {
         asked.plan.program.as_str(),
         asked.plan.network.as_str(),
         path_in(&asked.plan.from),
+        path_in(&asked.names),
         asked.schedule.as_str(),
     ];
     read_once(alloc, &paths)
