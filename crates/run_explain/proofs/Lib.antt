@@ -7,3 +7,4 @@ pub mod Reading
 pub mod Counting
 pub mod Previous
 pub mod Seeing
+pub mod Stopping

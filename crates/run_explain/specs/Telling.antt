@@ -1,5 +1,5 @@
 -- A list of steps, told.
-use Rattle.std.specs.Prelude.{◌≡◌, ℕ, ◌+◌, Bool, true, false, codes, List, [], ◌∷◌, ◌++◌, Option, Ok, Err, if◌then◌else◌}
+use Rattle.std.specs.Prelude.{◌≡◌, ℕ, ◌+◌, ◌≤◌, Bool, true, false, codes, List, [], ◌∷◌, ◌++◌, length, Option, Ok, Err, if◌then◌else◌}
 use Rattle.std.specs.Fmt.{decimal}
 use Rattle.std.specs.List.{flat_map}
 use Rattle.link_net.specs.Neighbours.{Neighbours}
@@ -51,3 +51,9 @@ told_text names show plan stop steps = step_lines names show plan stop 1 (at_sta
 abbrev pub IsTellFault : PlanView → ℕ → OpenFault → Type 0
 IsTellFault plan stop Memory = opening_of plan stop ≡ Ok (opened plan stop)
 IsTellFault plan stop fault = opening_of plan stop ≡ Err fault
+
+-- any two stops that no node can reach by so many steps tell the same: as if there were none
+abbrev pub FarStopsTellTheSame : Type 0
+FarStopsTellTheSame =
+    (names : Option (List (List ℕ))) (show : Show) (plan : PlanView) (stop other : ℕ) (steps : List Step) → plan.start + length steps ≤ stop → plan.start + length steps ≤ other
+    → told_text names show plan stop steps ≡ told_text names show plan other steps

@@ -2,6 +2,7 @@
 ghost use Rattle.run_explain.specs.Differences.{DifferByOneAtMost};
 ghost use Rattle.run_explain.specs.Registers.{ReadsOwnRound};
 ghost use Rattle.run_explain.specs.Summaries.{EachIsCounted};
+ghost use Rattle.run_explain.specs.Telling.{FarStopsTellTheSame};
 ghost use Rattle.run_explain.specs.Words.{SpelledAsInSchedules};
 
 /// From the start on, whatever the steps, the count of a node that has just moved differs from a neighbour's by 1 at most, so
@@ -25,4 +26,10 @@ pub fn each_is_counted()
 /// the two registers alone tell which it is.
 pub fn reads_own_round()
     ensures reads { ReadsOwnRound }
+{}
+
+/// Stops that no node can reach by so many steps, as they lie at least so many rounds behind the start, all tell the same
+/// text: as if there were no stop.
+pub fn far_stops_tell_the_same()
+    ensures same { FarStopsTellTheSame }
 {}

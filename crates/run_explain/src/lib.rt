@@ -12,6 +12,9 @@ mod summary;
 mod telling;
 mod words;
 
-pub use laws::{differ_by_one_at_most, each_is_counted, reads_own_round, spelled_as_in_schedules};
+pub use laws::{
+    differ_by_one_at_most, each_is_counted, far_stops_tell_the_same, reads_own_round,
+    spelled_as_in_schedules,
+};
 pub use show::Show;
 pub use telling::told;
