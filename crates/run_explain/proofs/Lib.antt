@@ -8,3 +8,4 @@ pub mod Counting
 pub mod Previous
 pub mod Seeing
 pub mod Stopping
+pub mod Saying

@@ -1,5 +1,5 @@
 -- Steps in sentences, with the values of registers.
-use Rattle.std.specs.Prelude.{ℕ, codes, Bool, not, List, [], ◌++◌, length, slice_index_or, Option, Some, None}
+use Rattle.std.specs.Prelude.{◌≡◌, ◌⊎◌, ℕ, ◌+◌, ◌≤◌, codes, Bool, not, List, [], ◌++◌, length, slice_index_or, Option, Some, None}
 use Rattle.std.specs.Fmt.{decimal}
 use Rattle.std.specs.List.{position_or_len}
 use Rattle.rule_check.specs.declared.state.State.{State}
@@ -7,7 +7,8 @@ use Rattle.rule_check.specs.Value.{names_of}
 use Rattle.link_net.specs.Neighbours.{degree, neighbour}
 use Rattle.phase_register.specs.declared.register.Look.{Look}
 use Rattle.phase_register.specs.declared.register.Look.TheVariants.{Behind, Level, Ahead}
-use Rattle.rounds_plan.specs.Plans.{PlanView}
+use Rattle.rounds_plan.specs.Plans.{PlanView, IsPlan}
+use Rattle.rounds_plan.specs.Lockstep.{lockstep}
 use Rattle.report_text.specs.Report.{fields_text}
 use Rattle.unison_world.specs.declared.step.Step.{Step}
 use Rattle.unison_world.specs.declared.step.Step.TheVariants.{Read, Write}
@@ -15,6 +16,7 @@ use Rattle.unison_world.specs.declared.step.Answer.{Answer}
 use Rattle.unison_world.specs.declared.step.Answer.TheVariants as answer
 use Rattle.unison_world.specs.Counting.{Counts, moves_of, marks_of, answer_of, after}
 use Rattle.unison_world.specs.Progress.{marks_in}
+use Rattle.unison_trace.specs.Histories.{run_of}
 use Rattle.run_explain.specs.Registers.{register_of, look_of}
 
 -- what a node is called: its name where names are given, else `node` and its number
@@ -75,3 +77,27 @@ write_sentence names plan c u answer = []
 abbrev pub sentence : Option (List (List ℕ)) → PlanView → ℕ → Counts → Step → List ℕ
 sentence names plan stop c (Read u j) = read_sentence names plan c u j (answer_of plan.network stop c (Read u j))
 sentence names plan stop c (Write u) = write_sentence names plan (after plan.network stop c (Write u)) u (answer_of plan.network stop c (Write u))
+
+-- what a read says that is taken in the reader's round t, where the neighbour has moved as often, and where it has moved once more; either
+-- tells the neighbour's lockstep state of round t as the one that is taken
+abbrev pub level_sentence : Option (List (List ℕ)) → PlanView → ℕ → ℕ → ℕ → List ℕ
+level_sentence names plan t u v =
+    reads_words names u v ++ (codes ", which has moved as often: takes" ++ fields_text (names_of plan.program) (lockstep plan t v).words)
+
+abbrev pub ahead_sentence : Option (List (List ℕ)) → PlanView → ℕ → ℕ → ℕ → List ℕ
+ahead_sentence names plan t u v =
+    reads_words names u v ++ (codes ", which is one ahead: takes" ++ (fields_text (names_of plan.program) (lockstep plan t v).words
+    ++ (codes ", its previous state (it holds" ++ (fields_text (names_of plan.program) (lockstep plan (t + 1) v).words ++ codes ")"))))
+
+-- node u says the one of node v where v has moved as often, and the other where it has moved once more; there is no third case
+abbrev pub IsSaidOfRound : Option (List (List ℕ)) → PlanView → Counts → ℕ → ℕ → List ℕ → Type 0
+IsSaidOfRound names plan c u v text =
+    ((moves_of c v ≡ moves_of c u) × (text ≡ level_sentence names plan (moves_of c u) u v))
+    ⊎ ((moves_of c v ≡ moves_of c u + 1) × (text ≡ ahead_sentence names plan (moves_of c u) u v))
+
+-- whatever steps were made before, that is what the sentence of a read says that is taken
+abbrev pub SaysOwnRound : Type 0
+SaysOwnRound =
+    (names : Option (List (List ℕ))) (plan : PlanView) (stop : ℕ) (steps : List Step) (u j : ℕ) → IsPlan plan → plan.start ≤ stop
+    → answer_of plan.network stop (run_of plan stop steps) (Read u j) ≡ answer.Taken
+    → IsSaidOfRound names plan (run_of plan stop steps) u (neighbour plan.network u j) (sentence names plan stop (run_of plan stop steps) (Read u j))

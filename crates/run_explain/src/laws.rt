@@ -1,6 +1,7 @@
 //! Laws of steps that are told.
 ghost use Rattle.run_explain.specs.Differences.{DifferByOneAtMost};
 ghost use Rattle.run_explain.specs.Registers.{ReadsOwnRound};
+ghost use Rattle.run_explain.specs.Sentences.{SaysOwnRound};
 ghost use Rattle.run_explain.specs.Summaries.{EachIsCounted};
 ghost use Rattle.run_explain.specs.Telling.{FarStopsTellTheSame};
 ghost use Rattle.run_explain.specs.Words.{SpelledAsInSchedules};
@@ -23,9 +24,10 @@ pub fn each_is_counted()
 
 /// Whatever steps were made before, a read that is taken takes the neighbour's lockstep state of the reader's own round: the
 /// current one where the neighbour has moved as often, the previous one where it has moved once more. And the phases of
-/// the two registers alone tell which it is.
+/// the two registers alone tell which it is. The sentence of the read says so, with that state.
 pub fn reads_own_round()
     ensures reads { ReadsOwnRound }
+    ensures says { SaysOwnRound }
 {}
 
 /// Stops that no node can reach by so many steps, as they lie at least so many rounds behind the start, all tell the same
