@@ -109,3 +109,63 @@ pub fn coloured_field(
         None => Err(Ending::usage(many_fields(alloc, program))),
     }
 }
+
+/// The values that a field has: those of these names, or numbers where there are none.
+fn put_values(draft: &mut Draft, names: &[String]) {
+    if names.is_empty() {
+        draft.put("its values are whole numbers from 0 to 4294967295");
+        return;
+    }
+    draft.put("its states are ");
+    for (place, name) in names.iter().enumerate() {
+        if place > 0 {
+            draft.put(", ");
+        }
+        draft.put(name.as_str());
+    }
+}
+
+/// What is told where a word behind an option names no value of a field, whose values have these names.
+fn no_value(
+    alloc: Global,
+    option: &str,
+    field: &str,
+    names: &[String],
+    word: &str,
+) -> Result<String, AllocError> {
+    let mut draft = Draft::new(alloc);
+    draft.put(option);
+    draft.put(": the field `");
+    draft.put(field);
+    draft.put("` has no state `");
+    draft.put(word);
+    draft.put("`; ");
+    put_values(&mut draft, names);
+    draft.end()
+}
+
+/// The place of a word among names.
+fn place_among(names: &[String], word: &str) -> Option<u32> {
+    let mut place = 0u32;
+    for name in names {
+        if name.as_str() == word {
+            return Some(place);
+        }
+        place = place.saturating_add(1);
+    }
+    None
+}
+
+/// The value that a word behind an option names, of a field whose values have these names.
+pub fn value_named(
+    alloc: Global,
+    option: &str,
+    field: &str,
+    names: &[String],
+    word: &str,
+) -> Result<u32, Ending> {
+    match place_among(names, word) {
+        Some(value) => Ok(value),
+        None => Err(Ending::usage(no_value(alloc, option, field, names, word))),
+    }
+}

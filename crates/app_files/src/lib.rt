@@ -22,7 +22,7 @@ mod usage;
 pub use command_line::words_of;
 pub use draws::{drawn_for, drawn_parts, next_draw};
 pub use ending::{Ending, refused};
-pub use fields::{all_fields, coloured_field, field_place, shown_fields};
+pub use fields::{all_fields, coloured_field, field_place, shown_fields, value_named};
 pub use files::{
     Text, bytes_at, bytes_where, name_at, path_in, read_once, text_at, text_where, unserved,
 };
@@ -32,7 +32,8 @@ pub use networks::file_at;
 pub use node_calls::{NodeCalls, list_path, listed_nodes};
 pub use output::{print_out, write_file, write_out};
 pub use programs::{
-    check_constants, check_model, expanded_text, is_model, program_at, program_name,
+    NamedProgram, check_constants, check_model, expanded_text, is_model, named_program_at,
+    names_of_field, program_at, program_name, state_names,
 };
 pub use settling::{not_settled, settled_round, settling_line};
 pub use texts::{Told, edges_told, matrix_told, on_line, put_matrix_detail};

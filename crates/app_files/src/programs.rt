@@ -1,4 +1,4 @@
-//! Programs that are read: their texts, or those that models are expanded to.
+//! Programs that are read: their texts, or those that models are expanded to, and the names of their fields' values.
 
 use crate::ending::Ending;
 use crate::files::{bytes_at, name_at};
@@ -6,6 +6,7 @@ use crate::model_told::refusal_of;
 use app_why::Named;
 use model_program::{ModelProgramFault, expanded};
 use model_rules::Given;
+use model_states::field_states;
 use std::alloc::{AllocError, Global};
 use std::rt::Files;
 
@@ -52,6 +53,23 @@ pub fn expanded_text(
     }
 }
 
+/// The names of the values of each field of the model of this text, in order: those of the states that it has; none of a
+/// field without states.
+pub fn state_names(alloc: Global, name: &str, text: &[u8]) -> Result<Vec<Vec<String>>, Ending> {
+    match field_states(alloc, text) {
+        Ok(names) => Ok(names),
+        Err(fault) => Err(refused(alloc, name, text, &[], ModelProgramFault::from(fault))),
+    }
+}
+
+/// The names of the values of the field at a place, 0 and so on, of those of all fields; none where it has none.
+pub fn names_of_field(names: &[Vec<String>], place: u32) -> &[String] {
+    match names.get(place as usize) {
+        Some(names) => names.as_slice(),
+        None => &[],
+    }
+}
+
 /// What is told where a constant is given a value, and the program is no model.
 fn no_model(alloc: Global, path: &str) -> Result<String, AllocError> {
     let name = name_at(path);
@@ -76,17 +94,50 @@ pub fn check_constants(alloc: Global, path: &str, constants: &[Given]) -> Result
     check_model(alloc, path)
 }
 
-/// The text of the program at a path, `-` for standard input: of a model that to which it is expanded, where these constants
-/// are given values. They are refused where there is no model.
+/// The text of a program, and the names of the values of its fields.
+#[derive(Drop)]
+pub struct NamedProgram {
+    /// The text; of a model that to which it is expanded.
+    pub text: Vec<u8>,
+    /// For each field of a model, in order, the names of its values, 0 and so on; none where a field has no states, and of
+    /// a program that is no model.
+    pub names: Vec<Vec<String>>,
+}
+
+/// The program of the model of this text, where these constants are given values.
+fn named_model(
+    alloc: Global,
+    name: &str,
+    model: &[u8],
+    constants: &[Given],
+) -> Result<NamedProgram, Ending> {
+    let text = expanded_text(alloc, name, model, constants)?;
+    let names = state_names(alloc, name, model)?;
+    Ok(NamedProgram { text, names })
+}
+
+/// The program at a path, `-` for standard input: its text, of a model that to which it is expanded, where these constants
+/// are given values, with the names of the model's states. Constants are refused where there is no model.
+pub fn named_program_at(
+    rt: &(impl Files + Input + AllocGlobal),
+    path: &str,
+    constants: &[Given],
+) -> Result<NamedProgram, Ending> {
+    check_constants(rt.alloc(), path, constants)?;
+    let text = bytes_at(rt, path)?;
+    if is_model(path) {
+        return named_model(rt.alloc(), path, &text, constants);
+    }
+    let names = Vec::new(rt.alloc());
+    Ok(NamedProgram { text, names })
+}
+
+/// The text of the same program alone.
 pub fn program_at(
     rt: &(impl Files + Input + AllocGlobal),
     path: &str,
     constants: &[Given],
 ) -> Result<Vec<u8>, Ending> {
-    check_constants(rt.alloc(), path, constants)?;
-    let bytes = bytes_at(rt, path)?;
-    if !is_model(path) {
-        return Ok(bytes);
-    }
-    expanded_text(rt.alloc(), path, &bytes, constants)
+    let NamedProgram { text, .. } = named_program_at(rt, path, constants)?;
+    Ok(text)
 }

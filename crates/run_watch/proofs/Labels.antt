@@ -59,8 +59,9 @@ quoted_no_end text =
 
 pub json_labels_are_texts : JsonLabelsAreTexts
 unfolding print_from
-json_labels_are_texts show u name shown spelled = record {
+json_labels_are_texts show u name shown words spelled = record {
   json = shown;
+  words = words;
   text = spelled ∙ sym (append-nil (quoted name));
   numbers = tt;
   flat = refl;

@@ -9,7 +9,7 @@ use Rattle.std.specs.Int.{IsInRange}
 use Rattle.std.specs.List.{AllByRecursion, list_all}
 use Rattle.std.specs.Option.{option_map}
 use Rattle.std.specs.Str.Parse.{digits_value}
-use Rattle.rule_lang.specs.Tokens.{is_word_byte}
+use Rattle.rule_lang.specs.Tokens.{IsWord, is_word_byte}
 use Rattle.rule_lang.proofs.Forms.{word_all}
 use Rattle.rule_check.specs.WellFormed.{IsFieldName}
 use Rattle.run_watch.specs.Records.{IsPlain}
@@ -87,15 +87,23 @@ word_bytes [] all k d inside = absurd (omega (arith, inside))
 word_bytes (x ∷ xs) all zero d inside = all.0
 word_bytes (x ∷ xs) all (suc k) d inside = word_bytes xs all.1 k d (omega (arith, inside))
 
+-- each byte of a word is one of words
+pub bytes_in_word : (name : List ℕ) → IsWord name → All (λ b. is_word_byte b ≡ true) name
+bytes_in_word name is = word_bytes name (word_all name is)
+
+-- a word has no comma and no LF
+pub word_plain : (name : List ℕ) → IsWord name → IsPlain name
+word_plain name is k d inside =
+    let byte = bytes_in_word name is k d inside in
+    (word_byte_other 44 (slice_index_or name k d) refl byte, word_byte_other 10 (slice_index_or name k d) refl byte)
+
 -- each byte of a field's name is one of words
 pub name_bytes : (name : List ℕ) → IsFieldName name → All (λ b. is_word_byte b ≡ true) name
-name_bytes name is = word_bytes name (word_all name is.0)
+name_bytes name is = bytes_in_word name is.0
 
 -- a field's name has no comma and no LF
 pub field_name_plain : (name : List ℕ) → IsFieldName name → IsPlain name
-field_name_plain name is k d inside =
-    let byte = name_bytes name is k d inside in
-    (word_byte_other 44 (slice_index_or name k d) refl byte, word_byte_other 10 (slice_index_or name k d) refl byte)
+field_name_plain name is = word_plain name is.0
 
 -- a byte of a word is another than one that is none
 pub word_byte_is_other : (c x : ℕ) → is_word_byte c ≡ false → is_word_byte x ≡ true → (x == c) ≡ false

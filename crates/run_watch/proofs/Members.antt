@@ -1,5 +1,5 @@
 -- Lines of JSON and their objects.
-use Rattle.std.proofs.Common.{◌≡◌, ◌≢◌, ◌∙◌, ◌<◌, ◌≤◌, ◌^◌, ◌==◌, ℕ, zero, suc, List, [], ◌∷◌, ◌++◌, true, false, All, Some, ap, append-nil, append_assoc, arith, codes, nat_lt, refl, slice_index, slice_index_or, string_bytes, subst, sym}
+use Rattle.std.proofs.Common.{◌≡◌, ◌≢◌, ◌∙◌, ◌<◌, ◌≤◌, ◌^◌, ◌==◌, ℕ, zero, suc, List, [], ◌∷◌, ◌++◌, true, false, All, Option, None, Some, ap, append-nil, append_assoc, arith, codes, nat_lt, refl, slice_get, slice_index, slice_index_or, string_bytes, subst, sym}
 use Rattle.std.proofs.lemmas.Bool.Decides.{nat_tests}
 use Rattle.std.proofs.lemmas.List.Elements.{All-append}
 use Rattle.std.specs.Fmt.{decimal}
@@ -10,15 +10,17 @@ use Rattle.json.specs.Token.{Token}
 use Rattle.json.specs.Tree.{HasNumbers, MembersHaveNumbers, depth, json_tokens, members_depth, members_tokens}
 use Rattle.json.proofs.Printed.Decimals.{IsNumber-decimal}
 use Rattle.json.proofs.Printed.Trees.{document-print}
-use Rattle.rule_lang.specs.Tokens.{is_word_byte}
+use Rattle.std.specs.Prelude.{IfSome}
+use Rattle.rule_lang.specs.Tokens.{IsWord, is_word_byte}
 use Rattle.rule_check.specs.declared.state.State.{State}
 use Rattle.rule_check.specs.WellFormed.{IsFieldName}
 use Rattle.run_watch.specs.declared.show.Format.{Format}
 use Rattle.run_watch.specs.declared.show.Show.{Show}
-use Rattle.run_watch.specs.Objects.{JsonNodesAreNumbers, JsonRowsAreObjects, ShowsJson, field_members, row_object}
+use Rattle.run_watch.specs.Objects.{HasWords, JsonNodesAreNumbers, JsonRowsAreObjects, ShowsJson, field_members, row_object, value_json}
 use Rattle.run_watch.specs.Records.{AreWords, node_name}
-use Rattle.run_watch.specs.Watching.{cell_text, row_end, row_start, row_text}
-use Rattle.run_watch.proofs.Lines.{at_each, decimal_plain, field_name_plain, name_bytes, no_end, number_is, word_byte_is_other, written_no_end}
+use Rattle.run_watch.specs.Watching.{cell_text, names_in, row_end, row_start, row_text, value_name, json_label}
+use Rattle.run_watch.proofs.Lines.{at_each, bytes_in_word, decimal_plain, field_name_plain, name_bytes, no_end, number_is, word_byte_is_other, word_plain, written_no_end}
+use Rattle.run_watch.proofs.Names.{name_has, names_at}
 
 -- ---- names in quotes
 
@@ -64,48 +66,89 @@ apart name digits rest =
     ∙ append_assoc name (34 ∷ []) (58 ∷ (digits ++ rest))
     ∙ sym (append_assoc name (34 ∷ 58 ∷ digits) rest)
 
--- the members of fields, each behind a comma
-abbrev members_behind : List (List ℕ) → State → List ℕ → List ℕ
-members_behind names state fields = flat_map (λ (k : ℕ). codes ",\"" ++ (slice_index_or names k [] ++ (codes "\":" ++ decimal (slice_index state.words k)))) fields
+-- ---- values
 
-fields_text : (names : List (List ℕ)) (state : State) (fields : List ℕ) → ((k : ℕ) → escape (slice_index_or names k []) ≡ slice_index_or names k [])
-    → print_from true (members_tokens (field_members names state fields)) ≡ members_behind names state fields ++ codes "}"
+-- a value before other tokens
+value_printed : (name : Option (List ℕ)) (v : ℕ) (ts : List Token) → IfSome name (λ n. escape n ≡ n) → print_from false (json_tokens (value_json name v) ++ ts) ≡ json_label name v ++ print_from true ts
 unfolding print_from
-fields_text names state [] each = refl
-fields_text names state (k ∷ fields) each =
+value_printed None v ts itself = refl
+value_printed (Some name) v ts itself = ap (λ (text : List ℕ). 34 ∷ ((text ++ 34 ∷ []) ++ print_from true ts)) itself
+
+value_flat : (name : Option (List ℕ)) (v : ℕ) → depth (value_json name v) ≡ 0
+value_flat None v = refl
+value_flat (Some name) v = refl
+
+value_numbers : (name : Option (List ℕ)) (v : ℕ) → v < 2 ^ 32 → HasNumbers (value_json name v)
+value_numbers None v small = IsNumber-decimal v (omega (arith, small))
+value_numbers (Some name) v small = tt
+
+value_no_end : (name : Option (List ℕ)) (v : ℕ) → v < 2 ^ 32 → IfSome name IsWord → All (λ b. b ≢ 10) (json_label name v)
+value_no_end None v small word = no_end (decimal v) (decimal_plain v small)
+value_no_end (Some name) v small word =
+    All-append (λ b. b ≢ 10) (codes "\"") (name ++ codes "\"") (written_no_end (codes "\"") refl)
+    (All-append (λ b. b ≢ 10) name (codes "\"") (no_end name (word_plain name word)) (written_no_end (codes "\"") refl))
+
+word_itself : (name : Option (List ℕ)) → IfSome name IsWord → IfSome name (λ n. escape n ≡ n)
+word_itself None word = tt
+word_itself (Some name) word = escape_itself name (bytes_in_word name word)
+
+-- the name of a value is a word
+name_word : (show : Show) (k v : ℕ) → HasWords show → IfSome (value_name show k v) IsWord
+name_word show k v words =
+    name_has string_bytes IsWord (names_in (slice_get show.names.now k)) v
+    (names_at (λ ns. All (λ n. IsWord (string_bytes n)) ns) show.names.now k (λ j d inside. absurd (omega (arith, inside))) words)
+
+-- ---- members
+
+-- the members of fields, each behind a comma
+abbrev members_behind : Show → List (List ℕ) → State → List ℕ → List ℕ
+members_behind show names state fields =
+    flat_map (λ (k : ℕ). codes ",\"" ++ (slice_index_or names k [] ++ (codes "\":" ++ json_label (value_name show k (slice_index state.words k)) (slice_index state.words k)))) fields
+
+fields_text : (show : Show) (names : List (List ℕ)) (state : State) (fields : List ℕ) → HasWords show → ((k : ℕ) → escape (slice_index_or names k []) ≡ slice_index_or names k [])
+    → print_from true (members_tokens (field_members show names state fields)) ≡ members_behind show names state fields ++ codes "}"
+unfolding print_from
+fields_text show names state [] words each = refl
+fields_text show names state (k ∷ fields) words each =
     let name = slice_index_or names k [] in
-    let digits = decimal (slice_index state.words k) in
-    let rest = print_from true (members_tokens (field_members names state fields)) in
-    ap (λ (text : List ℕ). 44 ∷ 34 ∷ (((text ++ 34 ∷ []) ++ 58 ∷ []) ++ (digits ++ rest))) (each k)
-    ∙ ap (λ (text : List ℕ). 44 ∷ 34 ∷ text) (apart name digits rest)
-    ∙ ap (λ (text : List ℕ). (codes ",\"" ++ (name ++ (codes "\":" ++ digits))) ++ text) (fields_text names state fields each)
-    ∙ sym (append_assoc (codes ",\"" ++ (name ++ (codes "\":" ++ digits))) (members_behind names state fields) (codes "}"))
+    let v = slice_index state.words k in
+    let own = value_name show k v in
+    let shown = json_label own v in
+    let others = members_tokens (field_members show names state fields) in
+    ap (λ (text : List ℕ). 44 ∷ 34 ∷ (((text ++ 34 ∷ []) ++ 58 ∷ []) ++ print_from false (json_tokens (value_json own v) ++ others))) (each k)
+    ∙ ap (λ (text : List ℕ). 44 ∷ 34 ∷ (((name ++ 34 ∷ []) ++ 58 ∷ []) ++ text)) (value_printed own v others (word_itself own (name_word show k v words)))
+    ∙ ap (λ (text : List ℕ). 44 ∷ 34 ∷ text) (apart name shown (print_from true others))
+    ∙ ap (λ (text : List ℕ). (codes ",\"" ++ (name ++ (codes "\":" ++ shown))) ++ text) (fields_text show names state fields words each)
+    ∙ sym (append_assoc (codes ",\"" ++ (name ++ (codes "\":" ++ shown))) (members_behind show names state fields) (codes "}"))
 
-members_flat : (names : List (List ℕ)) (state : State) (fields : List ℕ) → members_depth (field_members names state fields) ≡ 0
-members_flat names state [] = refl
-members_flat names state (k ∷ fields) = let rest = members_flat names state fields in omega (arith, rest)
+members_flat : (show : Show) (names : List (List ℕ)) (state : State) (fields : List ℕ) → members_depth (field_members show names state fields) ≡ 0
+members_flat show names state [] = refl
+members_flat show names state (k ∷ fields) =
+    let first = value_flat (value_name show k (slice_index state.words k)) (slice_index state.words k) in
+    let rest = members_flat show names state fields in
+    omega (arith, first, rest)
 
-members_numbers : (names : List (List ℕ)) (state : State) (fields : List ℕ) → All (λ w. w < 2 ^ 32) state.words → MembersHaveNumbers (field_members names state fields)
-members_numbers names state [] small = tt
-members_numbers names state (k ∷ fields) small =
+members_numbers : (show : Show) (names : List (List ℕ)) (state : State) (fields : List ℕ) → All (λ w. w < 2 ^ 32) state.words → MembersHaveNumbers (field_members show names state fields)
+members_numbers show names state [] small = tt
+members_numbers show names state (k ∷ fields) small =
     let word : slice_index state.words k < 2 ^ 32 = at_each (λ w. w < 2 ^ 32) 0 state.words k (omega arith) small in
-    (IsNumber-decimal (slice_index state.words k) (omega (arith, word)), members_numbers names state fields small)
+    (value_numbers (value_name show k (slice_index state.words k)) (slice_index state.words k) word, members_numbers show names state fields small)
 
-members_no_end : (names : List (List ℕ)) (state : State) (fields : List ℕ) → ((k : ℕ) → All (λ b. b ≢ 10) (slice_index_or names k [])) → ((k : ℕ) → All (λ b. b ≢ 10) (decimal (slice_index state.words k)))
-    → All (λ b. b ≢ 10) (members_behind names state fields)
-members_no_end names state [] names_end words_end = λ k d inside. absurd (omega (arith, inside))
-members_no_end names state (k ∷ fields) names_end words_end =
+members_no_end : (show : Show) (names : List (List ℕ)) (state : State) (fields : List ℕ) → ((k : ℕ) → All (λ b. b ≢ 10) (slice_index_or names k []))
+    → ((k : ℕ) → All (λ b. b ≢ 10) (json_label (value_name show k (slice_index state.words k)) (slice_index state.words k))) → All (λ b. b ≢ 10) (members_behind show names state fields)
+members_no_end show names state [] names_end words_end = λ k d inside. absurd (omega (arith, inside))
+members_no_end show names state (k ∷ fields) names_end words_end =
     let name = slice_index_or names k [] in
-    let digits = decimal (slice_index state.words k) in
-    All-append (λ b. b ≢ 10) (codes ",\"" ++ (name ++ (codes "\":" ++ digits))) (members_behind names state fields)
-    (All-append (λ b. b ≢ 10) (codes ",\"") (name ++ (codes "\":" ++ digits)) (written_no_end (codes ",\"") refl)
-    (All-append (λ b. b ≢ 10) name (codes "\":" ++ digits) (names_end k)
-    (All-append (λ b. b ≢ 10) (codes "\":") digits (written_no_end (codes "\":") refl) (words_end k))))
-    (members_no_end names state fields names_end words_end)
+    let shown = json_label (value_name show k (slice_index state.words k)) (slice_index state.words k) in
+    All-append (λ b. b ≢ 10) (codes ",\"" ++ (name ++ (codes "\":" ++ shown))) (members_behind show names state fields)
+    (All-append (λ b. b ≢ 10) (codes ",\"") (name ++ (codes "\":" ++ shown)) (written_no_end (codes ",\"") refl)
+    (All-append (λ b. b ≢ 10) name (codes "\":" ++ shown) (names_end k)
+    (All-append (λ b. b ≢ 10) (codes "\":") shown (written_no_end (codes "\":") refl) (words_end k))))
+    (members_no_end show names state fields names_end words_end)
 
 module _ (show : Show) (names : List (List ℕ)) (t u : ℕ) (state : State) (node : json.Json) (shows : ShowsJson show u node) (are : AreWords t u state) (fields : All IsFieldName names) where
   abbrev cells : List ℕ
-  cells = members_behind names state show.fields.now
+  cells = members_behind show names state show.fields.now
 
   abbrev name : List ℕ
   name = node_name show u
@@ -125,8 +168,10 @@ module _ (show : Show) (names : List (List ℕ)) (t u : ℕ) (state : State) (no
   digits_no_end : (n : ℕ) → n < 2 ^ 32 → All (λ b. b ≢ 10) (decimal n)
   digits_no_end n small = no_end (decimal n) (decimal_plain n small)
 
-  word_no_end : (k : ℕ) → All (λ b. b ≢ 10) (decimal (slice_index state.words k))
-  word_no_end k = digits_no_end (slice_index state.words k) (at_each (λ w. w < 2 ^ 32) 0 state.words k (omega arith) are.words)
+  word_no_end : (k : ℕ) → All (λ b. b ≢ 10) (json_label (value_name show k (slice_index state.words k)) (slice_index state.words k))
+  word_no_end k =
+      let v = slice_index state.words k in
+      value_no_end (value_name show k v) v (at_each (λ w. w < 2 ^ 32) 0 state.words k (omega arith) are.words) (name_word show k v shows.words)
 
   line_no_end : All (λ b. b ≢ 10) line
   line_no_end =
@@ -134,11 +179,11 @@ module _ (show : Show) (names : List (List ℕ)) (t u : ℕ) (state : State) (no
       (All-append (λ b. b ≢ 10) (decimal t) (codes ",\"node\":" ++ (name ++ (cells ++ codes "}"))) (digits_no_end t are.round)
       (All-append (λ b. b ≢ 10) (codes ",\"node\":") (name ++ (cells ++ codes "}")) (written_no_end (codes ",\"node\":") refl)
       (All-append (λ b. b ≢ 10) name (cells ++ codes "}") shows.one
-      (All-append (λ b. b ≢ 10) cells (codes "}") (members_no_end names state show.fields.now field_no_end word_no_end) (written_no_end (codes "}") refl)))))
+      (All-append (λ b. b ≢ 10) cells (codes "}") (members_no_end show names state show.fields.now field_no_end word_no_end) (written_no_end (codes "}") refl)))))
 
   row_ends : row_text show names t u state ≡ line ++ codes "\n"
   row_ends =
-      ap (λ (format : Format). row_start format t ++ (name ++ (flat_map (λ (k : ℕ). cell_text format (slice_index_or names k []) (slice_index state.words k)) show.fields.now ++ row_end format))) shows.json
+      ap (λ (format : Format). row_start format t ++ (name ++ (flat_map (λ (k : ℕ). cell_text format (slice_index_or names k []) (value_name show k (slice_index state.words k)) (slice_index state.words k)) show.fields.now ++ row_end format))) shows.json
       ∙ ap (λ (text : List ℕ). codes "{\"round\":" ++ text)
       (append_assoc (decimal t) (codes ",\"node\":") (name ++ (cells ++ codes "}\n"))
       ∙ ap (λ (text : List ℕ). decimal t ++ (codes ",\"node\":" ++ text))
@@ -152,17 +197,17 @@ module _ (show : Show) (names : List (List ℕ)) (t u : ℕ) (state : State) (no
   unfolding print_from escape_byte
   printed =
       ap (λ (text : List ℕ). codes "{\"round\":" ++ (decimal t ++ (codes ",\"node\":" ++ text)))
-      (value_first node (members_tokens (field_members names state show.fields.now)) shows.flat
-      ∙ ap (λ (text : List ℕ). text ++ print_from true (members_tokens (field_members names state show.fields.now))) (sym shows.text)
-      ∙ ap (λ (text : List ℕ). name ++ text) (fields_text names state show.fields.now name_itself))
+      (value_first node (members_tokens (field_members show names state show.fields.now)) shows.flat
+      ∙ ap (λ (text : List ℕ). text ++ print_from true (members_tokens (field_members show names state show.fields.now))) (sym shows.text)
+      ∙ ap (λ (text : List ℕ). name ++ text) (fields_text show names state show.fields.now shows.words name_itself))
 
   object_numbers : HasNumbers object
-  object_numbers = (IsNumber-decimal t (let small = are.round in omega (arith, small)), (shows.numbers, members_numbers names state show.fields.now are.words))
+  object_numbers = (IsNumber-decimal t (let small = are.round in omega (arith, small)), (shows.numbers, members_numbers show names state show.fields.now are.words))
 
   object_shallow : depth object ≤ 128
   object_shallow =
       let flat = shows.flat in
-      let rest = members_flat names state show.fields.now in
+      let rest = members_flat show names state show.fields.now in
       omega (arith, flat, rest)
 
   object_read : json.document line ≡ Some object
@@ -180,10 +225,11 @@ json_rows_are_objects show names t u state node shows are fields = record {
 
 pub json_nodes_are_numbers : JsonNodesAreNumbers
 unfolding print_from
-json_nodes_are_numbers show t u state shown none are =
+json_nodes_are_numbers show t u state shown words none are =
     let named : node_name show u ≡ decimal u = number_is string_bytes show.labels.now u none in
     record {
       json = shown;
+      words = words;
       text = named ∙ sym (append-nil (decimal u));
       numbers = IsNumber-decimal u (let small = are.node in omega (arith, small));
       flat = refl;

@@ -13,7 +13,7 @@ use Rattle.run_watch.specs.declared.show.Format.{Format}
 use Rattle.run_watch.specs.declared.show.Format.TheVariants.{Report}
 use Rattle.run_watch.specs.declared.show.Show.{Show}
 use Rattle.run_watch.specs.Reports.{ShowsAll, WholePartsAreReports}
-use Rattle.run_watch.specs.Watching.{cell_text, cells_text, differs, head_text, is_changed, label_of, node_text, part_text, row_end, row_start, row_text, shown_nodes}
+use Rattle.run_watch.specs.Watching.{cell_text, cells_text, differs, head_text, is_changed, label_of, node_text, part_text, row_end, row_start, row_text, shown_nodes, value_name}
 
 -- the fields of all places in order
 fields_are : (names : List (List ℕ)) (words : List ℕ) (i : ℕ) (f : ℕ → List ℕ) → length names ≤ length words
@@ -48,7 +48,7 @@ shown_all show (Some old) new all = ap (λ (b : Bool). not b || is_changed show.
 module _ (show : Show) (names : List (List ℕ)) (whole : ShowsAll show (length names)) where
   cells_are : (state : State) → length names ≤ length state.words → cells_text show names state ≡ fields_text names state.words
   cells_are state few =
-      ap (λ (format : Format). flat_map (λ (k : ℕ). cell_text format (slice_index_or names k []) (slice_index state.words k)) show.fields.now) whole.report
+      ap (λ (format : Format). flat_map (λ (k : ℕ). cell_text format (slice_index_or names k []) (value_name show k (slice_index state.words k)) (slice_index state.words k)) show.fields.now) whole.report
       ∙ ap (flat_map (λ (k : ℕ). field_text (slice_index_or names k []) (slice_index state.words k))) whole.fields
       ∙ fields_are names state.words 0 (λ (k : ℕ). field_text (slice_index_or names k []) (slice_index state.words k)) few
       (λ k inside.

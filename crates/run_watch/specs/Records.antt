@@ -1,13 +1,15 @@
 -- What a reader of CSV gets back: the cells of its lines.
 use Rattle.std.specs.Prelude.{◌≡◌, ◌≢◌, ◌<◌, ◌^◌, ◌==◌, ℕ, Bool, List, [], ◌∷◌, ◌++◌, All, codes, length, map, slice_get, slice_index, slice_index_or, string_bytes}
 use Rattle.std.specs.Fmt.{decimal}
-use Rattle.std.specs.List.{slice_split}
+use Rattle.std.specs.List.{IsDistinct, slice_split}
 use Rattle.std.specs.Option.{option_map}
+use Rattle.std.specs.Str.{bytes_eq}
+use Rattle.rule_lang.specs.Tokens.{IsWord}
 use Rattle.rule_check.specs.declared.state.State.{State}
 use Rattle.rule_check.specs.WellFormed.{IsFieldName}
 use Rattle.run_watch.specs.declared.show.Format.TheVariants.{Csv}
 use Rattle.run_watch.specs.declared.show.Show.{Show}
-use Rattle.run_watch.specs.Watching.{label_of, opening_text, row_text}
+use Rattle.run_watch.specs.Watching.{label_of, opening_text, row_text, value_name}
 
 -- what stands for a node: its label, or past the last its number
 abbrev pub node_name : Show → ℕ → List ℕ
@@ -20,6 +22,14 @@ shown_names show names = map (λ k. slice_index_or names k []) show.fields.now
 -- the values of the shown fields, in order
 abbrev pub shown_values : Show → State → List ℕ
 shown_values show state = map (λ k. slice_index state.words k) show.fields.now
+
+-- what stands for the value of the field at a place: the value's name, or where it has none its decimal
+abbrev pub value_label : Show → State → ℕ → List ℕ
+value_label show state k = label_of (value_name show k (slice_index state.words k)) (slice_index state.words k)
+
+-- what stands for the values of the shown fields, in order
+abbrev pub shown_labels : Show → State → List (List ℕ)
+shown_labels show state = map (value_label show state) show.fields.now
 
 -- the byte is a comma
 abbrev pub is_comma : ℕ → Bool
@@ -40,14 +50,20 @@ pub record IsRecord (text : List ℕ) (cells : List (List ℕ)) : Type 0 where
 abbrev pub heading_cells : Show → List (List ℕ) → List (List ℕ)
 heading_cells show names = codes "round" ∷ codes "node" ∷ shown_names show names
 
--- the cells of a line: the decimal of the round, what stands for the node, and the decimals of the shown fields' values
+-- the cells of a line: the decimal of the round, what stands for the node, and what stands for the shown fields' values
 abbrev pub row_cells : Show → ℕ → ℕ → State → List (List ℕ)
-row_cells show t u state = decimal t ∷ node_name show u ∷ map decimal (shown_values show state)
+row_cells show t u state = decimal t ∷ node_name show u ∷ shown_labels show state
 
--- CSV is shown, with labels that have no comma and no LF
+-- names of values: words, each once
+pub record AreNames (names : List (List ℕ)) : Type 0 where
+  pub words : All IsWord names
+  pub once : IsDistinct bytes_eq names
+
+-- CSV is shown, with labels that have no comma and no LF, and names of values that are words, each once in its field
 pub record ShowsCsv (show : Show) : Type 0 where
   pub csv : show.format ≡ Csv
   pub labels : All (λ label. IsPlain (string_bytes label)) show.labels.now
+  pub names : All (λ names. AreNames (map string_bytes names.items)) show.names.now
 
 -- the numbers of a line fit 32 bits: the round, the node and the words of its state
 pub record AreWords (t u : ℕ) (state : State) : Type 0 where

@@ -1,5 +1,6 @@
 -- The text of the rounds that are watched.
-use Rattle.std.specs.Prelude.{ℕ, ◌==◌, Bool, true, not, ◌||◌, List, [], ◌∷◌, ◌++◌, codes, length, slice_get, slice_index, slice_index_or, string_bytes, if◌then◌else◌, Option, Some, None, nat_lt}
+use Rattle.std.specs.Prelude.{ℕ, ◌==◌, Bool, true, not, ◌||◌, List, [], ◌∷◌, ◌++◌, String, codes, length, slice_get, slice_index, slice_index_or, string_bytes, if◌then◌else◌, Option, Some, None, nat_lt}
+use Rattle.std.specs.Global.{Global, Vec}
 use Rattle.std.specs.Fmt.{decimal}
 use Rattle.std.specs.List.{filter, flat_map, list_any}
 use Rattle.std.specs.Option.{option_map}
@@ -39,16 +40,30 @@ is_shown show before u state = differs show (slice_get before u) state
 abbrev pub shown_nodes : Show → List State → List State → List ℕ
 shown_nodes show before states = filter (λ u. is_shown show before u (state_in states u)) (numbers_below (length states))
 
--- what stands for a node: its label, or past the last its number
+-- what stands for a node or a value: its label, or past the last its number
 abbrev pub label_of : Option (List ℕ) → ℕ → List ℕ
 label_of (Some label) u = label
 label_of None u = decimal u
 
--- a value of a field
-abbrev pub cell_text : Format → List ℕ → ℕ → List ℕ
-cell_text Report name value = field_text name value
-cell_text Csv name value = codes "," ++ decimal value
-cell_text Json name value = codes ",\"" ++ (name ++ (codes "\":" ++ decimal value))
+-- the names of a field's values; none past the last field
+abbrev pub names_in : Option (Vec (String Global)) → List (String Global)
+names_in None = []
+names_in (Some names) = names.items
+
+-- the name of a value of the field at a place, where it has one
+abbrev pub value_name : Show → ℕ → ℕ → Option (List ℕ)
+value_name show place value = option_map string_bytes (slice_get (names_in (slice_get show.names.now place)) value)
+
+-- what stands for a value in JSON: its name in quotes, or where it has none its number
+abbrev pub json_label : Option (List ℕ) → ℕ → List ℕ
+json_label None value = decimal value
+json_label (Some name) value = codes "\"" ++ (name ++ codes "\"")
+
+-- a value of a field, which has this name, if one
+abbrev pub cell_text : Format → List ℕ → Option (List ℕ) → ℕ → List ℕ
+cell_text Report field name value = field_text field value
+cell_text Csv field name value = codes "," ++ label_of name value
+cell_text Json field name value = codes ",\"" ++ (field ++ (codes "\":" ++ json_label name value))
 
 -- what stands before the label of a node
 abbrev pub row_start : Format → ℕ → List ℕ
@@ -62,9 +77,13 @@ row_end Report = codes "\n"
 row_end Csv = codes "\n"
 row_end Json = codes "}\n"
 
+-- the value of the field at a place
+abbrev pub place_text : Show → List (List ℕ) → State → ℕ → List ℕ
+place_text show names state k = cell_text show.format (slice_index_or names k []) (value_name show k (slice_index state.words k)) (slice_index state.words k)
+
 -- the values of the shown fields
 abbrev pub cells_text : Show → List (List ℕ) → State → List ℕ
-cells_text show names state = flat_map (λ k. cell_text show.format (slice_index_or names k []) (slice_index state.words k)) show.fields.now
+cells_text show names state = flat_map (place_text show names state) show.fields.now
 
 -- the line of a node in round t
 abbrev pub row_text : Show → List (List ℕ) → ℕ → ℕ → State → List ℕ

@@ -2,7 +2,8 @@
 ghost use Rattle.std.specs.Prelude.{◌≡◌, ◌++◌, ◌<◌, [], All, OnOk, length, slice_get, slice_index_or, string_bytes};
 ghost use Rattle.std.specs.Option.{option_map};
 ghost use Rattle.rule_check.specs.Value.{names_of};
-ghost use Rattle.run_watch.specs.Watching.{cell_text, cells_text, label_of, row_end, row_start, row_text};
+ghost use Rattle.run_watch.specs.declared.show.Format.TheVariants.{Json};
+ghost use Rattle.run_watch.specs.Watching.{cell_text, cells_text, label_of, names_in, row_end, row_start, row_text, value_name, json_label};
 
 use crate::changes::word;
 use crate::show::{Format, Show};
@@ -18,24 +19,67 @@ pub(crate) fn name_at(program: &Program, place: u32) -> &str
     program.field_name(place).unwrap_or("")
 }
 
+/// The names of the values of the field at a place; none past the last field.
+fn names_at(names: &[Vec<String>], place: u32) -> &[String]
+    ensures names { result.now ≡ names_in (slice_get names.now place) }
+{
+    match names.get(place as usize) {
+        Some(names) => names.as_slice(),
+        None => &[],
+    }
+}
+
+/// Adds what stands for a number, by these labels in order: its label, or for a number past the last its decimal.
+pub fn put_label(out: &mut String, labels: &[String], number: u32) -> Result<(), AllocError>
+    ensures text { OnOk result (string_bytes out.new ≡ string_bytes out.old ++ label_of (option_map string_bytes (slice_get labels.now number)) number) }
+{
+    match labels.get(number as usize) {
+        Some(label) => out.push_str(label.as_str()),
+        None => write!(out, "{number}"),
+    }
+}
+
+/// Adds the same in JSON, where a label is a text: it stands in quotes, as it is. It is to need no escapes.
+pub fn put_json_label(out: &mut String, labels: &[String], number: u32) -> Result<(), AllocError>
+    ensures text { OnOk result (string_bytes out.new ≡ string_bytes out.old ++ json_label (option_map string_bytes (slice_get labels.now number)) number) }
+{
+    match labels.get(number as usize) {
+        Some(label) => {
+            out.push_str("\"")?;
+            out.push_str(label.as_str())?;
+            out.push_str("\"")
+        }
+        None => write!(out, "{number}"),
+    }
+}
+
+/// The value of a field behind the field's name, in JSON.
+fn put_member(out: &mut String, field: &str, names: &[String], value: u32) -> Result<(), AllocError>
+    ensures text { OnOk result (string_bytes out.new ≡ string_bytes out.old ++ cell_text Json field.now (option_map string_bytes (slice_get names.now value)) value) }
+{
+    write!(out, ",\"{field}\":")?;
+    put_json_label(out, names, value)
+}
+
 /// A value of a field.
 fn put_cell(
     out: &mut String,
-    format: Format,
+    show: &Show<'_>,
     program: &Program,
     place: u32,
     value: u32,
 ) -> Result<(), AllocError>
     requires place { place < length program.now.fields }
-    ensures text { OnOk result (string_bytes out.new ≡ string_bytes out.old ++ cell_text format (slice_index_or (names_of program.now) place []) value) }
+    ensures text { OnOk result (string_bytes out.new ≡ string_bytes out.old ++ cell_text show.now.format (slice_index_or (names_of program.now) place []) (value_name show.now place value) value) }
 {
-    match format {
+    let names = names_at(show.names, place);
+    match show.format {
         Format::Report => put_field(out, program, place, value),
-        Format::Csv => write!(out, ",{value}"),
-        Format::Json => {
-            let name = name_at(program, place);
-            write!(out, ",\"{name}\":{value}")
+        Format::Csv => {
+            out.push_str(",")?;
+            put_label(out, names, value)
         }
+        Format::Json => put_member(out, name_at(program, place), names, value),
     }
 }
 
@@ -50,19 +94,9 @@ fn put_cells(
     ensures text { OnOk result (string_bytes out.new ≡ string_bytes out.old ++ cells_text show.now (names_of program.now) state.now) }
 {
     for place in show.fields {
-        put_cell(out, show.format, program, *place, word(state, *place))?;
+        put_cell(out, show, program, *place, word(state, *place))?;
     }
     Ok(())
-}
-
-/// What stands for a node.
-fn put_label(out: &mut String, labels: &[String], node: u32) -> Result<(), AllocError>
-    ensures text { OnOk result (string_bytes out.new ≡ string_bytes out.old ++ label_of (option_map string_bytes (slice_get labels.now node)) node) }
-{
-    match labels.get(node as usize) {
-        Some(label) => out.push_str(label.as_str()),
-        None => write!(out, "{node}"),
-    }
 }
 
 /// What stands before the label of a node.

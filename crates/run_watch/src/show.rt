@@ -20,6 +20,9 @@ pub struct Show<'a> {
     pub fields: &'a [u32],
     /// What stands for a node, by its number; for a node past the last its number.
     pub labels: &'a [String],
+    /// In CSV and JSON, what stands for a value of a field: for each field of the program, in order, words that name its
+    /// values, 0 and so on. A value past the last of them is its number, as are all of a field past the last.
+    pub names: &'a [Vec<String>],
     /// Whether, from the second round that is shown on, only nodes are shown that have another value in a shown field than in the
     /// round that was shown before. In reports a line tells how many nodes are shown.
     pub changes: bool,

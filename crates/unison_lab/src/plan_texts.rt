@@ -1,6 +1,6 @@
 //! Plans of the texts that the words name.
 
-use app_files::{Ending, bytes_at, bytes_where, program_at};
+use app_files::{Ending, NamedProgram, bytes_at, bytes_where, named_program_at, program_at};
 use app_jobs::plan_from;
 use app_requests::PlanPaths;
 use rounds_plan::Plan;
@@ -39,6 +39,22 @@ pub(crate) fn plan_with(
 pub(crate) fn plan_at(rt: &HostRuntime, paths: &PlanPaths) -> Result<Plan, Ending> {
     let program = program_at(rt, paths.program.as_str(), &paths.constants)?;
     plan_with(rt, paths, &program)
+}
+
+/// A plan, and the names of the values of its program's fields.
+#[derive(Drop)]
+pub(crate) struct NamedPlan {
+    pub(crate) plan: Plan,
+    /// For each field, in order, the names of its values, 0 and so on; none where it has no states.
+    pub(crate) names: Vec<Vec<String>>,
+}
+
+/// The plan of the texts at these paths, with the names of the values of its program's fields.
+pub(crate) fn named_plan_at(rt: &HostRuntime, paths: &PlanPaths) -> Result<NamedPlan, Ending> {
+    let program = named_program_at(rt, paths.program.as_str(), &paths.constants)?;
+    let plan = plan_with(rt, paths, &program.text)?;
+    let NamedProgram { names, .. } = program;
+    Ok(NamedPlan { plan, names })
 }
 
 /// The plan of the texts at these paths, to be shared.

@@ -25,6 +25,7 @@ fn report_with(
         format: Format::Report,
         fields,
         labels: &[],
+        names: &[],
         changes: false,
     };
     match watched(threads, alloc, plan, span, &show, &mut Silent) {

@@ -1,7 +1,7 @@
 //! `watch PROGRAM NETWORK --rounds FIRST..LAST`: all rounds from one to another, in one pass.
 
 use crate::labels::labels_at;
-use crate::plan_texts::plan_at;
+use crate::plan_texts::{NamedPlan, named_plan_at};
 use crate::progress::Telling;
 use app_files::{Ending, path_in, print_out, read_once, shown_fields};
 use app_jobs::ServeFault;
@@ -68,31 +68,33 @@ fn watched_text(
 fn shown_text(
     rt: &HostRuntime,
     threads: &(impl Threads + Sync),
-    plan: &Plan,
+    named: &NamedPlan,
     asked: &WatchRequest,
     fields: &[u32],
 ) -> Result<Vec<u8>, Ending> {
-    let nodes = plan.network().nodes();
+    let nodes = named.plan.network().nodes();
     let labels = labels_at(rt, asked.view.format, &asked.view.names, nodes)?;
     let show = Show {
         format: asked.view.format,
         fields,
         labels: &labels,
+        names: &named.names,
         changes: asked.view.changes,
     };
-    watched_text(rt, threads, plan, &asked.span, &show)
+    watched_text(rt, threads, &named.plan, &asked.span, &show)
 }
 
 /// The text of the rounds of a plan.
 fn text_of(
     rt: &HostRuntime,
     threads: &(impl Threads + Sync),
-    plan: &Plan,
+    named: &NamedPlan,
     asked: &WatchRequest,
 ) -> Result<Vec<u8>, Ending> {
-    let fields = shown_fields(rt.alloc(), plan.program(), &asked.view.only)?;
-    check_headings(rt.alloc(), plan.program(), asked.view.format, &fields)?;
-    shown_text(rt, threads, plan, asked, &fields)
+    let program = named.plan.program();
+    let fields = shown_fields(rt.alloc(), program, &asked.view.only)?;
+    check_headings(rt.alloc(), program, asked.view.format, &fields)?;
+    shown_text(rt, threads, named, asked, &fields)
 }
 
 /// Refuses standard input for more than one of the texts.
@@ -112,8 +114,8 @@ fn text_for(
     threads: &(impl Threads + Sync),
     asked: &WatchRequest,
 ) -> Result<Vec<u8>, Ending> {
-    let plan = plan_at(rt, &asked.plan)?;
-    text_of(rt, threads, &plan, asked)
+    let named = named_plan_at(rt, &asked.plan)?;
+    text_of(rt, threads, &named, asked)
 }
 
 /// Prints the rounds that are asked for. The status with which the program ends.
