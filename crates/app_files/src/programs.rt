@@ -138,6 +138,7 @@ pub fn program_at(
     path: &str,
     constants: &[Given],
 ) -> Result<Vec<u8>, Ending> {
-    let NamedProgram { text, .. } = named_program_at(rt, path, constants)?;
+    let program = named_program_at(rt, path, constants)?;
+    let NamedProgram { text, .. } = program;
     Ok(text)
 }

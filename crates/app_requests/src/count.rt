@@ -19,7 +19,7 @@ const COUNTED: Argument = Argument {
 const UNTIL: Argument = Argument {
     name: "until",
     value_name: "FIELD=VALUE",
-    help: "End behind the first shown round in which no node has this value in this field",
+    help: "End behind the first shown round in which no node has this value in this field: a number, or the name of a state",
     ..OPTION
 };
 
@@ -115,11 +115,19 @@ pub struct FigureWord {
     pub field: String,
 }
 
+/// A value of a field, as it is written.
+#[derive(Drop)]
+pub enum ValueWord {
+    Number(u32),
+    /// What may be the name of a state: it begins with a letter.
+    Name(String),
+}
+
 /// A word of `--until FIELD=VALUE`.
 #[derive(Drop)]
 pub struct UntilWord {
     pub field: String,
-    pub value: u32,
+    pub value: ValueWord,
 }
 
 /// Which runs are counted.
@@ -150,23 +158,42 @@ pub struct CountRequest {
     pub format: CountFormat,
 }
 
-/// The parts of a word of `--until`: what stands before the first `=`, and the number behind it.
-fn until_parts(word: &str) -> Option<(&str, u32)> {
+/// Whether a word begins with a letter.
+fn begins_with_letter(word: &str) -> bool {
+    match word.as_bytes().first() {
+        Some(byte) => byte.is_ascii_alphabetic(),
+        None => false,
+    }
+}
+
+/// A value as it is written, where it is a number or may be a name.
+fn value_word(reading: &mut Reading, word: &str) -> Option<ValueWord> {
+    if let Some(value) = number(word, 0, 4_294_967_295) {
+        return Some(ValueWord::Number(value));
+    }
+    if begins_with_letter(word) {
+        return Some(ValueWord::Name(reading.copied(word)));
+    }
+    None
+}
+
+/// The parts of a word of `--until`: what stands before the first `=`, and the value behind it.
+fn until_parts(reading: &mut Reading, word: &str) -> Option<UntilWord> {
     let (field, value) = word.split_once('=')?;
-    let value = number(value, 0, 4_294_967_295)?;
-    Some((field, value))
+    let value = value_word(reading, value)?;
+    let field = reading.copied(field);
+    Some(UntilWord { field, value })
 }
 
 /// The word of `--until`, which has its parts where it is read.
 fn until_word(reading: &mut Reading, word: &str) -> Option<UntilWord> {
-    let Some((field, value)) = until_parts(word) else {
+    let until = until_parts(reading, word);
+    if until.is_none() {
         reading.refuse_as(format!(in reading.alloc();
-            "--until: expected FIELD=VALUE, with a whole number from 0 to 4294967295 behind the first =, found `{word}`"
+            "--until: expected FIELD=VALUE, with a whole number from 0 to 4294967295 or the name of a state behind the first =, found `{word}`"
         ));
-        return None;
-    };
-    let field = reading.copied(field);
-    Some(UntilWord { field, value })
+    }
+    until
 }
 
 /// The word of `--until`, where it is given.

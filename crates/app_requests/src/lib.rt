@@ -26,7 +26,7 @@ mod watch;
 pub use arguments::PlanPaths;
 pub use commands::{GROUPS, Group, Task, check_completion, check_manual};
 pub use constants::{Varied, constants_among};
-pub use count::{CountRequest, FigureWord, RunsWords, UntilWord};
+pub use count::{CountRequest, FigureWord, RunsWords, UntilWord, ValueWord};
 pub use csv::CsvRequest;
 pub use cuts::{CutsFormat, CutsRequest};
 pub use draw::{DotRequest, ImageRequest};

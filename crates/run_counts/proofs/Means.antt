@@ -1,5 +1,5 @@
 -- Lines of means.
-use Rattle.std.proofs.Common.{◌≡◌, ◌∙◌, ◌<◌, ◌^◌, ◌==◌, ◌++◌, ℕ, zero, suc, List, [], ◌∷◌, Bool, true, false, if◌then◌else◌, Option, Some, None, Result, Ok, Err, OnOk, All, ap, append_assoc, arith, codes, is_ok, length, map, refl, sym}
+use Rattle.std.proofs.Common.{◌≡◌, ◌∙◌, ◌<◌, ◌^◌, ◌==◌, ◌++◌, ℕ, zero, suc, List, [], ◌∷◌, Global, String, Bool, true, false, if◌then◌else◌, Option, Some, None, Result, Ok, Err, OnOk, All, ap, append_assoc, arith, codes, is_ok, length, map, refl, sym}
 use Rattle.std.specs.List.{AllZip, flat_map}
 use Rattle.std.specs.Option.{option_or}
 use Rattle.std.specs.Prelude.{slice_get}
@@ -26,26 +26,26 @@ count_small (c ∷ counts) v small =
     chosen false n m left right = right
 
 -- what a line of means has behind its round
-abbrev behind : CountFormat → List (List ℕ) → List Column → List RowView → ℕ → List ℕ
-behind format names columns rows n = cell_text format (codes "runs") n ++ (flat_map (λ (c : Column). mean_cells format names c (map (number_in c) rows)) columns ++ line_end format)
+abbrev behind : CountFormat → List (String Global) → List (List ℕ) → List Column → List RowView → ℕ → List ℕ
+behind format labels names columns rows n = cell_text format (codes "runs") n ++ (flat_map (λ (c : Column). mean_cells format labels names c (map (number_in c) rows)) columns ++ line_end format)
 
 counted : (rows : List RowView) → length (map (λ (r : RowView). r.round) rows) ≡ length rows
 counted [] = refl
 counted (r ∷ rows) = ap suc (counted rows)
 
 -- the line of rows, the first of which is of this round
-pub line_is : (format : CountFormat) (names : List (List ℕ)) (columns : List Column) (rows : List RowView) (t : ℕ)
+pub line_is : (format : CountFormat) (labels : List (String Global)) (names : List (List ℕ)) (columns : List Column) (rows : List RowView) (t : ℕ)
     → slice_get (map (λ (r : RowView). r.round) rows) 0 ≡ Some t
-    → mean_text format names columns rows
+    → mean_text format labels names columns rows
     ≡ line_start format [] t
     ++ (cell_text format (codes "runs") (length (map (λ (r : RowView). r.round) rows))
-    ++ (flat_map (λ (c : Column). mean_cells format names c (map (number_in c) rows)) columns ++ line_end format))
-line_is format names columns [] t first = let none : None ≡ Some t = first in absurd cc
-line_is format names columns (row ∷ rows) t first =
+    ++ (flat_map (λ (c : Column). mean_cells format labels names c (map (number_in c) rows)) columns ++ line_end format))
+line_is format labels names columns [] t first = let none : None ≡ Some t = first in absurd cc
+line_is format labels names columns (row ∷ rows) t first =
     let some : Some row.round ≡ Some t = first in
     let same : row.round ≡ t = cc in
-    ap (λ (r : ℕ). line_start format [] r ++ behind format names columns (row ∷ rows) (length (row ∷ rows))) same
-    ∙ ap (λ (n : ℕ). line_start format [] t ++ behind format names columns (row ∷ rows) n) (sym (counted (row ∷ rows)))
+    ap (λ (r : ℕ). line_start format [] r ++ behind format labels names columns (row ∷ rows) (length (row ∷ rows))) same
+    ∙ ap (λ (n : ℕ). line_start format [] t ++ behind format labels names columns (row ∷ rows) n) (sym (counted (row ∷ rows)))
 
 neither : (p q : Option WatchFault) → option_or p q ≡ None → (p ≡ None) × (q ≡ None)
 neither None q none = (refl, none)

@@ -20,7 +20,7 @@ pub record IsCounted (p : PlanView) (span : SpanView) (counting : Counting) (tex
   pub values : List ℕ
   pub rows_are : AreRows p span counting rows
   pub values_are : AreValues rows values
-  pub spelled : text ≡ table_text counting.format (names_of p.program) counting.figures.now values rows
+  pub spelled : text ≡ table_text counting.format counting.names.now (names_of p.program) counting.figures.now values rows
 
 -- the number that stands under a value is the number of nodes that have it
 abbrev pub CellsAreCounts : Type 0

@@ -1,6 +1,6 @@
 -- The text of the means of runs that are counted together.
-use Rattle.std.specs.Prelude.{◌≡◌, ℕ, List, [], ◌∷◌, ◌++◌, codes, length, map, max, nat_lt, slice_get, slice_index_or, if◌then◌else◌}
-use Rattle.std.specs.Fmt.{decimal}
+use Rattle.std.specs.Prelude.{◌≡◌, ℕ, List, [], ◌∷◌, ◌++◌, String, codes, length, map, max, nat_lt, slice_get, slice_index_or, if◌then◌else◌}
+use Rattle.std.specs.Global.{Global}
 use Rattle.std.specs.List.{AllZip, enumerate_from, flat_map, range_with_len}
 use Rattle.std.specs.Option.{option_to_list}
 use Rattle.run_watch.specs.Spans.{SpanView}
@@ -14,7 +14,7 @@ use Rattle.run_counts.specs.declared.mean_columns.Column.TheVariants.{Nodes, Fur
 use Rattle.run_counts.specs.Ensembles.{IsRunOf, RunView, names_in, rows_in}
 use Rattle.run_counts.specs.Rows.{AreValues, RowView, count_in}
 use Rattle.run_counts.specs.Spread.{deviation_of, four_digits, mean_of}
-use Rattle.run_counts.specs.Tables.{cell_text, figure_name, has_columns, line_end, line_start}
+use Rattle.run_counts.specs.Tables.{cell_text, figure_name, has_columns, line_end, line_start, value_label}
 
 -- the columns of which there are means: one for each value, where there are not too many, and one for each figure, with its place
 abbrev pub columns_of : List ℕ → List Figure → List Column
@@ -26,9 +26,9 @@ number_in (Nodes value) row = count_in row.counts value
 number_in (Further place figure) row = slice_index_or (map (λ f. f.1) row.figures) place 0
 
 -- what a column is called: as in the text of one run
-abbrev pub column_name : List (List ℕ) → Column → List ℕ
-column_name names (Nodes value) = decimal value
-column_name names (Further place figure) = figure_name names figure
+abbrev pub column_name : List (String Global) → List (List ℕ) → Column → List ℕ
+column_name labels names (Nodes value) = value_label labels value
+column_name labels names (Further place figure) = figure_name names figure
 
 -- the rows at a place, of the runs that have so many: those of a round, in the order of the runs
 abbrev pub rows_at : ℕ → List RunView → List RowView
@@ -54,30 +54,32 @@ abbrev pub deviation_text : CountFormat → List ℕ → List ℕ
 deviation_text format numbers = if nat_lt 1 (length numbers) then four_digits (deviation_of numbers) else no_deviation format
 
 -- the headings of a column: of its means, and of its deviations
-abbrev pub headings_text : List (List ℕ) → Column → List ℕ
-headings_text names column = codes "," ++ (column_name names column ++ (codes " mean" ++ (codes "," ++ (column_name names column ++ codes " deviation"))))
+abbrev pub headings_text : List (String Global) → List (List ℕ) → Column → List ℕ
+headings_text labels names column =
+    codes "," ++ (column_name labels names column ++ (codes " mean" ++ (codes "," ++ (column_name labels names column ++ codes " deviation"))))
 
 -- the mean of a column's numbers, and their standard deviation
-abbrev pub mean_cells : CountFormat → List (List ℕ) → Column → List ℕ → List ℕ
-mean_cells format names column numbers =
-    cell_start format (column_name names column ++ codes " mean")
-    ++ (four_digits (mean_of numbers) ++ (cell_start format (column_name names column ++ codes " deviation") ++ deviation_text format numbers))
+abbrev pub mean_cells : CountFormat → List (String Global) → List (List ℕ) → Column → List ℕ → List ℕ
+mean_cells format labels names column numbers =
+    cell_start format (column_name labels names column ++ codes " mean")
+    ++ (four_digits (mean_of numbers) ++ (cell_start format (column_name labels names column ++ codes " deviation") ++ deviation_text format numbers))
 
 -- the line of a round with these rows: the round, how many runs are counted in it, and the mean and the deviation of each column; none where there is no row
-abbrev pub mean_text : CountFormat → List (List ℕ) → List Column → List RowView → List ℕ
-mean_text format names columns [] = []
-mean_text format names columns (row ∷ rows) =
+abbrev pub mean_text : CountFormat → List (String Global) → List (List ℕ) → List Column → List RowView → List ℕ
+mean_text format labels names columns [] = []
+mean_text format labels names columns (row ∷ rows) =
     line_start format [] row.round
-    ++ (cell_text format (codes "runs") (length (row ∷ rows)) ++ (flat_map (λ c. mean_cells format names c (map (number_in c) (row ∷ rows))) columns ++ line_end format))
+    ++ (cell_text format (codes "runs") (length (row ∷ rows)) ++ (flat_map (λ c. mean_cells format labels names c (map (number_in c) (row ∷ rows))) columns ++ line_end format))
 
 -- the line of the headings, in CSV alone
-abbrev pub means_opening : CountFormat → List (List ℕ) → List Column → List ℕ
-means_opening Csv names columns = codes "round,runs" ++ (flat_map (headings_text names) columns ++ codes "\n")
-means_opening Json names columns = []
+abbrev pub means_opening : CountFormat → List (String Global) → List (List ℕ) → List Column → List ℕ
+means_opening Csv labels names columns = codes "round,runs" ++ (flat_map (headings_text labels names) columns ++ codes "\n")
+means_opening Json labels names columns = []
 
 -- the lines of all rounds behind the headings
-abbrev pub means_text : CountFormat → List (List ℕ) → List Column → List RunView → List ℕ
-means_text format names columns runs = means_opening format names columns ++ flat_map (λ k. mean_text format names columns (rows_at k runs)) (range_with_len 0 (longest runs))
+abbrev pub means_text : CountFormat → List (String Global) → List (List ℕ) → List Column → List RunView → List ℕ
+means_text format labels names columns runs =
+    means_opening format labels names columns ++ flat_map (λ k. mean_text format labels names columns (rows_at k runs)) (range_with_len 0 (longest runs))
 
 -- the text is that of the means of exactly the rounds that are counted of each run, with columns for each value that occurs in one of them
 pub record AreMeans (e : Ensemble) (span : SpanView) (counting : Counting) (text : List ℕ) : Type 0 where
@@ -85,4 +87,4 @@ pub record AreMeans (e : Ensemble) (span : SpanView) (counting : Counting) (text
   pub values : List ℕ
   pub runs_are : AllZip (IsRunOf span counting) e.variants.now runs
   pub values_are : AreValues (rows_in runs) values
-  pub spelled : text ≡ means_text counting.format (names_in e.variants.now) (columns_of values counting.figures.now) runs
+  pub spelled : text ≡ means_text counting.format counting.names.now (names_in e.variants.now) (columns_of values counting.figures.now) runs

@@ -58,6 +58,8 @@ pub struct Counting<'a> {
     pub format: CountFormat,
     /// The place of the field whose values are counted.
     pub field: u32,
+    /// What its values are called, 0 and so on, by words; a value past the last is its number.
+    pub names: &'a [String],
     /// The further numbers, in this order.
     pub figures: &'a [Figure],
     /// When the rounds end before the last one, where they may.

@@ -1,12 +1,12 @@
 //! The headings of columns.
 ghost use Rattle.std.specs.Prelude.{◌≡◌, ◌++◌, [], OnOk, codes, slice_index_or, string_bytes};
-ghost use Rattle.std.specs.Fmt.{decimal};
 ghost use Rattle.std.specs.List.{flat_map};
 ghost use Rattle.rule_check.specs.Value.{names_of};
-ghost use Rattle.run_counts.specs.Tables.{count_headings, figure_name, has_columns, opening_text};
+ghost use Rattle.run_counts.specs.Tables.{count_headings, figure_name, has_columns, opening_text, value_label};
 
 use crate::asked::{CountFormat, Counting, Figure};
 use rule_check::Program;
+use run_watch::put_label;
 use std::alloc::AllocError;
 
 /// With as many values as this, each has a column of its own.
@@ -48,11 +48,12 @@ fn put_figure_names(
 }
 
 /// The headings of a column for each value.
-fn put_values(out: &mut String, values: &[u32]) -> Result<(), AllocError>
-    ensures text { OnOk result (string_bytes out.new ≡ string_bytes out.old ++ flat_map (λ v. codes "," ++ decimal v) values.now) }
+fn put_values(out: &mut String, names: &[String], values: &[u32]) -> Result<(), AllocError>
+    ensures text { OnOk result (string_bytes out.new ≡ string_bytes out.old ++ flat_map (λ v. codes "," ++ value_label names.now v) values.now) }
 {
     for value in values {
-        write!(out, ",{value}")?;
+        out.push_str(",")?;
+        put_label(out, names, *value)?;
     }
     Ok(())
 }
@@ -65,11 +66,11 @@ pub(crate) fn has_columns(values: &[u32]) -> bool
 }
 
 /// The headings of what is counted.
-fn put_count_headings(out: &mut String, values: &[u32]) -> Result<(), AllocError>
-    ensures text { OnOk result (string_bytes out.new ≡ string_bytes out.old ++ count_headings values.now) }
+fn put_count_headings(out: &mut String, names: &[String], values: &[u32]) -> Result<(), AllocError>
+    ensures text { OnOk result (string_bytes out.new ≡ string_bytes out.old ++ count_headings names.now values.now) }
 {
     if has_columns(values) {
-        return put_values(out, values);
+        return put_values(out, names, values);
     }
     out.push_str(",value,nodes")
 }
@@ -81,13 +82,13 @@ pub(crate) fn put_opening(
     counting: &Counting<'_>,
     values: &[u32],
 ) -> Result<(), AllocError>
-    ensures text { OnOk result (string_bytes out.new ≡ string_bytes out.old ++ opening_text counting.now.format (names_of program.now) counting.now.figures.now values.now) }
+    ensures text { OnOk result (string_bytes out.new ≡ string_bytes out.old ++ opening_text counting.now.format counting.now.names.now (names_of program.now) counting.now.figures.now values.now) }
 {
     if counting.format != CountFormat::Csv {
         return Ok(());
     }
     out.push_str("round")?;
-    put_count_headings(out, values)?;
+    put_count_headings(out, counting.names, values)?;
     put_figure_names(out, program, counting.figures)?;
     out.push_str("\n")
 }

@@ -72,11 +72,11 @@ fn table_with(
     values: &[u32],
     rows: &[Row],
 ) -> Result<Vec<u8>, AllocError>
-    ensures text { IfOk result (λ v. v.items ≡ table_text counting.now.format (names_of program.now) counting.now.figures.now values.now rows.now) }
+    ensures text { IfOk result (λ v. v.items ≡ table_text counting.now.format counting.now.names.now (names_of program.now) counting.now.figures.now values.now rows.now) }
 {
     let mut out = String::new(alloc);
     put_opening(&mut out, program, counting, values)?;
-    put_rows(&mut out, counting.format, "", program, values, rows)?;
+    put_rows(&mut out, counting, "", program, values, rows)?;
     Ok(out.into_bytes())
 }
 
@@ -103,7 +103,8 @@ fn text_of<P: Progress>(
 /// has enough to compute for them. The rounds end behind the first of them that ends them, where one does.
 ///
 /// Where 64 values at most occur in these rounds, each has a column, by rising value, and each round a line; else each
-/// value that occurs in a round has a line of that round: `value`, and `nodes`, how many nodes have it.
+/// value that occurs in a round has a line of that round: `value`, and `nodes`, how many nodes have it. A value that has a
+/// name is called by it.
 ///
 /// `TooManyRounds` comes where the last round is above 1,000,000,000, else `RoundsBelowStart` where the first lies
 /// before the plan's start, and else `NoField` with the first place at which the program has no field, of the counted

@@ -1,16 +1,16 @@
 //! The lines of rounds that are counted.
 ghost use Rattle.std.specs.Prelude.{◌≡◌, ◌++◌, OnOk, string_bytes};
-ghost use Rattle.std.specs.Fmt.{decimal};
 ghost use Rattle.std.specs.List.{flat_map};
 ghost use Rattle.rule_check.specs.Value.{names_of};
 ghost use Rattle.run_counts.specs.Rows.{count_in};
-ghost use Rattle.run_counts.specs.Tables.{cell_text, figure_name, figures_text, line_end, line_start, long_text, row_text, wide_text};
+ghost use Rattle.run_counts.specs.Tables.{cell_text, figure_name, figures_text, line_end, line_start, long_text, row_text, value_cell, value_label, wide_text};
 
-use crate::asked::{CountFormat, Figure};
+use crate::asked::{CountFormat, Counting, Figure};
 use crate::columns::{has_columns, put_figure_name};
 use crate::table::Row;
 use crate::values::count_in;
 use rule_check::Program;
+use run_watch::{put_json_label, put_label};
 use std::alloc::AllocError;
 
 /// A number under a heading.
@@ -28,18 +28,36 @@ pub(crate) fn put_named(
     }
 }
 
-/// How many nodes have a value, under the value.
+/// How many nodes have a value, under what the value is called.
 fn put_count(
     out: &mut String,
-    format: CountFormat,
+    counting: &Counting<'_>,
     value: u32,
     nodes: u64,
 ) -> Result<(), AllocError>
-    ensures text { OnOk result (string_bytes out.new ≡ string_bytes out.old ++ cell_text format (decimal value) nodes) }
+    ensures text { OnOk result (string_bytes out.new ≡ string_bytes out.old ++ cell_text counting.now.format (value_label counting.now.names.now value) nodes) }
 {
-    match format {
-        CountFormat::Csv => write!(out, ",{nodes}"),
-        CountFormat::Json => write!(out, ",\"{value}\":{nodes}"),
+    if counting.format == CountFormat::Csv {
+        return write!(out, ",{nodes}");
+    }
+    out.push_str(",\"")?;
+    put_label(out, counting.names, value)?;
+    write!(out, "\":{nodes}")
+}
+
+/// A value in a line of its own.
+fn put_value_cell(out: &mut String, counting: &Counting<'_>, value: u32) -> Result<(), AllocError>
+    ensures text { OnOk result (string_bytes out.new ≡ string_bytes out.old ++ value_cell counting.now.format counting.now.names.now value) }
+{
+    match counting.format {
+        CountFormat::Csv => {
+            out.push_str(",")?;
+            put_label(out, counting.names, value)
+        }
+        CountFormat::Json => {
+            out.push_str(",\"value\":")?;
+            put_json_label(out, counting.names, value)
+        }
     }
 }
 
@@ -120,14 +138,14 @@ fn put_line_end(
 /// For each value how many nodes have it in a round.
 fn put_counts(
     out: &mut String,
-    format: CountFormat,
+    counting: &Counting<'_>,
     values: &[u32],
     row: &Row,
 ) -> Result<(), AllocError>
-    ensures text { OnOk result (string_bytes out.new ≡ string_bytes out.old ++ flat_map (λ v. cell_text format (decimal v) (count_in row.now.counts v)) values.now) }
+    ensures text { OnOk result (string_bytes out.new ≡ string_bytes out.old ++ flat_map (λ v. cell_text counting.now.format (value_label counting.now.names.now v) (count_in row.now.counts v)) values.now) }
 {
     for value in values {
-        put_count(out, format, *value, count_in(row.counts(), *value))?;
+        put_count(out, counting, *value, count_in(row.counts(), *value))?;
     }
     Ok(())
 }
@@ -135,48 +153,48 @@ fn put_counts(
 /// The line of a round in which each value has a column.
 fn put_wide(
     out: &mut String,
-    format: CountFormat,
+    counting: &Counting<'_>,
     head: &str,
     program: &Program,
     values: &[u32],
     row: &Row,
 ) -> Result<(), AllocError>
-    ensures text { OnOk result (string_bytes out.new ≡ string_bytes out.old ++ wide_text format head.now (names_of program.now) values.now row.now) }
+    ensures text { OnOk result (string_bytes out.new ≡ string_bytes out.old ++ wide_text counting.now.format counting.now.names.now head.now (names_of program.now) values.now row.now) }
 {
-    put_start(out, format, head, row.round())?;
-    put_counts(out, format, values, row)?;
-    put_line_end(out, format, program, row.figures())
+    put_start(out, counting.format, head, row.round())?;
+    put_counts(out, counting, values, row)?;
+    put_line_end(out, counting.format, program, row.figures())
 }
 
 /// The line of a value that occurs in a round.
 fn put_value(
     out: &mut String,
-    format: CountFormat,
+    counting: &Counting<'_>,
     head: &str,
     program: &Program,
     row: &Row,
     count: (u32, u64),
 ) -> Result<(), AllocError>
-    ensures text { OnOk result (string_bytes out.new ≡ string_bytes out.old ++ long_text format head.now (names_of program.now) row.now count) }
+    ensures text { OnOk result (string_bytes out.new ≡ string_bytes out.old ++ long_text counting.now.format counting.now.names.now head.now (names_of program.now) row.now count) }
 {
-    put_start(out, format, head, row.round())?;
-    put_named(out, format, "value", u64::from(count.0))?;
-    put_named(out, format, "nodes", count.1)?;
-    put_line_end(out, format, program, row.figures())
+    put_start(out, counting.format, head, row.round())?;
+    put_value_cell(out, counting, count.0)?;
+    put_named(out, counting.format, "nodes", count.1)?;
+    put_line_end(out, counting.format, program, row.figures())
 }
 
 /// The lines of a round, one for each value that occurs in it.
 fn put_long(
     out: &mut String,
-    format: CountFormat,
+    counting: &Counting<'_>,
     head: &str,
     program: &Program,
     row: &Row,
 ) -> Result<(), AllocError>
-    ensures text { OnOk result (string_bytes out.new ≡ string_bytes out.old ++ flat_map (long_text format head.now (names_of program.now) row.now) row.now.counts) }
+    ensures text { OnOk result (string_bytes out.new ≡ string_bytes out.old ++ flat_map (long_text counting.now.format counting.now.names.now head.now (names_of program.now) row.now) row.now.counts) }
 {
     for count in row.counts() {
-        put_value(out, format, head, program, row, *count)?;
+        put_value(out, counting, head, program, row, *count)?;
     }
     Ok(())
 }
@@ -184,34 +202,34 @@ fn put_long(
 /// The lines of a round.
 fn put_row(
     out: &mut String,
-    format: CountFormat,
+    counting: &Counting<'_>,
     head: &str,
     program: &Program,
     values: &[u32],
     row: &Row,
 ) -> Result<(), AllocError>
-    ensures text { OnOk result (string_bytes out.new ≡ string_bytes out.old ++ row_text format head.now (names_of program.now) values.now row.now) }
+    ensures text { OnOk result (string_bytes out.new ≡ string_bytes out.old ++ row_text counting.now.format counting.now.names.now head.now (names_of program.now) values.now row.now) }
 {
     if has_columns(values) {
-        put_wide(out, format, head, program, values, row)
+        put_wide(out, counting, head, program, values, row)
     } else {
-        put_long(out, format, head, program, row)
+        put_long(out, counting, head, program, row)
     }
 }
 
 /// The lines of rounds, each behind this head.
 pub(crate) fn put_rows(
     out: &mut String,
-    format: CountFormat,
+    counting: &Counting<'_>,
     head: &str,
     program: &Program,
     values: &[u32],
     rows: &[Row],
 ) -> Result<(), AllocError>
-    ensures text { OnOk result (string_bytes out.new ≡ string_bytes out.old ++ flat_map (row_text format head.now (names_of program.now) values.now) rows.now) }
+    ensures text { OnOk result (string_bytes out.new ≡ string_bytes out.old ++ flat_map (row_text counting.now.format counting.now.names.now head.now (names_of program.now) values.now) rows.now) }
 {
     for row in rows {
-        put_row(out, format, head, program, values, row)?;
+        put_row(out, counting, head, program, values, row)?;
     }
     Ok(())
 }

@@ -6,10 +6,11 @@ ghost use Rattle.run_counts.specs.declared.mean_columns.Column.TheVariants.{Furt
 ghost use Rattle.run_counts.specs.MeanTables.{column_name, columns_of, headings_text, means_opening, number_in};
 ghost use Rattle.run_counts.specs.Tables.{has_columns};
 
-use crate::asked::{CountFormat, Figure};
+use crate::asked::{CountFormat, Counting, Figure};
 use crate::columns::{has_columns, put_figure_name};
 use crate::table::Row;
 use rule_check::Program;
+use run_watch::put_label;
 use std::alloc::{AllocError, Global};
 
 /// A column of which there are means.
@@ -34,23 +35,33 @@ impl Column {
     }
 
     /// What it is called.
-    pub(crate) fn put_name(self, out: &mut String, program: &Program) -> Result<(), AllocError>
-        ensures text { OnOk result (string_bytes out.new ≡ string_bytes out.old ++ column_name (names_of program.now) self) }
+    pub(crate) fn put_name(
+        self,
+        out: &mut String,
+        names: &[String],
+        program: &Program,
+    ) -> Result<(), AllocError>
+        ensures text { OnOk result (string_bytes out.new ≡ string_bytes out.old ++ column_name names.now (names_of program.now) self) }
     {
         match self {
-            Column::Nodes { value } => write!(out, "{value}"),
+            Column::Nodes { value } => put_label(out, names, value),
             Column::Further { figure, .. } => put_figure_name(out, program, figure),
         }
     }
 
     /// Its two headings, in CSV.
-    fn put_headings(self, out: &mut String, program: &Program) -> Result<(), AllocError>
-        ensures text { OnOk result (string_bytes out.new ≡ string_bytes out.old ++ headings_text (names_of program.now) self) }
+    fn put_headings(
+        self,
+        out: &mut String,
+        names: &[String],
+        program: &Program,
+    ) -> Result<(), AllocError>
+        ensures text { OnOk result (string_bytes out.new ≡ string_bytes out.old ++ headings_text names.now (names_of program.now) self) }
     {
         out.push_str(",")?;
-        self.put_name(out, program)?;
+        self.put_name(out, names, program)?;
         out.push_str(" mean,")?;
-        self.put_name(out, program)?;
+        self.put_name(out, names, program)?;
         out.push_str(" deviation")
     }
 }
@@ -96,13 +107,14 @@ pub(crate) fn columns_of(
 /// The headings of all columns, in CSV.
 fn put_all_headings(
     out: &mut String,
+    names: &[String],
     program: &Program,
     columns: &[Column],
 ) -> Result<(), AllocError>
-    ensures text { OnOk result (string_bytes out.new ≡ string_bytes out.old ++ flat_map (headings_text (names_of program.now)) columns.now) }
+    ensures text { OnOk result (string_bytes out.new ≡ string_bytes out.old ++ flat_map (headings_text names.now (names_of program.now)) columns.now) }
 {
     for column in columns {
-        column.put_headings(out, program)?;
+        column.put_headings(out, names, program)?;
     }
     Ok(())
 }
@@ -110,16 +122,16 @@ fn put_all_headings(
 /// The line of the headings, in CSV.
 pub(crate) fn put_means_opening(
     out: &mut String,
-    format: CountFormat,
+    counting: &Counting<'_>,
     program: &Program,
     columns: &[Column],
 ) -> Result<(), AllocError>
-    ensures text { OnOk result (string_bytes out.new ≡ string_bytes out.old ++ means_opening format (names_of program.now) columns.now) }
+    ensures text { OnOk result (string_bytes out.new ≡ string_bytes out.old ++ means_opening counting.now.format counting.now.names.now (names_of program.now) columns.now) }
 {
-    if format != CountFormat::Csv {
+    if counting.format != CountFormat::Csv {
         return Ok(());
     }
     out.push_str("round,runs")?;
-    put_all_headings(out, program, columns)?;
+    put_all_headings(out, counting.names, program, columns)?;
     out.push_str("\n")
 }

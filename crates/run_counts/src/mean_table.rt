@@ -6,7 +6,7 @@ ghost use Rattle.rule_check.specs.Value.{names_of};
 ghost use Rattle.run_counts.specs.Ensembles.{most_runs};
 ghost use Rattle.run_counts.specs.MeanTables.{cell_start, column_name, deviation_text, longest, mean_cells, mean_text, means_text, number_in, rows_at};
 
-use crate::asked::CountFormat;
+use crate::asked::{CountFormat, Counting};
 use crate::lines::{end_of, put_named, put_start};
 use crate::mean_columns::{Column, put_means_opening};
 use crate::runs::Run;
@@ -76,18 +76,18 @@ fn rounds_at(alloc: Global, runs: &[Run], place: usize) -> Result<Vec<u32>, Allo
 /// What stands before a number of a column.
 fn put_cell_start(
     out: &mut String,
-    format: CountFormat,
+    counting: &Counting<'_>,
     program: &Program,
     column: Column,
     kind: &str,
 ) -> Result<(), AllocError>
-    ensures text { OnOk result (string_bytes out.new ≡ string_bytes out.old ++ cell_start format (column_name (names_of program.now) column ++ kind.now)) }
+    ensures text { OnOk result (string_bytes out.new ≡ string_bytes out.old ++ cell_start counting.now.format (column_name counting.now.names.now (names_of program.now) column ++ kind.now)) }
 {
-    if format == CountFormat::Csv {
+    if counting.format == CountFormat::Csv {
         return out.push_str(",");
     }
     out.push_str(",\"")?;
-    column.put_name(out, program)?;
+    column.put_name(out, counting.names, program)?;
     write!(out, "{kind}\":")
 }
 
@@ -109,7 +109,7 @@ fn put_deviation(out: &mut String, format: CountFormat, numbers: &[u64]) -> Resu
 /// The mean of a column's numbers, and their standard deviation.
 fn put_cells(
     out: &mut String,
-    format: CountFormat,
+    counting: &Counting<'_>,
     program: &Program,
     column: Column,
     numbers: &[u64],
@@ -117,19 +117,19 @@ fn put_cells(
     requires some { 1 ≤ length numbers.now }
     requires few { length numbers.now ≤ most_runs }
     requires small { All (λ n. n < 2 ^ 48) numbers.now }
-    ensures text { OnOk result (string_bytes out.new ≡ string_bytes out.old ++ mean_cells format (names_of program.now) column numbers.now) }
+    ensures text { OnOk result (string_bytes out.new ≡ string_bytes out.old ++ mean_cells counting.now.format counting.now.names.now (names_of program.now) column numbers.now) }
 {
-    put_cell_start(out, format, program, column, " mean")?;
+    put_cell_start(out, counting, program, column, " mean")?;
     put_four_digits(out, mean_of(numbers))?;
-    put_cell_start(out, format, program, column, " deviation")?;
-    put_deviation(out, format, numbers)
+    put_cell_start(out, counting, program, column, " deviation")?;
+    put_deviation(out, counting.format, numbers)
 }
 
 /// The means and deviations of a column at a place.
 fn put_column(
     alloc: Global,
     out: &mut String,
-    format: CountFormat,
+    counting: &Counting<'_>,
     program: &Program,
     column: Column,
     runs: &[Run],
@@ -137,17 +137,17 @@ fn put_column(
 ) -> Result<(), AllocError>
     requires some { 1 ≤ length (rows_at place runs.now) }
     requires few { length runs.now ≤ most_runs }
-    ensures text { OnOk result (string_bytes out.new ≡ string_bytes out.old ++ mean_cells format (names_of program.now) column (map (number_in column) (rows_at place runs.now))) }
+    ensures text { OnOk result (string_bytes out.new ≡ string_bytes out.old ++ mean_cells counting.now.format counting.now.names.now (names_of program.now) column (map (number_in column) (rows_at place runs.now))) }
 {
     let numbers = numbers_at(alloc, runs, place, column)?;
-    put_cells(out, format, program, column, &numbers)
+    put_cells(out, counting, program, column, &numbers)
 }
 
 /// The means and deviations of all columns at a place.
 fn put_columns(
     alloc: Global,
     out: &mut String,
-    format: CountFormat,
+    counting: &Counting<'_>,
     program: &Program,
     columns: &[Column],
     runs: &[Run],
@@ -155,10 +155,10 @@ fn put_columns(
 ) -> Result<(), AllocError>
     requires some { 1 ≤ length (rows_at place runs.now) }
     requires few { length runs.now ≤ most_runs }
-    ensures text { OnOk result (string_bytes out.new ≡ string_bytes out.old ++ flat_map (λ c. mean_cells format (names_of program.now) c (map (number_in c) (rows_at place runs.now))) columns.now) }
+    ensures text { OnOk result (string_bytes out.new ≡ string_bytes out.old ++ flat_map (λ c. mean_cells counting.now.format counting.now.names.now (names_of program.now) c (map (number_in c) (rows_at place runs.now))) columns.now) }
 {
     for column in columns {
-        put_column(alloc, out, format, program, *column, runs, place)?;
+        put_column(alloc, out, counting, program, *column, runs, place)?;
     }
     Ok(())
 }
@@ -167,23 +167,23 @@ fn put_columns(
 fn put_line(
     alloc: Global,
     out: &mut String,
-    format: CountFormat,
+    counting: &Counting<'_>,
     program: &Program,
     columns: &[Column],
     runs: &[Run],
     place: usize,
 ) -> Result<(), AllocError>
     requires few { length runs.now ≤ most_runs }
-    ensures text { OnOk result (string_bytes out.new ≡ string_bytes out.old ++ mean_text format (names_of program.now) columns.now (rows_at place runs.now)) }
+    ensures text { OnOk result (string_bytes out.new ≡ string_bytes out.old ++ mean_text counting.now.format counting.now.names.now (names_of program.now) columns.now (rows_at place runs.now)) }
 {
     let rounds = rounds_at(alloc, runs, place)?;
     let Some(round) = rounds.first() else {
         return Ok(());
     };
-    put_start(out, format, "", *round)?;
-    put_named(out, format, "runs", rounds.len() as u64)?;
-    put_columns(alloc, out, format, program, columns, runs, place)?;
-    out.push_str(end_of(format))
+    put_start(out, counting.format, "", *round)?;
+    put_named(out, counting.format, "runs", rounds.len() as u64)?;
+    put_columns(alloc, out, counting, program, columns, runs, place)?;
+    out.push_str(end_of(counting.format))
 }
 
 /// How many rows the runs have at most.
@@ -201,16 +201,16 @@ fn longest(runs: &[Run]) -> usize
 fn put_lines(
     alloc: Global,
     out: &mut String,
-    format: CountFormat,
+    counting: &Counting<'_>,
     program: &Program,
     columns: &[Column],
     runs: &[Run],
 ) -> Result<(), AllocError>
     requires few { length runs.now ≤ most_runs }
-    ensures text { OnOk result (string_bytes out.new ≡ string_bytes out.old ++ flat_map (λ k. mean_text format (names_of program.now) columns.now (rows_at k runs.now)) (range_with_len 0 (longest runs.now))) }
+    ensures text { OnOk result (string_bytes out.new ≡ string_bytes out.old ++ flat_map (λ k. mean_text counting.now.format counting.now.names.now (names_of program.now) columns.now (rows_at k runs.now)) (range_with_len 0 (longest runs.now))) }
 {
     for place in 0..longest(runs) {
-        put_line(alloc, out, format, program, columns, runs, place)?;
+        put_line(alloc, out, counting, program, columns, runs, place)?;
     }
     Ok(())
 }
@@ -218,16 +218,16 @@ fn put_lines(
 /// The text of the means of columns.
 pub(crate) fn means_table(
     alloc: Global,
-    format: CountFormat,
+    counting: &Counting<'_>,
     program: &Program,
     columns: &[Column],
     runs: &[Run],
 ) -> Result<Vec<u8>, AllocError>
     requires few { length runs.now ≤ most_runs }
-    ensures text { IfOk result (λ v. v.items ≡ means_text format (names_of program.now) columns.now runs.now) }
+    ensures text { IfOk result (λ v. v.items ≡ means_text counting.now.format counting.now.names.now (names_of program.now) columns.now runs.now) }
 {
     let mut out = String::new(alloc);
-    put_means_opening(&mut out, format, program, columns)?;
-    put_lines(alloc, &mut out, format, program, columns, runs)?;
+    put_means_opening(&mut out, counting, program, columns)?;
+    put_lines(alloc, &mut out, counting, program, columns, runs)?;
     Ok(out.into_bytes())
 }

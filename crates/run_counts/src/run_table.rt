@@ -29,7 +29,7 @@ fn put_runs_opening(
     counting: &Counting<'_>,
     values: &[u32],
 ) -> Result<(), AllocError>
-    ensures text { OnOk result (string_bytes out.new ≡ string_bytes out.old ++ runs_opening counting.now.format name.now (names_of program.now) counting.now.figures.now values.now) }
+    ensures text { OnOk result (string_bytes out.new ≡ string_bytes out.old ++ runs_opening counting.now.format counting.now.names.now name.now (names_of program.now) counting.now.figures.now values.now) }
 {
     if counting.format == CountFormat::Csv {
         out.push_str(name)?;
@@ -42,32 +42,32 @@ fn put_runs_opening(
 fn put_run(
     alloc: Global,
     out: &mut String,
-    format: CountFormat,
+    counting: &Counting<'_>,
     name: &str,
     program: &Program,
     values: &[u32],
     run: &Run,
 ) -> Result<(), AllocError>
-    ensures text { OnOk result (string_bytes out.new ≡ string_bytes out.old ++ run_text format name.now (names_of program.now) values.now run.now) }
+    ensures text { OnOk result (string_bytes out.new ≡ string_bytes out.old ++ run_text counting.now.format counting.now.names.now name.now (names_of program.now) values.now run.now) }
 {
-    let head = head_of(alloc, format, name, run.value())?;
-    put_rows(out, format, head.as_str(), program, values, run.rows())
+    let head = head_of(alloc, counting.format, name, run.value())?;
+    put_rows(out, counting, head.as_str(), program, values, run.rows())
 }
 
 /// The lines of all runs.
 fn put_runs(
     alloc: Global,
     out: &mut String,
-    format: CountFormat,
+    counting: &Counting<'_>,
     name: &str,
     program: &Program,
     values: &[u32],
     runs: &[Run],
 ) -> Result<(), AllocError>
-    ensures text { OnOk result (string_bytes out.new ≡ string_bytes out.old ++ flat_map (run_text format name.now (names_of program.now) values.now) runs.now) }
+    ensures text { OnOk result (string_bytes out.new ≡ string_bytes out.old ++ flat_map (run_text counting.now.format counting.now.names.now name.now (names_of program.now) values.now) runs.now) }
 {
     for run in runs {
-        put_run(alloc, out, format, name, program, values, run)?;
+        put_run(alloc, out, counting, name, program, values, run)?;
     }
     Ok(())
 }
@@ -81,18 +81,10 @@ pub(crate) fn runs_table(
     values: &[u32],
     runs: &[Run],
 ) -> Result<Vec<u8>, AllocError>
-    ensures text { IfOk result (λ v. v.items ≡ runs_text counting.now.format name.now (names_of program.now) counting.now.figures.now values.now runs.now) }
+    ensures text { IfOk result (λ v. v.items ≡ runs_text counting.now.format counting.now.names.now name.now (names_of program.now) counting.now.figures.now values.now runs.now) }
 {
     let mut out = String::new(alloc);
     put_runs_opening(&mut out, name, program, counting, values)?;
-    put_runs(
-        alloc,
-        &mut out,
-        counting.format,
-        name,
-        program,
-        values,
-        runs,
-    )?;
+    put_runs(alloc, &mut out, counting, name, program, values, runs)?;
     Ok(out.into_bytes())
 }

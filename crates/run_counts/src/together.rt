@@ -80,7 +80,7 @@ fn means_text<R: Threads + Sync>(
     let values = values_in(alloc, &runs)?;
     let columns = columns_of(alloc, &values, counting.figures)?;
     let program = first_program(ensemble.variants);
-    let text = means_table(alloc, counting.format, program, &columns, &runs)?;
+    let text = means_table(alloc, counting, program, &columns, &runs)?;
     Ok(text)
 }
 

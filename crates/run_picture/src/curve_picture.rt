@@ -49,6 +49,7 @@ fn field_rows<P: Progress>(
     let counting = Counting {
         format: CountFormat::Csv,
         field,
+        names: &[],
         figures: &[],
         until: None,
     };

@@ -3,11 +3,13 @@ ghost use Rattle.std.specs.Prelude.{IfSome};
 ghost use Rattle.app_requests.specs.Requests.{HasRuns};
 
 use crate::count_runs::runs_text;
-use crate::plan_texts::plan_at;
+use crate::plan_texts::named_plan_at;
 use crate::progress::Telling;
 use crate::watch::no_rounds;
-use app_files::{Ending, coloured_field, field_place, path_in, print_out, read_once};
-use app_requests::{CountRequest, FigureWord, UntilWord};
+use app_files::{
+    Ending, coloured_field, field_place, names_of_field, path_in, print_out, read_once, value_named,
+};
+use app_requests::{CountRequest, FigureWord, UntilWord, ValueWord};
 use rounds_plan::Plan;
 use rule_check::Program;
 use run_counts::{CountFormat, Counting, Figure, FigureKind, Until, counted};
@@ -49,17 +51,32 @@ fn figures_for(
     Ok(figures)
 }
 
-/// When the rounds end early, where they may.
+/// The value that a word of `--until` names, of a field whose values have these names.
+fn until_value(alloc: Global, names: &[String], word: &UntilWord) -> Result<u32, Ending> {
+    match &word.value {
+        ValueWord::Number(value) => Ok(*value),
+        ValueWord::Name(name) => value_named(
+            alloc,
+            "--until",
+            word.field.as_str(),
+            names,
+            name.as_str(),
+        ),
+    }
+}
+
+/// When the rounds end early, where they may; the values of fields have these names.
 fn until_for(
     alloc: Global,
     program: &Program,
+    names: &[Vec<String>],
     word: &Option<UntilWord>,
 ) -> Result<Option<Until>, Ending> {
     let Some(word) = word else {
         return Ok(None);
     };
     let field = field_place(alloc, program, "--until", word.field.as_str())?;
-    let value = word.value;
+    let value = until_value(alloc, names_of_field(names, field), word)?;
     Ok(Some(Until { field, value }))
 }
 
@@ -73,15 +90,16 @@ pub(crate) struct Counted {
 }
 
 impl Counted {
-    /// What is asked for, where this is the program.
+    /// What is asked for, where this is the program, and the values of its fields have these names.
     pub(crate) fn of(
         alloc: Global,
         program: &Program,
+        names: &[Vec<String>],
         asked: &CountRequest,
     ) -> Result<Counted, Ending> {
         let field = coloured_field(alloc, program, &asked.field)?;
         let figures = figures_for(alloc, program, &asked.figures)?;
-        let until = until_for(alloc, program, &asked.until)?;
+        let until = until_for(alloc, program, names, &asked.until)?;
         Ok(Counted {
             format: asked.format,
             field,
@@ -90,11 +108,17 @@ impl Counted {
         })
     }
 
-    /// The same, as rounds are counted by it.
-    pub(crate) fn counting(&self) -> Counting<'_> {
+    /// The names of the values that are counted, of those of all fields.
+    pub(crate) fn names_among<'a>(&self, names: &'a [Vec<String>]) -> &'a [String] {
+        names_of_field(names, self.field)
+    }
+
+    /// The same, as rounds are counted by it, where the values that are counted have these names.
+    pub(crate) fn counting<'a>(&'a self, names: &'a [String]) -> Counting<'a> {
         Counting {
             format: self.format,
             field: self.field,
+            names,
             figures: &self.figures,
             until: self.until,
         }
@@ -131,9 +155,10 @@ fn run_text(
     threads: &(impl Threads + Sync),
     asked: &CountRequest,
 ) -> Result<Vec<u8>, Ending> {
-    let plan = plan_at(rt, &asked.runs.plan)?;
-    let found = Counted::of(rt.alloc(), plan.program(), asked)?;
-    counted_text(rt, threads, &plan, asked, &found.counting())
+    let named = named_plan_at(rt, &asked.runs.plan)?;
+    let found = Counted::of(rt.alloc(), named.plan.program(), &named.names, asked)?;
+    let counting = found.counting(found.names_among(&named.names));
+    counted_text(rt, threads, &named.plan, asked, &counting)
 }
 
 /// The text of the rounds that are asked for.

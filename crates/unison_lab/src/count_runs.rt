@@ -6,11 +6,11 @@ ghost use Rattle.run_counts.specs.Ensembles.{most_runs};
 use crate::count::Counted;
 use crate::plan_texts::plan_of;
 use crate::watch::no_rounds;
-use app_files::{Ending, bytes_at, bytes_where, check_model, expanded_text};
+use app_files::{Ending, bytes_at, bytes_where, check_model, expanded_text, state_names};
 use app_requests::{CountRequest, PlanPaths, Varied};
 use model_rules::Given;
 use rounds_plan::Plan;
-use run_counts::{Ensemble, Variant, counted_runs, mean_counts};
+use run_counts::{Counting, Ensemble, Variant, counted_runs, mean_counts};
 use std::alloc::{AllocError, Global};
 use std::thread::Threads;
 
@@ -106,14 +106,6 @@ fn runs_of(
     Ok(runs)
 }
 
-/// The runs that are asked for, one for each value of the constant.
-fn runs_at(rt: &HostRuntime, paths: &PlanPaths, varied: &Varied) -> Result<Vec<Run>, Ending>
-    ensures each { IfOk result (λ runs. length runs.items ≡ length varied.now.values.items) }
-{
-    let texts = texts_at(rt, paths)?;
-    runs_of(rt.alloc(), paths, &texts, varied)
-}
-
 /// The runs as they are counted together.
 fn variants_of<'a>(alloc: Global, runs: &'a [Run]) -> Result<Vec<Variant<'a>>, AllocError>
     ensures each { IfOk result (λ variants. length variants.items ≡ length runs.now) }
@@ -132,17 +124,16 @@ fn ensemble_text<R: Threads + Sync>(
     rt: &HostRuntime,
     threads: &R,
     asked: &CountRequest,
-    found: &Counted,
+    counting: &Counting<'_>,
     ensemble: &Ensemble<'_>,
 ) -> Result<Vec<u8>, Ending>
     requires some { 1 ≤ length ensemble.now.variants.now }
     requires few { length ensemble.now.variants.now ≤ most_runs }
 {
-    let counting = found.counting();
     let text = if asked.runs.means {
-        mean_counts(threads, rt.alloc(), ensemble, &asked.span, &counting)
+        mean_counts(threads, rt.alloc(), ensemble, &asked.span, counting)
     } else {
-        counted_runs(threads, rt.alloc(), ensemble, &asked.span, &counting)
+        counted_runs(threads, rt.alloc(), ensemble, &asked.span, counting)
     };
     match text {
         Ok(text) => Ok(text),
@@ -150,24 +141,45 @@ fn ensemble_text<R: Threads + Sync>(
     }
 }
 
-/// The text of these runs, of which the first says which fields there are.
+/// Whether one of the names is this one.
+fn has_name(names: &[String], name: &str) -> bool {
+    for other in names {
+        if other.as_str() == name {
+            return true;
+        }
+    }
+    false
+}
+
+/// The names by which columns are called: none where the constant that varies, whose column stands before them, has one of
+/// them.
+fn column_names<'a>(names: &'a [String], constant: &str) -> &'a [String] {
+    if has_name(names, constant) {
+        return &[];
+    }
+    names
+}
+
+/// The text of these runs, of which the first says which fields there are; their values have these names.
 fn text_of<R: Threads + Sync>(
     rt: &HostRuntime,
     threads: &R,
     asked: &CountRequest,
     name: &str,
+    names: &[Vec<String>],
     runs: &[Run],
 ) -> Result<Vec<u8>, Ending>
     requires some { 1 ≤ length runs.now }
     requires few { length runs.now ≤ most_runs }
 {
-    let found = Counted::of(rt.alloc(), runs[0].plan.program(), asked)?;
+    let found = Counted::of(rt.alloc(), runs[0].plan.program(), names, asked)?;
     let variants = variants_of(rt.alloc(), runs)?;
     let ensemble = Ensemble {
         name,
         variants: &variants,
     };
-    ensemble_text(rt, threads, asked, &found, &ensemble)
+    let counting = found.counting(column_names(found.names_among(names), name));
+    ensemble_text(rt, threads, asked, &counting, &ensemble)
 }
 
 /// The text of the runs that are asked for, one for each value of a constant.
@@ -179,6 +191,9 @@ pub(crate) fn runs_text<R: Threads + Sync>(
 ) -> Result<Vec<u8>, Ending>
     requires runs { HasRuns varied.now }
 {
-    let runs = runs_at(rt, &asked.runs.plan, varied)?;
-    text_of(rt, threads, asked, varied.name.as_str(), &runs)
+    let paths = &asked.runs.plan;
+    let texts = texts_at(rt, paths)?;
+    let runs = runs_of(rt.alloc(), paths, &texts, varied)?;
+    let names = state_names(rt.alloc(), paths.program.as_str(), &texts.model)?;
+    text_of(rt, threads, asked, varied.name.as_str(), &names, &runs)
 }

@@ -3,6 +3,7 @@
 use app_files::{Ending, field_place};
 use large_rounds::count_values;
 use rule_check::{Program, State};
+use run_watch::put_label;
 use std::alloc::{AllocError, Global};
 
 /// The place of the field that `--count` names.
@@ -10,17 +11,21 @@ pub(crate) fn counted(alloc: Global, program: &Program, name: &str) -> Result<u3
     field_place(alloc, program, "--count", name)
 }
 
-/// Adds a line for each value that a field has after a round, and how many nodes have it, by rising value.
+/// Adds a line for each value that a field has after a round, by its name among these where it has one, and how many nodes
+/// have it, by rising value.
 pub(crate) fn put_counts(
     text: &mut String,
     alloc: Global,
     round: u32,
     states: &[State],
     field: u32,
+    names: &[String],
 ) -> Result<(), AllocError> {
     let counts = count_values(alloc, states, field)?;
     for (value, nodes) in &counts {
-        write!(text, "{round},{value},{nodes}\n")?;
+        write!(text, "{round},")?;
+        put_label(text, names, *value)?;
+        write!(text, ",{nodes}\n")?;
     }
     Ok(())
 }

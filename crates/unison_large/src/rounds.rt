@@ -6,7 +6,7 @@ use crate::columns::column_of;
 use crate::counts::{counted, put_counts};
 use crate::progress::Telling;
 use crate::start::{Start, start_at};
-use app_files::{Ending, field_place, print_out};
+use app_files::{Ending, field_place, names_of_field, print_out};
 use app_jobs::ServeFault;
 use app_requests::{LargeTexts, StatesFormat, StatesView};
 use large_reports::csv_states;
@@ -157,15 +157,16 @@ impl Show {
     }
 }
 
-/// The text about how many nodes have each value of a field after a round.
+/// The text about how many nodes have each value of a field after a round; the values have these names.
 fn counts_text(
     alloc: Global,
     rounds: u32,
     states: &[State],
     field: u32,
+    names: &[String],
 ) -> Result<Vec<u8>, AllocError> {
     let mut text = String::from_str(alloc, "round,value,nodes\n")?;
-    put_counts(&mut text, alloc, rounds, states, field)?;
+    put_counts(&mut text, alloc, rounds, states, field, names)?;
     Ok(text.into_bytes())
 }
 
@@ -187,10 +188,11 @@ fn row_of(alloc: Global, states: &[State], field: u32) -> Result<Vec<u8>, Ending
     array_of(alloc, shape, &words)
 }
 
-/// What is printed of the states after a round.
+/// What is printed of the states after a round; the values of fields have these names.
 fn output_of(
     alloc: Global,
     program: &Program,
+    names: &[Vec<String>],
     rounds: u32,
     states: &[State],
     show: Show,
@@ -200,7 +202,10 @@ fn output_of(
         Show::All(StatesFormat::Csv) => Ok(csv_states(alloc, program, states)?),
         Show::All(StatesFormat::Npy) => table_of(alloc, program, states),
         Show::Column(field) => row_of(alloc, states, field),
-        Show::Counts(field) => Ok(counts_text(alloc, rounds, states, field)?),
+        Show::Counts(field) => {
+            let names = names_of_field(names, field);
+            Ok(counts_text(alloc, rounds, states, field, names)?)
+        }
     }
 }
 
@@ -217,8 +222,8 @@ pub(crate) fn report_round(
     let count = threads_for(threads, texts);
     let packed = packed_from(rt, threads, &start, rounds, count)?;
     // The network and the initial states are dropped before the list of the states is made.
-    let Start { program, .. } = start;
+    let Start { program, names, .. } = start;
     let states = packed.states(rt.alloc())?;
-    let output = output_of(rt.alloc(), &program, rounds, &states, show)?;
+    let output = output_of(rt.alloc(), &program, &names, rounds, &states, show)?;
     print_out(rt, &output)
 }

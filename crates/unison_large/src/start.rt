@@ -4,8 +4,8 @@ use crate::arrays::column_at;
 use crate::network::network_at;
 use crate::reports::report_at;
 use app_files::{
-    Ending, NodeCalls, drawn_parts, field_place, list_path, listed_nodes, path_in, program_at,
-    read_once,
+    Ending, NamedProgram, NodeCalls, drawn_parts, field_place, list_path, listed_nodes,
+    named_program_at, path_in, read_once,
 };
 use app_jobs::program_of;
 use app_requests::{FileWord, LargeTexts, RandomWord, SetWord, StartWords, amounts_of};
@@ -20,6 +20,8 @@ use std::alloc::{AllocError, Global};
 #[derive(Drop)]
 pub(crate) struct Start {
     pub(crate) program: Program,
+    /// For each field of the program, in order, the names of its values, 0 and so on; none where it has no states.
+    pub(crate) names: Vec<Vec<String>>,
     pub(crate) network: LargeNetwork,
     pub(crate) opening: Opening,
 }
@@ -207,10 +209,9 @@ fn states_of(
     Ok(states)
 }
 
-/// The program that these words name.
-fn program_for(rt: &HostRuntime, texts: &LargeTexts) -> Result<Program, Ending> {
-    let text = program_at(rt, texts.program.as_str(), &texts.constants)?;
-    match program_of(rt.alloc(), &text) {
+/// The program of a text.
+fn program_in(alloc: Global, text: &[u8]) -> Result<Program, Ending> {
+    match program_of(alloc, text) {
         Ok((_source, program)) => Ok(program),
         Err(fault) => Err(Ending::Served(fault)),
     }
@@ -264,11 +265,14 @@ fn check_paths(alloc: Global, texts: &LargeTexts) -> Result<(), Ending> {
 /// What rounds begin with by these words.
 pub(crate) fn start_at(rt: &HostRuntime, texts: &LargeTexts) -> Result<Start, Ending> {
     check_paths(rt.alloc(), texts)?;
-    let program = program_for(rt, texts)?;
+    let named = named_program_at(rt, texts.program.as_str(), &texts.constants)?;
+    let program = program_in(rt.alloc(), &named.text)?;
     let network = network_at(rt, texts.network.as_str())?;
     let opening = opening_for(rt, &program, &network, texts)?;
+    let NamedProgram { names, .. } = named;
     Ok(Start {
         program,
+        names,
         network,
         opening,
     })

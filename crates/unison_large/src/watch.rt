@@ -5,7 +5,7 @@ use crate::counts::{counted, put_counts};
 use crate::progress::Telling;
 use crate::rounds::{move_to, no_round, plan_of, threads_for};
 use crate::start::{Start, start_at};
-use app_files::{Ending, print_out};
+use app_files::{Ending, names_of_field, print_out};
 use app_requests::{LargeTexts, RoundsView};
 use large_rounds::{LargeWalk, changed_nodes};
 use rounds_plan::RoundFault;
@@ -57,7 +57,7 @@ fn put_changes(
     Ok(())
 }
 
-/// Adds how many nodes have each value of a field in each round of a span.
+/// Adds how many nodes have each value of a field in each round of a span; the values have these names.
 fn put_all_counts(
     threads: &(impl Threads + Sync),
     text: &mut String,
@@ -65,19 +65,20 @@ fn put_all_counts(
     walk: &mut LargeWalk<'_>,
     span: &Span,
     field: u32,
+    names: &[String],
     telling: &mut Telling<'_>,
 ) -> Result<(), AllocError> {
     for step in 0..=span.steps() {
         let round = span.round_at(step);
         move_to(threads, walk, round);
         let states = walk.states(alloc)?;
-        put_counts(text, alloc, round, &states, field)?;
+        put_counts(text, alloc, round, &states, field, names)?;
         telling.reached(round);
     }
     Ok(())
 }
 
-/// Adds what is shown of each round of a span.
+/// Adds what is shown of each round of a span; the values of fields have these names.
 fn put_rounds(
     threads: &(impl Threads + Sync),
     text: &mut String,
@@ -85,11 +86,15 @@ fn put_rounds(
     walk: &mut LargeWalk<'_>,
     span: &Span,
     show: Show,
+    names: &[Vec<String>],
     telling: &mut Telling<'_>,
 ) -> Result<(), AllocError> {
     match show {
         Show::Changes => put_changes(threads, text, alloc, walk, span, telling),
-        Show::Counts(field) => put_all_counts(threads, text, alloc, walk, span, field, telling),
+        Show::Counts(field) => {
+            let names = names_of_field(names, field);
+            put_all_counts(threads, text, alloc, walk, span, field, names, telling)
+        }
     }
 }
 
@@ -122,6 +127,7 @@ fn text_of(
         &mut walk,
         span,
         show,
+        &start.names,
         &mut telling,
     )?;
     Ok(text)

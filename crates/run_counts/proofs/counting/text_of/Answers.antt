@@ -10,7 +10,7 @@ returns g c =
     let counting = c.args.counting.now in
     let rows = c.in_ok-rows.rows.items in
     let values = c.in_ok-values.values.items in
-    let text = λ (r : Rules) (vs : List ℕ) (rs : List RowView). table_text counting.format (names_of r) counting.figures.now vs rs in
+    let text = λ (r : Rules) (vs : List ℕ) (rs : List RowView). table_text counting.format counting.names.now (names_of r) counting.figures.now vs rs in
     record {
       text = record {
         rows = rows;

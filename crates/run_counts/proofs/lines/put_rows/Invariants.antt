@@ -6,5 +6,5 @@ use Rattle.run_counts.proofs.lines.put_rows.Given as goal
 
 abbrev pub invariant-loop-row : goal.invariant-loop-row
 invariant-loop-row l =
-    string_bytes l.out ++ flat_map (row_text l.format l.head (names_of l.program) l.values) (drop l.row-index l.rows)
-    ≡ string_bytes l.initial.out ++ flat_map (row_text l.format l.head (names_of l.program) l.values) l.rows
+    string_bytes l.out ++ flat_map (row_text l.counting.format l.counting.names.now l.head (names_of l.program) l.values) (drop l.row-index l.rows)
+    ≡ string_bytes l.initial.out ++ flat_map (row_text l.counting.format l.counting.names.now l.head (names_of l.program) l.values) l.rows

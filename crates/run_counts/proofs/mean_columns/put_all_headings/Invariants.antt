@@ -6,5 +6,5 @@ use Rattle.run_counts.proofs.mean_columns.put_all_headings.Given as goal
 
 abbrev pub invariant-loop-column : goal.invariant-loop-column
 invariant-loop-column l =
-    string_bytes l.out ++ flat_map (headings_text (names_of l.program)) (drop l.column-index l.columns)
-    ≡ string_bytes l.initial.out ++ flat_map (headings_text (names_of l.program)) l.columns
+    string_bytes l.out ++ flat_map (headings_text l.names (names_of l.program)) (drop l.column-index l.columns)
+    ≡ string_bytes l.initial.out ++ flat_map (headings_text l.names (names_of l.program)) l.columns

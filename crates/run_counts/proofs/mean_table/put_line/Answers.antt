@@ -11,7 +11,8 @@ use Rattle.run_counts.proofs.mean_table.put_line.Goals as goal
 
 pub returns : goal.returns
 returns c =
-    let format = c.args.format in
+    let format = c.args.counting.now.format in
+    let labels = c.args.counting.now.names.now in
     let names = names_of c.args.program.now in
     let rows = rows_at c.args.place c.args.runs.now in
     let rounds = map (λ (row : RowView). row.round) rows in
@@ -19,7 +20,7 @@ returns c =
     let before = string_bytes c.args.out.now in
     let start = line_start format [] round in
     let counted = λ (n : ℕ). cell_text format (codes "runs") n in
-    let cells = flat_map (λ (column : Column). mean_cells format names column (map (number_in column) rows)) c.args.columns.now in
+    let cells = flat_map (λ (column : Column). mean_cells format labels names column (map (number_in column) rows)) c.args.columns.now in
     let last = c.end_of.result.now in
     let number = c.len.result in
     let rounds_are : c.in_ok-rounds.rounds.items ≡ rounds = c.in_ok-rounds.ensures.rounds in
@@ -39,6 +40,6 @@ returns c =
           ∙ ap (λ (text : List ℕ). text ++ last) put
           ∙ put_in_turn before start (counted number) cells last
           ∙ line
-          ∙ sym (ap (λ (text : List ℕ). before ++ text) (line_is format names c.args.columns.now rows round first)))
+          ∙ sym (ap (λ (text : List ℕ). before ++ text) (line_is format labels names c.args.columns.now rows round first)))
           (put_last c.push_str.result (string_bytes c.put_columns.new.out) last (string_bytes c.push_str.new.self) c.push_str.ensures.bytes);
     }

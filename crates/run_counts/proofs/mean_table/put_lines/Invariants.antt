@@ -7,5 +7,5 @@ use Rattle.run_counts.proofs.mean_table.put_lines.Given as goal
 abbrev pub invariant-loop-place : goal.invariant-loop-place
 invariant-loop-place l =
     string_bytes l.out
-    ++ flat_map (λ (k : ℕ). mean_text l.format (names_of l.program) l.columns (rows_at k l.runs)) (range_with_len l.place (longest l.runs - l.place))
-    ≡ string_bytes l.initial.out ++ flat_map (λ (k : ℕ). mean_text l.format (names_of l.program) l.columns (rows_at k l.runs)) (range_with_len 0 (longest l.runs))
+    ++ flat_map (λ (k : ℕ). mean_text l.counting.format l.counting.names.now (names_of l.program) l.columns (rows_at k l.runs)) (range_with_len l.place (longest l.runs - l.place))
+    ≡ string_bytes l.initial.out ++ flat_map (λ (k : ℕ). mean_text l.counting.format l.counting.names.now (names_of l.program) l.columns (rows_at k l.runs)) (range_with_len 0 (longest l.runs))

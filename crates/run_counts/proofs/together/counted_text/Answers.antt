@@ -15,7 +15,7 @@ returns g c =
     let runs = c.in_ok-runs.runs.items in
     let values = c.in_ok-values.values.items in
     let names = names_in e.variants.now in
-    let text = λ (ns : List (List ℕ)) (vs : List ℕ) (rs : List RunView). runs_text counting.format e.name.now ns counting.figures.now vs rs in
+    let text = λ (ns : List (List ℕ)) (vs : List ℕ) (rs : List RunView). runs_text counting.format counting.names.now e.name.now ns counting.figures.now vs rs in
     record {
       text = record {
         runs = runs;

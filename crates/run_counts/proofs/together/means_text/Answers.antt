@@ -23,7 +23,7 @@ returns g c =
     let values = c.in_ok-values.values.items in
     let names = names_in e.variants.now in
     let columns = columns_of values counting.figures.now in
-    let text = λ (ns : List (List ℕ)) (cs : List Column) (rs : List RunView). means_text counting.format ns cs rs in
+    let text = λ (ns : List (List ℕ)) (cs : List Column) (rs : List RunView). means_text counting.format counting.names.now ns cs rs in
     record {
       text = record {
         runs = runs;
