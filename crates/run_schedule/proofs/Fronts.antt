@@ -39,13 +39,13 @@ range-push : (a n : ℕ) → range_with_len a (suc n) ≡ range_with_len a n ++ 
 range-push a zero = (let e : a + 0 ≡ a = omega arith in ap (λ x. x ∷ []) (sym e))
 range-push a (suc n) = (let e : (a + 1) + n ≡ a + suc n = omega arith in ap (λ xs. a ∷ xs) (range-push (a + 1) n ∙ ap (λ x. range_with_len (a + 1) n ++ x ∷ []) e))
 
-range-next : (i : ℕ) → range_with_len 0 (i + 1) ≡ range_with_len 0 i ++ i ∷ []
+pub range-next : (i : ℕ) → range_with_len 0 (i + 1) ≡ range_with_len 0 i ++ i ∷ []
 range-next i =
     let e : i + 1 ≡ suc i = omega arith in
     let z : 0 + i ≡ i = omega arith in
     ap (range_with_len 0) e ∙ range-push 0 i ∙ ap (λ x. range_with_len 0 i ++ x ∷ []) z
 
-map-snoc : {X Y : Type 0} (f : X → Y) (xs : List X) (x : X) → map f (xs ++ x ∷ []) ≡ map f xs ++ f x ∷ []
+pub map-snoc : {X Y : Type 0} (f : X → Y) (xs : List X) (x : X) → map f (xs ++ x ∷ []) ≡ map f xs ++ f x ∷ []
 map-snoc f [] x = refl
 map-snoc f (y ∷ xs) x = ap (λ ys. f y ∷ ys) (map-snoc f xs x)
 
@@ -53,7 +53,7 @@ map-snoc f (y ∷ xs) x = ap (λ ys. f y ∷ ys) (map-snoc f xs x)
 pub reads-push : (u i : ℕ) → map (λ j. Read u j) (range_with_len 0 i) ++ Read u i ∷ [] ≡ map (λ j. Read u j) (range_with_len 0 (i + 1))
 reads-push u i = sym (ap (map (λ j. Read u j)) (range-next i) ∙ map-snoc (λ j. Read u j) (range_with_len 0 i) i)
 
-flat_map-snoc : {X Y : Type 0} (f : X → List Y) (xs : List X) (x : X) → flat_map f (xs ++ x ∷ []) ≡ flat_map f xs ++ f x
+pub flat_map-snoc : {X Y : Type 0} (f : X → List Y) (xs : List X) (x : X) → flat_map f (xs ++ x ∷ []) ≡ flat_map f xs ++ f x
 flat_map-snoc f [] x = append-nil (f x)
 flat_map-snoc f (y ∷ xs) x = ap (λ ys. f y ++ ys) (flat_map-snoc f xs x) ∙ sym (append_assoc (f y) (flat_map f xs) (f x))
 

@@ -7,3 +7,6 @@ pub mod Finding
 pub mod Ending
 pub mod Mixing
 pub mod Leading
+pub mod Drawn
+pub mod Joint
+pub mod Driven

@@ -25,7 +25,7 @@ use Rattle.run_schedule.proofs.Resting.{answer-fresh, all-marked}
 abbrev pub AllChange : List Answer → Type 0
 AllChange list = All (λ a. is_change a ≡ true) list
 
-run-append : (network : Neighbours) (stop : ℕ) (c : Counts) (xs ys : List Step) → run network stop c (xs ++ ys) ≡ run network stop (run network stop c xs) ys
+pub run-append : (network : Neighbours) (stop : ℕ) (c : Counts) (xs ys : List Step) → run network stop c (xs ++ ys) ≡ run network stop (run network stop c xs) ys
 run-append network stop c [] ys = refl
 run-append network stop c (x ∷ xs) ys = run-append network stop (after network stop c x) xs ys
 
@@ -33,17 +33,17 @@ answers-append : (network : Neighbours) (stop : ℕ) (c : Counts) (xs ys : List 
 answers-append network stop c [] ys = refl
 answers-append network stop c (x ∷ xs) ys = ap (λ list. answer_of network stop c x ∷ list) (answers-append network stop (after network stop c x) xs ys)
 
-both-change : (network : Neighbours) (stop : ℕ) (c : Counts) (xs ys : List Step) → AllChange (answers network stop c xs) → AllChange (answers network stop (run network stop c xs) ys) → AllChange (answers network stop c (xs ++ ys))
+pub both-change : (network : Neighbours) (stop : ℕ) (c : Counts) (xs ys : List Step) → AllChange (answers network stop c xs) → AllChange (answers network stop (run network stop c xs) ys) → AllChange (answers network stop c (xs ++ ys))
 both-change network stop c xs ys h k = rw (answers-append network stop c xs ys) (All-append (λ a. is_change a ≡ true) (answers network stop c xs) (answers network stop (run network stop c xs) ys) h k)
 
 -- no slot from this one on is marked
-abbrev Unmarked : Counts → ℕ → ℕ → Type 0
+abbrev pub Unmarked : Counts → ℕ → ℕ → Type 0
 Unmarked c u j = (k : ℕ) → j ≤ k → is_marked c u k ≡ false
 
-free-marked : (network : Neighbours) (stop u j : ℕ) (c : Counts) → Free network stop u c → Free network stop u (marked c u j)
+pub free-marked : (network : Neighbours) (stop u j : ℕ) (c : Counts) → Free network stop u c → Free network stop u (marked c u j)
 free-marked network stop u j c f = record { shape = shape-marked network c u j f.shape; node = f.node; unstopped = f.unstopped; ahead = f.ahead }
 
-unmarked-next : (network : Neighbours) (stop u j : ℕ) (c : Counts) → Free network stop u c → Unmarked c u j → Unmarked (marked c u j) u (j + 1)
+pub unmarked-next : (network : Neighbours) (stop u j : ℕ) (c : Counts) → Free network stop u c → Unmarked c u j → Unmarked (marked c u j) u (j + 1)
 unmarked-next network stop u j c f none k h =
     let has : u < length c.marks = (let a = f.shape.marks in let b = f.node in omega arith) in
     let other : k ≢ j = λ e. omega arith in
@@ -52,7 +52,7 @@ unmarked-next network stop u j c f none k h =
     ∙ none k (omega arith)
 
 -- reads of a free node's slots
-reads-change : (network : Neighbours) (stop u a n : ℕ) (c : Counts) → Free network stop u c → Unmarked c u a → a + n ≤ degree network u → AllChange (answers network stop c (map (λ j. Read u j) (range_with_len a n)))
+pub reads-change : (network : Neighbours) (stop u a n : ℕ) (c : Counts) → Free network stop u c → Unmarked c u a → a + n ≤ degree network u → AllChange (answers network stop c (map (λ j. Read u j) (range_with_len a n)))
 reads-change network stop u a zero c f none fit = All-nil (λ a. is_change a ≡ true)
 reads-change network stop u a (suc n) c f none fit =
     let inside : a < degree network u = omega arith in

@@ -8,7 +8,7 @@ use Rattle.unison_trace.specs.Histories.{is_change}
 use Rattle.unison_trace.proofs.Leading.{lead-more}
 use Rattle.run_schedule.specs.Walks.{WalkView, IsWalk, GoesOn, is_other, is_open, with_step, walk_after}
 
-both-true : (a b : Bool) → a && b ≡ true → (a ≡ true) × (b ≡ true)
+pub both-true : (a b : Bool) → a && b ≡ true → (a ≡ true) × (b ≡ true)
 both-true true b e = (refl, e)
 both-true false b e = cc
 

@@ -4,5 +4,6 @@ pub mod Ways
 pub mod Starving
 pub mod Walks
 pub mod Leading
+pub mod Daemons
 pub mod Manners
 pub mod Mixing

@@ -18,6 +18,9 @@ pub enum ListFault {
     /// The network has no node of this number.
     #[error("there is no node {node}")]
     NoNode { node: u32 },
+    /// The network has no link between these two nodes.
+    #[error("there is no link between nodes {node} and {other}")]
+    NotLinked { node: u32, other: u32 },
     /// Out of memory.
     #[error("not enough memory")]
     Memory,

@@ -3,6 +3,10 @@
 #![tactic(auto)]
 
 mod ahead;
+mod choosing;
+mod daemon;
+mod driving;
+mod enabled;
 mod fault;
 mod links;
 mod listing;
@@ -12,8 +16,10 @@ mod queue;
 mod refused;
 mod rest;
 mod sweeps;
+mod together;
 mod walk;
 
+pub use daemon::Daemon;
 pub use fault::ListFault;
 pub use listing::listed;
 pub use manner::Manner;

@@ -4,14 +4,19 @@ ghost use Rattle.std.specs.Arc.{arc_value};
 ghost use Rattle.link_net.specs.Neighbours.{Neighbours};
 ghost use Rattle.unison_world.specs.Opening.{opening_of};
 ghost use Rattle.unison_world.specs.View.{opened};
+ghost use Rattle.run_schedule.specs.declared.manner.Manner.TheVariants.{Under};
+ghost use Rattle.run_schedule.specs.Daemons.{AreStepsUnder, IsUnderDaemon, KeepsTwo};
 ghost use Rattle.run_schedule.specs.Leading.{HasLed, LeadsNode, StaysAhead};
 ghost use Rattle.run_schedule.specs.Lists.{GoesToStop, IsStepList, limit_of};
-ghost use Rattle.run_schedule.specs.Manners.{HasManner, IsFaultOf, IsSwept, node_fault, node_in, refusal_of};
+ghost use Rattle.run_schedule.specs.Manners.{HasManner, IsFaultOf, IsSwept, named_fault, node_fault, node_in, pair_fault, pair_in, refusal_of};
 ghost use Rattle.run_schedule.specs.Starving.{StarvesNode};
 ghost use Rattle.run_schedule.specs.Walks.{AtRest, IsFull};
 
 use crate::ahead::lead;
+use crate::daemon::Daemon;
+use crate::driving::drive;
 use crate::fault::{Halt, ListFault};
+use crate::links::is_linked;
 use crate::manner::Manner;
 use crate::queue::{Order, Queue};
 use crate::rest::come_to_rest;
@@ -36,6 +41,19 @@ fn node_in(manner: Manner) -> Option<u32>
         Manner::Sweeps => None,
         Manner::Random { .. } => None,
         Manner::SlowLinks { .. } => None,
+        Manner::Under { .. } => None,
+    }
+}
+
+/// The two nodes that a manner names.
+fn pair_in(manner: Manner) -> Option<(u32, u32)>
+    ensures { result ≡ pair_in manner }
+{
+    match manner {
+        Manner::Under {
+            daemon: Daemon::Adversary { ahead, behind, .. },
+        } => Some((ahead, behind)),
+        _ => None,
     }
 }
 
@@ -51,6 +69,34 @@ fn node_fault(network: &Network, node: Option<u32>) -> Option<ListFault>
     }
 }
 
+/// The fault of two nodes, of which one is none of the network's, or which are not linked.
+fn pair_fault(network: &Network, pair: Option<(u32, u32)>) -> Option<ListFault>
+    ensures { result ≡ pair_fault network.now pair }
+{
+    let (node, other) = pair?;
+    if node >= network.nodes() {
+        return Some(ListFault::NoNode { node });
+    }
+    if other >= network.nodes() {
+        return Some(ListFault::NoNode { node: other });
+    }
+    if is_linked(network, node, other) {
+        None
+    } else {
+        Some(ListFault::NotLinked { node, other })
+    }
+}
+
+/// The fault of the nodes that a manner names.
+fn named_fault(network: &Network, manner: Manner) -> Option<ListFault>
+    ensures { result ≡ named_fault network.now manner }
+{
+    match node_fault(network, node_in(manner)) {
+        Some(fault) => Some(fault),
+        None => pair_fault(network, pair_in(manner)),
+    }
+}
+
 /// Why there is no list, whatever memory there is.
 pub(crate) fn refusal(plan: &Plan, stop: u32, manner: Manner) -> Option<ListFault>
     ensures { result ≡ refusal_of plan.now stop manner }
@@ -61,7 +107,7 @@ pub(crate) fn refusal(plan: &Plan, stop: u32, manner: Manner) -> Option<ListFaul
     if stop < plan.start() {
         return Some(ListFault::StopBelowStart);
     }
-    node_fault(plan.network(), node_in(manner))
+    named_fault(plan.network(), manner)
 }
 
 /// How many steps a list may have.
@@ -163,6 +209,45 @@ fn led_ahead(
     Ok(ended.into_steps())
 }
 
+/// A walk whose nodes a daemon chose until none was enabled, or that made as many steps as it may.
+fn driven(alloc: Global, mut walk: Walk, daemon: Daemon) -> Result<Walk, ListFault>
+    requires two { KeepsTwo daemon }
+    requires none { walk.still ≡ None }
+    requires opened { walk.world ≡ opened walk.world.plan walk.world.stop }
+    requires begun { walk.steps ≡ [] }
+    ensures plan { IfOk result (λ w. (w.world.plan ≡ walk.world.plan) × (w.world.stop ≡ walk.world.stop)) }
+    ensures still { IfOk result (λ w. (w.still ≡ walk.still) × (w.limit ≡ walk.limit)) }
+    ensures under { IfOk result (λ w. AreStepsUnder w.world.plan w.world.stop daemon w.limit w.steps) }
+    ensures ends { IfOk result (λ w. AtRest w ⊎ IsFull w) }
+    ensures memory { IfErr result (λ fault. fault ≡ ListFault.Memory) }
+{
+    match drive(alloc, &mut walk, daemon) {
+        Ok(()) => Ok(walk),
+        Err(Halt::Full) => Ok(walk),
+        Err(Halt::Memory) => Err(ListFault::Memory),
+    }
+}
+
+/// Steps of the nodes that a daemon chooses, until every node stands at the stop.
+fn chosen_by(
+    alloc: Global,
+    plan: Arc<Plan>,
+    stop: u32,
+    limit: u32,
+    daemon: Daemon,
+) -> Result<Vec<Step>, ListFault>
+    requires opens { opening_of (arc_value plan) stop ≡ Ok (opened (arc_value plan) stop) }
+    requires fits { refusal_of (arc_value plan) stop (Under daemon) ≡ None }
+    ensures under { IfOk result (λ v. IsUnderDaemon (arc_value plan) stop daemon limit v.items) }
+    ensures memory { IfErr result (λ fault. fault ≡ ListFault.Memory) }
+{
+    let walk = Walk::new(alloc, plan, stop, None, limit)?;
+    // For the proof alone: the call tells what holds of every world.
+    let _network = walk.network();
+    let ended = driven(alloc, walk, daemon)?;
+    Ok(ended.into_steps())
+}
+
 /// The whole sweeps up to the stop.
 fn swept_whole(alloc: Global, plan: &Plan, stop: u32, limit: u32) -> Result<Vec<Step>, ListFault>
     requires opens { opening_of plan.now stop ≡ Ok (opened plan.now stop) }
@@ -193,14 +278,16 @@ fn made(
         Manner::Starve { node } => starved(alloc, plan, stop, limit, node),
         Manner::Ahead { node } => led_ahead(alloc, plan, stop, limit, node),
         Manner::SlowLinks { seed } => to_stop(alloc, plan, stop, limit, seed, Some(seed)),
+        Manner::Under { daemon } => chosen_by(alloc, plan, stop, limit, daemon),
     }
 }
 
 /// The list of steps of a manner on a plan, up to a stop, from all nodes at the plan's start on. It has no more steps
 /// than are asked for, and no more than 1,000,000 where none or more are.
 ///
-/// `StopTooLarge` comes above 1,000,000,000, else `StopBelowStart` below the plan's start, and else `NoNode` where the
-/// manner names a node that is none of the network's; `Memory` only where none of them does.
+/// `StopTooLarge` comes above 1,000,000,000, else `StopBelowStart` below the plan's start, else `NoNode` where the manner
+/// names a node that is none of the network's, and else `NotLinked` where an adversary's two nodes are not linked; `Memory`
+/// only where none of them does.
 pub fn listed(
     alloc: Global,
     plan: Arc<Plan>,

@@ -1,5 +1,7 @@
 //! Manners in which steps follow each other.
 
+use crate::daemon::Daemon;
+
 /// Which steps a list has. Nodes, slots and the stop are as in a schedule.
 #[derive(Clone, Copy)]
 pub enum Manner {
@@ -16,4 +18,7 @@ pub enum Manner {
     /// As `Random`, but some links, about a quarter of them, drawn by the seed, are read only where nothing else is left to
     /// do.
     SlowLinks { seed: u64 },
+    /// Nodes that a daemon chooses move whole: they read all their neighbours and then move, until every node stands at the
+    /// stop.
+    Under { daemon: Daemon },
 }
