@@ -69,6 +69,34 @@ const NODE: Argument = Argument {
 /// `NODE`, as it is read.
 static NODE_ARGUMENT: Argument = NODE;
 
+const NEIGHBOUR: Argument = Argument {
+    name: "neighbour",
+    kind: Kind::Positional,
+    value_name: "NEIGHBOUR",
+    help: "A neighbour of NODE, by its number, or by its name where --names is given",
+    ..OPTION
+};
+
+/// `NEIGHBOUR`, as it is read.
+static NEIGHBOUR_ARGUMENT: Argument = NEIGHBOUR;
+
+const SHARE: Argument = Argument {
+    name: "share",
+    value: Value::Number {
+        least: 0,
+        most: 100,
+    },
+    value_name: "PERCENT",
+    help: "Each enabled node with so many chances of a hundred: 0 to 100, and 50 where it is left out",
+    ..OPTION
+};
+
+/// The share where it is left out.
+const HALF: u32 = 50;
+
+/// `SHARE`, as it is read.
+static SHARE_ARGUMENT: Argument = SHARE;
+
 const LINES: Argument = Argument {
     name: "lines",
     help: "The file of the lines, or - for standard input",
@@ -86,7 +114,17 @@ const OF_A_NODE: [Argument; 10] = [
     NODE, PROGRAM, NETWORK, NAMES, STOP, COUNT, SEED, REFUSED, FROM, CONSTANT,
 ];
 
-const MANNERS: [Subcommand; 6] = [
+/// What the manner of a share takes.
+const OF_A_SHARE: [Argument; 9] = [
+    PROGRAM, NETWORK, SHARE, STOP, COUNT, SEED, REFUSED, FROM, CONSTANT,
+];
+
+/// What a manner that names two neighbours takes.
+const OF_A_PAIR: [Argument; 11] = [
+    NODE, NEIGHBOUR, PROGRAM, NETWORK, NAMES, STOP, COUNT, SEED, REFUSED, FROM, CONSTANT,
+];
+
+const MANNERS: [Subcommand; 11] = [
     Subcommand {
         name: "sweeps",
         about: "Each node by rising number reads all its neighbours and moves, until all stand at the stop",
@@ -118,6 +156,36 @@ const MANNERS: [Subcommand; 6] = [
         arguments: &OF_A_NODE,
     },
     Subcommand {
+        name: "central",
+        about: "The central daemon: one enabled node at a time, drawn at random, reads all its neighbours and moves",
+        notes: "",
+        arguments: &OF_ALL,
+    },
+    Subcommand {
+        name: "synchronous",
+        about: "The synchronous daemon: all enabled nodes at a time, all reads before all moves",
+        notes: "",
+        arguments: &OF_ALL,
+    },
+    Subcommand {
+        name: "distributed",
+        about: "The distributed daemon: each enabled node with --share chances of a hundred, one at least",
+        notes: "",
+        arguments: &OF_A_SHARE,
+    },
+    Subcommand {
+        name: "round-robin",
+        about: "The round-robin daemon: each node in the order of the numbers, which is what sweeps does",
+        notes: "",
+        arguments: &OF_ALL,
+    },
+    Subcommand {
+        name: "adversary",
+        about: "An adversary: NODE wherever it is enabled, and NEIGHBOUR only where no other node is",
+        notes: "An example: unison schedule adversary 0 1 examples/distance.rules examples/path.toml --stop 3\n",
+        arguments: &OF_A_PAIR,
+    },
+    Subcommand {
         name: "write",
         about: "A schedule from a script, a line such as `4 reads 7` for each step",
         notes: "The lines: `4 reads 7`, `4 reads all`, `4 moves`, `4 turn` (reads all and moves), `sweep` (a turn of each node), and `repeat 3 {` and `}` around others; what stands behind # is a comment.\nAn example: printf 'sweep\\n0 turn\\n' | unison schedule write - examples/distance.rules examples/path.toml\n",
@@ -130,7 +198,7 @@ static SCHEDULE: Command = Command {
     name: "schedule",
     aliases: &["steps"],
     called: "unison schedule",
-    about: "Make a schedule: sweeps, at random, one node starved or ahead, or from a script",
+    about: "Make a schedule: sweeps, at random, one node starved or ahead, by a daemon, or from a script",
     notes: "Prints a schedule, as replay and explain read it and run --trace writes it.\nAn example: unison schedule sweeps examples/distance.rules examples/path.toml --stop 2 > steps.txt\nThe words of one: unison schedule write --help\n",
     arguments: &[],
     subcommands: &MANNERS,
@@ -154,6 +222,14 @@ pub enum StepsManner {
     Ahead { node: String },
     /// Some links are read only where nothing else is left to do.
     SlowLinks,
+    /// One enabled node at a time reads all its slots and moves.
+    Central,
+    /// All enabled nodes at a time read all their slots, and then move.
+    Synchronous,
+    /// Each enabled node does with so many chances of a hundred, and one at least.
+    Distributed { share: u32 },
+    /// The node, by its number or name, moves wherever it is enabled, and its neighbour only where no other is.
+    Adversary { node: String, neighbour: String },
 }
 
 /// Up to where steps go, and by what they are drawn.
@@ -196,18 +272,34 @@ pub enum ScheduleRequest {
     Writing(Writing),
 }
 
+/// The daemon of the subcommand that is named.
+fn daemon_in(reading: &mut Reading) -> StepsManner {
+    match reading.subcommand() {
+        "central" => StepsManner::Central,
+        "synchronous" => StepsManner::Synchronous,
+        "distributed" => StepsManner::Distributed {
+            share: reading.number_or(&SHARE_ARGUMENT, HALF),
+        },
+        _ => StepsManner::Adversary {
+            node: reading.needed_text(&NODE_ARGUMENT),
+            neighbour: reading.needed_text(&NEIGHBOUR_ARGUMENT),
+        },
+    }
+}
+
 /// The manner of the subcommand that is named.
 fn manner_in(reading: &mut Reading) -> StepsManner {
     match reading.subcommand() {
-        "sweeps" => StepsManner::Sweeps,
+        "sweeps" | "round-robin" => StepsManner::Sweeps,
         "random" => StepsManner::Random,
         "slow-links" => StepsManner::SlowLinks,
         "starve" => StepsManner::Starve {
             node: reading.needed_text(&NODE_ARGUMENT),
         },
-        _ => StepsManner::Ahead {
+        "ahead" => StepsManner::Ahead {
             node: reading.needed_text(&NODE_ARGUMENT),
         },
+        _ => daemon_in(reading),
     }
 }
 

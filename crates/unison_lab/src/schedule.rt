@@ -10,20 +10,20 @@ use app_table::number;
 use link_net::{MOST_NODES, Network};
 use net_names::NodeNames;
 use rounds_plan::Plan;
-use run_schedule::{ListFault, Manner, listed, with_refused};
+use run_schedule::{Daemon, ListFault, Manner, listed, with_refused};
 use run_script::{StepTextFault, written};
 use std::alloc::{AllocError, Global};
 use std::sync::Arc;
 use unison_trace::{ReplayFault, write_schedule};
 use unison_world::{OpenFault, Step};
 
-/// The ending where a word calls no node.
-fn no_node(alloc: Global, word: &str, named: bool, nodes: u32) -> Ending {
+/// The ending where a word that stands at a place calls no node.
+fn no_node(alloc: Global, place: &str, word: &str, named: bool, nodes: u32) -> Ending {
     if named {
-        return Ending::usage(format!(in alloc; "NODE: no node has the name `{word}`"));
+        return Ending::usage(format!(in alloc; "{place}: no node has the name `{word}`"));
     }
     Ending::usage(format!(in alloc;
-        "NODE: expected a number of a node, below {nodes}, found `{word}`; --names lets nodes be called by name"
+        "{place}: expected a number of a node, below {nodes}, found `{word}`; --names lets nodes be called by name"
     ))
 }
 
@@ -33,10 +33,11 @@ fn numbered(word: &str, nodes: u32) -> Option<u32> {
     if node < nodes { Some(node) } else { None }
 }
 
-/// The node that a word calls.
+/// The node that a word calls, which stands at a place.
 fn node_of(
     alloc: Global,
     names: &Option<NodeNames>,
+    place: &str,
     word: &str,
     nodes: u32,
 ) -> Result<u32, Ending> {
@@ -46,8 +47,41 @@ fn node_of(
     };
     match found {
         Some(node) => Ok(node),
-        None => Err(no_node(alloc, word, names.is_some(), nodes)),
+        None => Err(no_node(alloc, place, word, names.is_some(), nodes)),
     }
+}
+
+/// The ending where the words of two nodes call such as are not linked.
+fn not_linked(alloc: Global, node: &str, neighbour: &str) -> Ending {
+    Ending::usage(format!(in alloc;
+        "NEIGHBOUR: expected a neighbour of `{node}`, found `{neighbour}`, which the network does not link to it"
+    ))
+}
+
+/// The daemon of two neighbours that are called by these words.
+fn adversary_of(
+    alloc: Global,
+    names: &Option<NodeNames>,
+    node: &str,
+    neighbour: &str,
+    seed: u64,
+    network: &Network,
+) -> Result<Daemon, Ending> {
+    let ahead = node_of(alloc, names, "NODE", node, network.nodes())?;
+    let behind = node_of(alloc, names, "NEIGHBOUR", neighbour, network.nodes())?;
+    if network.slot_of(ahead, behind).is_none() {
+        return Err(not_linked(alloc, node, neighbour));
+    }
+    Ok(Daemon::Adversary {
+        seed,
+        ahead,
+        behind,
+    })
+}
+
+/// The manner of a daemon.
+fn under(daemon: Daemon) -> Result<Manner, Ending> {
+    Ok(Manner::Under { daemon })
 }
 
 /// The manner that is asked for.
@@ -55,21 +89,36 @@ fn manner_of(
     alloc: Global,
     names: &Option<NodeNames>,
     asked: &Listing,
-    nodes: u32,
+    network: &Network,
 ) -> Result<Manner, Ending> {
     let seed = asked.limits.seed as u64;
+    let nodes = network.nodes();
     match &asked.manner {
         StepsManner::Sweeps => Ok(Manner::Sweeps),
         StepsManner::Random => Ok(Manner::Random { seed }),
         StepsManner::SlowLinks => Ok(Manner::SlowLinks { seed }),
         StepsManner::Starve { node } => {
-            let node = node_of(alloc, names, node.as_str(), nodes)?;
+            let node = node_of(alloc, names, "NODE", node.as_str(), nodes)?;
             Ok(Manner::Starve { node })
         }
         StepsManner::Ahead { node } => {
-            let node = node_of(alloc, names, node.as_str(), nodes)?;
+            let node = node_of(alloc, names, "NODE", node.as_str(), nodes)?;
             Ok(Manner::Ahead { node })
         }
+        StepsManner::Central => under(Daemon::Central { seed }),
+        StepsManner::Synchronous => under(Daemon::Synchronous),
+        StepsManner::Distributed { share } => under(Daemon::Distributed {
+            seed,
+            share: *share,
+        }),
+        StepsManner::Adversary { node, neighbour } => under(adversary_of(
+            alloc,
+            names,
+            node.as_str(),
+            neighbour.as_str(),
+            seed,
+            network,
+        )?),
     }
 }
 
@@ -82,7 +131,8 @@ fn no_list(fault: ListFault) -> Ending {
         ListFault::StopBelowStart => Ending::Served(ServeFault::Replay(ReplayFault::Opening(
             OpenFault::StopBelowStart,
         ))),
-        ListFault::NoNode { .. } | ListFault::Memory => Ending::Memory,
+        ListFault::NoNode { .. } | ListFault::NotLinked { .. } | ListFault::Memory =>
+            Ending::Memory,
     }
 }
 
@@ -141,16 +191,16 @@ fn steps_by(
     }
 }
 
-/// The manner that is asked for, on a network of so many nodes.
-fn manner_for(rt: &HostRuntime, asked: &Listing, nodes: u32) -> Result<Manner, Ending> {
-    let names = names_for(rt, &asked.names, nodes)?;
-    manner_of(rt.alloc(), &names, asked, nodes)
+/// The manner that is asked for, on a network.
+fn manner_for(rt: &HostRuntime, asked: &Listing, network: &Network) -> Result<Manner, Ending> {
+    let names = names_for(rt, &asked.names, network.nodes())?;
+    manner_of(rt.alloc(), &names, asked, network)
 }
 
 /// The steps that are asked for in a manner.
 fn steps_in_manner(rt: &HostRuntime, asked: &Listing) -> Result<Vec<Step>, Ending> {
     let plan = plan_at(rt, &asked.plan)?;
-    let manner = manner_for(rt, asked, plan.network().nodes())?;
+    let manner = manner_for(rt, asked, plan.network())?;
     steps_by(rt.alloc(), plan, manner, asked.limits)
 }
 
