@@ -7,7 +7,7 @@ use crate::arguments::{
     PlanPaths, ROUND, ROUNDS, WIDTH, only_in, span_in,
 };
 use crate::constants::CONSTANT;
-use app_table::{Argument, Command, FLAG, Kind, OPTION, Reading, WordsFault};
+use app_table::{Argument, Command, Kind, OPTION, Reading, WordsFault};
 use link_net::MOST_NODES;
 use run_watch::Span;
 use std::alloc::Global;
@@ -43,8 +43,9 @@ static STOP_ARGUMENT: Argument = STOP;
 
 const NAIVE: Argument = Argument {
     name: "naive",
+    kind: Kind::Flag,
     help: "With --steps, show beside them the same steps by nodes that do not wait",
-    ..FLAG
+    ..OPTION
 };
 
 /// `NAIVE`, as it is read.
