@@ -57,7 +57,7 @@ abbrev Rises : List ℕ → Type 0
 Rises [] = Unit {0}
 Rises (u ∷ us) = ((v : ℕ) → Has v us → u < v) × Rises us
 
-has-at : (us : List ℕ) (v : ℕ) → Has v us → (i : ℕ) × (i < length us) × ((d : ℕ) → get_or us i d ≡ v)
+pub has-at : (us : List ℕ) (v : ℕ) → Has v us → (i : ℕ) × (i < length us) × ((d : ℕ) → get_or us i d ≡ v)
 has-at [] v h = absurd h
 has-at (u ∷ us) v h =
     ⊎_elim (λ e. (0, omega arith, λ d. sym e)) (λ r. (let p = has-at us v r in let l = p.1 in (suc p.0, omega arith, p.2))) h
@@ -133,6 +133,8 @@ all-read network stop (u ∷ us) c shape rises free bare =
 
 -- what the moves of several nodes leave
 record LeavesMoved (us : List ℕ) (c d : Counts) : Type 0 where
+  stays : (v : ℕ) → (Has v us → ⊥) → moves_of d v ≡ moves_of c v
+  counts : (v : ℕ) → Has v us → moves_of d v ≡ moves_of c v + 1
   others : (v k : ℕ) → (Has v us → ⊥) → is_marked d v k ≡ is_marked c v k
   own : (v k : ℕ) → Has v us → is_marked d v k ≡ false
 
@@ -150,20 +152,30 @@ own-cleared c u k h = ⊎_elim (λ t. absurd ((marked-moved c u u k h t).0 refl)
 
 all-moved : (network : Neighbours) (stop : ℕ) (us : List ℕ) (c : Counts) → HasShape network c → Rises us → ((v : ℕ) → Has v us → IsReadyIn network stop v c)
     → Change (answers network stop c (map (λ u. Write u) us)) × LeavesMoved us c (run network stop c (map (λ u. Write u) us))
-all-moved network stop [] c shape rises ready = (All-nil (λ a. is_change a ≡ true), record { others = λ v k n. refl; own = λ v k h. absurd h })
+all-moved network stop [] c shape rises ready = (All-nil (λ a. is_change a ≡ true), record { stays = λ v n. refl; counts = λ v h. absurd h; others = λ v k n. refl; own = λ v k h. absurd h })
 all-moved network stop (u ∷ us) c shape rises ready =
     let r = ready u (inl refl) in
     let here : u < length c.marks = (let m = shape.marks in let t = r.there in omega arith) in
     let counts : u < length c.moves = (let m = shape.moves in let t = r.there in omega arith) in
     let apart : (v : ℕ) → Has v us → v ≢ u = λ v h e. (let l = rises.0 v h in omega arith) in
+    let same : (v : ℕ) → v ≢ u → moves_of (moved c u) v ≡ moves_of c v = λ v n. get_or-set_other c.moves u v (moves_of c u + 1) 0 n in
     let moves = answer-ready network stop c u r.there r.unstopped (all-marked c u (degree network u) r.marks) in
     let rest = all-moved network stop us (moved c u) (shape-moved network c u shape) rises.1
     (λ v h.
     let o = ready v (inr h) in
-    let same : moves_of (moved c u) v ≡ moves_of c v = ⊎_elim (λ e. absurd (apart v h e.0)) (λ e. e.1) (moves-moved c u v counts) in
-    record { there = o.there; unstopped = λ s. o.unstopped (sym same ∙ s); marks = λ k l. others-marked c u v k (apart v h) ∙ o.marks k l }) in
+    record { there = o.there; unstopped = λ s. o.unstopped (sym (same v (apart v h)) ∙ s); marks = λ k l. others-marked c u v k (apart v h) ∙ o.marks k l }) in
     let last : LeavesMoved (u ∷ us) c (run network stop (moved c u) (map (λ u. Write u) us)) =
     record {
+      stays = λ v n. rest.1.stays v (λ h. n (inr h)) ∙ same v (λ e. n (inl e));
+      counts = λ v h.
+          ⊎_elim
+          (λ mine. rest.1.counts v mine ∙ ap (λ n. n + 1) (same v (apart v mine)))
+          (λ not_mine.
+          ⊎_elim
+          (λ e. rest.1.stays v not_mine ∙ subst (λ x. moves_of (moved c u) x ≡ moves_of c x + 1) (sym e) (get_or-set_same c.moves u (moves_of c u + 1) 0 counts))
+          (λ r. absurd (not_mine r))
+          h)
+          (has-or-not v us);
       others = λ v k n. rest.1.others v k (λ h. n (inr h)) ∙ others-marked c u v k (λ e. n (inl e));
       own = λ v k h.
           ⊎_elim
@@ -177,7 +189,7 @@ all-moved network stop (u ∷ us) c shape rises ready =
       subst (λ (x : Answer). LeavesMoved (u ∷ us) c (run network stop (change c (Write u) x) (map (λ u. Write u) us))) (sym moves) last,
     )
 
-enabled-parts : (network : Neighbours) (stop : ℕ) (c : Counts) (u : ℕ) → is_enabled network stop c u ≡ true → (u < length network) × (moves_of c u ≢ stop) × (any_behind network c u ≡ false)
+pub enabled-parts : (network : Neighbours) (stop : ℕ) (c : Counts) (u : ℕ) → is_enabled network stop c u ≡ true → (u < length network) × (moves_of c u ≢ stop) × (any_behind network c u ≡ false)
 enabled-parts network stop c u e = grind (arith, nat_tests)
 
 -- an enabled node is free to make a turn
@@ -194,9 +206,10 @@ enabled-free network stop c u shape e =
           ⊎_elim (λ l. absurd (false≢true (sym (rw n at t) ∙ lt_true (moves_of c (neighbour network u j)) (moves_of c u) l))) (λ l. l) (cases_lt (moves_of c (neighbour network u j)) (moves_of c u)));
     }
 
--- nodes that may move together do, where no slot is marked, and none is marked then
+-- nodes that may move together do, where no slot is marked, and none is marked then; each has moved once more
 pub together : (network : Neighbours) (stop : ℕ) (us : List ℕ) (c : Counts) → HasShape network c → ((u j : ℕ) → is_marked c u j ≡ false) → MayMove network stop c us
     → Change (answers network stop c (steps_together network us)) × ((u j : ℕ) → is_marked (run network stop c (steps_together network us)) u j ≡ false)
+    × ((u : ℕ) → Has u us → moves_of (run network stop c (steps_together network us)) u ≡ moves_of c u + 1)
 together network stop us c shape bare may =
     let rises = rises-from us may.rising in
     let free : (v : ℕ) → Has v us → Free network stop v c = λ v h. enabled-free network stop c v shape (all-has (λ u. is_enabled network stop c u ≡ true) us may.enabled v h) in
@@ -212,9 +225,10 @@ together network stop us c shape bare may =
     λ u j. ⊎_elim (λ h. wrote.1.own u j h) (λ n. wrote.1.others u j n ∙ read.1.others u j n ∙ bare u j) (has-or-not u us) in (
       both-change network stop c reads writes read.0 wrote.0,
       λ u j. ap (λ (x : Counts). is_marked x u j) (run-append network stop c reads writes) ∙ none u j,
+      λ u h. ap (λ (x : Counts). moves_of x u) (run-append network stop c reads writes) ∙ wrote.1.counts u h ∙ ap (λ (ms : List ℕ). get_or ms u 0 + 1) read.1.moves,
     )
 
-enabled-from : (network : Neighbours) (stop : ℕ) (c : Counts) (u : ℕ) → u < length network → moves_of c u ≢ stop → any_behind network c u ≡ false → is_enabled network stop c u ≡ true
+pub enabled-from : (network : Neighbours) (stop : ℕ) (c : Counts) (u : ℕ) → u < length network → moves_of c u ≢ stop → any_behind network c u ≡ false → is_enabled network stop c u ≡ true
 enabled-from network stop c u a b d = grind (arith, nat_tests)
 
 lt-tells : (a b : ℕ) → nat_lt a b ≡ true → a < b

@@ -9,4 +9,5 @@ pub mod Mixing
 pub mod Leading
 pub mod Drawn
 pub mod Joint
+pub mod Rounds
 pub mod Driven

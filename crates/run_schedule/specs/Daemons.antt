@@ -1,6 +1,6 @@
 -- Daemons: which of the enabled nodes move together.
-use Rattle.std.specs.Prelude.{◌≡◌, ◌≢◌, ℕ, ◌<◌, ◌≤◌, ◌⊎◌, ◌==◌, ◌&&◌, Bool, true, false, not, nat_lt, List, [], ◌∷◌, ◌++◌, length, map, take, All, Option, Some, None}
-use Rattle.std.specs.List.{AllPairs, filter, flat_map, list_any}
+use Rattle.std.specs.Prelude.{◌≡◌, ◌≢◌, ℕ, ◌-◌, ◌<◌, ◌≤◌, ◌⊎◌, ◌==◌, ◌&&◌, Bool, true, false, not, nat_lt, List, [], ◌∷◌, ◌++◌, length, map, take, All, Option, Some, None}
+use Rattle.std.specs.List.{AllPairs, filter, flat_map, list_any, repeat}
 use Rattle.link_net.specs.Neighbours.{Neighbours, degree, numbers_below}
 use Rattle.rounds_plan.specs.Plans.{PlanView}
 use Rattle.unison_world.specs.declared.step.Step.{Step}
@@ -69,10 +69,15 @@ AreChoices network stop daemon c (us ∷ groups) =
 pub record AreStepsUnder (plan : PlanView) (stop : ℕ) (daemon : Daemon) (limit : ℕ) (steps : List Step) : Type 0 where
   pub groups : (groups : List (List ℕ)) × AreChoices plan.network stop daemon (at_start plan.network plan.start) groups × (steps ≡ take limit (flat_map (steps_together plan.network) groups))
 
--- such a list, which goes on to the limit or until every node stands at the stop
+-- the rounds up to the stop: in each all nodes read all their neighbours, and then all of them move
+abbrev pub rounds_of : PlanView → ℕ → List Step
+rounds_of plan stop = repeat (stop - plan.start) (steps_together plan.network (numbers_below (length plan.network)))
+
+-- such a list, which goes on to the limit or until every node stands at the stop; that of the synchronous daemon has the rounds, or the first of their steps
 pub record IsUnderDaemon (plan : PlanView) (stop : ℕ) (daemon : Daemon) (limit : ℕ) (steps : List Step) : Type 0 where
   pub goes : GoesToStop plan stop limit steps
   pub under : AreStepsUnder plan stop daemon limit steps
+  pub rounds : daemon ≡ Synchronous → steps ≡ take limit (rounds_of plan stop)
 
 -- whether the first node is linked to the second
 abbrev pub is_linked : Neighbours → ℕ → ℕ → Bool

@@ -4,9 +4,12 @@ use Rattle.link_net.specs.Neighbours.{IsNetwork}
 use Rattle.rounds_plan.specs.Plans.{PlanView}
 use Rattle.unison_world.specs.View.{WorldView, opened}
 use Rattle.unison_world.specs.Opening.{opening_of}
+use Rattle.unison_trace.proofs.Leading.{late}
+use Rattle.run_schedule.specs.declared.daemon.Daemon.{Daemon}
 use Rattle.run_schedule.specs.Daemons.{AreStepsUnder, IsUnderDaemon}
 use Rattle.run_schedule.proofs.Driven.{keeps-two}
 use Rattle.run_schedule.proofs.Ending.{list-along, opened-is, walk-to_stop}
+use Rattle.run_schedule.proofs.Rounds.{sync-list}
 use Rattle.run_schedule.proofs.listing.chosen_by.Goals as goal
 
 pub driven-requires-clause-two : goal.driven-requires-clause-two
@@ -35,4 +38,10 @@ returns-clause-under c =
     rw c.into_steps.ensures.steps
     (list-along (λ p s l. IsUnderDaemon p s c.args.daemon l w.steps) w.world.plan plan w.world.stop stop w.limit c.args.limit
     (ended.plan.0 ∙ ap (λ (x : WorldView). x.plan) world) (ended.plan.1 ∙ ap (λ (x : WorldView). x.stop) world) (ended.still.1 ∙ begun.1)
-    (record { goes = goes; under = ended.under }))
+    (record {
+      goes = goes;
+      under = ended.under;
+      rounds = λ e.
+          (let under = subst (λ (x : Daemon). AreStepsUnder w.world.plan w.world.stop x w.limit w.steps) e ended.under in
+          sync-list w.world.plan w.world.stop w.limit w.steps c.into_steps.ensures.sound.plan (late w.world c.into_steps.ensures.sound.plan c.into_steps.ensures.sound.in_step c.into_steps.ensures.sound.started) goes under);
+    }))
