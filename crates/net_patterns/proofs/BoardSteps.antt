@@ -27,9 +27,9 @@ same_outcome : (signs : List Sign) (k a b r s : ℕ) (fault : Option PatternFaul
 same_outcome [] k a b r s fault columns rows = refl
 same_outcome ((line, Dead) ∷ signs) k a b r s fault columns rows = same_outcome signs k (a + 1) (b + 1) r s fault (alike_next a b columns) rows
 same_outcome ((line, RowEnd) ∷ signs) k a b r s fault columns rows = same_outcome signs k 0 0 (r + 1) (s + 1) fault (inl refl) (alike_next r s rows)
-same_outcome ((line, Alive) ∷ signs) k a b r s fault (inr far) rows = rw (far_column k a r far.0, far_column k b s far.1) refl
-same_outcome ((line, Alive) ∷ signs) k a b r s fault (inl e) (inr far) = rw (far_row k a r far.0, far_row k b s far.1) refl
-same_outcome ((line, Alive) ∷ signs) k a b r s fault (inl e) (inl d) = rw (e, d) refl
+same_outcome ((line, Alive state) ∷ signs) k a b r s fault (inr far) rows = rw (far_column k a r far.0, far_column k b s far.1) refl
+same_outcome ((line, Alive state) ∷ signs) k a b r s fault (inl e) (inr far) = rw (far_row k a r far.0, far_row k b s far.1) refl
+same_outcome ((line, Alive state) ∷ signs) k a b r s fault (inl e) (inl d) = rw (e, d) refl
 
 below_or : (n : ℕ) → (n ≤ 65535) ⊎ (65536 ≤ n)
 below_or n = elim (cases_Bool (nat_lt n 65536)) [ inl is ↦ inl (grind (arith, nat_tests)) | inr other ↦ inr (grind (arith, nat_tests)) ]
@@ -69,30 +69,30 @@ room : (k a r : ℕ) → k < 65536 → a < 65536 → r < 65536 → (nat_lt k 655
 room k a r h i j = grind (arith, nat_tests)
 
 -- one live cell, of those of a run
-pub comes-alive : (front : List Cell) (column row line n : ℕ) (pieces : List (Result Run PatternFault)) → length front < 65536 → column < 65536 → row < 65536
-    → comes front column row (Ok (record { line = line; count = suc n; mark = Alive }) ∷ pieces) ≡ comes (front ++ record { column = column; row = row } ∷ []) (column + 1) row (Ok (record { line = line; count = n; mark = Alive }) ∷ pieces)
-comes-alive front column row line n pieces few near low =
-    let cell : Cell = record { column = column; row = row } in
-    let rest = cells_at (column + 1) row (replicate n (line, Alive) ++ written_out (runs_in pieces)) in
+pub comes-alive : (front : List Cell) (column row line state n : ℕ) (pieces : List (Result Run PatternFault)) → length front < 65536 → column < 65536 → row < 65536
+    → comes front column row (Ok (record { line = line; count = suc n; mark = Alive state }) ∷ pieces) ≡ comes (front ++ record { column = column; row = row; state = state } ∷ []) (column + 1) row (Ok (record { line = line; count = n; mark = Alive state }) ∷ pieces)
+comes-alive front column row line state n pieces few near low =
+    let cell : Cell = record { column = column; row = row; state = state } in
+    let rest = cells_at (column + 1) row (replicate n (line, Alive state) ++ written_out (runs_in pieces)) in
     rw (room (length front) column row few near low)
     (front_more front cell (judged (length front + 1) rest (fault_in pieces)) ∙ ap (λ k. with_front (front ++ cell ∷ []) (judged k rest (fault_in pieces))) (sym (length_more front cell)))
 
 -- a live cell beyond the limit
-pub comes-far_column : (front : List Cell) (column row line n : ℕ) (pieces : List (Result Run PatternFault)) → 65536 ≤ column → comes front column row (Ok (record { line = line; count = suc n; mark = Alive }) ∷ pieces) ≡ Err (TooLarge line)
-comes-far_column front column row line n pieces far = rw (far_column (length front) column row far) refl
+pub comes-far_column : (front : List Cell) (column row line state n : ℕ) (pieces : List (Result Run PatternFault)) → 65536 ≤ column → comes front column row (Ok (record { line = line; count = suc n; mark = Alive state }) ∷ pieces) ≡ Err (TooLarge line)
+comes-far_column front column row line state n pieces far = rw (far_column (length front) column row far) refl
 
-pub comes-far_row : (front : List Cell) (column row line n : ℕ) (pieces : List (Result Run PatternFault)) → 65536 ≤ row → comes front column row (Ok (record { line = line; count = suc n; mark = Alive }) ∷ pieces) ≡ Err (TooLarge line)
-comes-far_row front column row line n pieces far = rw (far_row (length front) column row far) refl
+pub comes-far_row : (front : List Cell) (column row line state n : ℕ) (pieces : List (Result Run PatternFault)) → 65536 ≤ row → comes front column row (Ok (record { line = line; count = suc n; mark = Alive state }) ∷ pieces) ≡ Err (TooLarge line)
+comes-far_row front column row line state n pieces far = rw (far_row (length front) column row far) refl
 
 many : (k a r : ℕ) → 65536 ≤ k → (nat_lt k 65536 && nat_lt a 65536 && nat_lt r 65536) ≡ false
 many k a r far = grind (arith, nat_tests)
 
-pub comes-many : (front : List Cell) (column row line n : ℕ) (pieces : List (Result Run PatternFault)) → 65536 ≤ length front → comes front column row (Ok (record { line = line; count = suc n; mark = Alive }) ∷ pieces) ≡ Err (TooLarge line)
-comes-many front column row line n pieces far = rw (many (length front) column row far) refl
+pub comes-many : (front : List Cell) (column row line state n : ℕ) (pieces : List (Result Run PatternFault)) → 65536 ≤ length front → comes front column row (Ok (record { line = line; count = suc n; mark = Alive state }) ∷ pieces) ≡ Err (TooLarge line)
+comes-many front column row line state n pieces far = rw (many (length front) column row far) refl
 
 -- the next of the live cells of a run
-pub comes-one_less : (front : List Cell) (column row line count counter : ℕ) (pieces : List (Result Run PatternFault)) → counter < count
-    → comes front column row (Ok (record { line = line; count = count - counter; mark = Alive }) ∷ pieces) ≡ comes front column row (Ok (record { line = line; count = suc (count - (counter + 1)); mark = Alive }) ∷ pieces)
-comes-one_less front column row line count counter pieces less =
+pub comes-one_less : (front : List Cell) (column row line state count counter : ℕ) (pieces : List (Result Run PatternFault)) → counter < count
+    → comes front column row (Ok (record { line = line; count = count - counter; mark = Alive state }) ∷ pieces) ≡ comes front column row (Ok (record { line = line; count = suc (count - (counter + 1)); mark = Alive state }) ∷ pieces)
+comes-one_less front column row line state count counter pieces less =
     let e : count - counter ≡ suc (count - (counter + 1)) = omega arith in
-    ap (λ n. comes front column row (Ok (record { line = line; count = n; mark = Alive }) ∷ pieces)) e
+    ap (λ n. comes front column row (Ok (record { line = line; count = n; mark = Alive state }) ∷ pieces)) e

@@ -57,14 +57,14 @@ comments_passed (c ∷ cs) text number all =
 
 -- the runs behind comments and a header
 chosen_runs : (text header runs : List ℕ) (number : ℕ) (more : List (ℕ × List ℕ)) → IsLine 120 header
-    → pieces_behind text ((number, header ++ 10 ∷ runs) ∷ more) ≡ pieces_from (number + 1) None runs
+    → pieces_behind text ((number, header ++ 10 ∷ runs) ∷ more) ≡ pieces_from (number + 1) None 0 runs
 chosen_runs text [] runs number more is = absurd (omega (arith, is.0))
 chosen_runs text (b ∷ bs) runs number more is =
     let e : b ≡ 120 = is.0 in
-    rw e (ap (pieces_from (number + 1) None) (ap (after_first is_line_feed) (ap (λ x. x ∷ (bs ++ 10 ∷ runs)) (sym e)) ∙ after_end (b ∷ bs) runs is.1))
+    rw e (ap (pieces_from (number + 1) None 0) (ap (after_first is_line_feed) (ap (λ x. x ∷ (bs ++ 10 ∷ runs)) (sym e)) ∙ after_end (b ∷ bs) runs is.1))
 
 pub runs_behind : (comments : List (List ℕ)) (header runs : List ℕ) → AllByRecursion (IsLine 35) comments → IsLine 120 header
-    → pattern_in (flat_map (λ c. c ++ 10 ∷ []) comments ++ (header ++ 10 ∷ runs)) ≡ pattern_of (pieces_from (1 + length comments + 1) None runs)
+    → pattern_in (flat_map (λ c. c ++ 10 ∷ []) comments ++ (header ++ 10 ∷ runs)) ≡ pattern_of (pieces_from (1 + length comments + 1) None 0 runs)
 runs_behind comments header runs all is =
     let text = flat_map (λ c. c ++ 10 ∷ []) comments ++ (header ++ 10 ∷ runs) in
     ap (λ told. pattern_of (pieces_behind text told)) (comments_passed comments (header ++ 10 ∷ runs) 1 all ∙ line_told header runs (1 + length comments) is.1 (header_says header is.0))

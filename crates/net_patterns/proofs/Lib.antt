@@ -7,3 +7,4 @@ mod PlainTexts
 mod RoundTrip
 mod RowCells
 mod RunTexts
+mod StateTags

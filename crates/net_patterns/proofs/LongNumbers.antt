@@ -11,7 +11,7 @@ no_count : (n : ℕ) → 999999999 < n → (nat_lt 0 n && nat_le n 999999999) �
 no_count n more = grind (arith, nat_tests)
 
 -- behind such a number stands no run, whatever follows
-pub too_great : (bs : List ℕ) (line n : ℕ) → 999999999 < n → pieces_from line (Some n) bs ≡ Err (BadCount line) ∷ []
+pub too_great : (bs : List ℕ) (line n : ℕ) → 999999999 < n → pieces_from line (Some n) 0 bs ≡ Err (BadCount line) ∷ []
 too_great [] line n more = refl
 too_great (b ∷ bs) line n more =
     elim (cases_Bool (is_ascii_digit b)) [
@@ -19,5 +19,5 @@ too_great (b ∷ bs) line n more =
       | inr other ↦ rw (other, no_count n more) refl
     ]
 
-pub digit_too_great : (line : ℕ) (number : Option ℕ) (digit : ℕ) (bs : List ℕ) → is_ascii_digit digit ≡ true → 999999999 < 10 * unwrap_or number 0 + (digit - 48) → pieces_from line number (digit ∷ bs) ≡ Err (BadCount line) ∷ []
+pub digit_too_great : (line : ℕ) (number : Option ℕ) (digit : ℕ) (bs : List ℕ) → is_ascii_digit digit ≡ true → 999999999 < 10 * unwrap_or number 0 + (digit - 48) → pieces_from line number 0 (digit ∷ bs) ≡ Err (BadCount line) ∷ []
 digit_too_great line number digit bs is more = rw is (too_great bs line (10 * unwrap_or number 0 + (digit - 48)) more)

@@ -29,13 +29,13 @@ pub dead_passed : (n : ℕ) (front : List Cell) (column row line : ℕ) (pieces 
 dead_passed n front column row line pieces near = comes-dead front column row line n pieces ∙ ap (λ c. comes front c row pieces) (omega arith)
 
 -- live cells
-pub alive_passed : (n : ℕ) (front : List Cell) (column row line : ℕ) (pieces : List (Result Run PatternFault)) → length front + n ≤ 65536 → column + n ≤ 65536 → row < 65536
-    → comes front column row (Ok (record { line = line; count = n; mark = Alive }) ∷ pieces) ≡ comes (front ++ cells_beside row column n) (column + n) row pieces
-alive_passed zero front column row line pieces few near low = rw append-nil (ap (λ c. comes front c row pieces) (omega arith))
-alive_passed (suc n) front column row line pieces few near low =
-    let cell : Cell = record { column = column; row = row } in
+pub alive_passed : (n : ℕ) (front : List Cell) (column row line state : ℕ) (pieces : List (Result Run PatternFault)) → length front + n ≤ 65536 → column + n ≤ 65536 → row < 65536
+    → comes front column row (Ok (record { line = line; count = n; mark = Alive state }) ∷ pieces) ≡ comes (front ++ cells_beside state row column n) (column + n) row pieces
+alive_passed zero front column row line state pieces few near low = rw append-nil (ap (λ c. comes front c row pieces) (omega arith))
+alive_passed (suc n) front column row line state pieces few near low =
+    let cell : Cell = record { column = column; row = row; state = state } in
     let more = length-append front (cell ∷ []) in
-    comes-alive front column row line n pieces (omega arith) (omega arith) low
-    ∙ alive_passed n (front ++ cell ∷ []) (column + 1) row line pieces (omega arith) (omega arith) low
-    ∙ ap (λ cs. comes cs (column + 1 + n) row pieces) (append_assoc front (cell ∷ []) (cells_beside row (column + 1) n))
-    ∙ ap (λ c. comes (front ++ (cell ∷ cells_beside row (column + 1) n)) c row pieces) (omega arith)
+    comes-alive front column row line state n pieces (omega arith) (omega arith) low
+    ∙ alive_passed n (front ++ cell ∷ []) (column + 1) row line state pieces (omega arith) (omega arith) low
+    ∙ ap (λ cs. comes cs (column + 1 + n) row pieces) (append_assoc front (cell ∷ []) (cells_beside state row (column + 1) n))
+    ∙ ap (λ c. comes (front ++ (cell ∷ cells_beside state row (column + 1) n)) c row pieces) (omega arith)

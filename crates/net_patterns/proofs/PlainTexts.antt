@@ -61,25 +61,26 @@ dead_written (suc n) front column row line rest near =
 
 -- live cells
 alive_written : (n : ℕ) (front : List Cell) (column row line : ℕ) (rest : List ℕ) → length front + n ≤ 65536 → column + n ≤ 65536 → row < 65536
-    → comes front column row (plain_pieces line false (replicate n 79 ++ rest)) ≡ comes (front ++ cells_beside row column n) (column + n) row (plain_pieces line false rest)
+    → comes front column row (plain_pieces line false (replicate n 79 ++ rest)) ≡ comes (front ++ cells_beside 1 row column n) (column + n) row (plain_pieces line false rest)
 alive_written zero front column row line rest few near low = rw append-nil (ap (λ c. comes front c row (plain_pieces line false rest)) (omega arith))
 alive_written (suc n) front column row line rest few near low =
-    let cell : Cell = record { column = column; row = row } in
+    let cell : Cell = record { column = column; row = row; state = 1 } in
     let more = length-append front (cell ∷ []) in
-    alive_passed 1 front column row line (plain_pieces line false (replicate n 79 ++ rest)) (omega arith) (omega arith) low
+    alive_passed 1 front column row line 1 (plain_pieces line false (replicate n 79 ++ rest)) (omega arith) (omega arith) low
     ∙ alive_written n (front ++ cell ∷ []) (column + 1) row line rest (omega arith) (omega arith) low
-    ∙ ap (λ cs. comes cs (column + 1 + n) row (plain_pieces line false rest)) (append_assoc front (cell ∷ []) (cells_beside row (column + 1) n))
-    ∙ ap (λ c. comes (front ++ (cell ∷ cells_beside row (column + 1) n)) c row (plain_pieces line false rest)) (omega arith)
+    ∙ ap (λ cs. comes cs (column + 1 + n) row (plain_pieces line false rest)) (append_assoc front (cell ∷ []) (cells_beside 1 row (column + 1) n))
+    ∙ ap (λ c. comes (front ++ (cell ∷ cells_beside 1 row (column + 1) n)) c row (plain_pieces line false rest)) (omega arith)
 
 -- a span that is written as plain text, before what follows it
-pub span_of_rows : (s : Span) (front : List Cell) (column row line : ℕ) (rest : List ℕ) → IsAhead column row s → length front + s.count ≤ 65536 → is_comment rest ≡ false
+pub span_of_rows : (s : Span) (front : List Cell) (column row line : ℕ) (rest : List ℕ) → IsAhead 1 column row s → length front + s.count ≤ 65536 → is_comment rest ≡ false
     → comes front column row (plain_pieces line false (replicate (s.row - row) 10 ++ (replicate (s.column - column_at column row s) 46 ++ (replicate s.count 79 ++ rest))))
-    ≡ comes (front ++ cells_beside s.row s.column s.count) (s.column + s.count) s.row (plain_pieces (line + (s.row - row)) false rest)
+    ≡ comes (front ++ cells_beside s.state s.row s.column s.count) (s.column + s.count) s.row (plain_pieces (line + (s.row - row)) false rest)
 span_of_rows s front column row line rest is few none =
     let begin = column_at column row s in
     let down = is.down in
     let right = is.right in
     let near = is.near in
+    let one : 1 ≡ s.state = omega (arith, is.alive, is.known) in
     let live = replicate s.count 79 ++ rest in
     let dead = replicate (s.column - begin) 46 ++ live in
     let later = line + (s.row - row) in
@@ -88,6 +89,7 @@ span_of_rows s front column row line rest is few none =
     ∙ dead_written (s.column - begin) front begin s.row later live (omega arith)
     ∙ ap (λ c. comes front c s.row (plain_pieces later false live)) (omega arith)
     ∙ alive_written s.count front s.column s.row later rest few is.near is.low
+    ∙ ap (λ state. comes (front ++ cells_beside state s.row s.column s.count) (s.column + s.count) s.row (plain_pieces later false rest)) one
 
 -- the bytes of rows, some of which have a sign
 rows_behind : (n byte : ℕ) (rest : List ℕ) → is_row_byte byte ≡ true → list_all is_row_byte rest ≡ true → list_all is_row_byte (replicate n byte ++ rest) ≡ true
@@ -110,16 +112,16 @@ live_sign : (n : ℕ) (rest : List ℕ) → 0 < n → list_any (λ b. not (b == 
 live_sign zero rest some = absurd (omega arith)
 live_sign (suc n) rest some = refl
 
-pub length_beside : (n row column : ℕ) → length (cells_beside row column n) ≡ n
-length_beside zero row column = refl
-length_beside (suc n) row column = ap suc (length_beside n row (column + 1))
+pub length_beside : (n state row column : ℕ) → length (cells_beside state row column n) ≡ n
+length_beside zero state row column = refl
+length_beside (suc n) state row column = ap suc (length_beside n state row (column + 1))
 
 pub some_sign : (spans : List Span) (column row : ℕ) → 0 < length (cells_in spans) → list_any (λ b. not (b == 10)) (written_from as_plain column row spans) ≡ true
 some_sign [] column row some = absurd (omega arith)
 some_sign (s ∷ spans) column row some =
     let rest = written_from as_plain (s.column + s.count) s.row spans in
-    let size = length-append (cells_beside s.row s.column s.count) (cells_in spans) in
-    let own = length_beside s.count s.row s.column in
+    let size = length-append (cells_beside s.state s.row s.column s.count) (cells_in spans) in
+    let own = length_beside s.count s.state s.row s.column in
     let live : list_any (λ b. not (b == 10)) (replicate s.count 79 ++ rest) ≡ true = elim (cases_lt 0 s.count) [
       | inl here ↦ live_sign s.count rest here
       | inr none ↦ sign_behind s.count 79 rest (some_sign spans (s.column + s.count) s.row (omega arith))

@@ -17,9 +17,9 @@ dead_before : (column row line : ℕ) (rows : List (List Sign)) → cells_behind
 dead_before column row line [] = refl
 dead_before column row line (r ∷ rows) = refl
 
-alive_before : (column row line : ℕ) (rows : List (List Sign)) → cells_behind column row (onto_first (line, Alive) rows) ≡ (line, record { column = column; row = row }) ∷ cells_behind (column + 1) row rows
-alive_before column row line [] = refl
-alive_before column row line (r ∷ rows) = refl
+alive_before : (column row line state : ℕ) (rows : List (List Sign)) → cells_behind column row (onto_first (line, Alive state) rows) ≡ (line, record { column = column; row = row; state = state }) ∷ cells_behind (column + 1) row rows
+alive_before column row line state [] = refl
+alive_before column row line state (r ∷ rows) = refl
 
 from_rows : (row : ℕ) (rows : List (List Sign)) → cells_behind 0 row rows ≡ cells_in_rows (enumerate_from row rows)
 from_rows row [] = refl
@@ -28,8 +28,8 @@ from_rows row (r ∷ rows) = refl
 cells_split : (signs : List Sign) (column row : ℕ) → cells_at column row signs ≡ cells_behind column row (slice_split ends_row signs)
 cells_split [] column row = refl
 cells_split ((line, Dead) ∷ signs) column row = cells_split signs (column + 1) row ∙ sym (dead_before column row line (slice_split ends_row signs))
-cells_split ((line, Alive) ∷ signs) column row =
-    ap (λ cs. (line, record { column = column; row = row }) ∷ cs) (cells_split signs (column + 1) row) ∙ sym (alive_before column row line (slice_split ends_row signs))
+cells_split ((line, Alive state) ∷ signs) column row =
+    ap (λ cs. (line, record { column = column; row = row; state = state }) ∷ cs) (cells_split signs (column + 1) row) ∙ sym (alive_before column row line state (slice_split ends_row signs))
 cells_split ((line, RowEnd) ∷ signs) column row = cells_split signs 0 (row + 1) ∙ from_rows (row + 1) (slice_split ends_row signs)
 
 pub cells_all : (signs : List Sign) → cells_at 0 0 signs ≡ cells_of (rows_of signs)

@@ -25,14 +25,20 @@ written_out (r ∷ rs) = replicate r.count (r.line, r.mark) ++ written_out rs
 -- a sign ends a row
 abbrev pub ends_row : Sign → Bool
 ends_row (line, Dead) = false
-ends_row (line, Alive) = false
+ends_row (line, Alive state) = false
 ends_row (line, RowEnd) = true
 
 -- a sign is a live cell
 abbrev pub lives : Sign → Bool
 lives (line, Dead) = false
-lives (line, Alive) = true
+lives (line, Alive state) = true
 lives (line, RowEnd) = false
+
+-- the state of a sign, 0 where it is no live cell
+abbrev pub state_of : Sign → ℕ
+state_of (line, Dead) = 0
+state_of (line, Alive state) = state
+state_of (line, RowEnd) = 0
 
 -- the rows: the signs, split at the ends of rows
 abbrev pub rows_of : List Sign → List (List Sign)
@@ -41,7 +47,7 @@ rows_of signs = slice_split ends_row signs
 -- the live cells of a row, whose first sign stands in this column, each with its line of the text
 abbrev pub cells_in_row : ℕ → ℕ → List Sign → List (ℕ × Cell)
 cells_in_row row column signs =
-    map (λ s. (s.1.0, record { column = s.0; row = row })) (filter (λ s. lives s.1) (enumerate_from column signs))
+    map (λ s. (s.1.0, record { column = s.0; row = row; state = state_of s.1 })) (filter (λ s. lives s.1) (enumerate_from column signs))
 
 -- the live cells of rows that are numbered
 abbrev pub cells_in_rows : List (ℕ × List Sign) → List (ℕ × Cell)

@@ -12,13 +12,37 @@ use Rattle.net_patterns.specs.Cells.{Run}
 abbrev pub is_blank : ℕ → Bool
 is_blank b = b == 32 || b == 9 || b == 13 || b == 10
 
--- the mark that a tag stands for: b or . dead, o or A alive, $ the end of a row
-abbrev pub mark_of : ℕ → Option Mark
-mark_of b =
+-- the greatest state
+abbrev pub most_state : ℕ
+most_state = 255
+
+-- a capital letter from A to X: 1 for A, 24 for X
+abbrev pub letter_of : ℕ → Option ℕ
+letter_of b = if nat_le 65 b && nat_le b 88 then Some (b - 64) else None
+
+-- a letter from p to y: how many states it adds to those of the capital letter behind it, 24 for p and 240 for y
+abbrev pub higher_of : ℕ → Option ℕ
+higher_of b = if nat_le 112 b && nat_le b 121 then Some (24 * (b - 111)) else None
+
+-- a live cell of this state, where that is one
+abbrev pub alive_of : ℕ → Option Mark
+alive_of state = if nat_le state most_state then Some (Alive state) else None
+
+-- the mark of a tag that is no capital letter, where nothing stands before it: b or . dead, o alive, $ the end of a row
+abbrev pub plain_tag : ℕ → Option Mark
+plain_tag b =
     if b == 98 || b == 46 then Some Dead
-    else if b == 111 || b == 65 then Some Alive
+    else if b == 111 then Some (Alive 1)
     else if b == 36 then Some RowEnd
     else None
+
+-- the mark that a tag stands for, behind a letter that adds so many states, 0 where none does
+abbrev pub mark_with : ℕ → ℕ → Option ℕ → Option Mark
+mark_with higher b (Some letter) = alive_of (higher + letter)
+mark_with higher b None = if higher == 0 then plain_tag b else None
+
+abbrev pub mark_of : ℕ → ℕ → Option Mark
+mark_of higher b = mark_with higher b (letter_of b)
 
 -- a number that is followed by one more digit, or that the digit begins
 abbrev pub with_digit : Option ℕ → ℕ → ℕ
@@ -42,19 +66,28 @@ abbrev pub run_of : ℕ → ℕ → Option Mark → List (Result Run PatternFaul
 run_of line count (Some mark) pieces = Ok (record { line = line; count = count; mark = mark }) ∷ pieces
 run_of line count None pieces = Err (BadCell line) ∷ []
 
--- the pieces of a byte that is no digit, behind a number of this count, where there is one, and before other pieces:
--- a blank says nothing, ! is the end
-abbrev pub pieces_at : ℕ → Option ℕ → Option ℕ → ℕ → List (Result Run PatternFault) → List (Result Run PatternFault)
-pieces_at line number None b pieces = Err (BadCount line) ∷ []
-pieces_at line number (Some count) b pieces =
-    if is_blank b then (if is_some number then Err (BadCount line) ∷ [] else pieces)
-    else if b == 33 then []
-    else run_of line count (mark_of b) pieces
+-- the pieces of a byte that is no count's digit, behind a number of this count, where there is one, and a letter that adds
+-- so many states, 0 where none does: a blank says nothing, ! is the end, behind a letter from p to y come the first
+-- pieces, and behind a tag the others
+abbrev pub pieces_at : ℕ → Option ℕ → Option ℕ → ℕ → ℕ → List (Result Run PatternFault) → List (Result Run PatternFault) → List (Result Run PatternFault)
+pieces_at line number None higher b longer pieces = Err (BadCount line) ∷ []
+pieces_at line number (Some count) higher b longer pieces =
+    if higher == 0 && is_blank b then (if is_some number then Err (BadCount line) ∷ [] else pieces)
+    else if higher == 0 && b == 33 then []
+    else if higher == 0 && is_some (higher_of b) then longer
+    else run_of line count (mark_of higher b) pieces
 
--- the pieces of a text behind a number that has no tag yet, where there is one; its first byte stands in this line
-abbrev pub pieces_from : ℕ → Option ℕ → List ℕ → List (Result Run PatternFault)
-pieces_from line None [] = Err NoEnd ∷ []
-pieces_from line (Some n) [] = Err (BadCount line) ∷ []
-pieces_from line number (b ∷ bs) =
-    if is_ascii_digit b then pieces_from line (Some (with_digit number b)) bs
-    else pieces_at line number (count_of number) b (pieces_from (line_behind line b) None bs)
+-- the fault of a text that ends behind a number that has no tag yet and a letter that adds so many states
+abbrev pub end_fault : ℕ → Option ℕ → ℕ → PatternFault
+end_fault line number higher =
+    if nat_lt 0 higher then BadCell line
+    else if is_some number then BadCount line
+    else NoEnd
+
+-- the pieces of a text behind a number that has no tag yet, where there is one, and a letter that adds so many states, 0
+-- where none does; its first byte stands in this line
+abbrev pub pieces_from : ℕ → Option ℕ → ℕ → List ℕ → List (Result Run PatternFault)
+pieces_from line number higher [] = Err (end_fault line number higher) ∷ []
+pieces_from line number higher (b ∷ bs) =
+    if higher == 0 && is_ascii_digit b then pieces_from line (Some (with_digit number b)) 0 bs
+    else pieces_at line number (count_of number) higher b (pieces_from line number (unwrap_or (higher_of b) 0) bs) (pieces_from (line_behind line b) None 0 bs)

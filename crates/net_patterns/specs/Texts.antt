@@ -26,9 +26,9 @@ says_nothing line = slice_index line 0 == 35 || not (list_any (λ b. not (is_bla
 abbrev pub told_from : ℕ → List ℕ → List (ℕ × List ℕ)
 told_from line text = filter (λ l. not (says_nothing (before_first is_line_feed l.1))) ((line, text) ∷ lines_behind line text)
 
--- the mark of a character of plain text: . dead, O or * alive
+-- the mark of a character of plain text: . dead, O or * alive, of state 1
 abbrev pub plain_mark : ℕ → Option Mark
-plain_mark b = if b == 46 then Some Dead else if b == 79 || b == 42 then Some Alive else None
+plain_mark b = if b == 46 then Some Dead else if b == 79 || b == 42 then Some (Alive 1) else None
 
 -- a comment begins here
 abbrev pub is_comment : List ℕ → Bool
@@ -55,7 +55,7 @@ plain_pieces line comment (b ∷ bs) =
 abbrev pub pieces_behind : List ℕ → List (ℕ × List ℕ) → List (Result Run PatternFault)
 pieces_behind text [] = Err NoPattern ∷ []
 pieces_behind text (l ∷ ls) =
-    if slice_index l.1 0 == 120 then pieces_from (l.0 + 1) None (after_first is_line_feed l.1)
+    if slice_index l.1 0 == 120 then pieces_from (l.0 + 1) None 0 (after_first is_line_feed l.1)
     else plain_pieces 1 (is_comment text) text
 
 -- the pattern that a text says, or the first fault

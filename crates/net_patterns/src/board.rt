@@ -9,11 +9,12 @@ ghost use Rattle.net_patterns.specs.Steps.{comes};
 use crate::fault::PatternFault;
 use std::alloc::Global;
 
-/// A live cell: its column and its row, counted from 0 at the top left.
+/// A live cell: its column and its row, counted from 0 at the top left, and its state from 1 to 255.
 #[derive(Clone, Copy, Debug, PartialEq, Eq)]
 pub struct Cell {
     pub column: u32,
     pub row: u32,
+    pub state: u8,
 }
 
 /// What stands at a place of a pattern.
@@ -21,8 +22,8 @@ pub struct Cell {
 pub(crate) enum Mark {
     /// A dead cell.
     Dead,
-    /// A live cell.
-    Alive,
+    /// A live cell of this state.
+    Alive(u8),
     /// The end of a row.
     RowEnd,
 }
@@ -60,13 +61,13 @@ impl Board {
         }
     }
 
-    /// Puts one live cell at the next place.
-    fn put_cell(&mut self, line: u64) -> Result<(), PatternFault>
+    /// Puts one live cell of a state at the next place.
+    fn put_cell(&mut self, line: u64, state: u8) -> Result<(), PatternFault>
         requires column { self.old.column ≤ 65536 }
         requires row { self.old.row ≤ 65536 }
         ensures column { OnOk result (self.new.column ≤ 65536) }
         ensures row { OnOk result (self.new.row ≡ self.old.row) }
-        ensures comes { MatchResult result (λ _. (n : ℕ) (pieces : List (Result Run PatternFault)) → comes self.old.cells.items self.old.column self.old.row (Ok (record { line = line; count = suc n; mark = Alive }) ∷ pieces) ≡ comes self.new.cells.items self.new.column self.new.row (Ok (record { line = line; count = n; mark = Alive }) ∷ pieces)) (λ fault. fault ≢ Memory → (n : ℕ) (pieces : List (Result Run PatternFault)) → comes self.old.cells.items self.old.column self.old.row (Ok (record { line = line; count = suc n; mark = Alive }) ∷ pieces) ≡ Err fault) }
+        ensures comes { MatchResult result (λ _. (n : ℕ) (pieces : List (Result Run PatternFault)) → comes self.old.cells.items self.old.column self.old.row (Ok (record { line = line; count = suc n; mark = Alive state }) ∷ pieces) ≡ comes self.new.cells.items self.new.column self.new.row (Ok (record { line = line; count = n; mark = Alive state }) ∷ pieces)) (λ fault. fault ≢ Memory → (n : ℕ) (pieces : List (Result Run PatternFault)) → comes self.old.cells.items self.old.column self.old.row (Ok (record { line = line; count = suc n; mark = Alive state }) ∷ pieces) ≡ Err fault) }
     {
         if self.column >= LIMIT || self.row >= LIMIT || self.cells.len() >= LIMIT as usize {
             return Err(PatternFault::TooLarge { line });
@@ -74,21 +75,22 @@ impl Board {
         self.cells.push(Cell {
             column: self.column,
             row: self.row,
+            state,
         })?;
         self.column += 1;
         Ok(())
     }
 
-    /// Puts so many live cells from the next place on.
-    fn put_cells(&mut self, line: u64, count: u32) -> Result<(), PatternFault>
+    /// Puts so many live cells of a state from the next place on.
+    fn put_cells(&mut self, line: u64, count: u32, state: u8) -> Result<(), PatternFault>
         requires column { self.old.column ≤ 65536 }
         requires row { self.old.row ≤ 65536 }
         ensures column { OnOk result (self.new.column ≤ 65536) }
         ensures row { OnOk result (self.new.row ≤ 65536) }
-        ensures comes { MatchResult result (λ _. (pieces : List (Result Run PatternFault)) → comes self.old.cells.items self.old.column self.old.row (Ok (record { line = line; count = count; mark = Alive }) ∷ pieces) ≡ comes self.new.cells.items self.new.column self.new.row pieces) (λ fault. fault ≢ Memory → (pieces : List (Result Run PatternFault)) → comes self.old.cells.items self.old.column self.old.row (Ok (record { line = line; count = count; mark = Alive }) ∷ pieces) ≡ Err fault) }
+        ensures comes { MatchResult result (λ _. (pieces : List (Result Run PatternFault)) → comes self.old.cells.items self.old.column self.old.row (Ok (record { line = line; count = count; mark = Alive state }) ∷ pieces) ≡ comes self.new.cells.items self.new.column self.new.row pieces) (λ fault. fault ≢ Memory → (pieces : List (Result Run PatternFault)) → comes self.old.cells.items self.old.column self.old.row (Ok (record { line = line; count = count; mark = Alive state }) ∷ pieces) ≡ Err fault) }
     {
         for _ in 0..count {
-            self.put_cell(line)?;
+            self.put_cell(line, state)?;
         }
         Ok(())
     }
@@ -104,7 +106,7 @@ impl Board {
     {
         match mark {
             Mark::Dead => self.column = farther(self.column, count),
-            Mark::Alive => self.put_cells(line, count)?,
+            Mark::Alive(state) => self.put_cells(line, count, state)?,
             Mark::RowEnd => {
                 self.column = 0;
                 self.row = farther(self.row, count);

@@ -13,4 +13,4 @@ mod runs;
 pub use board::Cell;
 pub use fault::PatternFault;
 pub use pattern::read_pattern;
-pub use placing::{Grid, PlaceFault, placed};
+pub use placing::{Corner, Grid, PlaceFault, placed};

@@ -2,7 +2,7 @@
 ghost use Rattle.std.specs.Prelude.{◌≡◌, ◌<◌, ℕ, List, length, Ok};
 ghost use Rattle.net_patterns.specs.Cells.{IsAnswer};
 ghost use Rattle.net_patterns.specs.Texts.{pattern_in};
-ghost use Rattle.net_patterns.specs.Written.{AreInOrder, Frame, IsFrame, IsLine, Span, as_plain, cells_in, written_as_plain, written_as_runs, written_from};
+ghost use Rattle.net_patterns.specs.Written.{AreInOrder, Frame, IsFrame, IsLine, Span, as_plain, cells_in, written_as_plain, written_as_runs, written_as_states, written_from};
 
 use crate::board::Cell;
 use crate::fault::PatternFault;
@@ -31,25 +31,27 @@ fn read_either(alloc: Global, bytes: &[u8]) -> Result<Vec<Cell>, PatternFault>
 /// with `#`, says of which kind the text is. Where it begins with `x` it is the header of runs (RLE); the runs stand
 /// behind it, and what it says is not looked at. Else the whole text is plain.
 ///
-/// Runs: a count and a tag, or a tag alone for one. `b` and `.` are dead cells, `o` and `A` live ones, `$` ends rows,
-/// and `!` ends the pattern, whatever stands behind it. A count is from 1 to 999,999,999. Blanks, TAB, CR and LF may
-/// stand anywhere but between a count and its tag.
+/// Runs: a count and a tag, or a tag alone for one. `b` and `.` are dead cells, `o` and `A` live ones of state 1, `B` to
+/// `X` those of states 2 to 24, `pA` to `pX` those of 25 to 48 and so on up to `yO` for 255; `$` ends rows, and `!` ends
+/// the pattern, whatever stands behind it. A count is from 1 to 999,999,999. Blanks, TAB, CR and LF may stand anywhere
+/// but between a count and its tag, and within a tag.
 ///
-/// Plain text: each line is a row of `.` for dead cells and `O` or `*` for live ones, an empty line an empty row; a
+/// Plain text: each line is a row of `.` for dead cells and `O` or `*` for live ones of state 1, an empty line an empty row; a
 /// line that begins with `!` is a comment. A CR at a line's end is passed over.
 ///
 /// The first fault of the text is returned: `NoPattern` where no line says something; `BadCell` at a character that has
-/// no meaning there; `BadCount` at a number that is no count, or that no tag follows at once; `NoEnd` where runs end
+/// no meaning there, or at one or the text's end where a letter from `p` to `y` is left alone; `BadCount` at a number that is no count, or that no tag follows at once; `NoEnd` where runs end
 /// without `!`; `TooLarge` at a live cell whose column or row is 65,536 or more or that follows 65,536 others. `Memory`
 /// comes only where memory runs out.
 ///
-/// What is written is read back: live cells in reading order, 65,536 at most, that are written as runs behind a header,
-/// as rows of plain text behind a comment, or, where there is a cell, as such rows alone are the cells that come out.
+/// What is written is read back: live cells in reading order, 65,536 at most, that are written as runs of two states or of
+/// many behind a header, as rows of plain text behind a comment, or, where there is a cell, as such rows alone are the cells that come out.
 pub fn read_pattern(alloc: Global, bytes: &[u8]) -> Result<Vec<Cell>, PatternFault>
     ensures answer { IsAnswer (λ v. v.items) (pattern_in bytes.now) result }
-    ensures reads_runs { (frame : Frame) (spans : List Span) → IsFrame frame → AreInOrder spans → bytes.now ≡ written_as_runs frame spans → IsAnswer (λ v. v.items) (Ok (cells_in spans)) result }
-    ensures reads_rows { (spans : List Span) → AreInOrder spans → 0 < length (cells_in spans) → bytes.now ≡ written_from as_plain 0 0 spans → IsAnswer (λ v. v.items) (Ok (cells_in spans)) result }
-    ensures reads_plain { (comment : List ℕ) (spans : List Span) → IsLine 33 comment → AreInOrder spans → bytes.now ≡ written_as_plain comment spans → IsAnswer (λ v. v.items) (Ok (cells_in spans)) result }
+    ensures reads_runs { (frame : Frame) (spans : List Span) → IsFrame frame → AreInOrder 1 spans → bytes.now ≡ written_as_runs frame spans → IsAnswer (λ v. v.items) (Ok (cells_in spans)) result }
+    ensures reads_states { (frame : Frame) (spans : List Span) → IsFrame frame → AreInOrder 255 spans → bytes.now ≡ written_as_states frame spans → IsAnswer (λ v. v.items) (Ok (cells_in spans)) result }
+    ensures reads_rows { (spans : List Span) → AreInOrder 1 spans → 0 < length (cells_in spans) → bytes.now ≡ written_from as_plain 0 0 spans → IsAnswer (λ v. v.items) (Ok (cells_in spans)) result }
+    ensures reads_plain { (comment : List ℕ) (spans : List Span) → IsLine 33 comment → AreInOrder 1 spans → bytes.now ≡ written_as_plain comment spans → IsAnswer (λ v. v.items) (Ok (cells_in spans)) result }
 {
     read_either(alloc, bytes)
 }

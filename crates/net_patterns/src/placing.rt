@@ -15,6 +15,13 @@ pub struct Grid {
     pub nodes: u32,
 }
 
+/// Where the first column and the first row of a pattern stand on a grid.
+#[derive(Clone, Copy)]
+pub struct Corner {
+    pub column: u32,
+    pub row: u32,
+}
+
 /// Why a pattern has no place on a grid.
 #[derive(Clone, Copy, Debug, PartialEq, Eq, Error)]
 pub enum PlaceFault {
@@ -35,7 +42,7 @@ impl From<AllocError> for PlaceFault {
 }
 
 /// The node where a cell stands, whether the grid has it or not.
-fn node_at(grid: &Grid, corner: &Cell, cell: &Cell) -> u128
+fn node_at(grid: &Grid, corner: &Corner, cell: &Cell) -> u128
     ensures { result ≡ node_at grid.now corner.now cell.now }
 {
     let row = corner.row as u128 + cell.row as u128;
@@ -44,7 +51,7 @@ fn node_at(grid: &Grid, corner: &Cell, cell: &Cell) -> u128
 }
 
 /// Whether a cell stands on the grid.
-fn is_inside(grid: &Grid, corner: &Cell, cell: &Cell) -> bool
+fn is_inside(grid: &Grid, corner: &Corner, cell: &Cell) -> bool
     ensures { result ≡ is_inside grid.now corner.now cell.now }
 {
     let column = corner.column as u64 + cell.column as u64;
@@ -52,7 +59,7 @@ fn is_inside(grid: &Grid, corner: &Cell, cell: &Cell) -> bool
 }
 
 /// The first cell that stands outside the grid, where one does.
-fn first_outside(cells: &[Cell], grid: &Grid, corner: &Cell) -> Option<Cell>
+fn first_outside(cells: &[Cell], grid: &Grid, corner: &Corner) -> Option<Cell>
     ensures { result ≡ find (λ c. not (is_inside grid.now corner.now c)) cells.now }
 {
     for cell in cells {
@@ -68,7 +75,7 @@ fn nodes_of(
     alloc: Global,
     cells: &[Cell],
     grid: &Grid,
-    corner: &Cell,
+    corner: &Corner,
 ) -> Result<Vec<u32>, AllocError>
     requires inside { find (λ c. not (is_inside grid.now corner.now c)) cells.now ≡ None }
     ensures { IfOk result (λ v. v.items ≡ map (node_at grid.now corner.now) cells.now) }
@@ -87,7 +94,7 @@ pub fn placed(
     alloc: Global,
     cells: &[Cell],
     grid: &Grid,
-    corner: &Cell,
+    corner: &Corner,
 ) -> Result<Vec<u32>, PlaceFault>
     ensures nodes { IfOk result (λ v. placing_of grid.now corner.now cells.now ≡ Ok v.items) }
     ensures fault { IfErr result (λ fault. fault ≢ Memory → placing_of grid.now corner.now cells.now ≡ Err fault) }

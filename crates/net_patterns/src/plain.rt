@@ -17,7 +17,7 @@ fn plain_mark(character: u8) -> Option<Mark>
 {
     match character {
         b'.' => Some(Mark::Dead),
-        b'O' | b'*' => Some(Mark::Alive),
+        b'O' | b'*' => Some(Mark::Alive(1)),
         _ => None,
     }
 }

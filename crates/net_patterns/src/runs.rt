@@ -4,7 +4,7 @@ ghost use Rattle.std.specs.Char.{is_ascii_digit};
 ghost use Rattle.net_patterns.specs.declared.fault.PatternFault.{PatternFault};
 ghost use Rattle.net_patterns.specs.declared.fault.PatternFault.TheVariants.{Memory};
 ghost use Rattle.net_patterns.specs.Cells.{IsAnswer, Run, pattern_of};
-ghost use Rattle.net_patterns.specs.Rle.{count_of, is_blank, mark_of, pieces_from, run_of};
+ghost use Rattle.net_patterns.specs.Rle.{count_of, end_fault, higher_of, is_blank, letter_of, mark_of, pieces_from, plain_tag, run_of};
 ghost use Rattle.net_patterns.specs.Steps.{comes, reads};
 
 use crate::board::{Board, Cell, Mark};
@@ -21,19 +21,52 @@ struct Reader {
     line: u64,
     /// The number that stands before it, if one does.
     number: Option<u64>,
+    /// How many states a letter right before it adds; 0 where none does.
+    higher: u8,
     /// The cells so far.
     board: Board,
 }
 
-/// The mark that a tag stands for.
-fn mark_of(tag: u8) -> Option<Mark>
-    ensures { result ≡ mark_of tag }
+/// The state of a capital letter, where nothing stands before it.
+fn letter_of(tag: u8) -> Option<u8>
+    ensures { result ≡ letter_of tag }
+{
+    match tag {
+        b'A'..=b'X' => Some(tag - b'A' + 1),
+        _ => None,
+    }
+}
+
+/// How many states a letter adds to those of the capital letter behind it.
+fn higher_of(letter: u8) -> Option<u8>
+    ensures { result ≡ higher_of letter }
+{
+    match letter {
+        b'p'..=b'y' => Some(24 * (letter - b'o')),
+        _ => None,
+    }
+}
+
+/// The mark of a tag that is no capital letter.
+fn plain_tag(tag: u8) -> Option<Mark>
+    ensures { result ≡ plain_tag tag }
 {
     match tag {
         b'b' | b'.' => Some(Mark::Dead),
-        b'o' | b'A' => Some(Mark::Alive),
+        b'o' => Some(Mark::Alive(1)),
         b'$' => Some(Mark::RowEnd),
         _ => None,
+    }
+}
+
+/// The mark that a tag stands for, behind a letter that adds so many states.
+fn mark_of(higher: u8, tag: u8) -> Option<Mark>
+    ensures { result ≡ mark_of higher tag }
+{
+    match letter_of(tag) {
+        Some(letter) => higher.checked_add(letter).map(Mark::Alive),
+        None if higher == 0 => plain_tag(tag),
+        None => None,
     }
 }
 
@@ -63,8 +96,9 @@ impl Reader {
         requires number { MatchOption self.old.number (Unit {0}) (λ n. n ≤ 999999999) }
         ensures number { OnOk result (MatchOption self.new.number (Unit {0}) (λ n. n ≤ 999999999)) }
         ensures line { self.new.line ≡ self.old.line }
+        ensures higher { self.new.higher ≡ self.old.higher }
         ensures board { self.new.board ≡ self.old.board }
-        ensures reads { MatchResult result (λ _. (bs : List ℕ) → pieces_from self.old.line self.old.number (digit ∷ bs) ≡ pieces_from self.new.line self.new.number bs) (λ fault. (bs : List ℕ) → pieces_from self.old.line self.old.number (digit ∷ bs) ≡ Err fault ∷ []) }
+        ensures reads { MatchResult result (λ _. (bs : List ℕ) → pieces_from self.old.line self.old.number 0 (digit ∷ bs) ≡ pieces_from self.new.line self.new.number 0 bs) (λ fault. (bs : List ℕ) → pieces_from self.old.line self.old.number 0 (digit ∷ bs) ≡ Err fault ∷ []) }
     {
         let number = 10 * self.number.unwrap_or(0) + u64::from(digit - b'0');
         if number > MOST_COUNT {
@@ -83,30 +117,38 @@ impl Reader {
         ensures row { OnOk result (self.new.board.row ≤ 65536) }
         ensures line { self.new.line ≡ self.old.line }
         ensures number { self.new.number ≡ None }
-        ensures comes { MatchResult result (λ _. (pieces : List (Result Run PatternFault)) → comes self.old.board.cells.items self.old.board.column self.old.board.row (run_of self.old.line count (mark_of tag) pieces) ≡ comes self.new.board.cells.items self.new.board.column self.new.board.row pieces) (λ fault. fault ≢ Memory → (pieces : List (Result Run PatternFault)) → comes self.old.board.cells.items self.old.board.column self.old.board.row (run_of self.old.line count (mark_of tag) pieces) ≡ Err fault) }
+        ensures higher { self.new.higher ≡ 0 }
+        ensures comes { MatchResult result (λ _. (pieces : List (Result Run PatternFault)) → comes self.old.board.cells.items self.old.board.column self.old.board.row (run_of self.old.line count (mark_of self.old.higher tag) pieces) ≡ comes self.new.board.cells.items self.new.board.column self.new.board.row pieces) (λ fault. fault ≢ Memory → (pieces : List (Result Run PatternFault)) → comes self.old.board.cells.items self.old.board.column self.old.board.row (run_of self.old.line count (mark_of self.old.higher tag) pieces) ≡ Err fault) }
     {
+        let mark = mark_of(self.higher, tag);
         self.number = None;
-        let Some(mark) = mark_of(tag) else {
+        self.higher = 0;
+        let Some(mark) = mark else {
             return Err(PatternFault::BadCell { line: self.line });
         };
         self.board.put(self.line, count, mark)
     }
 
-    /// Takes a byte that is no digit. Whether it is the end.
+    /// Takes a byte that is no digit of a count. Whether it is the end.
     fn take_sign(&mut self, byte: u8) -> Result<bool, PatternFault>
-        requires digit { is_ascii_digit byte ≡ false }
+        requires digit { self.old.higher ≡ 0 → is_ascii_digit byte ≡ false }
+        requires number { MatchOption self.old.number (Unit {0}) (λ n. n ≤ 999999999) }
         requires column { self.old.board.column ≤ 65536 }
         requires row { self.old.board.row ≤ 65536 }
         requires room { self.old.line + 1 < 2 ^ 64 }
         ensures column { OnOk result (self.new.board.column ≤ 65536) }
         ensures row { OnOk result (self.new.board.row ≤ 65536) }
         ensures room { OnOk result (self.new.line ≤ self.old.line + 1) }
-        ensures number { IfOk result (λ ended. ended ≡ false → self.new.number ≡ None) }
-        ensures reads { MatchResult result (λ ended. (bs : List ℕ) → reads self.old.board.cells.items self.old.board.column self.old.board.row self.old.line self.old.number (byte ∷ bs) ≡ (if ended then Ok self.new.board.cells.items else reads self.new.board.cells.items self.new.board.column self.new.board.row self.new.line self.new.number bs)) (λ fault. fault ≢ Memory → (bs : List ℕ) → reads self.old.board.cells.items self.old.board.column self.old.board.row self.old.line self.old.number (byte ∷ bs) ≡ Err fault) }
+        ensures number { OnOk result (MatchOption self.new.number (Unit {0}) (λ n. n ≤ 999999999)) }
+        ensures reads { MatchResult result (λ ended. (bs : List ℕ) → reads self.old.board.cells.items self.old.board.column self.old.board.row self.old.line self.old.number self.old.higher (byte ∷ bs) ≡ (if ended then Ok self.new.board.cells.items else reads self.new.board.cells.items self.new.board.column self.new.board.row self.new.line self.new.number self.new.higher bs)) (λ fault. fault ≢ Memory → (bs : List ℕ) → reads self.old.board.cells.items self.old.board.column self.old.board.row self.old.line self.old.number self.old.higher (byte ∷ bs) ≡ Err fault) }
     {
         let Some(count) = count_of(self.number) else {
             return Err(PatternFault::BadCount { line: self.line });
         };
+        if self.higher > 0 {
+            self.take_tag(count, byte)?;
+            return Ok(false);
+        }
         if is_blank(byte) {
             if self.number.is_some() {
                 return Err(PatternFault::BadCount { line: self.line });
@@ -119,14 +161,21 @@ impl Reader {
         if byte == b'!' {
             return Ok(true);
         }
+        if let Some(higher) = higher_of(byte) {
+            self.higher = higher;
+            return Ok(false);
+        }
         self.take_tag(count, byte)?;
         Ok(false)
     }
 
     /// The fault of a text that ends here.
     fn end_fault(&self) -> PatternFault
-        ensures { pieces_from self.now.line self.now.number [] ≡ Err result ∷ [] }
+        ensures { result ≡ end_fault self.now.line self.now.number self.now.higher }
     {
+        if self.higher > 0 {
+            return PatternFault::BadCell { line: self.line };
+        }
         match self.number {
             Some(_) => PatternFault::BadCount { line: self.line },
             None => PatternFault::NoEnd,
@@ -137,15 +186,16 @@ impl Reader {
 /// The cells of a text of runs, whose first byte stands in this line.
 pub(crate) fn read_runs(alloc: Global, line: u64, bytes: &[u8]) -> Result<Vec<Cell>, PatternFault>
     requires room { line + length bytes.now < 2 ^ 64 }
-    ensures { IsAnswer (λ v. v.items) (pattern_of (pieces_from line None bytes.now)) result }
+    ensures { IsAnswer (λ v. v.items) (pattern_of (pieces_from line None 0 bytes.now)) result }
 {
     let mut reader = Reader {
         line,
         number: None,
+        higher: 0,
         board: Board::new(alloc),
     };
     for byte in bytes {
-        if byte.is_ascii_digit() {
+        if reader.higher == 0 && byte.is_ascii_digit() {
             reader.take_digit(*byte)?;
         } else if reader.take_sign(*byte)? {
             return Ok(reader.board.cells);

@@ -1,6 +1,6 @@
 use Rattle.std.proofs.Common.{ap, ◌∙◌}
 use Rattle.net_patterns.specs.Texts.{pattern_in}
-use Rattle.net_patterns.proofs.RoundTrip.{reads_plain, reads_rows, reads_runs}
+use Rattle.net_patterns.proofs.RoundTrip.{reads_plain, reads_rows, reads_runs, reads_states}
 use Rattle.net_patterns.proofs.pattern.read_pattern.Goals as goal
 
 pub returns-clause-reads_runs : goal.returns-clause-reads_runs
@@ -17,3 +17,8 @@ pub returns-clause-reads_rows : goal.returns-clause-reads_rows
 returns-clause-reads_rows c =
     λ spans order some same.
     rw (ap pattern_in same ∙ reads_rows spans order some) at c.read_either.ensures
+
+pub returns-clause-reads_states : goal.returns-clause-reads_states
+returns-clause-reads_states c =
+    λ frame spans is order same.
+    rw (ap pattern_in same ∙ reads_states frame spans is order) at c.read_either.ensures

@@ -10,5 +10,5 @@ loop-byte-init c =
       row = omega (arith, c.new.ensures.row);
       line = omega arith;
       number = tt;
-      reads = begins c.new.result.cells.items c.new.result.column c.new.result.row (pieces_from c.args.line None c.args.bytes.now) c.new.ensures.cells c.new.ensures.column c.new.ensures.row;
+      reads = begins c.new.result.cells.items c.new.result.column c.new.result.row (pieces_from c.args.line None 0 c.args.bytes.now) c.new.ensures.cells c.new.ensures.column c.new.ensures.row;
     }

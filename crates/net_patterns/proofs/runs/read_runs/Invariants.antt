@@ -10,5 +10,5 @@ invariant-loop-byte l = record {
   row : l.reader.board.row ≤ 65536;
   line : l.reader.line ≤ l.fn.line + l.byte-index;
   number : MatchOption l.reader.number (Unit {0}) (λ n. n ≤ 999999999);
-  reads : reads l.reader.board.cells.items l.reader.board.column l.reader.board.row l.reader.line l.reader.number (drop l.byte-index l.bytes) ≡ pattern_of (pieces_from l.fn.line None l.bytes);
+  reads : reads l.reader.board.cells.items l.reader.board.column l.reader.board.row l.reader.line l.reader.number l.reader.higher (drop l.byte-index l.bytes) ≡ pattern_of (pieces_from l.fn.line None 0 l.bytes);
 }

@@ -9,7 +9,7 @@ returns-in_err-put_cell-clause-comes c =
     rw (p.1, p.2)
     (λ other pieces.
     c.loop.invariant.comes pieces
-    ∙ comes-one_less c.loop.self.cells.items c.loop.self.column c.loop.self.row c.args.line c.args.count c.loop.counter pieces c.loop-test.true
+    ∙ comes-one_less c.loop.self.cells.items c.loop.self.column c.loop.self.row c.args.line c.args.state c.args.count c.loop.counter pieces c.loop-test.true
     ∙ c.in_err-put_cell.ensures.comes other (c.args.count - (c.loop.counter + 1)) pieces)
 
 pub loop-preserved : goal.loop-preserved
@@ -19,6 +19,6 @@ loop-preserved c =
       row = omega (arith, c.in_ok-put_cell.ensures.row);
       comes = λ pieces.
           c.loop.invariant.comes pieces
-          ∙ comes-one_less c.loop.self.cells.items c.loop.self.column c.loop.self.row c.args.line c.args.count c.loop.counter pieces c.loop-test.true
+          ∙ comes-one_less c.loop.self.cells.items c.loop.self.column c.loop.self.row c.args.line c.args.state c.args.count c.loop.counter pieces c.loop-test.true
           ∙ c.in_ok-put_cell.ensures.comes (c.args.count - (c.loop.counter + 1)) pieces;
     }

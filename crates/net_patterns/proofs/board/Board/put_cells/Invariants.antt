@@ -9,5 +9,5 @@ abbrev pub invariant-loop : goal.invariant-loop
 invariant-loop l = record {
   column : l.self.column ≤ 65536;
   row : l.self.row ≤ 65536;
-  comes : (pieces : List (Result Run PatternFault)) → comes l.fn.self.cells.items l.fn.self.column l.fn.self.row (Ok (record { line = l.line; count = l.count; mark = Alive }) ∷ pieces) ≡ comes l.self.cells.items l.self.column l.self.row (Ok (record { line = l.line; count = l.count - l.counter; mark = Alive }) ∷ pieces);
+  comes : (pieces : List (Result Run PatternFault)) → comes l.fn.self.cells.items l.fn.self.column l.fn.self.row (Ok (record { line = l.line; count = l.count; mark = Alive l.state }) ∷ pieces) ≡ comes l.self.cells.items l.self.column l.self.row (Ok (record { line = l.line; count = l.count - l.counter; mark = Alive l.state }) ∷ pieces);
 }
