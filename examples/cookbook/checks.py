@@ -451,6 +451,19 @@ def brians_brain(net):
         yield columns(s=flat(rows))
 
 
+def wireworld(net):
+    is_grid(net, 19, 5, EIGHT, wraps=True)
+    rule = lambda own, near: [0, 2, 3, 1 if near.count(1) in (1, 2) else 3][own]
+    for rows in cells(table(net.initial("s", 0), 19), EIGHT, rule):
+        yield columns(s=flat(rows))
+
+
+def cyclic(net):
+    is_grid(net, 8, 8, FOUR, wraps=True)
+    for rows in cells(table(net.initial("s", 0), 8), FOUR, lambda own, near: (own + 1) % 4 if (own + 1) % 4 in near else own):
+        yield columns(s=flat(rows))
+
+
 def wave(net):
     is_ring(net)
     for now in count():
@@ -552,7 +565,7 @@ def once(net):
 
 EXAMPLES = [
     flooding, distances, parents, shortest_paths, components, leader, spanning_tree, eccentricity, gossip, independent_set, colouring, k_core,
-    majority, threshold, pagerank, epidemic, life, rule_90, rule_110, brians_brain, wave, firing_squad, sorting, game,
+    majority, threshold, pagerank, epidemic, life, rule_90, rule_110, brians_brain, wireworld, cyclic, wave, firing_squad, sorting, game,
     argmin, once,
 ]
 HORIZON = 420  # rounds that are looked at; all that settle here, or repeat, have done so long before
