@@ -1,5 +1,7 @@
 mod BoardSteps
 mod FirstLines
+mod GridReads
+mod GridSpans
 mod LineSteps
 mod LongNumbers
 mod MarkSteps

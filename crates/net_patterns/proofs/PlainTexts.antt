@@ -4,9 +4,10 @@ use Rattle.std.specs.List.{list_all, list_any}
 use Rattle.std.proofs.Math.Bool.{or-true}
 use Rattle.std.proofs.lemmas.Bool.{cases_lt}
 use Rattle.net_patterns.specs.declared.board.Cell.{Cell}
+use Rattle.net_patterns.specs.declared.span.Span.{Span}
 use Rattle.net_patterns.specs.Steps.{comes}
 use Rattle.net_patterns.specs.Texts.{is_comment, plain_pieces}
-use Rattle.net_patterns.specs.Written.{Span, IsAhead, cells_beside, cells_in, column_at, written_from, as_plain}
+use Rattle.net_patterns.specs.Written.{IsAhead, cells_beside, cells_in, column_at, written_from, as_plain}
 use Rattle.net_patterns.proofs.FirstLines.{is_row_byte}
 use Rattle.net_patterns.proofs.BoardSteps.{comes-row_end}
 use Rattle.net_patterns.proofs.MarkSteps.{same_row, later_row, dead_passed, alive_passed}

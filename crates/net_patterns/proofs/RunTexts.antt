@@ -12,9 +12,10 @@ use Rattle.std.proofs.lemmas.Str.Parse.{digit_from_value}
 use Rattle.net_patterns.specs.declared.board.Cell.{Cell}
 use Rattle.net_patterns.specs.declared.board.Mark.{Mark}
 use Rattle.net_patterns.specs.declared.board.Mark.TheVariants.{Dead, Alive, RowEnd}
-use Rattle.net_patterns.specs.Rle.{is_blank, line_behind, mark_of, pieces_from}
+use Rattle.net_patterns.specs.declared.span.Span.{Span}
+use Rattle.net_patterns.specs.Rle.{line_behind, pieces_from}
 use Rattle.net_patterns.specs.Steps.{comes}
-use Rattle.net_patterns.specs.Written.{Span, IsAhead, cells_beside, column_at, is_gap, run_text}
+use Rattle.net_patterns.specs.Written.{IsAhead, cells_beside, column_at, is_gap, run_text}
 use Rattle.net_patterns.proofs.MarkSteps.{rows_passed, dead_passed, alive_passed}
 
 is_digit : (d : ℕ) → 48 ≤ d → d ≤ 57 → is_ascii_digit d ≡ true

@@ -1,10 +1,10 @@
 -- The letters of states are read.
-use Rattle.std.proofs.Common.{◌≡◌, inl, inr, ℕ, ◌+◌, ◌*◌, ◌-◌, ◌/◌, ◌%◌, ◌<◌, ◌≤◌, ◌==◌, ◌&&◌, true, false, List, [], ◌∷◌, ◌++◌, nat_lt, nat_le, refl, ap, ◌∙◌, arith, Option, Some, None, Ok, is_some}
+use Rattle.std.proofs.Common.{◌≡◌, inl, inr, ℕ, ◌+◌, ◌*◌, ◌-◌, ◌/◌, ◌%◌, ◌<◌, ◌≤◌, ◌==◌, ◌&&◌, true, false, List, ◌∷◌, ◌++◌, nat_le, refl, ◌∙◌, arith, Option, Some, None, Ok}
 use Rattle.std.specs.Char.{is_ascii_digit}
 use Rattle.std.proofs.lemmas.Bool.{cases_Bool}
 use Rattle.std.proofs.lemmas.Bool.Decides.{nat_tests}
 use Rattle.net_patterns.specs.declared.board.Mark.TheVariants.{Alive}
-use Rattle.net_patterns.specs.Rle.{count_of, higher_of, is_blank, letter_of, pieces_from}
+use Rattle.net_patterns.specs.Rle.{count_of, is_blank, pieces_from}
 use Rattle.net_patterns.specs.Written.{state_tag}
 use Rattle.net_patterns.proofs.RunTexts.{IsTag, is_count}
 

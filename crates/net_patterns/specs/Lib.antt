@@ -1,4 +1,5 @@
 pub mod Cells
+pub mod OnGrids
 pub mod Placing
 pub mod Rle
 pub mod Steps

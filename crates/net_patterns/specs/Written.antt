@@ -3,13 +3,7 @@ use Rattle.std.specs.Prelude.{◌≡◌, ◌≤◌, ◌<◌, ℕ, zero, suc, ◌
 use Rattle.std.specs.Fmt.{decimal}
 use Rattle.std.specs.List.{AllByRecursion, list_all, list_any}
 use Rattle.net_patterns.specs.declared.board.Cell.{Cell}
-
--- live cells of one state side by side in a row: so many, the first of them in this column
-pub record Span : Type 0 where
-  pub state : ℕ
-  pub row : ℕ
-  pub column : ℕ
-  pub count : ℕ
+use Rattle.net_patterns.specs.declared.span.Span.{Span}
 
 -- so many cells of this state side by side, from this column of this row on
 abbrev pub cells_beside : ℕ → ℕ → ℕ → ℕ → List Cell

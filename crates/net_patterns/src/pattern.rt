@@ -2,7 +2,8 @@
 ghost use Rattle.std.specs.Prelude.{◌≡◌, ◌<◌, ℕ, List, length, Ok};
 ghost use Rattle.net_patterns.specs.Cells.{IsAnswer};
 ghost use Rattle.net_patterns.specs.Texts.{pattern_in};
-ghost use Rattle.net_patterns.specs.Written.{AreInOrder, Frame, IsFrame, IsLine, Span, as_plain, cells_in, written_as_plain, written_as_runs, written_as_states, written_from};
+ghost use Rattle.net_patterns.specs.declared.span.Span.{Span};
+ghost use Rattle.net_patterns.specs.Written.{AreInOrder, Frame, IsFrame, IsLine, as_plain, cells_in, written_as_plain, written_as_runs, written_as_states, written_from};
 
 use crate::board::Cell;
 use crate::fault::PatternFault;
