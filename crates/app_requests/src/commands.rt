@@ -1,5 +1,6 @@
 //! All commands of the program, in groups.
 
+use crate::cells::cells;
 use crate::count::count;
 use crate::csv::csv;
 use crate::cuts::cuts;
@@ -62,6 +63,7 @@ static MANUAL: Command = Command {
 /// What a command does.
 #[derive(Clone, Copy)]
 pub enum Task {
+    Cells,
     Completion,
     Count,
     Csv,
@@ -124,6 +126,7 @@ pub const GROUPS: [Group; 6] = [
             Task::Init,
             Task::Info,
             Task::Csv,
+            Task::Cells,
         ],
     },
     Group {
@@ -152,6 +155,7 @@ impl Task {
     /// The table of the command.
     pub fn command(self) -> &'static Command {
         match self {
+            Task::Cells => cells(),
             Task::Completion => &COMPLETION,
             Task::Count => count(),
             Task::Csv => csv(),

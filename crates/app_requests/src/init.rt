@@ -89,7 +89,7 @@ const CELLS: Argument = Argument {
     name: "cells",
     kind: Kind::Repeated,
     value_name: "FIELD=FILE@X,Y",
-    help: "Give a field the initial value 1 where a pattern of cells, RLE or plain text, has a live one; its top left corner stands at column X and row Y of the grid; as often as wanted",
+    help: "Give a field the states of a pattern of cells, RLE or plain text, as initial values where it has live ones: 1 in a pattern of two states; its top left corner stands at column X and row Y of the grid; as often as wanted",
     needs: Some("width"),
     ..FILE_OPTION
 };

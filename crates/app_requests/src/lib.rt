@@ -2,6 +2,7 @@
 #![tactic(auto)]
 
 mod arguments;
+mod cells;
 mod commands;
 mod constants;
 mod count;
@@ -24,6 +25,7 @@ mod verify;
 mod watch;
 
 pub use arguments::PlanPaths;
+pub use cells::{CellsFormat, CellsRequest};
 pub use commands::{GROUPS, Group, Task, check_completion, check_manual};
 pub use constants::{Varied, constants_among};
 pub use count::{CountRequest, FigureWord, RunsWords, UntilWord, ValueWord};

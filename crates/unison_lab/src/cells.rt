@@ -4,7 +4,9 @@ use crate::init::put_same;
 use app_files::{Ending, bytes_at, name_at};
 use app_requests::{CellsWord, InitRequest};
 use net_initial::{Chosen, Opening};
-use net_patterns::{Cell, Grid, PatternFault, PlaceFault, placed, read_pattern};
+use net_patterns::{
+    Cell, Corner, Grid, PatternFault, PlaceFault, cells_of_state, placed, read_pattern,
+};
 use std::alloc::{AllocError, Global};
 
 /// Where a text is no pattern, and why.
@@ -14,10 +16,10 @@ fn pattern_text(alloc: Global, name: &str, fault: PatternFault) -> Result<String
             "pattern NoPattern\n{name}: expected runs, which begin with a line as `x = 3, y = 3`, or rows of . and O; found neither"
         ),
         PatternFault::BadCell { line } => format!(in alloc;
-            "pattern BadCell {line}\n{name}:{line}: expected in runs b, o, $ or !, with a number before it or without, and in rows . or O"
+            "pattern BadCell {line}\n{name}:{line}: expected in runs b, o, $, ! or a state's letters from A to yO, with a number before it or without, and in rows . or O"
         ),
         PatternFault::BadCount { line } => format!(in alloc;
-            "pattern BadCount {line}\n{name}:{line}: a number in runs is from 1 to 999999999, and b, o or $ stands right behind it"
+            "pattern BadCount {line}\n{name}:{line}: a number in runs is from 1 to 999999999, and a cell or $ stands right behind it"
         ),
         PatternFault::NoEnd => format!(in alloc;
             "pattern NoEnd\n{name}: runs end with !, and here they go on to the end of the text"
@@ -43,7 +45,7 @@ fn no_place(alloc: Global, grid: &Grid, name: &str, fault: PlaceFault) -> Ending
     let PlaceFault::Outside { cell } = fault else {
         return Ending::Memory;
     };
-    let Cell { column, row } = cell;
+    let Cell { column, row, .. } = cell;
     let Grid { width, nodes } = *grid;
     let rows = nodes.checked_div(width).unwrap_or(0);
     Ending::usage(format!(in alloc;
@@ -58,7 +60,7 @@ fn nodes_under(
     word: &CellsWord,
     cells: &[Cell],
 ) -> Result<Vec<u32>, Ending> {
-    let corner = Cell {
+    let corner = Corner {
         column: word.column,
         row: word.row,
     };
@@ -66,12 +68,6 @@ fn nodes_under(
         Ok(nodes) => Ok(nodes),
         Err(fault) => Err(no_place(alloc, grid, name_at(word.path.as_str()), fault)),
     }
-}
-
-/// The nodes that a word of `--cells` names.
-fn nodes_for(rt: &HostRuntime, grid: &Grid, word: &CellsWord) -> Result<Vec<u32>, Ending> {
-    let cells = cells_at(rt, word.path.as_str())?;
-    nodes_under(rt.alloc(), grid, word, &cells)
 }
 
 /// The grid of so many nodes whose width the words name, where that makes whole rows of them.
@@ -84,21 +80,52 @@ fn grid_of(alloc: Global, nodes: u32, width: u32) -> Result<Grid, Ending> {
     Ok(Grid { width, nodes })
 }
 
-/// Puts the opening that a word of `--cells` asks for.
+/// Puts the opening that the cells of a state ask for, where there are some.
+fn put_state(
+    openings: &mut Vec<Opening>,
+    alloc: Global,
+    grid: &Grid,
+    word: &CellsWord,
+    cells: &[Cell],
+    state: u8,
+) -> Result<(), Ending> {
+    let alike = cells_of_state(alloc, cells, state)?;
+    if alike.is_empty() {
+        return Ok(());
+    }
+    let nodes = nodes_under(alloc, grid, word, &alike)?;
+    let value = u32::from(state);
+    put_same(
+        openings,
+        alloc,
+        word.field.as_str(),
+        Chosen::These(nodes),
+        value,
+    )
+}
+
+/// The greatest state of cells; 0 where there are none.
+fn greatest_state(cells: &[Cell]) -> u8 {
+    let mut greatest = 0;
+    for cell in cells {
+        greatest = greatest.max(cell.state);
+    }
+    greatest
+}
+
+/// Puts the openings that a word of `--cells` asks for, one for each state of its pattern.
 fn put_word(
     openings: &mut Vec<Opening>,
     rt: &HostRuntime,
     grid: &Grid,
     word: &CellsWord,
 ) -> Result<(), Ending> {
-    let nodes = nodes_for(rt, grid, word)?;
-    put_same(
-        openings,
-        rt.alloc(),
-        word.field.as_str(),
-        Chosen::These(nodes),
-        1,
-    )
+    let cells = cells_at(rt, word.path.as_str())?;
+    let _all = nodes_under(rt.alloc(), grid, word, &cells)?;
+    for state in 1..=greatest_state(&cells) {
+        put_state(openings, rt.alloc(), grid, word, &cells, state)?;
+    }
+    Ok(())
 }
 
 /// Puts the openings that the words of `--cells` ask for.

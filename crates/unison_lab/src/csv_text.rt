@@ -22,7 +22,7 @@ fn table_text(alloc: Global, name: &str, fault: TableFault) -> Result<String, Al
 }
 
 /// The table of a report's text.
-fn table_of<'a>(alloc: Global, name: &str, text: &'a [u8]) -> Result<Table<'a>, Ending> {
+pub(crate) fn table_of<'a>(alloc: Global, name: &str, text: &'a [u8]) -> Result<Table<'a>, Ending> {
     match read_table(alloc, text) {
         Ok(table) => Ok(table),
         Err(fault) => Err(Ending::refused(table_text(alloc, name, fault))),

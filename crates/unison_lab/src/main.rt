@@ -23,6 +23,7 @@ mod picture;
 mod plan_texts;
 mod progress;
 mod refusals;
+mod report_cells;
 mod schedule;
 mod settle;
 mod text_lines;
@@ -43,6 +44,7 @@ use crate::init::init_network;
 use crate::naive::tell_naive;
 use crate::page::make_page;
 use crate::picture::{make_dot, make_image};
+use crate::report_cells::print_cells;
 use crate::schedule::make_schedule;
 use crate::settle::settle_rounds;
 use crate::verify::verify_trace;
@@ -78,6 +80,7 @@ fn run_task(
     words: &[String],
 ) -> Result<u8, Ending> {
     match task {
+        Task::Cells => print_cells(rt, words),
         Task::Completion => print_completion(rt, words),
         Task::Count => count_rounds(rt, threads, words),
         Task::Csv => print_csv(rt, words),

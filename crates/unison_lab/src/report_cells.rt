@@ -1,0 +1,144 @@
+//! `cells REPORT --width W`: the states of a report as a pattern of cells.
+
+use crate::csv_text::table_of;
+use app_files::{Ending, bytes_at, name_at, print_out};
+use app_requests::{CellsFormat, CellsRequest};
+use app_table::Draft;
+use net_patterns::{PatternFormat, ValueFault, grid_pattern};
+use report_table::{Table, column_values};
+use std::alloc::{AllocError, Global};
+
+/// How the pattern is written.
+fn pattern_format(format: CellsFormat) -> PatternFormat {
+    match format {
+        CellsFormat::Rle => PatternFormat::Runs,
+        CellsFormat::Text => PatternFormat::Rows,
+    }
+}
+
+/// Puts the names of the fields of a table, with commas between two.
+fn put_fields(draft: &mut Draft, table: &Table<'_>) {
+    for (place, field) in table.fields().iter().enumerate() {
+        if place > 0 {
+            draft.put(", ");
+        }
+        draft.put(field);
+    }
+}
+
+/// What is told where `--field` names no field of a table.
+fn no_field(alloc: Global, table: &Table<'_>, word: &str) -> Result<String, AllocError> {
+    let mut draft = Draft::new(alloc);
+    draft.put("--field: the report has no field `");
+    draft.put(word);
+    draft.put("`; its fields are ");
+    put_fields(&mut draft, table);
+    draft.end()
+}
+
+/// What is told where no field is named, and the table has several.
+fn many_fields(alloc: Global, table: &Table<'_>) -> Result<String, AllocError> {
+    let mut draft = Draft::new(alloc);
+    draft.put("--field FIELD is wanted: the report has the fields ");
+    put_fields(&mut draft, table);
+    draft.end()
+}
+
+/// The place of the field of this name, where a table has it.
+fn place_of(table: &Table<'_>, word: &str) -> Option<usize> {
+    for (place, field) in table.fields().iter().enumerate() {
+        if *field == word {
+            return Some(place);
+        }
+    }
+    None
+}
+
+/// The place of the field whose values are the states.
+fn field_place(alloc: Global, table: &Table<'_>, word: &Option<String>) -> Result<usize, Ending> {
+    match word {
+        Some(word) => match place_of(table, word.as_str()) {
+            Some(place) => Ok(place),
+            None => Err(Ending::usage(no_field(alloc, table, word.as_str()))),
+        },
+        None if table.fields().len() == 1 => Ok(0),
+        None => Err(Ending::usage(many_fields(alloc, table))),
+    }
+}
+
+/// The values of the field that is asked for, by node.
+fn asked_values(
+    alloc: Global,
+    table: &Table<'_>,
+    word: &Option<String>,
+) -> Result<Vec<u32>, Ending> {
+    let place = field_place(alloc, table, word)?;
+    let values = column_values(alloc, table, place)?;
+    Ok(values)
+}
+
+/// What is told where a node's value is no state.
+fn great_value(
+    alloc: Global,
+    node: u32,
+    value: u32,
+    format: CellsFormat,
+) -> Result<String, AllocError> {
+    match format {
+        CellsFormat::Rle => format!(in alloc;
+            "cells TooGreat {node}\nnode {node} has the value {value}, and cells in runs have states up to 255"
+        ),
+        CellsFormat::Text => format!(in alloc;
+            "cells TooGreat {node}\nnode {node} has the value {value}, and rows of . and O are for 0 and 1; --format rle has values up to 255"
+        ),
+    }
+}
+
+/// The ending where values are no pattern.
+fn no_pattern(alloc: Global, fault: ValueFault, format: CellsFormat) -> Ending {
+    match fault {
+        ValueFault::TooGreat { node, value } => {
+            Ending::refused(great_value(alloc, node, value, format))
+        }
+        ValueFault::TooMany | ValueFault::Memory => Ending::Memory,
+    }
+}
+
+/// The ending where the width makes no whole rows.
+fn no_rows(alloc: Global, nodes: usize, width: u32) -> Ending {
+    Ending::usage(format!(in alloc;
+        "--width: the report's {nodes} nodes make no whole rows of {width}"
+    ))
+}
+
+/// The pattern of values.
+fn pattern_of(alloc: Global, values: &[u32], asked: &CellsRequest) -> Result<Vec<u8>, Ending> {
+    let width = asked.width;
+    if width < 1 || values.len() % width as usize != 0 {
+        return Err(no_rows(alloc, values.len(), width));
+    }
+    match grid_pattern(alloc, values, width, pattern_format(asked.format)) {
+        Ok(text) => Ok(text),
+        Err(fault) => Err(no_pattern(alloc, fault, asked.format)),
+    }
+}
+
+/// The pattern of a report.
+fn pattern_for(rt: &HostRuntime, asked: &CellsRequest, report: &[u8]) -> Result<Vec<u8>, Ending> {
+    let table = table_of(rt.alloc(), name_at(asked.report.as_str()), report)?;
+    let values = asked_values(rt.alloc(), &table, &asked.field)?;
+    pattern_of(rt.alloc(), &values, asked)
+}
+
+/// Prints the pattern that is asked for. The status with which the program ends.
+fn put_pattern(rt: &HostRuntime, asked: &CellsRequest) -> Result<u8, Ending> {
+    let report = bytes_at(rt, asked.report.as_str())?;
+    let text = pattern_for(rt, asked, &report)?;
+    print_out(rt, &text)
+}
+
+/// Prints the states of a report as a pattern of cells. The status with which the program ends.
+pub(crate) fn print_cells(rt: &HostRuntime, words: &[String]) -> Result<u8, Ending> {
+    let asked = CellsRequest::parse(rt.alloc(), words)?;
+    put_pattern(rt, &asked)
+}
