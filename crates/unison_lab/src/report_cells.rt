@@ -22,7 +22,7 @@ fn put_fields(draft: &mut Draft, table: &Table<'_>) {
         if place > 0 {
             draft.put(", ");
         }
-        draft.put(field);
+        draft.put(*field);
     }
 }
 
@@ -113,8 +113,8 @@ fn no_rows(alloc: Global, nodes: usize, width: u32) -> Ending {
 
 /// The pattern of values.
 fn pattern_of(alloc: Global, values: &[u32], asked: &CellsRequest) -> Result<Vec<u8>, Ending> {
-    let width = asked.width;
-    if width < 1 || values.len() % width as usize != 0 {
+    let width = asked.width.max(1);
+    if values.len() % width as usize != 0 {
         return Err(no_rows(alloc, values.len(), width));
     }
     match grid_pattern(alloc, values, width, pattern_format(asked.format)) {
