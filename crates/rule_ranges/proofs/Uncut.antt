@@ -1,0 +1,28 @@
+-- Totals that never pass the greatest value.
+use Rattle.std.specs.Prelude.{map, sum}
+use Rattle.std.specs.List.{All}
+use Rattle.std.proofs.Common.{ℕ, ◌*◌, ◌≡◌, ◌≤◌, List, length, arith}
+use Rattle.std.proofs.lemmas.Nat.{mul-le}
+use Rattle.std.proofs.lemmas.List.{length-map}
+use Rattle.std.proofs.lemmas.List.Elements.{All-map}
+use Rattle.std.proofs.lemmas.List.Sums.{sum_by-le}
+use Rattle.rule_lang.specs.Tree.{Tree}
+use Rattle.rule_check.specs.Table.{M}
+use Rattle.rule_check.specs.Value.{Here, value}
+use Rattle.rule_ranges.specs.declared.bounds.Bounds.{Bounds}
+use Rattle.rule_ranges.specs.declared.range.Range.{Range}
+use Rattle.rule_ranges.specs.Bounded.{IsHereWithin}
+use Rattle.rule_ranges.specs.Operations.{TotalTree, IsNeverCut, LiesIn}
+
+-- a total over as many neighbours as a node can have, where the greatest value so often is no more than the greatest value there is
+pub total_uncut : (bounds : Bounds) (e : Tree) (range : Range) → range.most * bounds.degree ≤ M → LiesIn bounds e range → IsNeverCut bounds (TotalTree e)
+total_uncut bounds e range small lies = λ here near inside beside.
+    let values : List ℕ = map (value here e) here.nears in
+    let each : All (λ v. v ≤ range.most) values = All-map (λ v. v ≤ range.most) (value here e) here.nears (λ k d within. (lies here _ inside (inside.nears k d within)).to) in
+    omega (
+      arith,
+      length-map here.nears (value here e),
+      sum_by-le (λ v. v) range.most values each,
+      mul-le (length values) range.most bounds.degree range.most (omega (arith, length-map here.nears (value here e), inside.few)) (omega arith),
+      small,
+    )

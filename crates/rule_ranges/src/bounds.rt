@@ -1,0 +1,12 @@
+//! What bounds the numbers that a network gives to a program.
+
+/// The greatest numbers that the nodes of a network have.
+#[derive(Clone, Copy)]
+pub struct Bounds {
+    /// The greatest number of a node.
+    pub id: u32,
+    /// The greatest number of neighbours of a node.
+    pub degree: u32,
+    /// The greatest weight of a link; 0 where there are no links.
+    pub weight: u32,
+}
