@@ -1,14 +1,14 @@
 -- Where aggregates lie over values in a range, and that operators and aggregates give values.
 use Rattle.std.specs.Prelude.{Bool, min, max, sum, fold}
 use Rattle.std.specs.List.{All, AllByRecursion}
-use Rattle.std.proofs.Common.{ℕ, ◌+◌, ◌*◌, ◌≡◌, ◌<◌, ◌≤◌, ◌⊎◌, inl, inr, List, [], ◌∷◌, length, true, false, arith}
+use Rattle.std.proofs.Common.{ℕ, ◌*◌, ◌<◌, ◌≤◌, ◌⊎◌, inl, inr, List, [], ◌∷◌, length, true, false, arith}
 use Rattle.std.specs.Prelude.{◌==◌, not, ◌/◌, ◌%◌, if◌then◌else◌, nat_lt, nat_le}
 use Rattle.std.specs.List.{list_any, list_all}
 use Rattle.std.proofs.Math.Nat.{div-le_self, mod-le}
 use Rattle.std.proofs.lemmas.Bool.{cases_lt}
 use Rattle.std.proofs.lemmas.Nat.{mul-le, and_le_l, or_of_32, xor_of_32}
 use Rattle.std.proofs.lemmas.List.Sums.{sum_by-le, count_by-le-length}
-use Rattle.std.proofs.lemmas.List.Elements.{All-from_recursion, recursion_from_All}
+use Rattle.std.proofs.lemmas.List.Elements.{recursion_from_All}
 use Rattle.rule_lang.specs.declared.tree.Op.{Op}
 use Rattle.rule_lang.specs.declared.tree.Op.TheVariants.{Plus, Minus, Times, Quot, Rem, BitAnd, BitOr, BitXor, Equal, Differ, Less, LessEq, Greater, GreaterEq, Min, Max}
 use Rattle.rule_lang.specs.declared.tree.Agg.{Agg}

@@ -1,17 +1,16 @@
 -- Totals that never pass the greatest value.
-use Rattle.std.specs.Prelude.{map, sum}
+use Rattle.std.specs.Prelude.{map}
 use Rattle.std.specs.List.{All}
-use Rattle.std.proofs.Common.{ℕ, ◌*◌, ◌≡◌, ◌≤◌, List, length, arith}
+use Rattle.std.proofs.Common.{ℕ, ◌*◌, ◌≤◌, List, length, arith}
 use Rattle.std.proofs.lemmas.Nat.{mul-le}
 use Rattle.std.proofs.lemmas.List.{length-map}
 use Rattle.std.proofs.lemmas.List.Elements.{All-map}
 use Rattle.std.proofs.lemmas.List.Sums.{sum_by-le}
 use Rattle.rule_lang.specs.Tree.{Tree}
 use Rattle.rule_check.specs.Table.{M}
-use Rattle.rule_check.specs.Value.{Here, value}
+use Rattle.rule_check.specs.Value.{value}
 use Rattle.rule_ranges.specs.declared.bounds.Bounds.{Bounds}
 use Rattle.rule_ranges.specs.declared.range.Range.{Range}
-use Rattle.rule_ranges.specs.Bounded.{IsHereWithin}
 use Rattle.rule_ranges.specs.Operations.{TotalTree, IsNeverCut, LiesIn}
 
 -- a total over as many neighbours as a node can have, where the greatest value so often is no more than the greatest value there is

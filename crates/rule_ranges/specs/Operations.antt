@@ -12,7 +12,6 @@ use Rattle.rule_check.specs.Value.{Here, Next, value}
 use Rattle.rule_check.specs.Items.{nexts_of}
 use Rattle.rule_ranges.specs.declared.bounds.Bounds.{Bounds}
 use Rattle.rule_ranges.specs.declared.range.Range.{Range}
-use Rattle.rule_ranges.specs.declared.operations.Operand.{Operand}
 use Rattle.rule_ranges.specs.declared.operations.Operation.{Operation}
 use Rattle.rule_ranges.specs.declared.operations.Operation.TheVariants as operation
 use Rattle.rule_ranges.specs.Bounded.{IsHereWithin, IsNearWithin}

@@ -1,4 +1,4 @@
-use Rattle.std.specs.Prelude.{ℕ, ◌≤◌, map}
+use Rattle.std.specs.Prelude.{◌≤◌, map}
 use Rattle.std.proofs.Common.{arith, get_or, sym, subst}
 use Rattle.std.proofs.lemmas.List.{length-map}
 use Rattle.std.proofs.lemmas.List.Elements.{All-map}

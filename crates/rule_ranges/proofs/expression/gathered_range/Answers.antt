@@ -1,4 +1,4 @@
-use Rattle.std.specs.Prelude.{fold, max, min, sum}
+use Rattle.std.specs.Prelude.{min, sum}
 use Rattle.std.proofs.Common.{◌≡◌, arith, ap, sym, subst}
 use Rattle.rule_lang.specs.declared.tree.Agg.{Agg}
 use Rattle.rule_check.specs.Table.{M, gather}

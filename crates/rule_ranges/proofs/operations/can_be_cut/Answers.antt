@@ -1,5 +1,5 @@
 use Rattle.std.specs.Prelude.{◌*◌}
-use Rattle.std.proofs.Common.{arith, sym, subst, ◌∙◌}
+use Rattle.std.proofs.Common.{sym, subst, ◌∙◌}
 use Rattle.std.proofs.lemmas.Bool.{ltb-false}
 use Rattle.rule_lang.specs.View.{tree_of}
 use Rattle.rule_check.specs.Table.{M}
