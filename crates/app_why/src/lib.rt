@@ -1,6 +1,8 @@
 //! Why a job is not done: the first fault of its texts, its place, and what to do, told for people.
 #![tactic(auto)]
 
+mod bounds;
+mod cut_notes;
 mod entries;
 mod finding;
 mod foreign;

@@ -1,7 +1,8 @@
 //! What is accepted, and rarely meant.
 
-use crate::told::{Named, Texts};
-use link_net::read_network;
+use crate::cut_notes::put_cut_notes;
+use crate::told::Texts;
+use link_net::{NetFile, Network, read_network};
 use rule_lang::{Agg, Expr, Item, Op, read_program};
 use std::alloc::{AllocError, Global};
 
@@ -155,26 +156,32 @@ fn put_program_notes(out: &mut String, items: &[Item]) -> Result<(), AllocError>
     Ok(())
 }
 
-/// Whether a network file, which was read before, sets no field of any node.
-fn sets_nothing(alloc: Global, named: Named) -> Result<bool, AllocError> {
-    let Ok(file) = read_network(alloc, named.text) else {
-        return Err(AllocError);
+/// What the network file describes, which was read before, where there is one.
+fn file_in(alloc: Global, texts: &Texts) -> Result<Option<NetFile>, AllocError> {
+    let Some(named) = texts.network else {
+        return Ok(None);
     };
+    match read_network(alloc, named.text) {
+        Ok(file) => Ok(Some(file)),
+        Err(_) => Err(AllocError),
+    }
+}
+
+/// Whether a network file sets no field of any node.
+fn sets_nothing(file: &NetFile) -> bool {
     for set in file.sets() {
         if !set.pairs.as_slice().is_empty() {
-            return Ok(false);
+            return false;
         }
     }
-    Ok(true)
+    true
 }
 
 /// Whether all nodes stay alike: the texts set nothing, and the program never tells nodes apart.
-fn stay_alike(alloc: Global, texts: &Texts, items: &[Item]) -> Result<bool, AllocError> {
-    match (texts.network, texts.report) {
-        (Some(named), None) if !items.is_empty() && !some_tells_apart(items) => sets_nothing(
-            alloc, named,
-        ),
-        _ => Ok(false),
+fn stay_alike(texts: &Texts, file: &Option<NetFile>, items: &[Item]) -> bool {
+    match (file, texts.report) {
+        (Some(file), None) if !items.is_empty() && !some_tells_apart(items) => sets_nothing(file),
+        _ => false,
     }
 }
 
@@ -190,14 +197,30 @@ fn put_alike(out: &mut String, items: &[Item]) -> Result<(), AllocError> {
     )
 }
 
+/// The network of a file, where there is one.
+fn network_of(file: &Option<NetFile>) -> Option<&Network> {
+    match file {
+        Some(file) => Some(file.network()),
+        None => None,
+    }
+}
+
 /// What is told where nothing refuses a job: that it is so, and notes on what is accepted and rarely meant.
 pub(crate) fn notes(alloc: Global, texts: &Texts) -> Result<String, AllocError> {
     let mut out = String::from_str(alloc, "nothing is wrong\n")?;
     let Ok(source) = read_program(alloc, texts.program.text) else {
         return Err(AllocError);
     };
+    let file = file_in(alloc, texts)?;
     put_program_notes(&mut out, source.items())?;
-    if stay_alike(alloc, texts, source.items())? {
+    put_cut_notes(
+        alloc,
+        &mut out,
+        texts.program,
+        source.items(),
+        network_of(&file),
+    )?;
+    if stay_alike(texts, &file, source.items()) {
         put_alike(&mut out, source.items())?;
     }
     Ok(out)

@@ -1,0 +1,85 @@
+//! What bounds the numbers that a network gives to a program.
+ghost use Rattle.std.specs.Prelude.{◌≡◌, ◌≤◌, ◌<◌, ℕ, All, length, map};
+ghost use Rattle.rule_check.specs.declared.state.State.{State};
+ghost use Rattle.rule_check.specs.Value.{Rules, alone, here_at};
+ghost use Rattle.link_net.specs.Neighbours.{degree, row};
+ghost use Rattle.rounds_plan.specs.Rounds.{nears_in};
+ghost use Rattle.rule_ranges.specs.Bounded.{AreValues, IsHereWithin, IsNearWithin};
+
+use link_net::{MOST_NEIGHBOURS, MOST_NODES, Network};
+use rule_ranges::Bounds;
+
+/// The greatest of some numbers and of one more.
+fn greatest(first: u32, numbers: &[u32]) -> u32
+    ensures first { first ≤ result }
+    ensures each { All (λ number. number ≤ result) numbers.now }
+{
+    let mut greatest = first;
+    for number in numbers {
+        greatest = greatest.max(*number);
+    }
+    greatest
+}
+
+/// How many neighbours a node has.
+fn degree_at(network: &Network, node: u32) -> u32
+    ensures exact { result ≡ degree network.now node }
+{
+    match network.degree(node) {
+        Some(degree) => degree,
+        None => 0,
+    }
+}
+
+/// The weights of the links of a node.
+fn weights_at(network: &Network, node: u32) -> &[u32]
+    ensures exact { result.now ≡ map (λ arc. arc.1) (row network.now node) }
+{
+    match network.weights(node) {
+        Some(weights) => weights,
+        None => &[],
+    }
+}
+
+/// The greatest number of neighbours of a node.
+fn greatest_degree(network: &Network) -> u32
+    ensures each { (u : ℕ) → degree network.now u ≤ result }
+{
+    let mut greatest = 0;
+    for node in 0..network.nodes() {
+        greatest = greatest.max(degree_at(network, node));
+    }
+    greatest
+}
+
+/// The greatest weight of a link, 0 where there are no links.
+fn greatest_weight(network: &Network) -> u32
+    ensures each { (u : ℕ) → All (λ arc. arc.1 ≤ result) (row network.now u) }
+{
+    let mut found = 0;
+    for node in 0..network.nodes() {
+        found = greatest(found, weights_at(network, node));
+    }
+    found
+}
+
+/// What bounds the nodes of a network: whatever the states are, each node stands within it in each round.
+pub(crate) fn bounds_of(network: &Network) -> Bounds
+    ensures within { (rules : Rules) (round u : ℕ) (at : ℕ → State) → u < length network.now → ((v : ℕ) → AreValues (at v)) → IsHereWithin result (here_at rules round u (degree network.now u) (at u) (nears_in network.now at u)) }
+    ensures alone { (u : ℕ) (state : State) → u < length network.now → AreValues state → IsNearWithin result (alone u state) }
+{
+    Bounds {
+        id: network.nodes() - 1,
+        degree: greatest_degree(network),
+        weight: greatest_weight(network),
+    }
+}
+
+/// What bounds the nodes of each network that a file can describe.
+pub(crate) fn bounds_of_any() -> Bounds {
+    Bounds {
+        id: MOST_NODES - 1,
+        degree: MOST_NEIGHBOURS as u32,
+        weight: u32::MAX,
+    }
+}

@@ -1,0 +1,152 @@
+//! Notes on products and totals that can be cut.
+
+use crate::bounds::{bounds_of, bounds_of_any};
+use crate::place_at;
+use crate::told::Named;
+use link_net::Network;
+use rule_lang::{Expr, Item};
+use rule_ranges::{
+    Bounds, Operand, Operation, can_be_cut, greatest_uncut, only_value, operation_places,
+    operations_in,
+};
+use std::alloc::{AllocError, Global};
+
+/// An operand of a product, and on which side it stands.
+#[derive(Clone, Copy)]
+struct Factor<'a> {
+    operand: Operand<'a>,
+    side: &'static str,
+}
+
+/// Adds what an operand is called: as it is written where that is one word, else by its side.
+fn put_factor(out: &mut String, factor: Factor<'_>) -> Result<(), AllocError> {
+    match factor.operand.expr {
+        Expr::Number(number) => write!(out, "{number}"),
+        Expr::Own(name) => out.push_str(name.as_str()),
+        Expr::Id => out.push_str("id"),
+        Expr::Degree => out.push_str("degree"),
+        Expr::Round => out.push_str("round"),
+        Expr::Near(name) => {
+            out.push_str("n.")?;
+            out.push_str(name.as_str())
+        }
+        Expr::NearId => out.push_str("n.id"),
+        Expr::NearWeight => out.push_str("n.weight"),
+        _ => {
+            let side = factor.side;
+            write!(out, "its {side} operand")
+        }
+    }
+}
+
+/// Adds above which value of one operand a product is cut, where the other is bounded.
+fn put_bound(out: &mut String, large: Factor<'_>, small: Factor<'_>) -> Result<(), AllocError> {
+    let range = small.operand.range;
+    let most = range.most;
+    let bound = greatest_uncut(most);
+    put_factor(out, large)?;
+    write!(out, " above {bound} times ")?;
+    match only_value(range) {
+        Some(value) => write!(out, "{value} passes it"),
+        None => {
+            put_factor(out, small)?;
+            write!(out, ", at most {most}, can pass it")
+        }
+    }
+}
+
+/// Adds above which values a product is cut.
+fn put_product(out: &mut String, left: Operand<'_>, right: Operand<'_>) -> Result<(), AllocError> {
+    let (left_most, right_most) = (left.range.most, right.range.most);
+    let left = Factor {
+        operand: left,
+        side: "left",
+    };
+    let right = Factor {
+        operand: right,
+        side: "right",
+    };
+    if right_most < u32::MAX && right_most <= left_most {
+        return put_bound(out, left, right);
+    }
+    if left_most < u32::MAX {
+        return put_bound(out, right, left);
+    }
+    put_factor(out, left)?;
+    out.push_str(" times ")?;
+    put_factor(out, right)?;
+    out.push_str(" passes it where both are above 65535")
+}
+
+/// Adds above which value a total over so many neighbours is cut.
+fn put_total(out: &mut String, degree: u32, of_network: bool) -> Result<(), AllocError> {
+    let bound = greatest_uncut(degree);
+    let whose = if of_network {
+        ""
+    } else {
+        ", the most of a node,"
+    };
+    write!(
+        out,
+        "a value above {bound} over {degree} neighbours{whose} passes it"
+    )
+}
+
+/// Adds the place of an operation, and what it is.
+fn put_place(
+    out: &mut String,
+    program: Named<'_>,
+    at: usize,
+    operation: Operation<'_>,
+) -> Result<(), AllocError> {
+    let name = program.name;
+    let place = place_at(program.text, at);
+    let line = place.line;
+    let column = place.column;
+    let kind = match operation {
+        Operation::Product(_, _) => "product",
+        Operation::Total(_) => "total",
+    };
+    write!(
+        out,
+        "note: {name}:{line}:{column}: the {kind} can be cut at 4294967295: "
+    )
+}
+
+/// Adds above which values an operation is cut.
+fn put_limit(
+    out: &mut String,
+    operation: Operation<'_>,
+    bounds: Bounds,
+    of_network: bool,
+) -> Result<(), AllocError> {
+    match operation {
+        Operation::Product(left, right) => put_product(out, left, right)?,
+        Operation::Total(_) => put_total(out, bounds.degree, of_network)?,
+    }
+    out.push_str("; unison cuts tells whether a run does\n")
+}
+
+/// Adds a note for each product and each total of a program that can be cut: on the network, or on some network where
+/// none is given.
+pub(crate) fn put_cut_notes(
+    alloc: Global,
+    out: &mut String,
+    program: Named<'_>,
+    items: &[Item],
+    network: Option<&Network>,
+) -> Result<(), AllocError> {
+    let bounds = match network {
+        Some(network) => bounds_of(network),
+        None => bounds_of_any(),
+    };
+    let operations = operations_in(alloc, items, bounds)?;
+    let places = operation_places(alloc, program.text)?;
+    for (operation, at) in operations.iter().zip(&places) {
+        if can_be_cut(*operation, bounds) {
+            put_place(out, program, *at, *operation)?;
+            put_limit(out, *operation, bounds, network.is_some())?;
+        }
+    }
+    Ok(())
+}
