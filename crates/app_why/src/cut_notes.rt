@@ -39,25 +39,50 @@ fn put_factor(out: &mut String, factor: Factor<'_>) -> Result<(), AllocError> {
     }
 }
 
-/// Adds above which value of one operand a product is cut, where the other is bounded.
-fn put_bound(out: &mut String, large: Factor<'_>, small: Factor<'_>) -> Result<(), AllocError> {
-    let range = small.operand.range;
-    let most = range.most;
+/// The one value of an operand, where it has but one.
+fn value_of(operand: Operand<'_>) -> Option<u32> {
+    match operand.expr {
+        Expr::Number(number) => Some(*number),
+        _ => only_value(operand.range),
+    }
+}
+
+/// Adds above which value a factor passes, times this number.
+fn put_times(out: &mut String, factor: Factor<'_>, number: u32) -> Result<(), AllocError> {
+    let bound = greatest_uncut(number);
+    put_factor(out, factor)?;
+    write!(out, " above {bound} times {number} passes it")
+}
+
+/// Adds above which value one factor can pass, times the other, which is bounded.
+fn put_bounded(out: &mut String, large: Factor<'_>, small: Factor<'_>) -> Result<(), AllocError> {
+    let most = small.operand.range.most;
     let bound = greatest_uncut(most);
     put_factor(out, large)?;
     write!(out, " above {bound} times ")?;
-    match only_value(range) {
-        Some(value) => write!(out, "{value} passes it"),
-        None => {
-            put_factor(out, small)?;
-            write!(out, ", at most {most}, can pass it")
-        }
+    put_factor(out, small)?;
+    write!(out, ", at most {most}, can pass it")
+}
+
+/// Adds above which values a product passes, neither of whose operands has but one value.
+fn put_open(out: &mut String, left: Factor<'_>, right: Factor<'_>) -> Result<(), AllocError> {
+    let left_most = left.operand.range.most;
+    let right_most = right.operand.range.most;
+    if left_most < right_most {
+        return put_bounded(out, right, left);
     }
+    if right_most < u32::MAX {
+        return put_bounded(out, left, right);
+    }
+    put_factor(out, left)?;
+    out.push_str(" times ")?;
+    put_factor(out, right)?;
+    out.push_str(" passes it where both are above 65535")
 }
 
 /// Adds above which values a product is cut.
 fn put_product(out: &mut String, left: Operand<'_>, right: Operand<'_>) -> Result<(), AllocError> {
-    let (left_most, right_most) = (left.range.most, right.range.most);
+    let values = (value_of(left), value_of(right));
     let left = Factor {
         operand: left,
         side: "left",
@@ -66,16 +91,12 @@ fn put_product(out: &mut String, left: Operand<'_>, right: Operand<'_>) -> Resul
         operand: right,
         side: "right",
     };
-    if right_most < u32::MAX && right_most <= left_most {
-        return put_bound(out, left, right);
+    match values {
+        (Some(a), Some(b)) => write!(out, "{a} times {b} passes it"),
+        (None, Some(b)) => put_times(out, left, b),
+        (Some(a), None) => put_times(out, right, a),
+        (None, None) => put_open(out, left, right),
     }
-    if left_most < u32::MAX {
-        return put_bound(out, right, left);
-    }
-    put_factor(out, left)?;
-    out.push_str(" times ")?;
-    put_factor(out, right)?;
-    out.push_str(" passes it where both are above 65535")
 }
 
 /// Adds above which value a total over so many neighbours is cut.
