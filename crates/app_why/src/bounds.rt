@@ -1,8 +1,9 @@
 //! What bounds the numbers that a network gives to a program.
 ghost use Rattle.std.specs.Prelude.{◌≡◌, ◌≤◌, ◌<◌, ℕ, All, length, map};
 ghost use Rattle.rule_check.specs.declared.state.State.{State};
+ghost use Rattle.rule_check.specs.Table.{M};
 ghost use Rattle.rule_check.specs.Value.{Rules, alone, here_at};
-ghost use Rattle.link_net.specs.Neighbours.{degree, row};
+ghost use Rattle.link_net.specs.Neighbours.{IsNetwork, Neighbours, degree, row};
 ghost use Rattle.rounds_plan.specs.Rounds.{nears_in};
 ghost use Rattle.rule_ranges.specs.Bounded.{AreValues, IsHereWithin, IsNearWithin};
 
@@ -75,8 +76,11 @@ pub(crate) fn bounds_of(network: &Network) -> Bounds
     }
 }
 
-/// What bounds the nodes of each network that a file can describe.
-pub(crate) fn bounds_of_any() -> Bounds {
+/// What bounds the nodes of each network that a file can describe, whose weights are words.
+pub(crate) fn bounds_of_any() -> Bounds
+    ensures within { (network : Neighbours) (rules : Rules) (round u : ℕ) (at : ℕ → State) → IsNetwork network → All (λ arc. arc.1 ≤ M) (row network u) → u < length network → ((v : ℕ) → AreValues (at v))
+        → IsHereWithin result (here_at rules round u (degree network u) (at u) (nears_in network at u)) }
+{
     Bounds {
         id: MOST_NODES - 1,
         degree: MOST_NEIGHBOURS as u32,
