@@ -7,8 +7,8 @@ use Rattle.rule_check.specs.declared.state.State.{State}
 use Rattle.rule_check.specs.Value.{Rules, here_at}
 use Rattle.link_net.specs.Neighbours.{IsNetwork, Neighbours, degree, row}
 use Rattle.rounds_plan.specs.Rounds.{near_at, nears_in}
-use Rattle.rule_ranges.specs.declared.bounds.Bounds.{Bounds}
-use Rattle.rule_ranges.specs.Bounded.{AreValues, IsHereWithin, IsNearWithin}
+use Rattle.rule_cuts.specs.declared.bounds.Bounds.{Bounds}
+use Rattle.rule_cuts.specs.Bounded.{AreValues, IsHereWithin, IsNearWithin}
 
 -- a node is within bounds of its network
 pub here_within : (bounds : Bounds) (network : Neighbours) (rules : Rules) (round u : ℕ) (at : ℕ → State)

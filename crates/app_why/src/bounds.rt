@@ -5,10 +5,10 @@ ghost use Rattle.rule_check.specs.Table.{M};
 ghost use Rattle.rule_check.specs.Value.{Rules, alone, here_at};
 ghost use Rattle.link_net.specs.Neighbours.{IsNetwork, Neighbours, degree, row};
 ghost use Rattle.rounds_plan.specs.Rounds.{nears_in};
-ghost use Rattle.rule_ranges.specs.Bounded.{AreValues, IsHereWithin, IsNearWithin};
+ghost use Rattle.rule_cuts.specs.Bounded.{AreValues, IsHereWithin, IsNearWithin};
 
 use link_net::{MOST_NEIGHBOURS, MOST_NODES, Network};
-use rule_ranges::Bounds;
+use rule_cuts::Bounds;
 
 /// The greatest of some numbers and of one more.
 fn greatest(first: u32, numbers: &[u32]) -> u32

@@ -5,10 +5,10 @@ use crate::place_at;
 use crate::told::Named;
 use link_net::Network;
 use rule_lang::{Expr, Item};
-use rule_ranges::{
-    Bounds, Operand, Operation, can_be_cut, greatest_uncut, only_value, operation_places,
-    operations_in,
+use rule_cuts::{
+    Bounds, Operand, Operation, can_be_cut, greatest_uncut, operation_places, operations_in,
 };
+use rule_ranges::only_value;
 use std::alloc::{AllocError, Global};
 
 /// An operand of a product, and on which side it stands.

@@ -1,5 +1,5 @@
 use Rattle.std.proofs.Common.{◌-◌, arith}
-use Rattle.rule_ranges.specs.declared.bounds.Bounds.{Bounds}
+use Rattle.rule_cuts.specs.declared.bounds.Bounds.{Bounds}
 use Rattle.app_why.proofs.Within.{here_within}
 use Rattle.app_why.proofs.bounds.bounds_of.Goals as goal
 

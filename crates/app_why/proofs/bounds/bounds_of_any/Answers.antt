@@ -1,6 +1,6 @@
 use Rattle.std.proofs.Common.{arith}
 use Rattle.rule_check.specs.Table.{M}
-use Rattle.rule_ranges.specs.declared.bounds.Bounds.{Bounds}
+use Rattle.rule_cuts.specs.declared.bounds.Bounds.{Bounds}
 use Rattle.app_why.proofs.Within.{here_within}
 use Rattle.app_why.proofs.bounds.bounds_of_any.Goals as goal
 

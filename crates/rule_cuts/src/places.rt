@@ -2,7 +2,7 @@
 
 ghost use Rattle.std.specs.Prelude.{◌≡◌, IfOk};
 ghost use Rattle.rule_lang.specs.View.{tok_of};
-ghost use Rattle.rule_ranges.specs.Places.{StandInOrder, is_some, places_in as places_in_lem, token_kinds};
+ghost use Rattle.rule_cuts.specs.Places.{StandInOrder, is_some, places_in as places_in_lem, token_kinds};
 
 use rule_lang::{Lexeme, Sign, Token, read_tokens};
 use std::alloc::{AllocError, Global};

@@ -5,11 +5,11 @@ ghost use Rattle.rule_lang.specs.View.{tree_of};
 ghost use Rattle.rule_check.specs.declared.state.Near.{Near};
 ghost use Rattle.rule_check.specs.Table.{M, gather};
 ghost use Rattle.rule_check.specs.Value.{Here, value};
-ghost use Rattle.rule_ranges.specs.Bounded.{IsHereWithin, IsNearWithin};
+ghost use Rattle.rule_cuts.specs.Bounded.{IsHereWithin, IsNearWithin};
 ghost use Rattle.rule_ranges.specs.Ranges.{IsWithin};
 
 use crate::bounds::Bounds;
-use crate::range::{Range, anything, choice, exactly, negation, operated};
+use rule_ranges::{Range, anything, choice, exactly, negation, operated};
 use rule_lang::{Agg, Expr};
 
 /// What is at most this number.

@@ -13,8 +13,8 @@ use Rattle.rule_lang.specs.declared.tree.Agg.TheVariants as agg
 use Rattle.rule_lang.specs.declared.token.Sign.TheVariants as sign
 use Rattle.rule_lang.specs.Tokens.{Tok, WordTok, SignTok}
 use Rattle.rule_lang.specs.Tree.{Tree, NumberTree, OwnTree, IdTree, DegreeTree, RoundTree, NearTree, NearIdTree, NearWeightTree, InfixTree, NotTree, OverTree, ChoiceTree, ItemTree, FieldTree, NextTree, HasTree, HasNames, IsItem, IsName, spell, spell_item, op_token, agg_word}
-use Rattle.rule_ranges.specs.Operations.{OperationTree, operations, infix_operations, aggregate_operations, operations_of}
-use Rattle.rule_ranges.specs.Places.{Kind, IsTotal, kind_of, token_kinds}
+use Rattle.rule_cuts.specs.Operations.{OperationTree, operations, infix_operations, aggregate_operations, operations_of}
+use Rattle.rule_cuts.specs.Places.{Kind, IsTotal, kind_of, token_kinds}
 
 -- the kinds of operations, and those of tokens
 abbrev kinds : List OperationTree → List Kind

@@ -7,8 +7,8 @@ use Rattle.rule_lang.specs.View.{tree_of}
 use Rattle.rule_check.specs.Table.{M}
 use Rattle.rule_check.specs.Value.{value}
 use Rattle.rule_ranges.specs.Ranges.{IsWithin}
-use Rattle.rule_ranges.proofs.Gathered.{gather_word, operate_word}
-use Rattle.rule_ranges.proofs.expression.+value_range.Goals as goal
+use Rattle.rule_cuts.proofs.Gathered.{gather_word, operate_word}
+use Rattle.rule_cuts.proofs.expression.+value_range.Goals as goal
 
 pub returns-in-Infix-clause-word : goal.returns-in-Infix-clause-word
 returns-in-Infix-clause-word t c = λ here near inside beside.

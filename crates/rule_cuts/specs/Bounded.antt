@@ -4,7 +4,7 @@ use Rattle.rule_check.specs.declared.state.State.{State}
 use Rattle.rule_check.specs.declared.state.Near.{Near}
 use Rattle.rule_check.specs.Table.{M}
 use Rattle.rule_check.specs.Value.{Here}
-use Rattle.rule_ranges.specs.declared.bounds.Bounds.{Bounds}
+use Rattle.rule_cuts.specs.declared.bounds.Bounds.{Bounds}
 
 -- what a node holds are values
 abbrev pub AreValues : State → Type 0

@@ -10,11 +10,11 @@ use Rattle.rule_check.specs.declared.state.Near.{Near}
 use Rattle.rule_check.specs.Table.{M}
 use Rattle.rule_check.specs.Value.{Here, Next, value}
 use Rattle.rule_check.specs.Items.{nexts_of}
-use Rattle.rule_ranges.specs.declared.bounds.Bounds.{Bounds}
+use Rattle.rule_cuts.specs.declared.bounds.Bounds.{Bounds}
 use Rattle.rule_ranges.specs.declared.range.Range.{Range}
-use Rattle.rule_ranges.specs.declared.operations.Operation.{Operation}
-use Rattle.rule_ranges.specs.declared.operations.Operation.TheVariants as operation
-use Rattle.rule_ranges.specs.Bounded.{IsHereWithin, IsNearWithin}
+use Rattle.rule_cuts.specs.declared.operations.Operation.{Operation}
+use Rattle.rule_cuts.specs.declared.operations.Operation.TheVariants as operation
+use Rattle.rule_cuts.specs.Bounded.{IsHereWithin, IsNearWithin}
 
 -- a product with its operands, or a total with what it goes over
 pub data OperationTree : Type 0 where

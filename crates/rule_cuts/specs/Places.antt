@@ -8,7 +8,7 @@ use Rattle.rule_lang.specs.declared.token.Lexeme.{Lexeme}
 use Rattle.rule_lang.specs.Tokens.{Tok, WordTok, NearTok, NumberTok, SignTok}
 use Rattle.rule_lang.specs.Tree.{ItemTree, HasTree}
 use Rattle.rule_lang.specs.View.{tok_of}
-use Rattle.rule_ranges.specs.Operations.{OperationTree, ProductTree, TotalTree, operations_of}
+use Rattle.rule_cuts.specs.Operations.{OperationTree, ProductTree, TotalTree, operations_of}
 
 -- which of the two an operation is
 pub data Kind : Type 0 where

@@ -3,11 +3,11 @@
 ghost use Rattle.std.specs.Prelude.{◌≡◌, ◌≤◌, ◌<◌, ◌*◌, ◌+◌, ◌++◌, ◌∷◌, [], All, false, map, nat_lt, IfOk, OnOk};
 ghost use Rattle.rule_lang.specs.View.{tree_of, items_of};
 ghost use Rattle.rule_check.specs.Table.{M};
-ghost use Rattle.rule_ranges.specs.Operations.{HasRanges, IsNeverCut, LiesIn, aggregate_operations, can_pass, infix_operations, operation_of, operations, operations_of};
+ghost use Rattle.rule_cuts.specs.Operations.{HasRanges, IsNeverCut, LiesIn, aggregate_operations, can_pass, infix_operations, operation_of, operations, operations_of};
 
 use crate::bounds::Bounds;
 use crate::expression::value_range;
-use crate::range::Range;
+use rule_ranges::Range;
 use rule_lang::{Agg, Expr, Item, Op};
 use std::alloc::{AllocError, Global};
 

@@ -3,9 +3,9 @@ use Rattle.rule_lang.specs.View.{tree_of, items_of}
 use Rattle.rule_check.specs.Items.{nexts_of}
 use Rattle.rule_check.specs.Value.{Next}
 use Rattle.rule_check.proofs.Collects.{next_begins, no_next_begins}
-use Rattle.rule_ranges.proofs.Found.{found_turn}
-use Rattle.rule_ranges.proofs.operations.operations_in.Goals as goal
-use Rattle.rule_ranges.proofs.operations.operations_in.Goals.{in-Next+in_ok-collect, in_default}
+use Rattle.rule_cuts.proofs.Found.{found_turn}
+use Rattle.rule_cuts.proofs.operations.operations_in.Goals as goal
+use Rattle.rule_cuts.proofs.operations.operations_in.Goals.{in-Next+in_ok-collect, in_default}
 
 pub loop-item-preserved : goal.loop-item-preserved
 loop-item-preserved c =

@@ -3,10 +3,10 @@ use Rattle.std.proofs.Common.{sym, subst, ◌∙◌}
 use Rattle.std.proofs.lemmas.Bool.{ltb-false}
 use Rattle.rule_lang.specs.View.{tree_of}
 use Rattle.rule_check.specs.Table.{M}
-use Rattle.rule_ranges.specs.declared.operations.Operation.{Operation}
-use Rattle.rule_ranges.specs.Operations.{HasRanges, IsNeverCut, operation_of}
-use Rattle.rule_ranges.proofs.Uncut.{total_uncut}
-use Rattle.rule_ranges.proofs.operations.can_be_cut.Goals as goal
+use Rattle.rule_cuts.specs.declared.operations.Operation.{Operation}
+use Rattle.rule_cuts.specs.Operations.{HasRanges, IsNeverCut, operation_of}
+use Rattle.rule_cuts.proofs.Uncut.{total_uncut}
+use Rattle.rule_cuts.proofs.operations.can_be_cut.Goals as goal
 
 pub returns-in-Total-clause-never : goal.returns-in-Total-clause-never
 returns-in-Total-clause-never c = λ no ranges.

@@ -1,8 +1,8 @@
 -- Turns of the loop that collects operations.
 use Rattle.std.proofs.Common.{◌≡◌, ◌∙◌, List, ◌∷◌, ◌++◌, map, ap, append_assoc}
 use Rattle.rule_check.specs.Value.{Next}
-use Rattle.rule_ranges.specs.declared.operations.Operation.{Operation}
-use Rattle.rule_ranges.specs.Operations.{OperationTree, next_operations, operation_of, operations}
+use Rattle.rule_cuts.specs.declared.operations.Operation.{Operation}
+use Rattle.rule_cuts.specs.Operations.{OperationTree, next_operations, operation_of, operations}
 
 -- those of one more next item
 pub found_turn : (done more : List Operation) (n : Next) (ns : List Next) (all : List OperationTree)

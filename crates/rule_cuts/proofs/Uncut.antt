@@ -9,9 +9,9 @@ use Rattle.std.proofs.lemmas.List.Sums.{sum_by-le}
 use Rattle.rule_lang.specs.Tree.{Tree}
 use Rattle.rule_check.specs.Table.{M}
 use Rattle.rule_check.specs.Value.{value}
-use Rattle.rule_ranges.specs.declared.bounds.Bounds.{Bounds}
+use Rattle.rule_cuts.specs.declared.bounds.Bounds.{Bounds}
 use Rattle.rule_ranges.specs.declared.range.Range.{Range}
-use Rattle.rule_ranges.specs.Operations.{TotalTree, IsNeverCut, LiesIn}
+use Rattle.rule_cuts.specs.Operations.{TotalTree, IsNeverCut, LiesIn}
 
 -- a total over as many neighbours as a node can have, where the greatest value so often is no more than the greatest value there is
 pub total_uncut : (bounds : Bounds) (e : Tree) (range : Range) → range.most * bounds.degree ≤ M → LiesIn bounds e range → IsNeverCut bounds (TotalTree e)

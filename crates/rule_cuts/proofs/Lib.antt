@@ -1,0 +1,4 @@
+pub mod Gathered
+pub mod Uncut
+pub mod Found
+pub mod InOrder

@@ -1,5 +1,0 @@
-use Rattle.rule_ranges.proofs.InOrder.{stand_in_order}
-use Rattle.rule_ranges.proofs.places.operations_stand_in_order.Goals as goal
-
-pub returns : goal.returns
-returns c = record { order = stand_in_order }
