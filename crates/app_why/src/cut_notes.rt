@@ -4,10 +4,10 @@ use crate::bounds::{bounds_of, bounds_of_any};
 use crate::place_at;
 use crate::told::Named;
 use link_net::Network;
-use rule_lang::{Expr, Item};
 use rule_cuts::{
     Bounds, Operand, Operation, can_be_cut, greatest_uncut, operation_places, operations_in,
 };
+use rule_lang::{Expr, Item};
 use rule_ranges::only_value;
 use std::alloc::{AllocError, Global};
 

@@ -9,8 +9,8 @@ ghost use Rattle.rule_cuts.specs.Bounded.{IsHereWithin, IsNearWithin};
 ghost use Rattle.rule_ranges.specs.Ranges.{IsWithin};
 
 use crate::bounds::Bounds;
-use rule_ranges::{Range, anything, choice, exactly, negation, operated};
 use rule_lang::{Agg, Expr};
+use rule_ranges::{Range, anything, choice, exactly, negation, operated};
 
 /// What is at most this number.
 fn at_most_number(most: u32) -> Range

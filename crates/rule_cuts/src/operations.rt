@@ -7,8 +7,8 @@ ghost use Rattle.rule_cuts.specs.Operations.{HasRanges, IsNeverCut, LiesIn, aggr
 
 use crate::bounds::Bounds;
 use crate::expression::value_range;
-use rule_ranges::Range;
 use rule_lang::{Agg, Expr, Item, Op};
+use rule_ranges::Range;
 use std::alloc::{AllocError, Global};
 
 /// An operand of an operation.
