@@ -1,5 +1,5 @@
 -- What is known of nodes that are found free, and of those that are drawn.
-use Rattle.std.proofs.Common.{◌≡◌, ◌≢◌, ℕ, zero, suc, ◌+◌, ◌<◌, ◌≤◌, ◌==◌, Bool, true, false, ◌&&◌, not, nat_lt, List, [], ◌∷◌, ◌++◌, length, append-nil, get_or, Option, Some, None, Result, Ok, Err, sym, refl, ap, subst, ◌∙◌, inl, inr, ⊎_elim, arith, if◌then◌else◌}
+use Rattle.std.proofs.Common.{◌≡◌, ◌≢◌, ℕ, zero, suc, ◌+◌, ◌<◌, ◌≤◌, Bool, true, false, ◌&&◌, List, [], ◌∷◌, ◌++◌, length, append-nil, get_or, Option, Some, None, Result, Ok, Err, sym, refl, ap, subst, ◌∙◌, inl, inr, ⊎_elim, arith, if◌then◌else◌}
 use Rattle.std.specs.List.{All, AllPairs, filter, range_with_len}
 use Rattle.std.specs.Result.{IfOk}
 use Rattle.std.proofs.lemmas.List.Elements.{All-nil, All-cons, All-push, filter-append, filter_passes}
@@ -12,7 +12,7 @@ use Rattle.unison_world.specs.View.{WorldView}
 use Rattle.unison_world.proofs.Sights.{cases_bool, lt_false}
 use Rattle.unison_world.proofs.Turnings.{Has, has_range}
 use Rattle.run_schedule.specs.declared.daemon.Daemon.TheVariants.{Central, Synchronous, Distributed, Adversary}
-use Rattle.run_schedule.specs.Daemons.{AreAdverse, AreChosen, AreDrawn, IsChoice, MayBePut, MayMove, NoneFree, enabled_nodes, free_nodes, is_but, is_enabled, is_free}
+use Rattle.run_schedule.specs.Daemons.{AreChosen, AreDrawn, MayBePut, MayMove, NoneFree, free_nodes, is_but, is_enabled, is_free}
 use Rattle.run_schedule.proofs.Fronts.{range-next}
 
 has-filter : (f : ℕ → Bool) (js : List ℕ) (k : ℕ) → Has k js → f k ≡ true → Has k (filter f js)

@@ -1,9 +1,8 @@
 -- Walks whose nodes a daemon chooses, group by group.
-use Rattle.std.proofs.Common.{◌≡◌, ◌≢◌, ◌⊎◌, ℕ, zero, suc, ◌+◌, ◌-◌, ◌<◌, ◌≤◌, ◌==◌, Bool, true, false, ◌&&◌, List, [], ◌∷◌, ◌++◌, length, length-append, append-nil, map, take, drop, get_or, append_assoc, Option, Some, None, Result, Ok, Err, sym, refl, ap, subst, ◌∙◌, inl, inr, ⊎_elim, arith}
-use Rattle.std.specs.List.{All, flat_map, list_any}
+use Rattle.std.proofs.Common.{◌≡◌, ℕ, zero, suc, ◌<◌, ◌==◌, Bool, true, List, [], ◌∷◌, ◌++◌, length, length-append, append-nil, map, take, drop, get_or, append_assoc, None, Result, Ok, Err, sym, refl, ap, subst, ◌∙◌, arith}
+use Rattle.std.specs.List.{flat_map}
 use Rattle.std.specs.Result.{OnOk}
 use Rattle.std.proofs.lemmas.List.{take_all, take-append-drop, length-map}
-use Rattle.std.proofs.lemmas.Bool.{cases_eq, cases_lt, false≢true}
 use Rattle.std.proofs.lemmas.Bool.Decides.{nat_tests}
 use Rattle.link_net.specs.Neighbours.{Neighbours, IsNetwork, degree, neighbour}
 use Rattle.rounds_plan.specs.Plans.{PlanView}
@@ -14,7 +13,6 @@ use Rattle.unison_world.specs.declared.step.Answer.TheVariants.{Stopped}
 use Rattle.unison_world.specs.Counting.{Counts, moves_of, is_marked, at_start, answer_of, after, run, answers}
 use Rattle.unison_world.specs.Turns.{neighbours_of}
 use Rattle.unison_world.specs.View.{WorldView, opened}
-use Rattle.unison_world.proofs.Sights.{cases_bool}
 use Rattle.unison_world.proofs.Steps.{marked-at_start}
 use Rattle.unison_world.proofs.Turnings.{any-finds, neighbour_is, neighbours_many, run-snoc}
 use Rattle.unison_trace.specs.Histories.{is_change, run_of}
@@ -24,10 +22,10 @@ use Rattle.run_schedule.specs.declared.fault.Halt.{Halt}
 use Rattle.run_schedule.specs.declared.manner.Manner.TheVariants.{Under}
 use Rattle.run_schedule.specs.Daemons.{AllChange, AreChoices, AreStepsUnder, HasMoved, IsBare, IsChoice, KeepsTwo, NoneFree, is_linked, reads_of, steps_together}
 use Rattle.run_schedule.specs.Manners.{refusal_of}
-use Rattle.run_schedule.specs.Walks.{WalkView, AtRest, GoesOn, IsFull, IsSound, IsWalk, RestsAt, is_open, walk_after, with_step}
+use Rattle.run_schedule.specs.Walks.{WalkView, AtRest, GoesOn, IsFull, IsSound, IsWalk, is_open, walk_after, with_step}
 use Rattle.run_schedule.proofs.Finding.{rests-everywhere}
 use Rattle.run_schedule.proofs.Fronts.{flat_map-snoc, front-full}
-use Rattle.run_schedule.proofs.Joint.{at-stop, together}
+use Rattle.run_schedule.proofs.Joint.{at-stop}
 use Rattle.run_schedule.proofs.Sweeping.{run-append}
 
 there-not : (n m : ℕ) (b : Bool) → n ≡ suc m → b ≡ (n == 0) → b ≡ true → ⊥

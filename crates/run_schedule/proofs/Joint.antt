@@ -1,25 +1,22 @@
 -- Every step of nodes that move together changes something, and leaves no slot marked.
-use Rattle.std.proofs.Common.{◌≡◌, ◌≢◌, ◌⊎◌, ℕ, zero, suc, ◌+◌, ◌<◌, ◌≤◌, ◌==◌, Bool, true, false, not, ◌&&◌, nat_lt, List, [], ◌∷◌, ◌++◌, length, map, set, get_or, sym, refl, ap, subst, ◌∙◌, inl, inr, ⊎_elim, arith}
-use Rattle.std.specs.List.{All, AllPairs, flat_map, list_any, range_with_len}
+use Rattle.std.proofs.Common.{◌≡◌, ◌≢◌, ◌⊎◌, ℕ, zero, suc, ◌+◌, ◌<◌, true, false, nat_lt, List, [], ◌∷◌, length, map, set, get_or, sym, refl, ap, subst, ◌∙◌, inl, inr, ⊎_elim, arith}
+use Rattle.std.specs.List.{All, AllPairs, flat_map, range_with_len}
 use Rattle.std.proofs.lemmas.List.{get_or-set_same, get_or-set_other}
 use Rattle.std.proofs.lemmas.List.Elements.{All-nil, All-cons}
 use Rattle.std.proofs.lemmas.Bool.{cases_eq, cases_lt, false≢true}
 use Rattle.std.proofs.lemmas.Bool.Decides.{nat_tests}
-use Rattle.link_net.specs.Neighbours.{Neighbours, IsNetwork, degree, neighbour, numbers_below}
-use Rattle.unison_world.specs.declared.step.Step.{Step}
+use Rattle.link_net.specs.Neighbours.{Neighbours, IsNetwork, degree, neighbour}
 use Rattle.unison_world.specs.declared.step.Step.TheVariants.{Read, Write}
 use Rattle.unison_world.specs.declared.step.Answer.{Answer}
-use Rattle.unison_world.specs.declared.step.Answer.TheVariants.{Taken, Moved}
-use Rattle.unison_world.specs.Counting.{Counts, moves_of, marks_of, is_marked, answer_of, change, marked, moved, after, run, answers, HasShape, InStep}
+use Rattle.unison_world.specs.declared.step.Answer.TheVariants.{Moved}
+use Rattle.unison_world.specs.Counting.{Counts, moves_of, marks_of, is_marked, change, marked, moved, run, answers, HasShape, InStep}
 use Rattle.unison_world.specs.Turns.{neighbours_of, any_behind}
-use Rattle.unison_world.specs.View.{WorldView}
 use Rattle.unison_world.proofs.Sights.{cases_bool, lt_true}
-use Rattle.unison_world.proofs.Steps.{shape-moved, moves-moved, marked-moved}
+use Rattle.unison_world.proofs.Steps.{shape-moved, marked-moved}
 use Rattle.unison_world.proofs.Turnings.{Free, Has, any-finds, any-tells, neighbour_is, neighbours_many}
 use Rattle.unison_world.proofs.Writes.{answer-ready}
 use Rattle.unison_trace.specs.Histories.{is_change}
-use Rattle.run_schedule.specs.Daemons.{AllChange, IsBare, MayMove, is_enabled, reads_of, steps_together}
-use Rattle.run_schedule.specs.Walks.{IsSound}
+use Rattle.run_schedule.specs.Daemons.{MayMove, is_enabled, reads_of, steps_together}
 use Rattle.run_schedule.proofs.Resting.{answer-fresh, all-marked}
 use Rattle.run_schedule.proofs.Sweeping.{AllChange as Change, Unmarked, both-change, free-marked, reads-change, run-append, unmarked-next}
 

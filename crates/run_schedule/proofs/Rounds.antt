@@ -1,24 +1,23 @@
 -- The synchronous daemon moves all nodes, round by round.
-use Rattle.std.proofs.Common.{◌≡◌, ◌≢◌, ◌⊎◌, ℕ, zero, suc, ◌+◌, ◌-◌, ◌<◌, ◌≤◌, min, Bool, true, false, List, [], ◌∷◌, ◌++◌, length, take, get_or, sym, refl, ap, subst, ◌∙◌, inl, inr, ⊎_elim, arith}
+use Rattle.std.proofs.Common.{◌≡◌, ◌≢◌, ℕ, zero, suc, ◌+◌, ◌-◌, ◌<◌, ◌≤◌, Bool, true, false, List, [], ◌∷◌, ◌++◌, length, take, get_or, sym, refl, ap, subst, ◌∙◌, inl, inr, ⊎_elim, arith}
 use Rattle.std.specs.List.{filter, flat_map, range_with_len, repeat}
-use Rattle.std.proofs.lemmas.List.{take_all, length-take, length-take-le}
-use Rattle.std.proofs.lemmas.Bool.{cases_lt, false≢true}
+use Rattle.std.proofs.lemmas.List.{take_all, length-take}
+use Rattle.std.proofs.lemmas.Bool.{cases_lt}
 use Rattle.link_net.specs.Neighbours.{Neighbours, IsNetwork, degree, neighbour, numbers_below}
 use Rattle.rounds_plan.specs.Plans.{PlanView, IsPlan}
 use Rattle.unison_world.specs.declared.step.Step.{Step}
 use Rattle.unison_world.specs.Counting.{Counts, moves_of, is_marked, at_start, after, run, HasShape}
-use Rattle.unison_world.specs.Turns.{neighbours_of, any_behind}
+use Rattle.unison_world.specs.Turns.{neighbours_of}
 use Rattle.unison_world.proofs.Sights.{lt_false}
 use Rattle.unison_world.proofs.Steps.{shape-after, shape-at_start, moves-at_start, marked-at_start}
 use Rattle.unison_world.proofs.Turnings.{Has, any-false, has_range, neighbour_is, neighbours_many}
 use Rattle.unison_trace.specs.Histories.{run_of}
 use Rattle.unison_trace.specs.Traces.{needed}
-use Rattle.run_schedule.specs.declared.daemon.Daemon.{Daemon}
 use Rattle.run_schedule.specs.declared.daemon.Daemon.TheVariants.{Synchronous}
 use Rattle.run_schedule.specs.Daemons.{AreChoices, AreStepsUnder, MayMove, enabled_nodes, is_enabled, rounds_of, steps_together}
 use Rattle.run_schedule.specs.Lists.{GoesToStop}
 use Rattle.run_schedule.proofs.Fronts.{front-full, repeat-split}
-use Rattle.run_schedule.proofs.Joint.{enabled-from, enabled-parts, has-at, together}
+use Rattle.run_schedule.proofs.Joint.{enabled-from, enabled-parts, together}
 use Rattle.run_schedule.proofs.Sweeping.{run-append}
 
 -- all nodes have moved as often, and no slot is marked

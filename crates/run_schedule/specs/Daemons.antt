@@ -8,7 +8,7 @@ use Rattle.unison_world.specs.declared.step.Step.TheVariants.{Read, Write}
 use Rattle.unison_world.specs.Counting.{Counts, moves_of, is_marked, at_start, answers, run}
 use Rattle.unison_world.specs.Turns.{neighbours_of, any_behind}
 use Rattle.unison_world.specs.View.{WorldView}
-use Rattle.unison_trace.specs.Histories.{is_change, run_of}
+use Rattle.unison_trace.specs.Histories.{is_change}
 use Rattle.run_schedule.specs.declared.daemon.Daemon.{Daemon}
 use Rattle.run_schedule.specs.declared.daemon.Daemon.TheVariants.{Central, Synchronous, Distributed, Adversary}
 use Rattle.run_schedule.specs.Lists.{GoesToStop}

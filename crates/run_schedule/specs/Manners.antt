@@ -5,7 +5,6 @@ use Rattle.link_net.specs.Neighbours.{Neighbours}
 use Rattle.rounds_plan.specs.Configs.{most_rounds}
 use Rattle.rounds_plan.specs.Plans.{PlanView}
 use Rattle.unison_world.specs.declared.step.Step.{Step}
-use Rattle.run_schedule.specs.declared.daemon.Daemon.{Daemon}
 use Rattle.run_schedule.specs.declared.daemon.Daemon.TheVariants.{Adversary}
 use Rattle.run_schedule.specs.declared.fault.ListFault.{ListFault}
 use Rattle.run_schedule.specs.declared.fault.ListFault.TheVariants.{StopTooLarge, StopBelowStart, NoNode, NotLinked, Memory}

@@ -1,6 +1,6 @@
-use Rattle.std.proofs.Common.{◌≡◌, ◌<◌, ◌++◌, ◌∙◌, length, length-append, vec_len, ap, refl, arith}
+use Rattle.std.proofs.Common.{length, length-append, vec_len, ap, arith}
 use Rattle.std.proofs.lemmas.Result.{err_from_is_err_and}
-use Rattle.run_schedule.specs.Daemons.{IsChoice, steps_together}
+use Rattle.run_schedule.specs.Daemons.{steps_together}
 use Rattle.run_schedule.proofs.Driven.{group-longer, moved-more, moved-none, none-rests, none-there, under-all, under-cut}
 use Rattle.run_schedule.proofs.Ending.{some-there}
 use Rattle.run_schedule.proofs.Walking.{goes-nowhere, goes-on-further}

@@ -1,4 +1,4 @@
-use Rattle.std.proofs.Common.{◌≡◌, ◌≤◌, ap, ◌∙◌, length, arith}
+use Rattle.std.proofs.Common.{◌≡◌, ap, ◌∙◌, length, arith}
 use Rattle.std.specs.List.{filter, range_with_len}
 use Rattle.run_schedule.specs.Daemons.{is_free}
 use Rattle.run_schedule.proofs.Drawn.{free-more}

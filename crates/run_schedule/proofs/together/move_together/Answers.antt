@@ -3,7 +3,7 @@ use Rattle.std.specs.Result.{OnOk, IfErr}
 use Rattle.unison_world.specs.declared.step.Step.{Step}
 use Rattle.unison_world.specs.Counting.{Counts, is_marked, run}
 use Rattle.run_schedule.specs.declared.fault.Halt.TheVariants.{Full}
-use Rattle.run_schedule.specs.Daemons.{AllChange, IsBare, steps_together}
+use Rattle.run_schedule.specs.Daemons.{AllChange, IsBare}
 use Rattle.run_schedule.specs.Walks.{IsFull}
 use Rattle.run_schedule.proofs.Driven.{on-ok}
 use Rattle.run_schedule.proofs.Joint.{together}

@@ -1,4 +1,4 @@
-use Rattle.std.proofs.Common.{◌≡◌, ℕ, vec_len, arith}
+use Rattle.std.proofs.Common.{ℕ, vec_len, arith}
 use Rattle.run_schedule.specs.declared.daemon.Daemon.TheVariants.{Distributed}
 use Rattle.run_schedule.specs.Daemons.{AreChosen}
 use Rattle.run_schedule.proofs.Drawn.{if-ok, share-one}

@@ -1,4 +1,4 @@
-use Rattle.std.proofs.Common.{◌≡◌, ◌<◌, ◌∙◌, true, length, vec_len, ap, sym, arith}
+use Rattle.std.proofs.Common.{◌∙◌, vec_len, ap, arith}
 use Rattle.run_schedule.specs.Daemons.{is_free}
 use Rattle.run_schedule.proofs.Drawn.{free-each, none-free}
 use Rattle.run_schedule.proofs.Driven.{none-there}
