@@ -1,6 +1,6 @@
 //! The nodes that a daemon chooses.
 ghost use Rattle.std.specs.Prelude.{◌≡◌, ◌≢◌, ◌∷◌, [], ℕ, None, true, IfOk, IfSome, IfNone};
-ghost use Rattle.run_schedule.specs.declared.daemon.Daemon.TheVariants.{Adversary, Central, Distributed};
+ghost use Rattle.run_schedule.specs.declared.daemon.Daemon.TheVariants.{Adversary, Central, Distributed, Synchronous};
 ghost use Rattle.run_schedule.specs.Daemons.{AreChosen, KeepsTwo, NoneFree, is_free};
 
 use crate::daemon::Daemon;
@@ -15,7 +15,7 @@ use std::alloc::{AllocError, Global};
 /// By what nodes are drawn, and those that may be enabled: where there are some, no others are. Nothing that is promised rests
 /// on this: each is looked at again before it is chosen, and where there is none, all nodes are.
 #[derive(Drop)]
-pub(crate) struct Lots {
+pub(crate) struct Draws {
     rng: Pcg64,
     waiting: Vec<u32>,
 }
@@ -39,10 +39,17 @@ fn just(alloc: Global, node: u32) -> Result<Vec<u32>, AllocError>
     Ok(one)
 }
 
-impl Lots {
+/// All nodes that are enabled.
+fn all_enabled(alloc: Global, walk: &Walk) -> Result<Vec<u32>, AllocError>
+    ensures chosen { IfOk result (λ v. AreChosen walk.now.world Synchronous v.items) }
+{
+    free_nodes(alloc, walk, None)
+}
+
+impl Draws {
     /// No node that may be enabled is known.
-    pub(crate) fn new(alloc: Global, daemon: Daemon) -> Lots {
-        Lots {
+    pub(crate) fn new(alloc: Global, daemon: Daemon) -> Draws {
+        Draws {
             rng: Pcg64::seed_from_u64(seed_of(daemon)),
             waiting: Vec::new(alloc),
         }
@@ -157,7 +164,7 @@ impl Lots {
     {
         match daemon {
             Daemon::Central { .. } => self.chosen_one(alloc, walk),
-            Daemon::Synchronous => free_nodes(alloc, walk, None),
+            Daemon::Synchronous => all_enabled(alloc, walk),
             Daemon::Distributed { share, .. } => self.chosen_share(alloc, walk, share),
             Daemon::Adversary { ahead, behind, .. } => {
                 self.chosen_against(alloc, walk, ahead, behind)

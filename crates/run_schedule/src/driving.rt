@@ -4,7 +4,7 @@ ghost use Rattle.unison_world.specs.View.{opened};
 ghost use Rattle.run_schedule.specs.Daemons.{AreStepsUnder, KeepsTwo};
 ghost use Rattle.run_schedule.specs.Walks.{AtRest, GoesOn, IsFull};
 
-use crate::choosing::Lots;
+use crate::choosing::Draws;
 use crate::daemon::Daemon;
 use crate::fault::Halt;
 use crate::together::move_together;
@@ -24,15 +24,15 @@ pub(crate) fn drive(alloc: Global, walk: &mut Walk, daemon: Daemon) -> Result<()
 {
     // For the proof alone, as the two below: the call tells what holds of every world.
     let _first = walk.network();
-    let mut lots = Lots::new(alloc, daemon);
+    let mut draws = Draws::new(alloc, daemon);
     'groups: loop {
         let _network = walk.network();
-        let nodes = lots.chosen(alloc, walk, daemon)?;
+        let nodes = draws.chosen(alloc, walk, daemon)?;
         if nodes.is_empty() {
             return Ok(());
         }
         move_together(alloc, walk, &nodes)?;
-        lots.after(walk, &nodes)?;
+        draws.after(walk, &nodes)?;
         let _after = walk.network();
     }
 }

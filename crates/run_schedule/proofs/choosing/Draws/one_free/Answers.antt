@@ -3,7 +3,7 @@ use Rattle.run_schedule.specs.Daemons.{is_free}
 use Rattle.run_schedule.proofs.Drawn.{free-each, none-free}
 use Rattle.run_schedule.proofs.Driven.{none-there}
 use Rattle.run_schedule.proofs.Ending.{some-there}
-use Rattle.run_schedule.proofs.choosing.Lots.one_free.Goals as goal
+use Rattle.run_schedule.proofs.choosing.Draws.one_free.Goals as goal
 
 pub returns-then-is_empty-clause-none : goal.returns-then-is_empty-clause-none
 returns-then-is_empty-clause-none c =

@@ -3,7 +3,7 @@ use Rattle.run_schedule.specs.declared.daemon.Daemon.TheVariants.{Distributed}
 use Rattle.run_schedule.specs.Daemons.{AreChosen}
 use Rattle.run_schedule.proofs.Drawn.{if-ok, share-one}
 use Rattle.run_schedule.proofs.Driven.{none-there}
-use Rattle.run_schedule.proofs.choosing.Lots.chosen_share.Goals as goal
+use Rattle.run_schedule.proofs.choosing.Draws.chosen_share.Goals as goal
 
 pub returns-in-Some : goal.returns-in-Some
 returns-in-Some c =
