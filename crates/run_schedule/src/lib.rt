@@ -1,5 +1,5 @@
 //! Lists of single steps that each change something, made in a manner that is asked for: sweeps, at random, without one
-//! node.
+//! node, one node ahead, by a daemon.
 #![tactic(auto)]
 
 mod ahead;
