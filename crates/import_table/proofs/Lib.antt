@@ -1,0 +1,2 @@
+mod FieldParts
+mod RowSteps
