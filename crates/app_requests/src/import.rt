@@ -4,6 +4,7 @@ ghost use Rattle.std.specs.Prelude.{◌≤◌, IfOk, IfSome};
 use crate::arguments::{FILE, FILE_OPTION, FLAG};
 use app_table::{Argument, Choice, Command, OPTION, Reading, Subcommand, Value, WordsFault};
 use import_links::{Kept, Mending, ParallelLinks, SelfLoops};
+use import_table::Separator;
 use std::alloc::Global;
 
 pub(crate) const TEXT: Argument = Argument {
@@ -90,6 +91,26 @@ const NUMBERS: Argument = Argument {
 /// `NUMBERS`, as it is read.
 static NUMBERS_ARGUMENT: Argument = NUMBERS;
 
+const SEPARATOR: Argument = Argument {
+    name: "separator",
+    value: Value::Choice(&[
+        Choice {
+            name: "tab",
+            aliases: &[],
+        },
+        Choice {
+            name: "comma",
+            aliases: &["csv"],
+        },
+    ]),
+    value_name: "SIGN",
+    help: "What alone parts names and weights, so that blanks stand in names: tab, or comma, where a name may stand in double quotes, as in CSV",
+    ..OPTION
+};
+
+/// `SEPARATOR`, as it is read.
+static SEPARATOR_ARGUMENT: Argument = SEPARATOR;
+
 pub(crate) const UNDIRECTED: Argument = Argument {
     name: "undirected",
     help: "Take directed edges as undirected ones",
@@ -104,7 +125,9 @@ const FORMATS: [Subcommand; 3] = [
         name: "edges",
         about: "Lines of two names and a weight, which may be left out; blanks, tabs or commas between, comments behind # or %",
         notes: "",
-        arguments: &[TEXT, SCALE, DROP_LOOPS, PARALLEL, NAMES, HEADER, NUMBERS],
+        arguments: &[
+            TEXT, SCALE, DROP_LOOPS, PARALLEL, NAMES, HEADER, NUMBERS, SEPARATOR,
+        ],
     },
     Subcommand {
         name: "matrix-market",
@@ -180,6 +203,8 @@ pub struct ImportRequest {
     pub header: bool,
     /// Whether the names are the numbers of the nodes.
     pub numbers: bool,
+    /// What alone parts the fields of a line, where that is said.
+    pub separator: Option<Separator>,
     /// Whether directed edges are taken as undirected ones.
     pub undirected: bool,
     /// What weights are multiplied by, where they are.
@@ -203,6 +228,15 @@ fn parallel_in(reading: &mut Reading) -> ParallelLinks {
         Some("min") => ParallelLinks::Merged(Kept::Least),
         Some("max") => ParallelLinks::Merged(Kept::Most),
         Some(_) => ParallelLinks::Merged(Kept::First),
+    }
+}
+
+/// What alone parts the fields of a line.
+fn separator_in(reading: &mut Reading) -> Option<Separator> {
+    match reading.choice(&SEPARATOR_ARGUMENT) {
+        None => None,
+        Some("tab") => Some(Separator::Tab),
+        Some(_) => Some(Separator::Comma),
     }
 }
 
@@ -231,6 +265,7 @@ fn request_in(reading: &mut Reading) -> ImportRequest
     check_names(reading);
     let factor = factor_in(reading);
     let parallel = parallel_in(reading);
+    let separator = separator_in(reading);
     let names = reading.text(&NAMES_ARGUMENT);
     let path = reading.needed_text(&TEXT_ARGUMENT);
     ImportRequest {
@@ -239,6 +274,7 @@ fn request_in(reading: &mut Reading) -> ImportRequest
         names,
         header: reading.has(&HEADER_ARGUMENT),
         numbers: reading.has(&NUMBERS_ARGUMENT),
+        separator,
         undirected: reading.has(&UNDIRECTED_ARGUMENT),
         factor,
         mending: Mending {

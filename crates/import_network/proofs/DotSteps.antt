@@ -12,7 +12,7 @@ use Rattle.import_links.specs.Refusals.{IsMentionRefusal}
 use Rattle.import_links.specs.Joining.{names_of, names_in, names_with}
 use Rattle.import_links.specs.declared.mending.Mending.{Mending}
 use Rattle.import_network.specs.declared.fault.TakeFault.{TakeFault}
-use Rattle.import_network.specs.declared.fault.TakeFault.TheVariants.{Edges, Matrix, Dot, Join, Numbers, Settle, Memory}
+use Rattle.import_network.specs.declared.fault.TakeFault.TheVariants.{Edges, Table, Matrix, Dot, Join, Numbers, Settle, Memory}
 use Rattle.import_network.specs.declared.taken.Taken.{Taken}
 use Rattle.import_network.specs.Faults.{dot_fault, join_fault}
 use Rattle.import_network.specs.Taking.{IsMadeOf, IsTaken, graph_names, graph_draft, named_draft}
@@ -26,6 +26,7 @@ names_same (m ∷ ms) = ap (λ ns. m.name.now ∷ ns) (names_same ms)
 -- the fault of a graph's edges is one of the graph
 pub edges_refused : (mending : Mending) (g : DotGraph) (fault : TakeFault) → IsJoinFault mending (graph_names g) g.edges fault → IsGraphFault mending g fault
 edges_refused mending g (Edges why) bad = bad
+edges_refused mending g (Table why) bad = bad
 edges_refused mending g (Matrix why) bad = bad
 edges_refused mending g (Dot why) bad = bad
 edges_refused mending g (Join why) bad = inr bad

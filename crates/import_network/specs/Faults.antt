@@ -1,6 +1,8 @@
 -- The faults of the steps as those of taking. Running out of memory is told in one form, whichever step it comes in.
 use Rattle.import_edges.specs.declared.fault.EdgeFault.{EdgeFault}
 use Rattle.import_edges.specs.declared.fault.EdgeFault.TheVariants as edges
+use Rattle.import_table.specs.declared.fault.TableFault.{TableFault}
+use Rattle.import_table.specs.declared.fault.TableFault.TheVariants as table
 use Rattle.import_matrix.specs.declared.fault.MatrixFault.{MatrixFault}
 use Rattle.import_matrix.specs.declared.fault.MatrixFault.TheVariants as matrix
 use Rattle.import_dot.specs.declared.fault.DotFault.{DotFault}
@@ -12,11 +14,15 @@ use Rattle.import_links.specs.declared.numbers.NumberFault.TheVariants as number
 use Rattle.import_links.specs.declared.settle_fault.SettleFault.{SettleFault}
 use Rattle.import_links.specs.declared.settle_fault.SettleFault.TheVariants as settle
 use Rattle.import_network.specs.declared.fault.TakeFault.{TakeFault}
-use Rattle.import_network.specs.declared.fault.TakeFault.TheVariants.{Edges, Matrix, Dot, Join, Numbers, Settle, Memory}
+use Rattle.import_network.specs.declared.fault.TakeFault.TheVariants.{Edges, Table, Matrix, Dot, Join, Numbers, Settle, Memory}
 
 abbrev pub edge_fault : EdgeFault → TakeFault
 edge_fault edges.Memory = Memory
 edge_fault fault = Edges fault
+
+abbrev pub table_fault : TableFault → TakeFault
+table_fault table.Memory = Memory
+table_fault fault = Table fault
 
 abbrev pub matrix_fault : MatrixFault → TakeFault
 matrix_fault matrix.Memory = Memory

@@ -5,6 +5,7 @@ use Rattle.net_names.specs.NamesFiles.{text_of, HasNames}
 use Rattle.import_lines.specs.declared.mention.Mention.{Mention}
 use Rattle.import_lines.specs.Named.{NamedEdge}
 use Rattle.import_edges.specs.declared.fault.EdgeFault.{EdgeFault}
+use Rattle.import_table.specs.declared.fault.TableFault.{TableFault}
 use Rattle.import_dot.specs.declared.fault.DotFault.{DotFault}
 use Rattle.import_dot.specs.Graphs.{DotMention, DotGraph}
 use Rattle.import_dot.specs.View.{mention_of}
@@ -15,7 +16,7 @@ use Rattle.import_links.specs.Refusals.{IsRefusal, IsMentionRefusal}
 use Rattle.import_links.specs.declared.mending.Mending.{Mending}
 use Rattle.import_network.specs.declared.fault.TakeFault.{TakeFault}
 use Rattle.import_network.specs.declared.fault.TakeFault.TheVariants.{Join, Memory}
-use Rattle.import_network.specs.Faults.{edge_fault, dot_fault}
+use Rattle.import_network.specs.Faults.{edge_fault, table_fault, dot_fault}
 use Rattle.import_network.specs.Taking.{graph_names, named_draft, made}
 
 -- the bytes are a line for each name, and a reader of files of names reads these names
@@ -24,7 +25,7 @@ pub record IsNameFile (names : List (List ℕ)) (bytes : List ℕ) : Type 0 wher
   pub reads_back : HasNames bytes names
 
 -- edges were read, and the bytes are a file of their names, in the order of their first appearance
-pub record IsNamesOf (read : Result (List NamedEdge) EdgeFault) (bytes : List ℕ) : Type 0 where
+pub record IsNamesOf {E : Type 0} (read : Result (List NamedEdge) E) (bytes : List ℕ) : Type 0 where
   pub edges : List NamedEdge
   pub is_read : read ≡ Ok edges
   pub names : IsNameFile (names_with [] edges) bytes
@@ -45,6 +46,11 @@ IsJoinFault mending names edges fault = AreNames (names_with names edges) × (ma
 abbrev pub IsEdgesFault : Mending → Result (List NamedEdge) EdgeFault → TakeFault → Type 0
 IsEdgesFault mending (Err bad) fault = fault ≡ edge_fault bad
 IsEdgesFault mending (Ok edges) fault = IsJoinFault mending [] edges fault
+
+-- why a table of edges makes no network: a bad row; where none is bad, the fault of its edges; or running out of memory
+abbrev pub IsTableFault : Mending → Result (List NamedEdge) TableFault → TakeFault → Type 0
+IsTableFault mending (Err bad) fault = fault ≢ Memory → fault ≡ table_fault bad
+IsTableFault mending (Ok edges) fault = IsJoinFault mending [] edges fault
 
 -- nodes that a text names have no numbers: the first that has none
 pub record IsUnnumbered (nodes : List DotMention) (fault : JoinFault) : Type 0 where

@@ -4,6 +4,8 @@ use Rattle.link_net.specs.Reading.{reading_of}
 use Rattle.net_text.specs.Listing.{Listing, described}
 use Rattle.import_lines.specs.Named.{NamedEdge}
 use Rattle.import_edges.specs.Edges.{edges_of}
+use Rattle.import_table.specs.declared.fields.Separator.{Separator}
+use Rattle.import_table.specs.Tables.{table_edges}
 use Rattle.import_links.specs.Joining.{names_in, names_with, links_of}
 use Rattle.import_links.specs.Numbering.{links_in, nodes_of}
 use Rattle.import_links.specs.declared.placed.PlacedLink.{PlacedLink}
@@ -14,7 +16,7 @@ use Rattle.import_dot.specs.Graphs.{DotGraph, names, graph_of}
 use Rattle.import_matrix.specs.Steps.{and_then, told_as}
 use Rattle.import_network.specs.declared.fault.TakeFault.{TakeFault}
 use Rattle.import_network.specs.declared.taken.Taken.{Taken}
-use Rattle.import_network.specs.Faults.{edge_fault, matrix_fault, dot_fault, number_fault, settle_fault}
+use Rattle.import_network.specs.Faults.{edge_fault, table_fault, matrix_fault, dot_fault, number_fault, settle_fault}
 
 -- what a text says: how many nodes there are, and the links in its order
 pub record Draft : Type 0 where
@@ -40,6 +42,13 @@ named_draft names edges = record { nodes = length (names_with names edges); link
 -- what a text says, a list of edges whose ends are names
 abbrev pub edges_draft : Bool → Option ℕ → List ℕ → Result Draft TakeFault
 edges_draft header factor text = and_then (told_as edge_fault (edges_of header factor text)) (λ edges. Ok (named_draft [] edges))
+
+-- what a table of edges says whose ends are names, and one whose ends are numbers of nodes
+abbrev pub table_draft : Separator → Bool → Option ℕ → List ℕ → Result Draft TakeFault
+table_draft separator header factor text = and_then (told_as table_fault (table_edges separator header factor text)) (λ edges. Ok (named_draft [] edges))
+
+abbrev pub table_numbers_draft : Separator → Bool → Option ℕ → List ℕ → Result Draft TakeFault
+table_numbers_draft separator header factor text = and_then (told_as table_fault (table_edges separator header factor text)) numbered_draft
 
 -- the names of a graph's nodes, each once, in the order of their first appearance
 abbrev pub graph_names : DotGraph → List (List ℕ)

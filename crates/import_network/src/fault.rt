@@ -1,12 +1,13 @@
 //! Why a text makes no network file.
 ghost use Rattle.std.specs.Prelude.{◌≡◌};
 ghost use Rattle.import_network.specs.declared.fault.TakeFault.TheVariants.{Memory};
-ghost use Rattle.import_network.specs.Faults.{edge_fault, matrix_fault, dot_fault, join_fault, number_fault, settle_fault};
+ghost use Rattle.import_network.specs.Faults.{edge_fault, table_fault, matrix_fault, dot_fault, join_fault, number_fault, settle_fault};
 
 use import_dot::DotFault;
 use import_edges::EdgeFault;
 use import_links::{JoinFault, NumberFault, SettleFault};
 use import_matrix::MatrixFault;
+use import_table::TableFault;
 use std::alloc::AllocError;
 use thiserror::Error;
 
@@ -17,6 +18,9 @@ pub enum TakeFault {
     /// The text is no list of edges.
     #[error("{0}")]
     Edges(EdgeFault),
+    /// The text is no table of edges.
+    #[error("{0}")]
+    Table(TableFault),
     /// The text is no matrix.
     #[error("{0}")]
     Matrix(MatrixFault),
@@ -52,6 +56,17 @@ impl From<EdgeFault> for TakeFault {
         match fault {
             EdgeFault::Memory => TakeFault::Memory,
             _ => TakeFault::Edges(fault),
+        }
+    }
+}
+
+impl From<TableFault> for TakeFault {
+    ghost from_gives = { λ fault e. e ≡ table_fault fault };
+
+    fn from(fault: TableFault) -> TakeFault {
+        match fault {
+            TableFault::Memory => TakeFault::Memory,
+            _ => TakeFault::Table(fault),
         }
     }
 }

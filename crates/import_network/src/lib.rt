@@ -7,6 +7,7 @@ mod fault;
 mod finish;
 mod matrix;
 mod numbers;
+mod table;
 mod taken;
 
 pub use dot::take_dot;
@@ -14,4 +15,5 @@ pub use edges::take_edges;
 pub use fault::TakeFault;
 pub use matrix::take_matrix;
 pub use numbers::take_numbers;
+pub use table::{take_table, take_table_numbers};
 pub use taken::Taken;

@@ -13,7 +13,11 @@ use import_links::{Mending, join_numbers};
 use std::alloc::Global;
 
 /// The network file of edges whose ends are numbers.
-fn join_and_finish(alloc: Global, edges: &[Edge], mending: Mending) -> Result<Taken, TakeFault>
+pub(crate) fn number_and_finish(
+    alloc: Global,
+    edges: &[Edge],
+    mending: Mending,
+) -> Result<Taken, TakeFault>
     ensures network { IfOk result (IsTaken mending (numbered_draft edges.now)) }
     ensures names { IfOk result (λ taken. taken.names.items ≡ []) }
     ensures fault { IfErr result (λ fault. fault ≢ Memory → listing_in mending (numbered_draft edges.now) ≡ Err fault) }
@@ -45,5 +49,5 @@ pub fn take_numbers(
     ensures refused { IfErr (edges_of reading.now.header reading.now.factor text.now) (λ fault. result ≡ Err (edge_fault fault)) }
 {
     let edges = read_edges(alloc, text, reading)?;
-    join_and_finish(alloc, edges.as_slice(), mending)
+    number_and_finish(alloc, edges.as_slice(), mending)
 }

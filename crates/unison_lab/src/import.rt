@@ -4,9 +4,32 @@ use crate::refusals::refusal;
 use app_files::{Ending, bytes_at, name_at, put_note, write_file, write_out};
 use app_requests::{Format, ImportRequest};
 use app_table::Draft;
-use import_network::{TakeFault, Taken, take_dot, take_edges, take_matrix, take_numbers};
+use import_network::{
+    TakeFault, Taken, take_dot, take_edges, take_matrix, take_numbers, take_table,
+    take_table_numbers,
+};
+use import_table::{Separator, TableReading};
 use std::alloc::{AllocError, Global};
 use std::io;
+
+/// The network of a table of edges.
+fn take_rows(
+    alloc: Global,
+    text: &[u8],
+    asked: &ImportRequest,
+    separator: Separator,
+) -> Result<Taken, TakeFault> {
+    let reading = TableReading {
+        separator,
+        header: asked.header,
+        factor: asked.factor,
+    };
+    if asked.numbers {
+        take_table_numbers(alloc, text, &reading, asked.mending)
+    } else {
+        take_table(alloc, text, &reading, asked.mending)
+    }
+}
 
 /// The network of a list of edges.
 fn take_lines(alloc: Global, text: &[u8], asked: &ImportRequest) -> Result<Taken, TakeFault> {
@@ -26,7 +49,10 @@ fn take_text(alloc: Global, text: &[u8], asked: &ImportRequest) -> Result<Taken,
     let factor = asked.factor;
     let undirected = asked.undirected;
     match asked.format {
-        Format::Edges => take_lines(alloc, text, asked),
+        Format::Edges => match asked.separator {
+            Some(separator) => take_rows(alloc, text, asked, separator),
+            None => take_lines(alloc, text, asked),
+        },
         Format::MatrixMarket => {
             let reading = import_matrix::Reading { factor, undirected };
             take_matrix(alloc, text, &reading, asked.mending)

@@ -1,15 +1,57 @@
 //! What is told of a text of another format that has no network.
 
 use app_files::{
-    Told, edges_told, matrix_told, on_line, put_matrix_detail, put_place, weight_told,
+    Told, edges_told, matrix_told, on_line, put_matrix_detail, put_place, weight_told, words_told,
 };
 use app_requests::Format;
 use app_table::Draft;
 use import_dot::{DotFault, DotLineFault, TokenKind};
+use import_lines::{WeightFault, WordsFault};
 use import_links::{JoinFault, NumberFault, SettleFault};
 use import_network::TakeFault;
+use import_table::{RowFault, TableFault};
 use link_net::NetFault;
 use std::alloc::{AllocError, Global};
+
+/// What is wrong with the fields of a row of a table.
+fn fields_told(fault: WordsFault) -> (&'static str, &'static str) {
+    match fault {
+        WordsFault::OneWord => (
+            "OneField",
+            "expected two names and, where it has one, a weight; found one field (--separator says what parts them: tab or comma)",
+        ),
+        WordsFault::TooManyWords => (
+            "TooManyFields",
+            "expected two names and, where it has one, a weight; found more than three fields: leave these columns alone",
+        ),
+        WordsFault::LongLine => ("LongField", "a field has 65536 bytes at most"),
+        _ => words_told(fault),
+    }
+}
+
+/// What is wrong with a row of a table.
+fn row_told(fault: RowFault) -> (&'static str, &'static str) {
+    match fault {
+        RowFault::UnclosedQuote => (
+            "UnclosedQuote",
+            "a field that begins with a quote has no closing quote in its line; a quote inside is written twice",
+        ),
+        RowFault::Words(fault) => fields_told(fault),
+        RowFault::Weight(WeightFault::BadWeight) => (
+            "BadWeight",
+            "the weight is no number; blanks around it count too (--header passes over a line of headings)",
+        ),
+        RowFault::Weight(fault) => weight_told(fault),
+    }
+}
+
+/// What is wrong with a table.
+fn table_told(fault: TableFault) -> Told {
+    match fault {
+        TableFault::BadRow { line, fault } => on_line(line, row_told(fault)),
+        TableFault::Memory => (None, "Memory", ""),
+    }
+}
 
 /// What is wrong with the bytes of a text in Graphviz's language.
 fn bytes_told(fault: DotLineFault) -> (&'static str, &'static str) {
@@ -153,6 +195,7 @@ fn settle_told(fault: SettleFault) -> Told {
 fn told_of(fault: TakeFault) -> Told {
     match fault {
         TakeFault::Edges(fault) => edges_told(fault),
+        TakeFault::Table(fault) => table_told(fault),
         TakeFault::Matrix(fault) => matrix_told(fault, "a network has 65536 nodes at most"),
         TakeFault::Dot(fault) => dot_told(fault),
         TakeFault::Join(fault) => join_told(fault),
