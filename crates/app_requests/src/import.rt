@@ -120,7 +120,7 @@ pub(crate) const UNDIRECTED: Argument = Argument {
 /// `UNDIRECTED`, as it is read.
 static UNDIRECTED_ARGUMENT: Argument = UNDIRECTED;
 
-const FORMATS: [Subcommand; 3] = [
+const FORMATS: [Subcommand; 4] = [
     Subcommand {
         name: "edges",
         about: "Lines of two names and a weight, which may be left out; blanks, tabs or commas between, comments behind # or %",
@@ -141,6 +141,12 @@ const FORMATS: [Subcommand; 3] = [
         notes: "",
         arguments: &[TEXT, SCALE, DROP_LOOPS, PARALLEL, NAMES, UNDIRECTED],
     },
+    Subcommand {
+        name: "json",
+        about: "NetworkX's node-link JSON: nodes, links and weights; other members are passed over",
+        notes: "",
+        arguments: &[TEXT, SCALE, DROP_LOOPS, PARALLEL, NAMES, UNDIRECTED],
+    },
 ];
 
 /// `import` and what it takes.
@@ -148,7 +154,7 @@ static IMPORT: Command = Command {
     name: "import",
     aliases: &["take"],
     called: "unison import",
-    about: "Import a network from a list of edges, a Matrix Market file or a graph of Graphviz",
+    about: "Import a network from a list of edges, a Matrix Market file, a graph of Graphviz or JSON",
     notes: "Prints a network file; nodes are numbered by the first appearance of their names.\nAn example: unison import edges friends.txt --names friends.names > friends.toml\nAnother one: unison import matrix-market road.mtx --undirected --parallel min > road.toml\n",
     arguments: &[],
     subcommands: &FORMATS,
@@ -168,6 +174,8 @@ pub enum Format {
     MatrixMarket,
     /// The language of Graphviz.
     Dot,
+    /// Node-link JSON.
+    Json,
 }
 
 impl Format {
@@ -177,6 +185,7 @@ impl Format {
             Format::Edges => "edges",
             Format::MatrixMarket => "matrix-market",
             Format::Dot => "dot",
+            Format::Json => "json",
         }
     }
 
@@ -185,7 +194,8 @@ impl Format {
         match name {
             "edges" => Format::Edges,
             "matrix-market" => Format::MatrixMarket,
-            _ => Format::Dot,
+            "dot" => Format::Dot,
+            _ => Format::Json,
         }
     }
 }

@@ -1,10 +1,13 @@
 -- The graph that a text of node-link JSON says.
-use Rattle.std.specs.Prelude.{◌≡◌, ◌≢◌, ℕ, ◌+◌, ◌*◌, Bool, true, false, ◌&&◌, not, codes, List, [], ◌∷◌, position, MatchResult, Option, Some, None, Result, Ok, Err, if◌then◌else◌}
+use Rattle.std.specs.Prelude.{◌≡◌, ◌≢◌, ℕ, pos, ◌+◌, ◌*◌, Bool, true, false, ◌&&◌, not, codes, List, [], ◌∷◌, position, MatchResult, Option, Some, None, Result, Ok, Err, if◌then◌else◌}
 use Rattle.std.specs.Option.{option_map, option_and_then, unwrap_or, is_some}
 use Rattle.std.specs.Str.{is_utf8, bytes_eq}
 use Rattle.std.specs.Fmt.{decimal}
+use Rattle.std.specs.Int.{w64}
+use Rattle.std.specs.Float.{Float, binary64, float_zero, float_round, float_to_unsigned}
+use Rattle.std.specs.Float.Ieee.{mul, of_int, eq, lt}
 use Rattle.serde_json.specs.Data.{Data, Items, no_items, item}
-use Rattle.serde_json.specs.Find.{get, as_str, as_number, as_u64, as_i64, as_bool, as_array}
+use Rattle.serde_json.specs.Find.{get, as_str, as_number, as_u64, as_i64, as_bool, as_array, to_float}
 use Rattle.serde_json.specs.Read.{read}
 use Rattle.net_names.specs.declared.fault.NamesFault.{NamesFault}
 use Rattle.net_names.specs.declared.fault.NamesFault.TheVariants as name
@@ -105,18 +108,30 @@ end_in names list place end d =
 abbrev pub weight_times : ℕ → ℕ → Result Weight WeightFault
 weight_times factor number = fitting (factor * number) true
 
--- what is wrong with a weight that is no whole number from 0
-abbrev pub no_weight : Data → WeightFault
-no_weight d =
-    if is_some (option_and_then as_i64 (as_number d)) then Negative
-    else if is_some (as_number d) then Decimal
-    else BadWeight
+-- the weight nearest to a number of 64 bits, a half up
+abbrev pub nearest_weight : Float → Result Weight WeightFault
+nearest_weight x = fitting (float_to_unsigned w64 (float_round binary64 x)) (eq (float_round binary64 x) x)
+
+-- the weight nearest to a decimal number from 0, times a factor
+abbrev pub float_weight : ℕ → Float → Result Weight WeightFault
+float_weight factor x = if lt x float_zero then Err Negative else nearest_weight (mul binary64 x (of_int binary64 (pos factor)))
+
+-- the weight that a number says which is no whole number; without a factor it says none
+abbrev pub decimal_weight : Option ℕ → Option Float → Result Weight WeightFault
+decimal_weight factor None = Err BadWeight
+decimal_weight None (Some x) = Err Decimal
+decimal_weight (Some factor) (Some x) = float_weight factor x
+
+abbrev pub other_weight : Option ℕ → Data → Result Weight WeightFault
+other_weight factor d =
+    if is_some (option_and_then as_i64 (as_number d)) then Err Negative
+    else decimal_weight factor (option_map to_float (as_number d))
 
 abbrev pub number_weight : Option ℕ → Data → Option ℕ → Result Weight WeightFault
 number_weight factor d (Some number) = weight_times (unwrap_or factor 1) number
-number_weight factor d None = Err (no_weight d)
+number_weight factor d None = other_weight factor d
 
--- the weight that a value says: a whole number, times the factor where there is one
+-- the weight that a value says: a whole number, or where there is a factor any number, times that
 abbrev pub value_weight : Option ℕ → Data → Result Weight WeightFault
 value_weight factor d = number_weight factor d (option_and_then as_u64 (as_number d))
 

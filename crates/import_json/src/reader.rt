@@ -20,7 +20,7 @@ use std::str;
 /// How a text is read.
 #[derive(Clone, Copy, Default)]
 pub struct JsonReading {
-    /// What each weight is multiplied by, where it is.
+    /// What each weight is multiplied by, and whether decimal ones are taken.
     pub factor: Option<u32>,
     /// Whether a directed graph is read as an undirected one.
     pub undirected: bool,
@@ -81,7 +81,8 @@ fn graph_in(alloc: Global, graph: &Value, reading: &JsonReading) -> Result<JsonG
 /// The text is an object. Its member `nodes` is a list of objects, whose member `id` is the node's name: a string, or a
 /// whole number from 0, which is named by its decimal digits. Its member `links`, or where that is no list `edges`, is a
 /// list of objects, whose members `source` and `target` are the ids of nodes, and `weight` the weight, or 1 where there
-/// is none. A weight is a whole number up to 4,294,967,295, and is multiplied by the factor where there is one. Of a
+/// is none. A weight is a whole number up to 4,294,967,295. With a factor it is any number from 0, of which a decimal one
+/// is the nearest number of 64 bits in binary: times the factor, and rounded to the nearest whole number, a half up. Of a
 /// member that stands twice the last counts. Other members are passed over. Objects and lists nest at most 127 deep.
 ///
 /// Refused are, as the first fault in the order of [`JsonFault`]: what is no JSON, where `NotJson` tells about where; a

@@ -1,10 +1,11 @@
 //! The weights of links.
 ghost use Rattle.std.specs.Prelude.{◌≡◌, option_map};
 ghost use Rattle.serde_json.specs.View.{view};
-ghost use Rattle.import_json.specs.Graphs.{weight_times, value_weight, member_weight};
+ghost use Rattle.import_json.specs.Graphs.{weight_times, float_weight, other_weight, value_weight, member_weight};
 
 use import_lines::{Weight, WeightFault};
 use serde_json::Value;
+use std::num::saturating_f64_to_u64;
 
 /// The weight that a whole number times a factor is.
 fn weight_times(factor: u32, number: u64) -> Result<Weight, WeightFault>
@@ -20,6 +21,39 @@ fn weight_times(factor: u32, number: u64) -> Result<Weight, WeightFault>
     })
 }
 
+/// The weight that is nearest to a decimal number times a factor.
+fn float_weight(factor: u32, number: f64) -> Result<Weight, WeightFault>
+    ensures { result ≡ float_weight factor number }
+{
+    if number < 0.0 {
+        return Err(WeightFault::Negative);
+    }
+    let product = number * factor as f64;
+    let rounded = product.round();
+    let value = saturating_f64_to_u64(rounded);
+    if value > u32::MAX as u64 {
+        return Err(WeightFault::WeightTooLarge);
+    }
+    Ok(Weight {
+        value: value as u32,
+        exact: rounded == product,
+    })
+}
+
+/// The weight that a value says which is no whole number from 0: a decimal number, where there is a factor.
+fn other_weight(factor: Option<u32>, value: &Value) -> Result<Weight, WeightFault>
+    ensures { result ≡ other_weight factor (view value.now) }
+{
+    if value.as_i64().is_some() {
+        return Err(WeightFault::Negative);
+    }
+    match (value.as_f64(), factor) {
+        (Some(number), Some(factor)) => float_weight(factor, number),
+        (Some(_), None) => Err(WeightFault::Decimal),
+        (None, _) => Err(WeightFault::BadWeight),
+    }
+}
+
 /// The weight that a value says.
 fn value_weight(factor: Option<u32>, value: &Value) -> Result<Weight, WeightFault>
     ensures { result ≡ value_weight factor (view value.now) }
@@ -27,13 +61,7 @@ fn value_weight(factor: Option<u32>, value: &Value) -> Result<Weight, WeightFaul
     if let Some(number) = value.as_u64() {
         return weight_times(factor.unwrap_or(1), number);
     }
-    if value.as_i64().is_some() {
-        return Err(WeightFault::Negative);
-    }
-    if value.as_number().is_some() {
-        return Err(WeightFault::Decimal);
-    }
-    Err(WeightFault::BadWeight)
+    other_weight(factor, value)
 }
 
 /// The weight of a link: 1 times the factor where no member says it.

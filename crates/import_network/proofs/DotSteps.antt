@@ -12,7 +12,7 @@ use Rattle.import_links.specs.Refusals.{IsMentionRefusal}
 use Rattle.import_links.specs.Joining.{names_of, names_in, names_with}
 use Rattle.import_links.specs.declared.mending.Mending.{Mending}
 use Rattle.import_network.specs.declared.fault.TakeFault.{TakeFault}
-use Rattle.import_network.specs.declared.fault.TakeFault.TheVariants.{Edges, Table, Matrix, Dot, Join, Numbers, Settle, Memory}
+use Rattle.import_network.specs.declared.fault.TakeFault.TheVariants.{Edges, Table, Matrix, Dot, Json, Join, Numbers, Settle, Memory}
 use Rattle.import_network.specs.declared.taken.Taken.{Taken}
 use Rattle.import_network.specs.Faults.{dot_fault, join_fault}
 use Rattle.import_network.specs.Taking.{IsMadeOf, IsTaken, graph_names, graph_draft, named_draft}
@@ -29,6 +29,7 @@ edges_refused mending g (Edges why) bad = bad
 edges_refused mending g (Table why) bad = bad
 edges_refused mending g (Matrix why) bad = bad
 edges_refused mending g (Dot why) bad = bad
+edges_refused mending g (Json why) bad = bad
 edges_refused mending g (Join why) bad = inr bad
 edges_refused mending g (Numbers why) bad = bad
 edges_refused mending g (Settle why) bad = bad

@@ -11,7 +11,7 @@ use Rattle.import_links.specs.declared.settle_fault.SettleFault.{SettleFault}
 use Rattle.import_links.specs.declared.settle_fault.SettleFault.TheVariants.{SelfLoop, ParallelEdge, Net, Memory as SettleMemory}
 use Rattle.import_matrix.specs.Steps.{told_as}
 use Rattle.import_network.specs.declared.fault.TakeFault.{TakeFault}
-use Rattle.import_network.specs.declared.fault.TakeFault.TheVariants.{Edges, Table, Matrix, Dot, Join, Numbers, Settle, Memory}
+use Rattle.import_network.specs.declared.fault.TakeFault.TheVariants.{Edges, Table, Matrix, Dot, Json, Join, Numbers, Settle, Memory}
 use Rattle.import_network.specs.declared.taken.Taken.{Taken}
 use Rattle.import_network.specs.Faults.{settle_fault}
 use Rattle.import_network.specs.Taking.{named_draft, made}
@@ -31,6 +31,7 @@ settle_refused mending names edges (Edges why) are told = (are, told (λ e. cc))
 settle_refused mending names edges (Table why) are told = (are, told (λ e. cc))
 settle_refused mending names edges (Matrix why) are told = (are, told (λ e. cc))
 settle_refused mending names edges (Dot why) are told = (are, told (λ e. cc))
+settle_refused mending names edges (Json why) are told = (are, told (λ e. cc))
 settle_refused mending names edges (Join why) are told = absurd (not_join _ why (told (λ e. cc)))
 settle_refused mending names edges (Numbers why) are told = (are, told (λ e. cc))
 settle_refused mending names edges (Settle why) are told = (are, told (λ e. cc))

@@ -1,2 +1,3 @@
 mod DotSteps
 mod JoinFaults
+mod JsonSteps

@@ -7,6 +7,8 @@ use Rattle.import_matrix.specs.declared.fault.MatrixFault.{MatrixFault}
 use Rattle.import_matrix.specs.declared.fault.MatrixFault.TheVariants as matrix
 use Rattle.import_dot.specs.declared.fault.DotFault.{DotFault}
 use Rattle.import_dot.specs.declared.fault.DotFault.TheVariants as dot
+use Rattle.import_json.specs.declared.fault.JsonFault.{JsonFault}
+use Rattle.import_json.specs.declared.fault.JsonFault.TheVariants as json
 use Rattle.import_links.specs.declared.join_fault.JoinFault.{JoinFault}
 use Rattle.import_links.specs.declared.join_fault.JoinFault.TheVariants as join
 use Rattle.import_links.specs.declared.numbers.NumberFault.{NumberFault}
@@ -14,7 +16,7 @@ use Rattle.import_links.specs.declared.numbers.NumberFault.TheVariants as number
 use Rattle.import_links.specs.declared.settle_fault.SettleFault.{SettleFault}
 use Rattle.import_links.specs.declared.settle_fault.SettleFault.TheVariants as settle
 use Rattle.import_network.specs.declared.fault.TakeFault.{TakeFault}
-use Rattle.import_network.specs.declared.fault.TakeFault.TheVariants.{Edges, Table, Matrix, Dot, Join, Numbers, Settle, Memory}
+use Rattle.import_network.specs.declared.fault.TakeFault.TheVariants.{Edges, Table, Matrix, Dot, Json, Join, Numbers, Settle, Memory}
 
 abbrev pub edge_fault : EdgeFault → TakeFault
 edge_fault edges.Memory = Memory
@@ -31,6 +33,10 @@ matrix_fault fault = Matrix fault
 abbrev pub dot_fault : DotFault → TakeFault
 dot_fault dot.Memory = Memory
 dot_fault fault = Dot fault
+
+abbrev pub json_fault : JsonFault → TakeFault
+json_fault json.Memory = Memory
+json_fault fault = Json fault
 
 abbrev pub join_fault : JoinFault → TakeFault
 join_fault join.Memory = Memory

@@ -6,6 +6,8 @@ use Rattle.import_lines.specs.declared.mention.Mention.{Mention}
 use Rattle.import_lines.specs.Named.{NamedEdge}
 use Rattle.import_edges.specs.declared.fault.EdgeFault.{EdgeFault}
 use Rattle.import_table.specs.declared.fault.TableFault.{TableFault}
+use Rattle.import_json.specs.declared.fault.JsonFault.{JsonFault}
+use Rattle.import_json.specs.Graphs.{NodeLinks, unplaced}
 use Rattle.import_dot.specs.declared.fault.DotFault.{DotFault}
 use Rattle.import_dot.specs.Graphs.{DotMention, DotGraph}
 use Rattle.import_dot.specs.View.{mention_of}
@@ -15,9 +17,9 @@ use Rattle.import_links.specs.Joining.{names_with}
 use Rattle.import_links.specs.Refusals.{IsRefusal, IsMentionRefusal}
 use Rattle.import_links.specs.declared.mending.Mending.{Mending}
 use Rattle.import_network.specs.declared.fault.TakeFault.{TakeFault}
-use Rattle.import_network.specs.declared.fault.TakeFault.TheVariants.{Join, Memory}
+use Rattle.import_network.specs.declared.fault.TakeFault.TheVariants.{Json, Join, Memory}
 use Rattle.import_network.specs.Faults.{edge_fault, table_fault, dot_fault}
-use Rattle.import_network.specs.Taking.{graph_names, named_draft, made}
+use Rattle.import_network.specs.Taking.{graph_names, named_draft, node_links_draft, made}
 
 -- the bytes are a line for each name, and a reader of files of names reads these names
 pub record IsNameFile (names : List (List ℕ)) (bytes : List ℕ) : Type 0 where
@@ -35,6 +37,12 @@ pub record IsNamesOfGraph (read : Result DotGraph DotFault) (bytes : List ℕ) :
   pub graph : DotGraph
   pub is_read : read ≡ Ok graph
   pub names : IsNameFile (names_with (graph_names graph) graph.edges) bytes
+
+-- a graph in node-link JSON was read, and the bytes are a file of the names of its nodes, in its order
+pub record IsNamesOfNodes (read : Result NodeLinks JsonFault) (bytes : List ℕ) : Type 0 where
+  pub graph : NodeLinks
+  pub is_read : read ≡ Ok graph
+  pub names : IsNameFile graph.names bytes
 
 -- why edges make no network where nodes have these names: an end that has no number; where each has one, the fault of their links; or running out of memory
 abbrev pub IsJoinFault : Mending → List (List ℕ) → List NamedEdge → TakeFault → Type 0
@@ -68,3 +76,14 @@ IsGraphFault mending g fault = IsJoinFault mending (graph_names g) g.edges fault
 abbrev pub IsDotFault : Mending → Result DotGraph DotFault → TakeFault → Type 0
 IsDotFault mending (Err bad) fault = fault ≡ dot_fault bad
 IsDotFault mending (Ok g) fault = IsGraphFault mending g fault
+
+-- a fault of a text of JSON is told, and where the text is no JSON about where
+pub record IsToldOf (bad : JsonFault) (fault : TakeFault) : Type 0 where
+  pub why : JsonFault
+  pub told : fault ≡ Json why
+  pub same : bad ≡ unplaced why
+
+-- why a text of node-link JSON makes no network: its first fault; where it has none, the fault of its links; or running out of memory
+abbrev pub IsJsonFault : Mending → Result NodeLinks JsonFault → TakeFault → Type 0
+IsJsonFault mending (Err bad) fault = fault ≢ Memory → IsToldOf bad fault
+IsJsonFault mending (Ok g) fault = fault ≢ Memory → made mending (node_links_draft g) ≡ Err fault

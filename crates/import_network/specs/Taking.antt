@@ -13,10 +13,11 @@ use Rattle.import_links.specs.declared.mending.Mending.{Mending}
 use Rattle.import_links.specs.Settling.{left_by, settled}
 use Rattle.import_matrix.specs.Matrices.{matrix_of}
 use Rattle.import_dot.specs.Graphs.{DotGraph, names, graph_of}
+use Rattle.import_json.specs.Graphs as json
 use Rattle.import_matrix.specs.Steps.{and_then, told_as}
 use Rattle.import_network.specs.declared.fault.TakeFault.{TakeFault}
 use Rattle.import_network.specs.declared.taken.Taken.{Taken}
-use Rattle.import_network.specs.Faults.{edge_fault, table_fault, matrix_fault, dot_fault, number_fault, settle_fault}
+use Rattle.import_network.specs.Faults.{edge_fault, table_fault, matrix_fault, dot_fault, json_fault, number_fault, settle_fault}
 
 -- what a text says: how many nodes there are, and the links in its order
 pub record Draft : Type 0 where
@@ -61,6 +62,14 @@ graph_draft g = named_draft (graph_names g) g.edges
 -- what a text says, a graph in Graphviz's language
 abbrev pub dot_draft : Bool → Option ℕ → List ℕ → Result Draft TakeFault
 dot_draft undirected factor text = and_then (told_as dot_fault (graph_of undirected factor text)) (λ g. Ok (graph_draft g))
+
+-- what a graph in node-link JSON says
+abbrev pub node_links_draft : json.NodeLinks → Draft
+node_links_draft g = record { nodes = length g.names; links = g.links }
+
+-- what a text says, a graph in node-link JSON
+abbrev pub json_draft : Bool → Option ℕ → List ℕ → Result Draft TakeFault
+json_draft undirected factor text = and_then (told_as json_fault (json.graph_of undirected factor text)) (λ g. Ok (node_links_draft g))
 
 -- the network's links, self-loops and parallel edges mended, or why there are none
 abbrev pub made : Mending → Draft → Result Listing TakeFault

@@ -1,10 +1,11 @@
 //! Why a text makes no network file.
 ghost use Rattle.std.specs.Prelude.{◌≡◌};
 ghost use Rattle.import_network.specs.declared.fault.TakeFault.TheVariants.{Memory};
-ghost use Rattle.import_network.specs.Faults.{edge_fault, table_fault, matrix_fault, dot_fault, join_fault, number_fault, settle_fault};
+ghost use Rattle.import_network.specs.Faults.{edge_fault, table_fault, matrix_fault, dot_fault, json_fault, join_fault, number_fault, settle_fault};
 
 use import_dot::DotFault;
 use import_edges::EdgeFault;
+use import_json::JsonFault;
 use import_links::{JoinFault, NumberFault, SettleFault};
 use import_matrix::MatrixFault;
 use import_table::TableFault;
@@ -27,6 +28,9 @@ pub enum TakeFault {
     /// The text is no graph in Graphviz's language.
     #[error("{0}")]
     Dot(DotFault),
+    /// The text is no graph in node-link JSON.
+    #[error("{0}")]
+    Json(JsonFault),
     /// The end of an edge is no name, or there are too many names.
     #[error("{0}")]
     Join(JoinFault),
@@ -89,6 +93,17 @@ impl From<DotFault> for TakeFault {
         match fault {
             DotFault::Memory => TakeFault::Memory,
             _ => TakeFault::Dot(fault),
+        }
+    }
+}
+
+impl From<JsonFault> for TakeFault {
+    ghost from_gives = { λ fault e. e ≡ json_fault fault };
+
+    fn from(fault: JsonFault) -> TakeFault {
+        match fault {
+            JsonFault::Memory => TakeFault::Memory,
+            _ => TakeFault::Json(fault),
         }
     }
 }

@@ -1,11 +1,13 @@
 //! `import FORMAT FILE`: a network from another format, and the names of its nodes.
 
+use crate::json_refusals::json_refusal;
 use crate::refusals::refusal;
 use app_files::{Ending, bytes_at, name_at, put_note, write_file, write_out};
 use app_requests::{Format, ImportRequest};
 use app_table::Draft;
+use import_json::JsonReading;
 use import_network::{
-    TakeFault, Taken, take_dot, take_edges, take_matrix, take_numbers, take_table,
+    TakeFault, Taken, take_dot, take_edges, take_json, take_matrix, take_numbers, take_table,
     take_table_numbers,
 };
 use import_table::{Separator, TableReading};
@@ -61,6 +63,10 @@ fn take_text(alloc: Global, text: &[u8], asked: &ImportRequest) -> Result<Taken,
             let reading = import_dot::Reading { factor, undirected };
             take_dot(alloc, text, &reading, asked.mending)
         }
+        Format::Json => {
+            let reading = JsonReading { factor, undirected };
+            take_json(alloc, text, &reading, asked.mending)
+        }
     }
 }
 
@@ -101,15 +107,26 @@ fn tell_notes(rt: &HostRuntime, notes: &str) -> io::Result<()> {
     Ok(())
 }
 
+/// What is told where a text has no network.
+fn refusal_text(
+    alloc: Global,
+    asked: &ImportRequest,
+    text: &[u8],
+    fault: TakeFault,
+) -> Result<String, AllocError> {
+    let name = name_at(asked.path.as_str());
+    match asked.format {
+        Format::Json => json_refusal(alloc, name, text, fault),
+        _ => refusal(alloc, asked.format, name, fault),
+    }
+}
+
 /// The network of the text that is asked for, or what is told where it has none.
 fn taken_for(rt: &HostRuntime, asked: &ImportRequest) -> Result<Taken, Ending> {
     let text = bytes_at(rt, asked.path.as_str())?;
     match take_text(rt.alloc(), &text, asked) {
         Ok(taken) => Ok(taken),
-        Err(fault) => {
-            let name = name_at(asked.path.as_str());
-            Err(Ending::refused(refusal(rt.alloc(), asked.format, name, fault)))
-        }
+        Err(fault) => Err(Ending::refused(refusal_text(rt.alloc(), asked, &text, fault))),
     }
 }
 

@@ -13,6 +13,7 @@ mod help;
 mod import;
 mod info;
 mod init;
+mod json_refusals;
 mod labels;
 mod naive;
 mod names;

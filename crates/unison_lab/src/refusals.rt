@@ -1,5 +1,6 @@
 //! What is told of a text of another format that has no network.
 
+use crate::json_refusals::json_told;
 use app_files::{
     Told, edges_told, matrix_told, on_line, put_matrix_detail, put_place, weight_told, words_told,
 };
@@ -192,12 +193,13 @@ fn settle_told(fault: SettleFault) -> Told {
 }
 
 /// What is wrong with a text.
-fn told_of(fault: TakeFault) -> Told {
+pub(crate) fn told_of(fault: TakeFault) -> Told {
     match fault {
         TakeFault::Edges(fault) => edges_told(fault),
         TakeFault::Table(fault) => table_told(fault),
         TakeFault::Matrix(fault) => matrix_told(fault, "a network has 65536 nodes at most"),
         TakeFault::Dot(fault) => dot_told(fault),
+        TakeFault::Json(fault) => json_told(fault),
         TakeFault::Join(fault) => join_told(fault),
         TakeFault::Numbers(fault) => numbers_told(fault),
         TakeFault::Settle(fault) => settle_told(fault),
