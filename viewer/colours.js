@@ -2,11 +2,17 @@
 
 import { NONE } from "./data.js";
 
-/** Colours that people who are colour-blind can tell apart (Okabe and Ito); the eighth is the scheme's own, black-like or white-like. */
-const DISTINCT = ["#0072b2", "#e69f00", "#009e73", "#cc79a7", "#56b4e9", "#d55e00", "#f0e442"];
+/** The palette of `unison image` and `unison dot`, which viewer/check compares: colours that people who are colour-blind can tell apart (Okabe and Ito, but for the first). */
+const DISTINCT = ["#f0f0f0", "#000000", "#e69f00", "#56b4e9", "#009e73", "#f0e442", "#0072b2", "#d55e00"];
 
 /** How many values have colours of their own. */
 const MOST_DISTINCT = 8;
+
+/** The colour of none. */
+const NONE_COLOUR = "#bbbbbb";
+
+/** The colour of all nodes of a run without fields. */
+const PLAIN = "#0072b2";
 
 /** Places of a scale that is even to the eye, from the least to the greatest (viridis). */
 const SCALE = ["#440154", "#481a6c", "#472f7d", "#414487", "#39568c", "#31688e", "#2a788e", "#23888e", "#1f988b", "#22a884", "#35b779", "#54c568", "#7ad151", "#a5db36", "#d2e21b", "#fde725"];
@@ -114,9 +120,9 @@ function placeAmong(values, value) {
 
 /** The colours of the values of a field. `shade` gives a value's place among `colours`, the last of which is that of none. */
 class Colouring {
-  constructor(kind, colours, none, shade) {
+  constructor(kind, colours, shade) {
     this.kind = kind;
-    this.colours = [...colours, none];
+    this.colours = [...colours, NONE_COLOUR];
     this.pixels = Uint32Array.from(this.colours, pixelOf);
     this.inks = this.colours.map(inkOn);
     this.shadeOf = shade;
@@ -133,28 +139,27 @@ class Colouring {
   }
 }
 
-/** The colouring of few values: each has its own, in the order in which they rise. */
-function fewColours(range, paints) {
+/** The colouring of few values: each has its own, in the order in which they rise; 0 is light and 1 black where there are no others. */
+function fewColours(range) {
   const values = [...range.few].sort((one, other) => one - other);
-  const places = new Map(values.map((value, place) => [value, place]));
-  const colours = [...DISTINCT, paints.last].slice(0, values.length);
-  const colouring = new Colouring("few", colours, paints.none, (value) => places.get(value));
+  const places = new Map(values.map((value, place) => [value, range.greatest <= 1 ? value : place]));
+  const colouring = new Colouring("few", DISTINCT, (value) => places.get(value));
   return Object.assign(colouring, { values, range });
 }
 
 /** The colouring of many values: by their place between the least and the greatest. */
-function evenColours(range, shades, paints) {
+function evenColours(range, shades) {
   const span = Math.max(1, range.greatest - range.least);
-  const colouring = new Colouring("even", shades, paints.none, (value) => Math.floor(((value - range.least) / span) * (SHADES - 1)));
+  const colouring = new Colouring("even", shades, (value) => Math.floor(((value - range.least) / span) * (SHADES - 1)));
   return Object.assign(colouring, { range });
 }
 
 /** The colouring of many values by how many of the run's values are less, in two hundred and fifty-six parts. */
-function rankColours(range, samples, shades, paints) {
+function rankColours(range, samples, shades) {
   const bounds = Uint32Array.from({ length: SHADES - 1 }, (_, place) => samples[Math.floor(((place + 1) * samples.length) / SHADES)]);
   const different = Uint32Array.from(new Set(bounds));
   const stretch = (SHADES - 1) / Math.max(1, different.length);
-  const colouring = new Colouring("rank", shades, paints.none, (value) => Math.floor(placeAmong(different, value) * stretch));
+  const colouring = new Colouring("rank", shades, (value) => Math.floor(placeAmong(different, value) * stretch));
   return Object.assign(colouring, { range });
 }
 
@@ -165,19 +170,18 @@ function isLopsided(range, samples) {
 }
 
 /**
- * The colouring of a field of the run. `paints` has the scheme's colours, `none` and `last`. `scale` is "even", "rank", or null for the one
- * that suits the values. A run without fields has one colour for all.
+ * The colouring of a field of the run. `scale` is "even", "rank", or null for the one that suits the values. A run without fields has one colour for all.
  */
-export function colouringOf(run, field, paints, scale) {
+export function colouringOf(run, field, scale) {
   if (field < 0) {
-    return Object.assign(new Colouring("plain", [DISTINCT[0]], paints.none, () => 0), { range: { hasNone: false } });
+    return Object.assign(new Colouring("plain", [PLAIN], () => 0), { range: { hasNone: false } });
   }
   const range = rangeOf(run, field);
   if (range.few.size <= MOST_DISTINCT) {
-    return fewColours(range, paints);
+    return fewColours(range);
   }
   const shades = Array.from({ length: SHADES }, (_, place) => scaleAt(place / (SHADES - 1)));
   const samples = samplesOf(run, field);
   const byRank = scale ? scale === "rank" : isLopsided(range, samples);
-  return byRank ? rankColours(range, samples, shades, paints) : evenColours(range, shades, paints);
+  return byRank ? rankColours(range, samples, shades) : evenColours(range, shades);
 }

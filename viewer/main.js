@@ -308,7 +308,7 @@ class Page {
   /** Takes the scheme's colours and those of the field, and draws. */
   prepare() {
     this.paints = readPaints();
-    this.scene.colour(this.scene.field, this.paints, this.scale);
+    this.scene.colour(this.scene.field, this.scale);
     const { kind } = this.scene.colouring;
     byId("scale-label").hidden = kind !== "even" && kind !== "rank";
     byId("scale").value = kind;

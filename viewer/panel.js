@@ -72,7 +72,7 @@ export function showLegend(scene) {
   const { run, field, colouring } = scene;
   const entries = [];
   if (colouring.kind === "few") {
-    entries.push(...colouring.values.map((value, place) => swatch(colouring.colours[place], valueWords(run, field, value))));
+    entries.push(...colouring.values.map((value) => swatch(colouring.colour(value), valueWords(run, field, value))));
   } else if (colouring.kind !== "plain") {
     entries.push(ramp(scene));
   }

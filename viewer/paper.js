@@ -24,8 +24,6 @@ export function readPaints() {
     edge: paint("edge"),
     focus: paint("focus"),
     empty: paint("empty"),
-    none: paint("none"),
-    last: paint("last-colour"),
     done: "#009e73",
     refused: "#d55e00",
   };

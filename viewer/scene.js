@@ -32,9 +32,9 @@ export class Scene {
   }
 
   /** Takes the colours of a field; the scale is "even", "rank", or null for the one that suits. */
-  colour(field, paints, scale) {
+  colour(field, scale) {
     this.field = field;
-    this.colouring = colouringOf(this.run, field, paints, scale);
+    this.colouring = colouringOf(this.run, field, scale);
   }
 
   /** The place of the shown round. */
