@@ -6,9 +6,11 @@ use crate::arguments::{
     EVERY, FIELD, FIELD_ARGUMENT, FLAG, FROM, NAMES, NAMES_ARGUMENT, NETWORK, PROGRAM, PlanPaths,
     ROUND, ROUNDS, WIDTH, span_in,
 };
+use crate::colours::{COLOURS, colours_in};
 use crate::constants::CONSTANT;
-use app_table::{Argument, Command, Kind, OPTION, Reading, WordsFault};
+use app_table::{Argument, Command, Kind, OPTION, Reading, Value, WordsFault};
 use link_net::MOST_NODES;
+use run_picture::ValueColour;
 use run_watch::Span;
 use std::alloc::Global;
 
@@ -16,7 +18,7 @@ const GRID: Argument = Argument {
     name: "grid",
     value: WIDTH,
     value_name: "WIDTH",
-    help: "Show one round as cells, so many across, node 0 first: 1 to 65536",
+    help: "Show one round as cells, or with --animate each in turn, so many across, node 0 first: 1 to 65536",
     ..OPTION
 };
 
@@ -31,6 +33,32 @@ const COUNTS: Argument = Argument {
 
 /// `COUNTS`, as it is read.
 static COUNTS_ARGUMENT: Argument = COUNTS;
+
+const ANIMATE: Argument = Argument {
+    name: "animate",
+    help: "With --grid, make a picture that moves: the rounds one after the other, over and over, 10000 at most",
+    ..FLAG
+};
+
+/// `ANIMATE`, as it is read.
+static ANIMATE_ARGUMENT: Argument = ANIMATE;
+
+/// For how many milliseconds a round is shown where nothing else is asked for.
+const FRAME_TIME: u32 = 100;
+
+const SHOWN_FOR: Argument = Argument {
+    name: "frame-time",
+    value: Value::Number {
+        least: 1,
+        most: 60_000,
+    },
+    value_name: "MILLISECONDS",
+    help: "With --animate, show each round for so long: 1 to 60000, 100 where it is left out",
+    ..OPTION
+};
+
+/// `SHOWN_FOR`, as it is read.
+static SHOWN_FOR_ARGUMENT: Argument = SHOWN_FOR;
 
 const DRAWN_ROUND: Argument = Argument {
     name: "rounds",
@@ -50,9 +78,10 @@ static IMAGE: Command = Command {
     aliases: &[],
     called: "unison image",
     about: "Make a picture of rounds, nodes across and rounds down, of one round as a grid, or of counts as curves",
-    notes: "Prints an SVG picture: nodes across and rounds down, with --grid the nodes of one round as cells, or with --counts a curve for each value that occurs, of how many nodes have it. Where more than 64 values occur, the curves are refused; count prints the numbers.\nAn example: unison image examples/rule_110.rules examples/row.toml --rounds 0..30 > run.svg\nAnother one: unison image examples/life.rules examples/glider.toml --rounds 8..8 --grid 8 > frame.svg\nA third one: unison image examples/distance.rules examples/karate.toml --rounds 0..5 --counts > curves.svg\n",
+    notes: "Prints an SVG picture: nodes across and rounds down, with --grid the nodes of one round as cells, with --animate too those of each round in turn, or with --counts a curve for each value that occurs, of how many nodes have it. Where more than 64 values occur, the curves are refused; count prints the numbers.\nAn example: unison image examples/rule_110.rules examples/row.toml --rounds 0..30 > run.svg\nAnother one: unison image examples/life.rules examples/glider.toml --rounds 8..8 --grid 8 > frame.svg\nA third one: unison image examples/distance.rules examples/karate.toml --rounds 0..5 --counts > curves.svg\nOne that moves: unison image examples/life.rules examples/glider.toml --rounds 0..31 --grid 8 --animate --colours 1:teal > glider.svg\n",
     arguments: &[
-        PROGRAM, NETWORK, ROUNDS, EVERY, FIELD, COUNTS, GRID, FROM, CONSTANT,
+        PROGRAM, NETWORK, ROUNDS, EVERY, FIELD, COUNTS, GRID, ANIMATE, SHOWN_FOR, COLOURS, FROM,
+        CONSTANT,
     ],
     subcommands: &[],
 };
@@ -69,7 +98,16 @@ static DOT: Command = Command {
     called: "unison dot",
     about: "Print a network in a round for Graphviz, coloured and labelled",
     notes: "Prints the network for Graphviz, each node with its name or number, its value, and the colour of the value.\nAn example: unison dot examples/distance.rules examples/path.toml --rounds 2 | dot -Tsvg > network.svg\n",
-    arguments: &[PROGRAM, NETWORK, DRAWN_ROUND, FIELD, NAMES, FROM, CONSTANT],
+    arguments: &[
+        PROGRAM,
+        NETWORK,
+        DRAWN_ROUND,
+        FIELD,
+        NAMES,
+        COLOURS,
+        FROM,
+        CONSTANT,
+    ],
     subcommands: &[],
 };
 
@@ -82,7 +120,7 @@ pub(crate) fn dot() -> &'static Command {
 #[derive(Drop)]
 pub struct ImageRequest {
     pub plan: PlanPaths,
-    /// The rounds of which the picture is made: one alone where there is a grid.
+    /// The rounds of which the picture is made: one alone where there is a grid that does not move.
     pub span: Span,
     /// The field that gives the colours, where it is named.
     pub field: Option<String>,
@@ -90,6 +128,10 @@ pub struct ImageRequest {
     pub counts: bool,
     /// How many cells a line of the grid has; 0 for none.
     pub grid: u32,
+    /// For how many milliseconds each round is shown, where the grid moves.
+    pub frame_time: Option<u32>,
+    /// The values that have colours of their own, none twice.
+    pub colours: Vec<ValueColour>,
 }
 
 /// What `dot` is asked for.
@@ -102,6 +144,8 @@ pub struct DotRequest {
     pub field: Option<String>,
     /// The path of the names of the nodes, where they are shown.
     pub names: Option<String>,
+    /// The values that have colours of their own, none twice.
+    pub colours: Vec<ValueColour>,
 }
 
 /// Refuses curves beside a grid.
@@ -113,13 +157,36 @@ fn check_manner(reading: &mut Reading, counts: bool, grid: u32) {
     }
 }
 
-/// Refuses a grid of more than one round.
-fn check_frame(reading: &mut Reading, span: &Span, grid: u32) {
-    if grid > 0 && span.first() != span.last() {
+/// Refuses a grid of more than one round, where it does not move.
+fn check_frame(reading: &mut Reading, span: &Span, grid: u32, frame_time: Option<u32>) {
+    if grid > 0 && frame_time.is_none() && span.first() != span.last() {
         reading.refuse_words(
-            "--grid: the frame of one round is shown, so the first and the last round are the same, as in --rounds 8..8",
+            "--grid: the frame of one round is shown, so the first and the last round are the same, as in --rounds 8..8; with --animate all rounds are shown in turn",
         );
     }
+}
+
+/// For how many milliseconds each round of a picture that moves is shown; a grid is wanted.
+fn moving_in(reading: &mut Reading, time: u32, grid: u32) -> Option<u32> {
+    if grid == 0 {
+        reading.refuse_words("--animate: the cells of a grid move, so --grid WIDTH is wanted");
+    }
+    if time == 0 {
+        return Some(FRAME_TIME);
+    }
+    Some(time)
+}
+
+/// For how many milliseconds each round is shown, where the picture moves.
+fn frame_time_in(reading: &mut Reading, grid: u32) -> Option<u32> {
+    let time = reading.number_or(&SHOWN_FOR_ARGUMENT, 0);
+    if reading.has(&ANIMATE_ARGUMENT) {
+        return moving_in(reading, time, grid);
+    }
+    if time > 0 {
+        reading.refuse_words("--frame-time: a picture that moves is wanted, by --animate");
+    }
+    None
 }
 
 /// What plain words ask for, where they name rounds.
@@ -130,7 +197,9 @@ fn image_in(reading: &mut Reading) -> Option<ImageRequest>
     let counts = reading.has(&COUNTS_ARGUMENT);
     let span = span_in(reading)?;
     check_manner(reading, counts, grid);
-    check_frame(reading, &span, grid);
+    let frame_time = frame_time_in(reading, grid);
+    check_frame(reading, &span, grid, frame_time);
+    let colours = colours_in(reading);
     let field = reading.text(&FIELD_ARGUMENT);
     let plan = PlanPaths::of(reading);
     Some(ImageRequest {
@@ -139,6 +208,8 @@ fn image_in(reading: &mut Reading) -> Option<ImageRequest>
         field,
         counts,
         grid,
+        frame_time,
+        colours,
     })
 }
 
@@ -149,12 +220,14 @@ fn dot_in(reading: &mut Reading) -> DotRequest
     let round = reading.number_or(&DRAWN_ROUND_ARGUMENT, 0);
     let field = reading.text(&FIELD_ARGUMENT);
     let names = reading.text(&NAMES_ARGUMENT);
+    let colours = colours_in(reading);
     let plan = PlanPaths::of(reading);
     DotRequest {
         plan,
         round,
         field,
         names,
+        colours,
     }
 }
 

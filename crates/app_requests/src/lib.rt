@@ -3,6 +3,7 @@
 
 mod arguments;
 mod cells;
+mod colours;
 mod commands;
 mod constants;
 mod count;

@@ -6,3 +6,4 @@ pub mod EachCell
 pub mod CellTexts
 pub mod EachPoint
 pub mod EachValue
+pub mod EachFrame

@@ -1,10 +1,12 @@
 -- Values that are told apart by their colours.
-use Rattle.std.proofs.Common.{◌≡◌, ◌≢◌, ◌∙◌, ◌↔◌, ◌<◌, ◌≤◌, ◌+◌, ◌-◌, ◌==◌, ◌||◌, ℕ, zero, suc, List, [], ◌∷◌, ◌++◌, Bool, true, false, cond, if◌then◌else◌, ap, arith, length, max, nat_le, nat_lt, refl, slice_index, slice_index_or, subst, sym, take}
+use Rattle.std.proofs.Common.{◌≡◌, ◌≢◌, ◌∙◌, ◌↔◌, ◌<◌, ◌≤◌, ◌+◌, ◌-◌, ◌==◌, ◌||◌, ℕ, zero, suc, List, [], ◌∷◌, ◌++◌, Bool, true, false, cond, if◌then◌else◌, ap, arith, length, max, nat_le, nat_lt, not, refl, slice_index, slice_index_or, subst, sym, take}
 use Rattle.std.proofs.lemmas.Bool.Decides.{nat_tests}
 use Rattle.std.proofs.lemmas.Grind.{common_steps}
 use Rattle.std.proofs.lemmas.List.Sums.{prefix_len-le-length}
 use Rattle.std.specs.List.{IsAmong, insert, list_any}
-use Rattle.run_picture.specs.Shades.{KeyView, SameClassSameValue, blank_key, class_of, is_among, is_few, key_from, key_of, no_value, rank, step_of, with_cell, with_value}
+use Rattle.run_picture.specs.declared.chosen.ValueColour.{ValueColour}
+use Rattle.run_picture.specs.Chosen.{StylesView, has_own, own_place}
+use Rattle.run_picture.specs.Shades.{KeyView, SameClassSameValue, blank_key, class_count, class_of, is_among, is_few, key_from, key_of, no_value, rank, shade_of, step_of, with_cell, with_value}
 
 -- each is above those before it, and from a on
 abbrev pub Rising : ℕ → List ℕ → Type 0
@@ -120,10 +122,10 @@ with_rising xs v rising = with_by (Rising 0) (is_among xs v) xs v refl rising (�
 
 -- the two keys that a cell leads to
 abbrev pub marked : KeyView → KeyView
-marked key = record { values = key.values; greatest = key.greatest; none = true }
+marked key = record { styles = key.styles; values = key.values; greatest = key.greatest; none = true }
 
 abbrev pub grown : KeyView → ℕ → KeyView
-grown key c = record { values = take 9 (with_value key.values c); greatest = max key.greatest c; none = key.none }
+grown key c = record { styles = key.styles; values = take 9 (with_value key.values c); greatest = max key.greatest c; none = key.none }
 
 cell_by : (P : KeyView → Type 0) (key : KeyView) (c : ℕ) (b : Bool) → P (marked key) → P (grown key c) → P (if b then marked key else grown key c)
 cell_by P key c true there more = there
@@ -255,34 +257,92 @@ apart false true false true v w r q s t few one two fr fq none some same = absur
 apart false false true true v w r q s t few one two fr fq none some same = same
 apart false false false true v w r q s t few one two fr fq none some same = some refl refl same
 
-module _ (cells : List ℕ) (few : length (key_of cells).values ≤ 8) where
-  kept : (v : ℕ) → is_among cells v ≡ true → v ≢ no_value → is_among (key_of cells).values v ≡ true
-  kept v has some = comes cells blank_key v has some (omega arith) few
+-- a colour of the palette
+shade_small : (n b f : Bool) (v r s : ℕ) → f ≡ true → (n ≡ false → b ≡ true → v ≤ 1) → r ≤ 8 → class_by n b f v r s ≤ 24
+shade_small n b false v r s few one fr = absurd (let e : false ≡ true = few in cc)
+shade_small true b true v r s few one fr = omega arith
+shade_small false true true v r s few one fr = omega (arith, one refl refl)
+shade_small false false true v r s few one fr = omega (arith, fr)
 
-  within : (v : ℕ) → is_among cells v ≡ true → (v == no_value) ≡ false → nat_le (key_of cells).greatest 1 ≡ true → v ≤ 1
+-- where a value stands among those with colours of their own, by whether it is the first
+own_here : (own : ValueColour) (v : ℕ) (colours : List ValueColour) → (own.value == v) ≡ true → own_place (own ∷ colours) v ≡ 0
+own_here own v colours is = ap (λ (b : Bool). cond (not b) (1 + own_place colours v) 0) is
+
+own_later : (own : ValueColour) (v : ℕ) (colours : List ValueColour) → (own.value == v) ≡ false → own_place (own ∷ colours) v ≡ suc (own_place colours v)
+own_later own v colours is =
+    let e : 1 + own_place colours v ≡ suc (own_place colours v) = omega arith in
+    ap (λ (b : Bool). cond (not b) (1 + own_place colours v) 0) is ∙ e
+
+own_by : (a b : Bool) (own : ValueColour) (v w : ℕ) (colours : List ValueColour) → (own.value == v) ≡ a → (own.value == w) ≡ b → own_place (own ∷ colours) v < suc (length colours)
+    → own_place (own ∷ colours) v ≡ own_place (own ∷ colours) w → (own_place colours v < length colours → own_place colours v ≡ own_place colours w → v ≡ w) → v ≡ w
+own_by true true own v w colours is are inside same later =
+    let first : own.value ≡ v = grind (arith, nat_tests, is) in
+    let second : own.value ≡ w = grind (arith, nat_tests, are) in
+    sym first ∙ second
+own_by true false own v w colours is are inside same later = absurd (omega (arith, same, own_here own v colours is, own_later own w colours are))
+own_by false true own v w colours is are inside same later = absurd (omega (arith, same, own_later own v colours is, own_here own w colours are))
+own_by false false own v w colours is are inside same later =
+    let one = own_later own v colours is in
+    let other = own_later own w colours are in
+    later (omega (arith, inside, one)) (omega (arith, same, one, other))
+
+-- two values at the same place are the same
+own_once : (colours : List ValueColour) (v w : ℕ) → own_place colours v < length colours → own_place colours v ≡ own_place colours w → v ≡ w
+own_once [] v w inside same = absurd (omega (arith, inside))
+own_once (own ∷ colours) v w inside same = own_by (own.value == v) (own.value == w) own v w colours refl refl inside same (own_once colours v w)
+
+module _ (styles : StylesView) (cells : List ℕ) (few : length (key_of styles cells).values ≤ 8) where
+  kept : (v : ℕ) → is_among cells v ≡ true → v ≢ no_value → is_among (key_of styles cells).values v ≡ true
+  kept v has some = comes cells (blank_key styles) v has some (omega arith) few
+
+  within : (v : ℕ) → is_among cells v ≡ true → (v == no_value) ≡ false → nat_le (key_of styles cells).greatest 1 ≡ true → v ≤ 1
   within v has other two =
       let some : v ≢ no_value = grind (arith, nat_tests, other) in
-      let less = below cells blank_key v has some in
+      let less = below cells (blank_key styles) v has some in
       grind (arith, nat_tests, two, less)
 
-  ranked : (v w : ℕ) → is_among cells v ≡ true → is_among cells w ≡ true → (v == no_value) ≡ false → (w == no_value) ≡ false → rank (key_of cells).values v ≡ rank (key_of cells).values w → v ≡ w
+  ranked : (v w : ℕ) → is_among cells v ≡ true → is_among cells w ≡ true → (v == no_value) ≡ false → (w == no_value) ≡ false → rank (key_of styles cells).values v ≡ rank (key_of styles cells).values w → v ≡ w
   ranked v w has_v has_w other_v other_w same =
-      let values = (key_of cells).values in
-      let rising = values_rise cells blank_key tt in
+      let values = (key_of styles cells).values in
+      let rising = values_rise cells (blank_key styles) tt in
       let some_v : v ≢ no_value = grind (arith, nat_tests, other_v) in
       let some_w : w ≢ no_value = grind (arith, nat_tests, other_w) in
       sym (found 0 v values rising (kept v has_v some_v)) ∙ ap (slice_index values) same ∙ found 0 w values rising (kept w has_w some_w)
 
-  short : (v : ℕ) → rank (key_of cells).values v ≤ 8
-  short v = omega (arith, few, prefix_len-le-length (λ (x : ℕ). nat_lt x v) (key_of cells).values)
+  short : (v : ℕ) → rank (key_of styles cells).values v ≤ 8
+  short v = omega (arith, few, prefix_len-le-length (λ (x : ℕ). nat_lt x v) (key_of styles cells).values)
 
-  told : (v w : ℕ) → is_among cells v ≡ true → is_among cells w ≡ true → class_of (key_of cells) v ≡ class_of (key_of cells) w → v ≡ w
-  told v w has_v has_w same =
-      let key = key_of cells in
+  shades_told : (v w : ℕ) → is_among cells v ≡ true → is_among cells w ≡ true → shade_of (key_of styles cells) v ≡ shade_of (key_of styles cells) w → v ≡ w
+  shades_told v w has_v has_w same =
+      let key = key_of styles cells in
       let all : is_few key ≡ true = grind (arith, nat_tests, few) in
       apart (v == no_value) (w == no_value) (nat_le key.greatest 1) (is_few key) v w (rank key.values v) (rank key.values w) (8 + step_of key v) (8 + step_of key w) all
       (within v has_v) (within w has_w) (short v) (short w) (λ nv nw. grind (arith, nat_tests, nv, nw)) (ranked v w has_v has_w) same
 
+  small : (v : ℕ) → is_among cells v ≡ true → shade_of (key_of styles cells) v ≤ 24
+  small v has =
+      let key = key_of styles cells in
+      let all : is_few key ≡ true = grind (arith, nat_tests, few) in
+      shade_small (v == no_value) (nat_le key.greatest 1) (is_few key) v (rank key.values v) (8 + step_of key v) all (within v has) (short v)
+
+  -- the class of a value, by whether it has a colour of its own
+  abbrev classed : Bool → ℕ → ℕ
+  classed own v = if own then class_count + own_place (key_of styles cells).styles.colours v else shade_of (key_of styles cells) v
+
+  told_by : (a b : Bool) (v w : ℕ) → is_among cells v ≡ true → is_among cells w ≡ true → has_own (key_of styles cells).styles.colours v ≡ a → classed a v ≡ classed b w → v ≡ w
+  told_by true true v w has_v has_w own same =
+      let colours = (key_of styles cells).styles.colours in
+      let inside : own_place colours v < length colours = grind (arith, nat_tests, own) in
+      own_once colours v w inside (omega (arith, same))
+  told_by true false v w has_v has_w own same = absurd (omega (arith, same, small w has_w))
+  told_by false true v w has_v has_w own same = absurd (omega (arith, same, small v has_v))
+  told_by false false v w has_v has_w own same = shades_told v w has_v has_w same
+
+  told : (v w : ℕ) → is_among cells v ≡ true → is_among cells w ≡ true → class_of (key_of styles cells) v ≡ class_of (key_of styles cells) w → v ≡ w
+  told v w has_v has_w same =
+      let colours = (key_of styles cells).styles.colours in
+      told_by (has_own colours v) (has_own colours w) v w has_v has_w refl same
+
 pub same_class_same_value : SameClassSameValue
-same_class_same_value cells v w few among_v among_w =
-    (told cells few v w (among cells v among_v.0 among_v.1.0 among_v.1.1) (among cells w among_w.0 among_w.1.0 among_w.1.1), λ same. ap (class_of (key_of cells)) same)
+same_class_same_value styles cells v w few among_v among_w =
+    (told styles cells few v w (among cells v among_v.0 among_v.1.0 among_v.1.1) (among cells w among_w.0 among_w.1.0 among_w.1.1), λ same. ap (class_of (key_of styles cells)) same)

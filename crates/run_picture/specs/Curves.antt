@@ -12,7 +12,8 @@ use Rattle.run_counts.specs.Rows.{AreRows, AreValues, RowView, count_in}
 use Rattle.run_picture.specs.declared.fault.PictureFault.{PictureFault}
 use Rattle.run_picture.specs.declared.fault.PictureFault.TheVariants.{OneRound, TooManyPoints, TooManyValues}
 use Rattle.run_picture.specs.Frames.{refusal_of}
-use Rattle.run_picture.specs.Shades.{KeyView, class_of, colour_of, key_of}
+use Rattle.run_picture.specs.Chosen.{StylesView}
+use Rattle.run_picture.specs.Shades.{KeyView, class_of, fill_of, key_of}
 use Rattle.run_picture.specs.Sheets.{legend_lines, legend_text, opening_text, style_text, value_text}
 
 -- ---- what is drawn
@@ -99,9 +100,9 @@ abbrev pub count_lines : ℕ → List ℕ
 count_lines nodes = flat_map (λ n. count_line (count_place nodes n) n) (ticks 0 nodes)
 
 -- the styles of all that is drawn
-unfoldable pub styles_text : List ℕ
-styles_text =
-    style_text
+unfoldable pub styles_text : KeyView → List ℕ
+styles_text key =
+    style_text key
     ++ codes "<style>polyline{fill:none;stroke-width:2;stroke-linejoin:round;shape-rendering:auto;vector-effect:non-scaling-stroke}.edge{stroke:#888888;stroke-width:4}.grid{stroke:#dddddd}.axis{fill:none;stroke:#000000}</style>\n"
 
 -- the two axes, and what they are called
@@ -120,17 +121,21 @@ abbrev pub points_text : List RowView → ℕ → List ℕ
 points_text rows v = flat_map (λ row. point_text row.round (count_in row.counts v)) rows
 
 -- the value of a curve, which is told where the pointer rests on it
-unfoldable pub title_text : ℕ → List ℕ
-title_text v = codes "<title>" ++ (value_text v ++ codes "</title>")
+unfoldable pub title_text : KeyView → ℕ → List ℕ
+title_text key v = codes "<title>" ++ (value_text key v ++ codes "</title>")
 
--- the points of a value as a line, with an attribute of this name and value
-unfoldable pub line_text : List ℕ → List ℕ → List RowView → ℕ → List ℕ
-line_text name value rows v = codes "<polyline " ++ (name ++ (codes "=\"" ++ (value ++ (codes "\" points=\"" ++ (points_text rows v ++ codes "\"/>")))))
+-- the points of a value as a line, behind what stands first in it
+unfoldable pub line_text : List RowView → ℕ → List ℕ
+line_text rows v = codes "\" points=\"" ++ (points_text rows v ++ codes "\"/>")
+
+-- what stands first in a line: the colour of a value
+unfoldable pub stroke_text : KeyView → ℕ → List ℕ
+stroke_text key v = codes "<polyline stroke=\"" ++ fill_of key (class_of key v)
 
 -- the curve of a value: an edge, and on it a line in the colour of the value
 unfoldable pub curve_text : KeyView → List RowView → ℕ → List ℕ
 curve_text key rows v =
-    codes "<g>" ++ (title_text v ++ (line_text (codes "class") (codes "edge") rows v ++ (line_text (codes "stroke") (colour_of (class_of key v)) rows v ++ codes "</g>\n")))
+    codes "<g>" ++ (title_text key v ++ (codes "<polyline class=\"edge" ++ (line_text rows v ++ (stroke_text key v ++ (line_text rows v ++ codes "</g>\n")))))
 
 -- Where curves are drawn, in numbers of rounds and of nodes: a view from a first round over so many, and of 0 to all nodes, fills the plot, turned so that more nodes stand higher.
 unfoldable pub view_text : ℕ → ℕ → ℕ → List ℕ
@@ -156,19 +161,19 @@ curves_height key = curves_legend + 18 * legend_lines key
 -- the plot of values in the colours of a key, and the legend of the key
 unfoldable pub plotted : SpanView → ℕ → KeyView → List RowView → List ℕ → List ℕ
 plotted span nodes key rows values =
-    opening_text 744 (curves_height key) ++ (styles_text ++ (plot_text span nodes key rows values ++ (legend_text key curves_legend ++ codes "</svg>\n")))
+    opening_text 744 (curves_height key) ++ (styles_text key ++ (plot_text span nodes key rows values ++ (legend_text key curves_legend ++ codes "</svg>\n")))
 
 -- the picture of the curves of values in the rounds of a span
-abbrev pub curves_picture : SpanView → ℕ → List RowView → List ℕ → List ℕ
-curves_picture span nodes rows values = plotted span nodes (key_of values) rows values
+abbrev pub curves_picture : StylesView → SpanView → ℕ → List RowView → List ℕ → List ℕ
+curves_picture styles span nodes rows values = plotted span nodes (key_of styles values) rows values
 
 -- the text is the picture of how many nodes have each value of a field, in each round of a span
-pub record IsCountPicture (p : PlanView) (span : SpanView) (field : ℕ) (text : List ℕ) : Type 0 where
+pub record IsCountPicture (styles : StylesView) (p : PlanView) (span : SpanView) (field : ℕ) (text : List ℕ) : Type 0 where
   pub rows : List RowView
   pub values : List ℕ
   pub counted : AreCounted p span field rows values
   pub few : length values ≤ most_curves
-  pub spelled : text ≡ curves_picture span (length p.network) rows values
+  pub spelled : text ≡ curves_picture styles span (length p.network) rows values
 
 -- more values of a field occur in the rounds of a span than there may be curves
 pub record HasManyValues (p : PlanView) (span : SpanView) (field : ℕ) : Type 0 where

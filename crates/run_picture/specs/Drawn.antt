@@ -7,8 +7,8 @@ use Rattle.std.specs.Str.{chars}
 use Rattle.link_net.specs.Neighbours.{Neighbours, degree, neighbour, numbers_below, weight}
 use Rattle.rounds_plan.specs.Plans.{PlanView}
 use Rattle.run_picture.specs.Frames.{values_after}
-use Rattle.run_picture.specs.Shades.{KeyView, class_of, colour_of, ink_of, key_of}
-use Rattle.run_picture.specs.Sheets.{value_text}
+use Rattle.run_picture.specs.Chosen.{StylesView}
+use Rattle.run_picture.specs.Shades.{KeyView, class_of, fill_of, ink_of, key_of, no_value}
 
 -- a character in a quoted label: `"`, `\` and `&` mean something there
 abbrev pub escaped_char : ℕ → List ℕ
@@ -22,18 +22,26 @@ escaped_char c =
 abbrev pub escaped : List ℕ → List ℕ
 escaped name = flat_map escaped_char (chars name)
 
--- what a node is called in a quoted label: its name, or where it has none its number
+-- what a node or a value is called in a quoted label: its name, or where it has none its number
 abbrev pub called : Option (List ℕ) → ℕ → List ℕ
 called (Some name) u = escaped name
 called None u = decimal u
 
+-- what a value is called in a quoted label, or that there is none
+abbrev pub value_label : KeyView → ℕ → List ℕ
+value_label key v = if v == no_value then codes "none" else called (slice_get key.styles.names v) v
+
+-- a colour of writing, and the end of the line
+abbrev pub ink_text : List ℕ → List ℕ
+ink_text ink = codes "\", fontcolor=\"" ++ (ink ++ codes "\"];\n")
+
 -- the colours of a node: that of a class, and one that is read on it
-unfoldable pub class_text : ℕ → List ℕ
-class_text class = codes "\", fillcolor=\"" ++ (colour_of class ++ (codes "\", fontcolor=\"" ++ (ink_of class ++ codes "\"];\n")))
+unfoldable pub class_text : KeyView → ℕ → List ℕ
+class_text key class = codes "\", fillcolor=\"" ++ (fill_of key class ++ ink_text (ink_of key class))
 
 -- the line of a node: its number, what it is called, its value below that, and its colours
 unfoldable pub node_line : KeyView → Option (List ℕ) → ℕ → ℕ → List ℕ
-node_line key name u v = codes "  " ++ (decimal u ++ (codes " [label=\"" ++ (called name u ++ (codes "\\n" ++ (value_text v ++ class_text (class_of key v))))))
+node_line key name u v = codes "  " ++ (decimal u ++ (codes " [label=\"" ++ (called name u ++ (codes "\\n" ++ (value_label key v ++ class_text key (class_of key v))))))
 
 -- the lines of nodes from number u on, called by these names, and past the last by their numbers
 abbrev pub node_lines : KeyView → List (List ℕ) → ℕ → List ℕ → List ℕ
@@ -65,9 +73,9 @@ unfoldable pub head_text : ℕ → List ℕ
 head_text t = codes "graph run {\n  label=\"round " ++ (decimal t ++ codes "\";\n  node [shape=circle, style=filled];\n")
 
 -- a network with a value at each node, after round t
-abbrev pub graph_text : Neighbours → List (List ℕ) → ℕ → List ℕ → List ℕ
-graph_text network names t values = head_text t ++ (node_lines (key_of values) names 0 values ++ (link_lines network ++ codes "}\n"))
+abbrev pub graph_text : StylesView → Neighbours → List (List ℕ) → ℕ → List ℕ → List ℕ
+graph_text styles network names t values = head_text t ++ (node_lines (key_of styles values) names 0 values ++ (link_lines network ++ codes "}\n"))
 
 -- the network of a plan with the values of a field after round t
-abbrev pub network_text : PlanView → List (List ℕ) → ℕ → ℕ → List ℕ
-network_text p names t field = graph_text p.network names t (values_after p field t)
+abbrev pub network_text : StylesView → PlanView → List (List ℕ) → ℕ → ℕ → List ℕ
+network_text styles p names t field = graph_text styles p.network names t (values_after p field t)

@@ -1,3 +1,5 @@
+pub mod Chosen
+pub mod Styling
 pub mod Shades
 pub mod Sheets
 pub mod Frames
@@ -5,3 +7,4 @@ pub mod Drawn
 pub mod DrawnLinks
 pub mod Placed
 pub mod Curves
+pub mod Moving

@@ -1,6 +1,8 @@
 -- How values are coloured.
-use Rattle.std.specs.Prelude.{◌≡◌, ◌↔◌, ◌≤◌, ℕ, ◌+◌, ◌-◌, ◌*◌, ◌/◌, ◌==◌, ◌||◌, ◌&&◌, max, min, Bool, true, false, List, [], ◌∷◌, codes, if◌then◌else◌, length, nat_le, nat_lt, slice_index, slice_index_or, take}
+use Rattle.std.specs.Prelude.{◌≡◌, ◌↔◌, ◌≤◌, ℕ, ◌+◌, ◌-◌, ◌*◌, ◌/◌, ◌==◌, ◌||◌, ◌&&◌, max, min, Bool, true, false, List, [], ◌∷◌, codes, if◌then◌else◌, length, nat_le, nat_lt, slice_get, slice_index, slice_index_or, take, Option, Some, None}
 use Rattle.std.specs.List.{IsAmong, insert, list_any, prefix_len}
+use Rattle.run_picture.specs.declared.chosen.ValueColour.{ValueColour}
+use Rattle.run_picture.specs.Chosen.{StylesView, has_own, hex_text, is_dim, own_place}
 
 -- the value that says that there is none
 abbrev pub no_value : ℕ
@@ -8,6 +10,8 @@ no_value = 4294967295
 
 -- what the colours of cells follow from
 pub record KeyView : Type 0 where
+  -- how values are shown
+  pub styles : StylesView
   -- the values in the cells, rising, each once and without `no_value`; where there are more than nine, the least nine
   pub values : List ℕ
   -- the greatest of them, or 0
@@ -16,8 +20,8 @@ pub record KeyView : Type 0 where
   pub none : Bool
 
 -- the key where there are no cells
-abbrev pub blank_key : KeyView
-blank_key = record { values = []; greatest = 0; none = false }
+abbrev pub blank_key : StylesView → KeyView
+blank_key styles = record { styles = styles; values = []; greatest = 0; none = false }
 
 -- how many of rising values are below this one
 abbrev pub rank : List ℕ → ℕ → ℕ
@@ -34,17 +38,17 @@ with_value values v = if is_among values v then values else insert values (rank 
 -- the key where there is one cell more
 abbrev pub with_cell : KeyView → ℕ → KeyView
 with_cell key v =
-    if v == no_value then record { values = key.values; greatest = key.greatest; none = true }
-    else record { values = take 9 (with_value key.values v); greatest = max key.greatest v; none = key.none }
+    if v == no_value then record { styles = key.styles; values = key.values; greatest = key.greatest; none = true }
+    else record { styles = key.styles; values = take 9 (with_value key.values v); greatest = max key.greatest v; none = key.none }
 
 -- the key where there are these cells more
 abbrev pub key_from : KeyView → List ℕ → KeyView
 key_from key [] = key
 key_from key (v ∷ cells) = key_from (with_cell key v) cells
 
--- the key of cells
-abbrev pub key_of : List ℕ → KeyView
-key_of cells = key_from blank_key cells
+-- the key of cells whose values are shown in these styles
+abbrev pub key_of : StylesView → List ℕ → KeyView
+key_of styles cells = key_from (blank_key styles) cells
 
 -- there are so few values that each has a colour of its own
 abbrev pub is_few : KeyView → Bool
@@ -58,18 +62,26 @@ least_of key = slice_index key.values 0
 abbrev pub step_of : KeyView → ℕ → ℕ
 step_of key v = min 15 ((v - least_of key) * 16 / (key.greatest - least_of key + 1))
 
--- The number of a value's colour: 24 for `no_value`; where there is no value but 0 and 1, the value; where there are few values, how many are below this one, 0 to 7;
+-- The number of a value's colour in the palette: 24 for `no_value`; where there is no value but 0 and 1, the value; where there are few values, how many are below this one, 0 to 7;
 -- else 8 and its step, 8 to 23.
-abbrev pub class_of : KeyView → ℕ → ℕ
-class_of key v =
+abbrev pub shade_of : KeyView → ℕ → ℕ
+shade_of key v =
     if v == no_value then 24
     else if nat_le key.greatest 1 then v
     else if is_few key then rank key.values v
     else 8 + step_of key v
 
--- how many colours there are
+-- how many colours the palette has
 abbrev pub class_count : ℕ
 class_count = 25
+
+-- The number of a value's colour: of a value that has a colour of its own, 25 and how many such values stand before it; of any other that in the palette.
+abbrev pub class_of : KeyView → ℕ → ℕ
+class_of key v = if has_own key.styles.colours v then class_count + own_place key.styles.colours v else shade_of key v
+
+-- how many colours there are
+abbrev pub class_total : KeyView → ℕ
+class_total key = class_count + length key.styles.colours
 
 -- The colours of values by their numbers. The first eight can be told apart by those who are colour-blind too (M. Okabe and K. Ito, Color universal design, 2008), but that the first is
 -- nearly white, in place of their reddish purple. The next 16 are even steps of the scale viridis, from dark to bright.
@@ -79,18 +91,38 @@ colours =
     ∷ codes "#440154" ∷ codes "#481a6c" ∷ codes "#472f7d" ∷ codes "#414487" ∷ codes "#39568c" ∷ codes "#31688e" ∷ codes "#2a788e" ∷ codes "#23888e"
     ∷ codes "#1f988b" ∷ codes "#22a884" ∷ codes "#35b779" ∷ codes "#54c568" ∷ codes "#7ad151" ∷ codes "#a5db36" ∷ codes "#d2e21b" ∷ codes "#fde725" ∷ []
 
--- the colour of a number; that of `no_value` is grey
+-- the colour of a number in the palette; that of `no_value` is grey
 abbrev pub colour_of : ℕ → List ℕ
 colour_of class = slice_index_or colours class (codes "#bbbbbb")
 
+-- the colour that a value has for itself, where there is one
+abbrev pub own_fill : Option ValueColour → List ℕ
+own_fill (Some own) = hex_text own.colour
+own_fill None = codes "#bbbbbb"
+
+-- the colour of a number: in the palette, or that of the value that has it for itself
+abbrev pub fill_of : KeyView → ℕ → List ℕ
+fill_of key class = if nat_lt class class_count then colour_of class else own_fill (slice_get key.styles.colours (class - class_count))
+
+-- black is not read on this colour of the palette
+abbrev pub shade_is_dark : ℕ → Bool
+shade_is_dark class = class == 1 || class == 6 || (nat_le 8 class && nat_le class 14)
+
+-- black is not read on a colour that a value has for itself, where there is one
+abbrev pub own_is_dark : Option ValueColour → Bool
+own_is_dark (Some own) = is_dim own.colour
+own_is_dark None = false
+
 -- black is not read on this colour
-abbrev pub is_dark : ℕ → Bool
-is_dark class = class == 1 || class == 6 || (nat_le 8 class && nat_le class 14)
+abbrev pub is_dark : KeyView → ℕ → Bool
+is_dark key class = if nat_lt class class_count then shade_is_dark class else own_is_dark (slice_get key.styles.colours (class - class_count))
 
 -- a colour of writing that is read on this colour
-abbrev pub ink_of : ℕ → List ℕ
-ink_of class = if is_dark class then codes "#ffffff" else codes "#000000"
+abbrev pub ink_of : KeyView → ℕ → List ℕ
+ink_of key class = if is_dark key class then codes "#ffffff" else codes "#000000"
 
 -- In a picture with few values two cells have the same class exactly where they have the same value.
 abbrev pub SameClassSameValue : Type 0
-SameClassSameValue = (cells : List ℕ) (v w : ℕ) → length (key_of cells).values ≤ 8 → IsAmong cells v → IsAmong cells w → (class_of (key_of cells) v ≡ class_of (key_of cells) w) ↔ (v ≡ w)
+SameClassSameValue =
+    (styles : StylesView) (cells : List ℕ) (v w : ℕ) → length (key_of styles cells).values ≤ 8 → IsAmong cells v → IsAmong cells w
+    → (class_of (key_of styles cells) v ≡ class_of (key_of styles cells) w) ↔ (v ≡ w)

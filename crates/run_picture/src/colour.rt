@@ -1,14 +1,17 @@
 //! The colours of values.
-ghost use Rattle.std.specs.Prelude.{◌≡◌};
-ghost use Rattle.run_picture.specs.Shades.{class_of, colour_of, ink_of, is_dark, step_of};
+ghost use Rattle.std.specs.Prelude.{◌≡◌, ◌++◌, ◌≤◌, OnOk, length, slice_get, string_bytes};
+ghost use Rattle.run_picture.specs.Chosen.{own_place};
+ghost use Rattle.run_picture.specs.Shades.{class_count, class_of, class_total, colour_of, fill_of, ink_of, is_dark, own_fill, own_is_dark, shade_is_dark, shade_of, step_of};
 
+use crate::chosen::{ValueColour, is_dim, own_place, put_hex};
 use crate::key::{Key, NO_VALUE, rank};
+use std::alloc::AllocError;
 
-/// How many colours there are.
+/// How many colours the palette has.
 pub(crate) const CLASS_COUNT: usize = 25;
 
 /// The step of a value, of 16 even ones from the least to the greatest.
-fn step_of(key: &Key, value: u32) -> usize
+fn step_of(key: &Key<'_>, value: u32) -> usize
     ensures { result ≡ step_of key.now value }
 {
     let least = key.least();
@@ -17,9 +20,9 @@ fn step_of(key: &Key, value: u32) -> usize
     (above * 16 / range).min(15) as usize
 }
 
-/// The number of a value's colour.
-pub(crate) fn class_of(key: &Key, value: u32) -> usize
-    ensures class { result ≡ class_of key.now value }
+/// The number of a value's colour in the palette.
+fn shade_of(key: &Key<'_>, value: u32) -> usize
+    ensures shade { result ≡ shade_of key.now value }
 {
     if value == NO_VALUE {
         return 24;
@@ -33,8 +36,28 @@ pub(crate) fn class_of(key: &Key, value: u32) -> usize
     8 + step_of(key, value)
 }
 
-/// The colour of a number.
-pub(crate) fn colour_of(class: usize) -> &'static str
+/// The number of a value's colour: those of the palette first, then those that values have for themselves.
+pub(crate) fn class_of(key: &Key<'_>, value: u32) -> usize
+    ensures class { result ≡ class_of key.now value }
+{
+    let colours = key.styles().colours();
+    let place = own_place(colours, value);
+    if place < colours.len() {
+        return CLASS_COUNT + place;
+    }
+    shade_of(key, value)
+}
+
+/// How many colours there are: those of the palette, and those that values have for themselves.
+pub(crate) fn class_total(key: &Key<'_>) -> usize
+    ensures total { result ≡ class_total key.now }
+    ensures few { result ≤ 89 }
+{
+    CLASS_COUNT + key.styles().colours().len()
+}
+
+/// The colour of a number in the palette.
+fn colour_of(class: usize) -> &'static str
     ensures colour { result.now ≡ colour_of class }
 {
     match class {
@@ -66,16 +89,60 @@ pub(crate) fn colour_of(class: usize) -> &'static str
     }
 }
 
-/// Whether black is not read on this colour.
-fn is_dark(class: usize) -> bool
-    ensures { result ≡ is_dark class }
+/// Puts the colour that the value at a place has for itself.
+fn put_own_fill(out: &mut String, colours: &[ValueColour], place: usize) -> Result<(), AllocError>
+    ensures text { OnOk result (string_bytes out.new ≡ string_bytes out.old ++ own_fill (slice_get colours.now place)) }
+{
+    match colours.get(place) {
+        Some(own) => put_hex(out, own.colour),
+        None => out.push_str("#bbbbbb"),
+    }
+}
+
+/// Puts the colour of a number.
+pub(crate) fn put_fill(out: &mut String, key: &Key<'_>, class: usize) -> Result<(), AllocError>
+    ensures text { OnOk result (string_bytes out.new ≡ string_bytes out.old ++ fill_of key.now class) }
+{
+    if class < CLASS_COUNT {
+        return out.push_str(colour_of(class));
+    }
+    put_own_fill(out, key.styles().colours(), class - CLASS_COUNT)
+}
+
+/// Whether black is not read on a colour of the palette.
+fn shade_is_dark(class: usize) -> bool
+    ensures { result ≡ shade_is_dark class }
 {
     class == 1 || class == 6 || (8 <= class && class <= 14)
 }
 
-/// A colour of writing that is read on this colour.
-pub(crate) fn ink_of(class: usize) -> &'static str
-    ensures ink { result.now ≡ ink_of class }
+/// Whether black is not read on the colour that the value at a place has for itself.
+fn own_is_dark(colours: &[ValueColour], place: usize) -> bool
+    ensures { result ≡ own_is_dark (slice_get colours.now place) }
 {
-    if is_dark(class) { "#ffffff" } else { "#000000" }
+    match colours.get(place) {
+        Some(own) => is_dim(own.colour),
+        None => false,
+    }
+}
+
+/// Whether black is not read on this colour.
+fn is_dark(key: &Key<'_>, class: usize) -> bool
+    ensures { result ≡ is_dark key.now class }
+{
+    if class < CLASS_COUNT {
+        return shade_is_dark(class);
+    }
+    own_is_dark(key.styles().colours(), class - CLASS_COUNT)
+}
+
+/// A colour of writing that is read on this colour.
+pub(crate) fn ink_of(key: &Key<'_>, class: usize) -> &'static str
+    ensures ink { result.now ≡ ink_of key.now class }
+{
+    if is_dark(key, class) {
+        "#ffffff"
+    } else {
+        "#000000"
+    }
 }

@@ -5,6 +5,7 @@ ghost use Rattle.run_picture.specs.Curves.{AreFieldRows, HasManyValues, IsCountP
 
 use crate::curves::curves_picture;
 use crate::fault::PictureFault;
+use crate::styles::ValueStyles;
 use crate::values::refusal;
 use rounds_plan::Plan;
 use run_counts::{CountFormat, Counting, Row, counted_rows, values_of};
@@ -62,18 +63,19 @@ fn picture_of(
     plan: &Plan,
     span: &Span,
     field: u32,
+    styles: &ValueStyles<'_>,
     rows: &[Row],
 ) -> Result<Vec<u8>, PictureFault>
     requires fits { curves_refusal plan.now span.now field ≡ None }
     requires rows { AreFieldRows plan.now span.now field rows.now }
-    ensures text { IfOk result (λ v. IsCountPicture plan.now span.now field v.items) }
+    ensures text { IfOk result (λ v. IsCountPicture styles.now plan.now span.now field v.items) }
     ensures refused { IfErr result (λ fault. fault ≢ Memory → (fault ≡ TooManyValues) × HasManyValues plan.now span.now field) }
 {
     let values = values_of(alloc, rows)?;
     if values.len() > MOST_CURVES {
         return Err(PictureFault::TooManyValues);
     }
-    let text = curves_picture(alloc, span, plan.network().nodes(), rows, &values)?;
+    let text = curves_picture(alloc, styles, span, plan.network().nodes(), rows, &values)?;
     Ok(text)
 }
 
@@ -84,19 +86,20 @@ fn count_text<P: Progress>(
     plan: &Plan,
     span: &Span,
     field: u32,
+    styles: &ValueStyles<'_>,
     progress: &mut P,
 ) -> Result<Vec<u8>, PictureFault>
     requires fits { curves_refusal plan.now span.now field ≡ None }
-    ensures text { IfOk result (λ v. IsCountPicture plan.now span.now field v.items) }
+    ensures text { IfOk result (λ v. IsCountPicture styles.now plan.now span.now field v.items) }
     ensures refused { IfErr result (λ fault. fault ≢ Memory → (fault ≡ TooManyValues) × HasManyValues plan.now span.now field) }
 {
     let rows = field_rows(rt, alloc, plan, span, field, progress)?;
-    picture_of(alloc, plan, span, field, &rows)
+    picture_of(alloc, plan, span, field, styles, &rows)
 }
 
 /// The curves of a field as SVG: how many nodes have each value in each round of a span of a plan, the rounds to the
-/// right and the nodes upwards, with axes. Each value that a node has in one of these rounds has a curve, coloured as in
-/// `time_picture`, and below the curves stands which colour is which value. The points of a curve are whole numbers,
+/// right and the nodes upwards, with axes. Each value that a node has in one of these rounds has a curve, named and coloured
+/// as in `time_picture`, and below the curves stands which colour is which value. The points of a curve are whole numbers,
 /// `each_round_has_its_point` says which. In one pass over the rounds: none is computed twice. Each round is shared among
 /// as many threads as there are processors where it has enough to compute for them.
 ///
@@ -111,9 +114,10 @@ pub fn count_picture<P: Progress>(
     plan: &Plan,
     span: &Span,
     field: u32,
+    styles: &ValueStyles<'_>,
     progress: &mut P,
 ) -> Result<Vec<u8>, PictureFault>
-    ensures text { IfOk result (λ v. IsCountPicture plan.now span.now field v.items) }
+    ensures text { IfOk result (λ v. IsCountPicture styles.now plan.now span.now field v.items) }
     ensures fits { IfOk result (λ _. curves_refusal plan.now span.now field ≡ None) }
     ensures refused { IfErr result (λ fault. fault ≢ Memory → IsCurveFault plan.now span.now field fault) }
     ensures memory { IfErr result (λ fault. fault ≡ Memory → curves_refusal plan.now span.now field ≡ None) }
@@ -122,6 +126,6 @@ pub fn count_picture<P: Progress>(
     if let Some(fault) = curves_refusal(plan, span, field) {
         return Err(fault);
     }
-    let text = count_text(rt, alloc, plan, span, field, progress)?;
+    let text = count_text(rt, alloc, plan, span, field, styles, progress)?;
     Ok(text)
 }

@@ -1,13 +1,14 @@
 //! Curves of counts, as SVG.
 ghost use Rattle.std.specs.Prelude.{◌≡◌, ◌++◌, ◌<◌, ◌≤◌, OnOk, IfOk, string_bytes};
 ghost use Rattle.std.specs.List.{flat_map};
-ghost use Rattle.run_picture.specs.Curves.{axes_text, curve_text, curves_height, curves_picture, curves_text, line_text, plot_text, plotted, point_text, points_text, styles_text, title_text, view_text};
+ghost use Rattle.run_picture.specs.Curves.{axes_text, curve_text, curves_height, curves_picture, curves_text, line_text, plot_text, plotted, point_text, points_text, stroke_text, styles_text, title_text, view_text};
 
 use crate::axes::{put_count_lines, put_round_lines};
-use crate::colour::{class_of, colour_of};
+use crate::colour::{class_of, put_fill};
 use crate::key::{Key, key_of};
 use crate::legend::{legend_lines, put_legend, put_value};
 use crate::sheet::{put_opening, put_style};
+use crate::styles::ValueStyles;
 use run_counts::{Row, count_in};
 use run_watch::Span;
 use std::alloc::{AllocError, Global};
@@ -35,45 +36,49 @@ fn put_points(out: &mut String, rows: &[Row], value: u32) -> Result<(), AllocErr
 
 /// The value of a curve.
 #[tactic(auto, unfolding(crate::specs::Curves::title_text))]
-fn put_title(out: &mut String, value: u32) -> Result<(), AllocError>
-    ensures text { OnOk result (string_bytes out.new ≡ string_bytes out.old ++ title_text value) }
+fn put_title(out: &mut String, key: &Key<'_>, value: u32) -> Result<(), AllocError>
+    ensures text { OnOk result (string_bytes out.new ≡ string_bytes out.old ++ title_text key.now value) }
 {
     out.push_str("<title>")?;
-    put_value(out, value)?;
+    put_value(out, key, value)?;
     out.push_str("</title>")
 }
 
-/// The points of a value as a line, with an attribute.
+/// The points of a value as a line, behind what stands first in it.
 #[tactic(auto, unfolding(crate::specs::Curves::line_text))]
-fn put_line(
-    out: &mut String,
-    name: &str,
-    attribute: &str,
-    rows: &[Row],
-    value: u32,
-) -> Result<(), AllocError>
-    ensures text { OnOk result (string_bytes out.new ≡ string_bytes out.old ++ line_text name.now attribute.now rows.now value) }
+fn put_line(out: &mut String, rows: &[Row], value: u32) -> Result<(), AllocError>
+    ensures text { OnOk result (string_bytes out.new ≡ string_bytes out.old ++ line_text rows.now value) }
 {
-    write!(out, "<polyline {name}=\"{attribute}\" points=\"")?;
+    out.push_str("\" points=\"")?;
     put_points(out, rows, value)?;
     out.push_str("\"/>")
 }
 
+/// What stands first in a line: the colour of a value.
+#[tactic(auto, unfolding(crate::specs::Curves::stroke_text))]
+fn put_stroke(out: &mut String, key: &Key<'_>, value: u32) -> Result<(), AllocError>
+    ensures text { OnOk result (string_bytes out.new ≡ string_bytes out.old ++ stroke_text key.now value) }
+{
+    out.push_str("<polyline stroke=\"")?;
+    put_fill(out, key, class_of(key, value))
+}
+
 /// The curve of a value: an edge, and on it a line in the colour of the value.
 #[tactic(auto, unfolding(crate::specs::Curves::curve_text))]
-fn put_curve(out: &mut String, key: &Key, rows: &[Row], value: u32) -> Result<(), AllocError>
+fn put_curve(out: &mut String, key: &Key<'_>, rows: &[Row], value: u32) -> Result<(), AllocError>
     ensures text { OnOk result (string_bytes out.new ≡ string_bytes out.old ++ curve_text key.now rows.now value) }
 {
-    let colour = colour_of(class_of(key, value));
     out.push_str("<g>")?;
-    put_title(out, value)?;
-    put_line(out, "class", "edge", rows, value)?;
-    put_line(out, "stroke", colour, rows, value)?;
+    put_title(out, key, value)?;
+    out.push_str("<polyline class=\"edge")?;
+    put_line(out, rows, value)?;
+    put_stroke(out, key, value)?;
+    put_line(out, rows, value)?;
     out.push_str("</g>\n")
 }
 
 /// The curves of values, one behind the other.
-fn put_each(out: &mut String, key: &Key, rows: &[Row], values: &[u32]) -> Result<(), AllocError>
+fn put_each(out: &mut String, key: &Key<'_>, rows: &[Row], values: &[u32]) -> Result<(), AllocError>
     ensures text { OnOk result (string_bytes out.new ≡ string_bytes out.old ++ flat_map (curve_text key.now rows.now) values.now) }
 {
     for value in values {
@@ -98,7 +103,7 @@ fn put_curves(
     out: &mut String,
     span: &Span,
     nodes: u32,
-    key: &Key,
+    key: &Key<'_>,
     rows: &[Row],
     values: &[u32],
 ) -> Result<(), AllocError>
@@ -125,7 +130,7 @@ fn put_plot(
     alloc: Global,
     span: &Span,
     nodes: u32,
-    key: &Key,
+    key: &Key<'_>,
     rows: &[Row],
     values: &[u32],
 ) -> Result<(), AllocError>
@@ -141,17 +146,17 @@ fn put_plot(
 
 /// The styles of all that is drawn.
 #[tactic(auto, unfolding(crate::specs::Curves::styles_text))]
-fn put_styles(out: &mut String) -> Result<(), AllocError>
-    ensures text { OnOk result (string_bytes out.new ≡ string_bytes out.old ++ styles_text) }
+fn put_styles(out: &mut String, key: &Key<'_>) -> Result<(), AllocError>
+    ensures text { OnOk result (string_bytes out.new ≡ string_bytes out.old ++ styles_text key.now) }
 {
-    put_style(out)?;
+    put_style(out, key)?;
     out.push_str(
         "<style>polyline{fill:none;stroke-width:2;stroke-linejoin:round;shape-rendering:auto;vector-effect:non-scaling-stroke}.edge{stroke:#888888;stroke-width:4}.grid{stroke:#dddddd}.axis{fill:none;stroke:#000000}</style>\n",
     )
 }
 
 /// The size of the whole in pixels from the top to the bottom.
-fn curves_height(key: &Key) -> u32
+fn curves_height(key: &Key<'_>) -> u32
     ensures height { result ≡ curves_height key.now }
 {
     LEGEND_TOP + 18 * legend_lines(key)
@@ -164,7 +169,7 @@ fn put_sheet(
     alloc: Global,
     span: &Span,
     nodes: u32,
-    key: &Key,
+    key: &Key<'_>,
     rows: &[Row],
     values: &[u32],
 ) -> Result<(), AllocError>
@@ -173,7 +178,7 @@ fn put_sheet(
     ensures text { OnOk result (string_bytes out.new ≡ string_bytes out.old ++ plotted span.now nodes key.now rows.now values.now) }
 {
     put_opening(out, 744, curves_height(key))?;
-    put_styles(out)?;
+    put_styles(out, key)?;
     put_plot(out, alloc, span, nodes, key, rows, values)?;
     put_legend(out, key, LEGEND_TOP)?;
     out.push_str("</svg>\n")
@@ -182,6 +187,7 @@ fn put_sheet(
 /// The picture of the curves of values in the rounds of a span.
 pub(crate) fn curves_picture(
     alloc: Global,
+    styles: &ValueStyles<'_>,
     span: &Span,
     nodes: u32,
     rows: &[Row],
@@ -189,9 +195,9 @@ pub(crate) fn curves_picture(
 ) -> Result<Vec<u8>, AllocError>
     requires wide { span.now.first < span.now.last }
     requires some { 1 ≤ nodes }
-    ensures text { IfOk result (λ v. v.items ≡ curves_picture span.now nodes rows.now values.now) }
+    ensures text { IfOk result (λ v. v.items ≡ curves_picture styles.now span.now nodes rows.now values.now) }
 {
-    let key = key_of(alloc, values)?;
+    let key = key_of(alloc, styles, values)?;
     let mut out = String::new(alloc);
     put_sheet(&mut out, alloc, span, nodes, &key, rows, values)?;
     Ok(out.into_bytes())

@@ -24,6 +24,9 @@ pub enum PictureFault {
     /// There would be more than 1,000,000 cells.
     #[error("TooManyCells")]
     TooManyCells,
+    /// A moving picture would have more than 10,000 frames.
+    #[error("TooManyFrames")]
+    TooManyFrames,
     /// There would be a single round, of which no curve is drawn.
     #[error("OneRound")]
     OneRound,

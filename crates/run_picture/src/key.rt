@@ -2,6 +2,7 @@
 ghost use Rattle.std.specs.Prelude.{◌≡◌, OnOk, IfOk, take};
 ghost use Rattle.run_picture.specs.Shades.{blank_key, is_among, is_few, key_of, least_of, rank, with_cell, with_value};
 
+use crate::styles::ValueStyles;
 use std::alloc::{AllocError, AllocFailed, Global};
 use std::marker::Model;
 
@@ -11,20 +12,22 @@ pub(crate) const NO_VALUE: u32 = 4_294_967_295;
 /// So many values at most have a colour each; one more is kept, so that it is known whether there are more.
 const MOST_KEPT: usize = 9;
 
-/// What the colours of cells follow from. A contract sees the values, the greatest, and whether a cell has none.
+/// What the colours of cells follow from. A contract sees how values are shown, those in the cells, the greatest, and whether
+/// a cell has none.
 #[derive(Drop)]
-pub(crate) struct Key {
+pub(crate) struct Key<'a> {
+    styles: &'a ValueStyles<'a>,
     values: Vec<u32>,
     greatest: u32,
     none: bool,
 }
 
-impl Model for Key {
+impl<'a> Model for Key<'a> {
     ghost use Rattle.run_picture.specs.Shades.{KeyView};
 
     ghost Value = { KeyView };
 
-    ghost view = { λ k. record { values = k.values.items; greatest = k.greatest; none = k.none } };
+    ghost view = { λ k. record { styles = k.styles.now; values = k.values.items; greatest = k.greatest; none = k.none } };
 }
 
 /// How many of rising values are below this one.
@@ -72,12 +75,13 @@ fn keep_value(values: &mut Vec<u32>, value: u32) -> Result<(), AllocFailed<u32>>
     Ok(())
 }
 
-impl Key {
+impl<'a> Key<'a> {
     /// The key where there are no cells.
-    fn new(alloc: Global) -> Key
-        ensures { result ≡ blank_key }
+    fn new(alloc: Global, styles: &'a ValueStyles<'a>) -> Key<'a>
+        ensures { result ≡ blank_key styles.now }
     {
         Key {
+            styles,
             values: Vec::new(alloc),
             greatest: 0,
             none: false,
@@ -95,6 +99,13 @@ impl Key {
         keep_value(&mut self.values, value)?;
         self.greatest = self.greatest.max(value);
         Ok(())
+    }
+
+    /// How values are shown.
+    pub(crate) fn styles(&self) -> &'a ValueStyles<'a>
+        ensures { result.now ≡ self.now.styles }
+    {
+        self.styles
     }
 
     /// The values in the cells, rising, the least nine of them.
@@ -133,11 +144,15 @@ impl Key {
     }
 }
 
-/// The key of cells.
-pub(crate) fn key_of(alloc: Global, cells: &[u32]) -> Result<Key, AllocError>
-    ensures key { IfOk result (λ key. key ≡ key_of cells.now) }
+/// The key of cells whose values are shown in these styles.
+pub(crate) fn key_of<'a>(
+    alloc: Global,
+    styles: &'a ValueStyles<'a>,
+    cells: &[u32],
+) -> Result<Key<'a>, AllocError>
+    ensures key { IfOk result (λ key. key ≡ key_of styles.now cells.now) }
 {
-    let mut key = Key::new(alloc);
+    let mut key = Key::new(alloc, styles);
     for cell in cells {
         key.add(*cell)?;
     }

@@ -1,6 +1,7 @@
 //! Laws of pictures.
 ghost use Rattle.run_picture.specs.Curves.{EachRoundHasItsPoint, EachValueHasItsCurve};
 ghost use Rattle.run_picture.specs.DrawnLinks.{EachLinkIsDrawnOnce, LinesTellLinks};
+ghost use Rattle.run_picture.specs.Moving.{EachFrameHasItsColours, EachFrameHasItsTime};
 ghost use Rattle.run_picture.specs.Placed.{EachCellHasItsPlace, TextTellsCells};
 ghost use Rattle.run_picture.specs.Shades.{SameClassSameValue};
 
@@ -21,6 +22,14 @@ pub fn each_link_is_drawn_once()
 pub fn each_cell_has_its_place()
     ensures places { EachCellHasItsPlace }
     ensures tell { TextTellsCells }
+{}
+
+/// A moving picture shows in each frame, at each node's cell, the colour of the node's value after the round of that frame:
+/// the last change up to then has it. In the middle of a frame exactly the changes of the frames up to it have begun, as far
+/// as their times in the text, in millionths of the whole, tell.
+pub fn each_frame_has_its_colours()
+    ensures colours { EachFrameHasItsColours }
+    ensures times { EachFrameHasItsTime }
 {}
 
 /// A value has a curve exactly where some node has it after one of the rounds of the span. The curve has one point for

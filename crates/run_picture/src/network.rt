@@ -8,6 +8,7 @@ use crate::fault::PictureFault;
 use crate::graph::put_nodes;
 use crate::key::key_of;
 use crate::links::put_network;
+use crate::styles::ValueStyles;
 use crate::values::{refusal, values_after};
 use link_net::Network;
 use rounds_plan::Plan;
@@ -28,15 +29,16 @@ fn put_head(out: &mut String, round: u32) -> Result<(), AllocError>
 /// A network with a value at each node, after a round.
 fn graph_of(
     alloc: Global,
+    styles: &ValueStyles<'_>,
     network: &Network,
     labels: &[String],
     round: u32,
     values: &[u32],
 ) -> Result<Vec<u8>, AllocError>
     requires few { length values.now ≤ 65536 }
-    ensures text { IfOk result (λ v. v.items ≡ graph_text network.now (map string_bytes labels.now) round values.now) }
+    ensures text { IfOk result (λ v. v.items ≡ graph_text styles.now network.now (map string_bytes labels.now) round values.now) }
 {
-    let key = key_of(alloc, values)?;
+    let key = key_of(alloc, styles, values)?;
     let mut out = String::new(alloc);
     put_head(&mut out, round)?;
     put_nodes(&mut out, &key, labels, values)?;
@@ -53,19 +55,20 @@ fn text_of(
     round: u32,
     field: u32,
     labels: &[String],
+    styles: &ValueStyles<'_>,
 ) -> Result<Vec<u8>, AllocError>
     requires fits { refusal_of plan.now round round field ≡ None }
-    ensures text { IfOk result (λ v. v.items ≡ network_text plan.now (map string_bytes labels.now) round field) }
+    ensures text { IfOk result (λ v. v.items ≡ network_text styles.now plan.now (map string_bytes labels.now) round field) }
 {
     // For the proof: how many nodes a plan may have.
     let _phase = plan.phase();
     let values = values_after(rt, alloc, plan, round, field)?;
-    graph_of(alloc, plan.network(), labels, round, &values)
+    graph_of(alloc, styles, plan.network(), labels, round, &values)
 }
 
 /// The network of a plan for Graphviz, with the values of a field after a round: an undirected graph with a line for
-/// each node by rising number, its label the node's name with its value below, coloured as in `time_picture`, and a
-/// line for each link, from the lesser number to the greater, with its weight where that is not 1: each link has one,
+/// each node by rising number, its label the node's name with its value below, named and coloured as in `time_picture`, and
+/// a line for each link, from the lesser number to the greater, with its weight where that is not 1: each link has one,
 /// as `each_link_is_drawn_once` says. A node is called by its label among these, and past the last label by its number;
 /// a value of 4294967295 is shown as `none`.
 ///
@@ -79,8 +82,9 @@ pub fn network_dot(
     round: u32,
     field: u32,
     labels: &[String],
+    styles: &ValueStyles<'_>,
 ) -> Result<Vec<u8>, PictureFault>
-    ensures text { IfOk result (λ v. v.items ≡ network_text plan.now (map string_bytes labels.now) round field) }
+    ensures text { IfOk result (λ v. v.items ≡ network_text styles.now plan.now (map string_bytes labels.now) round field) }
     ensures fits { IfOk result (λ _. refusal_of plan.now round round field ≡ None) }
     ensures refused { IfErr result (λ fault. fault ≢ Memory → refusal_of plan.now round round field ≡ Some fault) }
     ensures memory { IfErr result (λ fault. fault ≡ Memory → refusal_of plan.now round round field ≡ None) }
@@ -89,6 +93,6 @@ pub fn network_dot(
     if let Some(fault) = refusal(plan, round, round, field) {
         return Err(fault);
     }
-    let text = text_of(rt, alloc, plan, round, field, labels)?;
+    let text = text_of(rt, alloc, plan, round, field, labels, styles)?;
     Ok(text)
 }

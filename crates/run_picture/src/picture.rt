@@ -6,6 +6,7 @@ ghost use Rattle.run_picture.specs.Sheets.{picture_text};
 
 use crate::fault::PictureFault;
 use crate::sheet::picture_of;
+use crate::styles::ValueStyles;
 use crate::values::{refusal, values_after, values_in};
 use rounds_plan::Plan;
 use run_watch::{Progress, Span};
@@ -49,13 +50,14 @@ fn time_text<P: Progress>(
     plan: &Plan,
     span: &Span,
     field: u32,
+    styles: &ValueStyles<'_>,
     progress: &mut P,
 ) -> Result<Vec<u8>, AllocError>
     requires fits { time_refusal plan.now span.now field ≡ None }
-    ensures text { IfOk result (λ v. v.items ≡ picture_text (length plan.now.network) (values_in plan.now span.now field)) }
+    ensures text { IfOk result (λ v. v.items ≡ picture_text styles.now (length plan.now.network) (values_in plan.now span.now field)) }
 {
     let values = values_in(rt, alloc, plan, span, field, progress)?;
-    picture_of(alloc, plan.network().nodes(), &values)
+    picture_of(alloc, styles, plan.network().nodes(), &values)
 }
 
 /// The picture of a round, where nothing refuses it.
@@ -66,20 +68,22 @@ fn grid_text(
     round: u32,
     field: u32,
     width: u32,
+    styles: &ValueStyles<'_>,
 ) -> Result<Vec<u8>, AllocError>
     requires fits { grid_refusal plan.now round field width ≡ None }
-    ensures text { IfOk result (λ v. v.items ≡ picture_text width (values_after plan.now field round)) }
+    ensures text { IfOk result (λ v. v.items ≡ picture_text styles.now width (values_after plan.now field round)) }
 {
     // For the proof: how many nodes a plan may have.
     let _phase = plan.phase();
     let values = values_after(rt, alloc, plan, round, field)?;
-    picture_of(alloc, width, &values)
+    picture_of(alloc, styles, width, &values)
 }
 
 /// The time picture of a field as SVG: the rounds of a span of a plan down the page, one below the other, the nodes
 /// across by rising number, and each value a cell with the colour of its value. Below the cells stands which colour is
 /// which value: each of up to eight values has a colour of its own, more are on a scale of 16 steps, and 4294967295 is
-/// grey. `each_cell_has_its_place` says where each cell stands, and `same_class_same_value` when two have the same
+/// grey, but for values for which the styles have a colour; a value is called by its name in the styles, and past the last
+/// name by its number. `each_cell_has_its_place` says where each cell stands, and `same_class_same_value` when two have the same
 /// colour. In one pass over the rounds: none is computed twice. Each round is shared among as many threads as there are
 /// processors where it has enough to compute for them.
 ///
@@ -92,9 +96,10 @@ pub fn time_picture<P: Progress>(
     plan: &Plan,
     span: &Span,
     field: u32,
+    styles: &ValueStyles<'_>,
     progress: &mut P,
 ) -> Result<Vec<u8>, PictureFault>
-    ensures text { IfOk result (λ v. v.items ≡ picture_text (length plan.now.network) (values_in plan.now span.now field)) }
+    ensures text { IfOk result (λ v. v.items ≡ picture_text styles.now (length plan.now.network) (values_in plan.now span.now field)) }
     ensures fits { IfOk result (λ _. time_refusal plan.now span.now field ≡ None) }
     ensures refused { IfErr result (λ fault. fault ≢ Memory → time_refusal plan.now span.now field ≡ Some fault) }
     ensures memory { IfErr result (λ fault. fault ≡ Memory → time_refusal plan.now span.now field ≡ None) }
@@ -103,7 +108,7 @@ pub fn time_picture<P: Progress>(
     if let Some(fault) = time_refusal(plan, span, field) {
         return Err(fault);
     }
-    let text = time_text(rt, alloc, plan, span, field, progress)?;
+    let text = time_text(rt, alloc, plan, span, field, styles, progress)?;
     Ok(text)
 }
 
@@ -120,8 +125,9 @@ pub fn grid_picture(
     round: u32,
     field: u32,
     width: u32,
+    styles: &ValueStyles<'_>,
 ) -> Result<Vec<u8>, PictureFault>
-    ensures text { IfOk result (λ v. v.items ≡ picture_text width (values_after plan.now field round)) }
+    ensures text { IfOk result (λ v. v.items ≡ picture_text styles.now width (values_after plan.now field round)) }
     ensures fits { IfOk result (λ _. grid_refusal plan.now round field width ≡ None) }
     ensures refused { IfErr result (λ fault. fault ≢ Memory → grid_refusal plan.now round field width ≡ Some fault) }
     ensures memory { IfErr result (λ fault. fault ≡ Memory → grid_refusal plan.now round field width ≡ None) }
@@ -130,6 +136,6 @@ pub fn grid_picture(
     if let Some(fault) = grid_refusal(plan, round, field, width) {
         return Err(fault);
     }
-    let text = grid_text(rt, alloc, plan, round, field, width)?;
+    let text = grid_text(rt, alloc, plan, round, field, width, styles)?;
     Ok(text)
 }

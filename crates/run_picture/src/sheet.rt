@@ -2,11 +2,13 @@
 ghost use Rattle.std.specs.Prelude.{◌≡◌, ◌++◌, ◌≤◌, OnOk, IfOk, length, string_bytes};
 ghost use Rattle.std.specs.List.{flat_map};
 ghost use Rattle.link_net.specs.Neighbours.{numbers_below};
+ghost use Rattle.run_picture.specs.Shades.{class_total};
 ghost use Rattle.run_picture.specs.Sheets.{cell_text, cells_text, class_style, columns_of, legend_top, opening_text, picture_text, rows_of, rows_text, sheet_height, sheet_text, sheet_width, side_of, style_text};
 
-use crate::colour::{CLASS_COUNT, class_of, colour_of};
+use crate::colour::{class_of, class_total, put_fill};
 use crate::key::{Key, key_of};
-use crate::legend::{legend_lines, put_legend};
+use crate::legend::{legend_lines, legend_width, put_legend};
+use crate::styles::ValueStyles;
 use std::alloc::{AllocError, Global};
 
 /// How many columns cells fill that stand in rows of a width.
@@ -27,7 +29,7 @@ fn rows_of(width: u32, count: u32) -> u32
 }
 
 /// The side of a cell in pixels.
-fn side_of(width: u32, count: u32) -> u32
+pub(crate) fn side_of(width: u32, count: u32) -> u32
     requires width { 1 ≤ width }
     ensures side { result ≡ side_of width count }
     ensures small { result ≤ 24 }
@@ -37,7 +39,7 @@ fn side_of(width: u32, count: u32) -> u32
 }
 
 /// Where the legend begins.
-fn legend_top(width: u32, count: u32) -> u32
+pub(crate) fn legend_top(width: u32, count: u32) -> u32
     requires width { 1 ≤ width }
     requires count { count ≤ 1000000 }
     ensures top { result ≡ legend_top width count }
@@ -58,16 +60,16 @@ pub(crate) fn put_opening(out: &mut String, width: u32, height: u32) -> Result<(
 }
 
 /// The size of the whole in pixels across.
-fn sheet_width(width: u32, count: u32) -> u32
+pub(crate) fn sheet_width(key: &Key<'_>, width: u32, count: u32) -> u32
     requires width { 1 ≤ width }
     requires count { count ≤ 1000000 }
-    ensures { result ≡ sheet_width width count }
+    ensures { result ≡ sheet_width key.now width count }
 {
-    (side_of(width, count) * columns_of(width, count)).max(120)
+    (side_of(width, count) * columns_of(width, count)).max(legend_width(key))
 }
 
 /// The size of the whole in pixels from the top to the bottom.
-fn sheet_height(key: &Key, width: u32, count: u32) -> u32
+pub(crate) fn sheet_height(key: &Key<'_>, width: u32, count: u32) -> u32
     requires width { 1 ≤ width }
     requires count { count ≤ 1000000 }
     ensures { result ≡ sheet_height key.now width count }
@@ -77,36 +79,50 @@ fn sheet_height(key: &Key, width: u32, count: u32) -> u32
 
 /// The style of a class.
 #[tactic(auto, unfolding(crate::specs::Sheets::class_style))]
-fn put_class_style(out: &mut String, class: usize) -> Result<(), AllocError>
-    ensures text { OnOk result (string_bytes out.new ≡ string_bytes out.old ++ class_style class) }
+fn put_class_style(out: &mut String, key: &Key<'_>, class: usize) -> Result<(), AllocError>
+    ensures text { OnOk result (string_bytes out.new ≡ string_bytes out.old ++ class_style key.now class) }
 {
-    let colour = colour_of(class);
-    write!(out, ".c{class}{{fill:{colour}}}")
+    write!(out, ".c{class}{{fill:")?;
+    put_fill(out, key, class)?;
+    out.push_str("}")
 }
 
 /// The styles of so many classes.
-fn put_styles(out: &mut String, count: usize) -> Result<(), AllocError>
-    ensures text { OnOk result (string_bytes out.new ≡ string_bytes out.old ++ flat_map class_style (numbers_below count)) }
+fn put_styles(out: &mut String, key: &Key<'_>, count: usize) -> Result<(), AllocError>
+    ensures text { OnOk result (string_bytes out.new ≡ string_bytes out.old ++ flat_map (class_style key.now) (numbers_below count)) }
 {
     for class in 0..count {
-        put_class_style(out, class)?;
+        put_class_style(out, key, class)?;
     }
     Ok(())
 }
 
+/// The styles of all classes.
+fn put_class_styles(out: &mut String, key: &Key<'_>) -> Result<(), AllocError>
+    ensures text { OnOk result (string_bytes out.new ≡ string_bytes out.old ++ flat_map (class_style key.now) (numbers_below (class_total key.now))) }
+{
+    let count = class_total(key);
+    put_styles(out, key, count)
+}
+
 /// The styles, and a white ground.
 #[tactic(auto, unfolding(crate::specs::Sheets::style_text))]
-pub(crate) fn put_style(out: &mut String) -> Result<(), AllocError>
-    ensures text { OnOk result (string_bytes out.new ≡ string_bytes out.old ++ style_text) }
+pub(crate) fn put_style(out: &mut String, key: &Key<'_>) -> Result<(), AllocError>
+    ensures text { OnOk result (string_bytes out.new ≡ string_bytes out.old ++ style_text key.now) }
 {
     out.push_str("<style>text{font:12px sans-serif}.key{stroke:#888888}")?;
-    put_styles(out, CLASS_COUNT)?;
+    put_class_styles(out, key)?;
     out.push_str("</style>\n<rect width=\"100%\" height=\"100%\" fill=\"#ffffff\"/>\n")
 }
 
 /// A cell.
 #[tactic(auto, unfolding(crate::specs::Sheets::cell_text))]
-fn put_cell(out: &mut String, class: usize, column: u32, row: u32) -> Result<(), AllocError>
+pub(crate) fn put_cell(
+    out: &mut String,
+    class: usize,
+    column: u32,
+    row: u32,
+) -> Result<(), AllocError>
     ensures text { OnOk result (string_bytes out.new ≡ string_bytes out.old ++ cell_text class column row) }
 {
     write!(
@@ -116,7 +132,7 @@ fn put_cell(out: &mut String, class: usize, column: u32, row: u32) -> Result<(),
 }
 
 /// Cells in rows of a width.
-fn put_rows(out: &mut String, key: &Key, width: u32, cells: &[u32]) -> Result<(), AllocError>
+fn put_rows(out: &mut String, key: &Key<'_>, width: u32, cells: &[u32]) -> Result<(), AllocError>
     requires width { 1 ≤ width }
     requires count { length cells.now ≤ 1000000 }
     ensures text { OnOk result (string_bytes out.new ≡ string_bytes out.old ++ rows_text key.now width 0 cells.now) }
@@ -130,7 +146,7 @@ fn put_rows(out: &mut String, key: &Key, width: u32, cells: &[u32]) -> Result<()
 
 /// The same, as large as they are to be.
 #[tactic(auto, unfolding(crate::specs::Sheets::cells_text))]
-fn put_cells(out: &mut String, key: &Key, width: u32, cells: &[u32]) -> Result<(), AllocError>
+fn put_cells(out: &mut String, key: &Key<'_>, width: u32, cells: &[u32]) -> Result<(), AllocError>
     requires width { 1 ≤ width }
     requires count { length cells.now ≤ 1000000 }
     ensures text { OnOk result (string_bytes out.new ≡ string_bytes out.old ++ cells_text key.now width cells.now) }
@@ -142,20 +158,25 @@ fn put_cells(out: &mut String, key: &Key, width: u32, cells: &[u32]) -> Result<(
 }
 
 /// The picture of values in rows of a width.
-pub(crate) fn picture_of(alloc: Global, width: u32, values: &[u32]) -> Result<Vec<u8>, AllocError>
+pub(crate) fn picture_of(
+    alloc: Global,
+    styles: &ValueStyles<'_>,
+    width: u32,
+    values: &[u32],
+) -> Result<Vec<u8>, AllocError>
     requires width { 1 ≤ width }
     requires count { length values.now ≤ 1000000 }
-    ensures text { IfOk result (λ v. v.items ≡ picture_text width values.now) }
+    ensures text { IfOk result (λ v. v.items ≡ picture_text styles.now width values.now) }
 {
-    let key = key_of(alloc, values)?;
+    let key = key_of(alloc, styles, values)?;
     let count = values.len() as u32;
     let mut out = String::new(alloc);
     put_opening(
         &mut out,
-        sheet_width(width, count),
+        sheet_width(&key, width, count),
         sheet_height(&key, width, count),
     )?;
-    put_style(&mut out)?;
+    put_style(&mut out, &key)?;
     put_cells(&mut out, &key, width, values)?;
     put_legend(&mut out, &key, legend_top(width, count))?;
     out.push_str("</svg>\n")?;

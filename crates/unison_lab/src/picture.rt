@@ -8,8 +8,8 @@ use app_files::{Ending, coloured_field, path_in, print_out, read_once};
 use app_requests::{DotRequest, ImageRequest, PlanPaths};
 use rounds_plan::Plan;
 use run_picture::{
-    MOST_CELLS, MOST_CURVES, MOST_POINTS, PictureFault, count_picture, grid_picture, network_dot,
-    time_picture,
+    MOST_CELLS, MOST_CURVES, MOST_FRAMES, MOST_POINTS, PictureFault, StylesFault, ValueColour,
+    ValueStyles, count_picture, grid_picture, moving_picture, network_dot, time_picture,
 };
 use run_watch::{Format, WatchFault};
 use std::alloc::Global;
@@ -19,6 +19,13 @@ use std::thread::Threads;
 fn too_many_cells(alloc: Global) -> Ending {
     Ending::refused(format!(in alloc;
         "image TooManyCells\na picture has at most {MOST_CELLS} cells, one for each node in each round; --every K shows fewer rounds"
+    ))
+}
+
+/// The ending where a picture that moves would have too many frames.
+fn too_many_frames(alloc: Global) -> Ending {
+    Ending::refused(format!(in alloc;
+        "image TooManyFrames\na picture that moves has at most {MOST_FRAMES} frames, one for each round; --every K shows fewer rounds"
     ))
 }
 
@@ -50,6 +57,7 @@ fn no_picture(alloc: Global, fault: PictureFault) -> Ending {
         PictureFault::TooManyRounds => no_rounds(WatchFault::TooManyRounds),
         PictureFault::RoundsBelowStart => no_rounds(WatchFault::RoundsBelowStart),
         PictureFault::TooManyCells => too_many_cells(alloc),
+        PictureFault::TooManyFrames => too_many_frames(alloc),
         PictureFault::OneRound => one_round(alloc),
         PictureFault::TooManyPoints => too_many_points(alloc),
         PictureFault::TooManyValues => too_many_values(alloc),
@@ -59,6 +67,69 @@ fn no_picture(alloc: Global, fault: PictureFault) -> Ending {
     }
 }
 
+/// The names of the values 0, 1, 2 and so on of the field that gives the colours. None are known, so that each value is
+/// shown by its number.
+fn value_names(alloc: Global) -> Vec<String> {
+    Vec::new(alloc)
+}
+
+/// How values are shown: by these names, and some in colours of their own.
+fn styles_with<'a>(
+    alloc: Global,
+    names: &'a [String],
+    colours: &[ValueColour],
+) -> Result<ValueStyles<'a>, StylesFault> {
+    let mut styles = ValueStyles::new(alloc, names);
+    for own in colours {
+        styles.add(own.value, own.colour)?;
+    }
+    Ok(styles)
+}
+
+/// The same. Words give no value two colours, and no more values colours than there may be, so that memory alone is wanting
+/// where there are none.
+fn styles_for<'a>(
+    alloc: Global,
+    names: &'a [String],
+    colours: &[ValueColour],
+) -> Result<ValueStyles<'a>, Ending> {
+    match styles_with(alloc, names, colours) {
+        Ok(styles) => Ok(styles),
+        Err(_) => Err(Ending::Memory),
+    }
+}
+
+/// The picture of rounds, coloured by a field, or the curves of its counts.
+fn drawn_rounds(
+    rt: &HostRuntime,
+    threads: &(impl Threads + Sync),
+    plan: &Plan,
+    asked: &ImageRequest,
+    field: u32,
+    styles: &ValueStyles<'_>,
+) -> Result<Vec<u8>, PictureFault> {
+    let alloc = rt.alloc();
+    let span = &asked.span;
+    let mut telling = Telling::new(rt, span, plan.network().nodes());
+    if let Some(time) = asked.frame_time {
+        return moving_picture(
+            threads,
+            alloc,
+            plan,
+            span,
+            field,
+            asked.grid,
+            time,
+            styles,
+            &mut telling,
+        );
+    }
+    if asked.counts {
+        return count_picture(threads, alloc, plan, span, field, styles, &mut telling);
+    }
+    time_picture(threads, alloc, plan, span, field, styles, &mut telling)
+}
+
 /// The picture of rounds, or of one of them as a grid, coloured by a field, or the curves of its counts.
 fn drawn(
     rt: &HostRuntime,
@@ -66,16 +137,29 @@ fn drawn(
     plan: &Plan,
     asked: &ImageRequest,
     field: u32,
+    styles: &ValueStyles<'_>,
 ) -> Result<Vec<u8>, PictureFault> {
-    if asked.grid > 0 {
+    if asked.grid > 0 && asked.frame_time.is_none() {
         let round = asked.span.first();
-        return grid_picture(threads, rt.alloc(), plan, round, field, asked.grid);
+        return grid_picture(threads, rt.alloc(), plan, round, field, asked.grid, styles);
     }
-    let mut telling = Telling::new(rt, &asked.span, plan.network().nodes());
-    if asked.counts {
-        return count_picture(threads, rt.alloc(), plan, &asked.span, field, &mut telling);
+    drawn_rounds(rt, threads, plan, asked, field, styles)
+}
+
+/// The picture of a plan, coloured by a field.
+fn styled_picture(
+    rt: &HostRuntime,
+    threads: &(impl Threads + Sync),
+    plan: &Plan,
+    asked: &ImageRequest,
+    field: u32,
+) -> Result<Vec<u8>, Ending> {
+    let names = value_names(rt.alloc());
+    let styles = styles_for(rt.alloc(), &names, &asked.colours)?;
+    match drawn(rt, threads, plan, asked, field, &styles) {
+        Ok(text) => Ok(text),
+        Err(fault) => Err(no_picture(rt.alloc(), fault)),
     }
-    time_picture(threads, rt.alloc(), plan, &asked.span, field, &mut telling)
 }
 
 /// The picture of a plan.
@@ -86,10 +170,7 @@ fn picture_of(
     asked: &ImageRequest,
 ) -> Result<Vec<u8>, Ending> {
     let field = coloured_field(rt.alloc(), plan.program(), &asked.field)?;
-    match drawn(rt, threads, plan, asked, field) {
-        Ok(text) => Ok(text),
-        Err(fault) => Err(no_picture(rt.alloc(), fault)),
-    }
+    styled_picture(rt, threads, plan, asked, field)
 }
 
 /// The picture that is asked for.
@@ -139,11 +220,21 @@ fn labelled(
     rt: &HostRuntime,
     threads: &(impl Threads + Sync),
     plan: &Plan,
-    round: u32,
+    asked: &DotRequest,
     field: u32,
     labels: &[String],
 ) -> Result<Vec<u8>, Ending> {
-    match network_dot(threads, rt.alloc(), plan, round, field, labels) {
+    let names = value_names(rt.alloc());
+    let styles = styles_for(rt.alloc(), &names, &asked.colours)?;
+    match network_dot(
+        threads,
+        rt.alloc(),
+        plan,
+        asked.round,
+        field,
+        labels,
+        &styles,
+    ) {
         Ok(text) => Ok(text),
         Err(fault) => Err(no_picture(rt.alloc(), fault)),
     }
@@ -158,7 +249,7 @@ fn network_of(
 ) -> Result<Vec<u8>, Ending> {
     let field = coloured_field(rt.alloc(), plan.program(), &asked.field)?;
     let labels = labels_at(rt, Format::Report, &asked.names, plan.network().nodes())?;
-    labelled(rt, threads, plan, asked.round, field, &labels)
+    labelled(rt, threads, plan, asked, field, &labels)
 }
 
 /// The network that is asked for.

@@ -3,4 +3,4 @@ use Rattle.run_picture.specs.Shades.{key_from, key_of}
 use Rattle.run_picture.proofs.key.key_of.Given as goal
 
 abbrev pub invariant-loop-cell : goal.invariant-loop-cell
-invariant-loop-cell l = key_from l.key (drop l.cell-index l.cells) ≡ key_of l.cells
+invariant-loop-cell l = key_from l.key (drop l.cell-index l.cells) ≡ key_of l.styles l.cells

@@ -8,5 +8,5 @@ pub loop-class-preserved : goal.loop-class-preserved
 loop-class-preserved c =
     let k = c.loop-class.class in
     let inside : k < c.args.count = omega arith in
-    let more = flat_left class_style k c.args.count inside in
+    let more = flat_left (class_style c.args.key.now) k c.args.count inside in
     grind (arith, common_steps, more, append_assoc)

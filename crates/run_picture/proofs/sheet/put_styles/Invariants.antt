@@ -5,4 +5,4 @@ use Rattle.run_picture.specs.Sheets.{class_style}
 use Rattle.run_picture.proofs.sheet.put_styles.Given as goal
 
 abbrev pub invariant-loop-class : goal.invariant-loop-class
-invariant-loop-class l = string_bytes l.out ++ flat_map class_style (range_with_len l.class (l.count - l.class)) ≡ string_bytes l.initial.out ++ flat_map class_style (numbers_below l.count)
+invariant-loop-class l = string_bytes l.out ++ flat_map (class_style l.key) (range_with_len l.class (l.count - l.class)) ≡ string_bytes l.initial.out ++ flat_map (class_style l.key) (numbers_below l.count)

@@ -1,0 +1,95 @@
+//! Moving pictures of rounds.
+ghost use Rattle.std.specs.Prelude.{◌≡◌, ◌≢◌, Err, IfOk, IfErr, MatchOption, None, Some};
+ghost use Rattle.run_picture.specs.declared.fault.PictureFault.TheVariants.{Memory};
+ghost use Rattle.run_picture.specs.Moving.{moving_refusal, rounds_picture};
+
+use crate::fault::PictureFault;
+use crate::moving::{Pace, moving_of};
+use crate::picture::MOST_CELLS;
+use crate::styles::ValueStyles;
+use crate::values::{refusal, values_in};
+use rounds_plan::Plan;
+use run_watch::{Progress, Span};
+use std::alloc::{AllocError, Global};
+use std::thread::Threads;
+
+/// The most frames of a moving picture.
+pub const MOST_FRAMES: u64 = 10_000;
+
+/// Why there is no moving picture of the rounds of a span in rows of a width, whatever memory there is.
+fn moving_refusal(plan: &Plan, span: &Span, field: u32, width: u32) -> Option<PictureFault>
+    ensures { result ≡ moving_refusal plan.now span.now field width }
+{
+    if let Some(fault) = refusal(plan, span.first(), span.last(), field) {
+        return Some(fault);
+    }
+    if width == 0 {
+        return Some(PictureFault::NoWidth);
+    }
+    let rounds = span.steps() as u64 + 1;
+    if plan.network().nodes() as u64 * rounds > MOST_CELLS {
+        return Some(PictureFault::TooManyCells);
+    }
+    if rounds > MOST_FRAMES {
+        return Some(PictureFault::TooManyFrames);
+    }
+    None
+}
+
+/// The moving picture of the rounds of a span, where nothing refuses it.
+fn moving_text<P: Progress>(
+    rt: &(impl Threads + Sync),
+    alloc: Global,
+    plan: &Plan,
+    span: &Span,
+    field: u32,
+    width: u32,
+    time: u32,
+    styles: &ValueStyles<'_>,
+    progress: &mut P,
+) -> Result<Vec<u8>, AllocError>
+    requires fits { moving_refusal plan.now span.now field width ≡ None }
+    ensures text { IfOk result (λ v. v.items ≡ rounds_picture styles.now plan.now span.now field width time) }
+{
+    // For the proof: how many nodes a plan may have.
+    let _phase = plan.phase();
+    let values = values_in(rt, alloc, plan, span, field, progress)?;
+    let frames = span.steps() + 1;
+    let pace = Pace { frames, time };
+    moving_of(alloc, styles, pace, width, plan.network().nodes(), &values)
+}
+
+/// The moving picture of a field as SVG that plays by itself, without a script: the nodes by rising number in rows of so many
+/// cells, the last of which may be shorter, named and coloured as in `time_picture`, in each round of a span of a plan, one
+/// after the other and over and over; each round is seen for so many milliseconds. A cell stands once, with its changes alone,
+/// so that the text grows with these. Where nothing plays it, it shows the first of the rounds.
+/// `each_frame_has_its_colours` says what each cell shows when. In one pass over the rounds: none is computed twice. Each
+/// round is shared among as many threads as there are processors where it has enough to compute for them.
+///
+/// `TooManyRounds` comes where the last round is above 1,000,000,000, else `RoundsBelowStart` where the first lies before
+/// the plan's start, else `NoField` where the program has no field at this place, else `NoWidth` where the rows
+/// are to have no cells, else `TooManyCells` where nodes times rounds are more than 1,000,000, and else `TooManyFrames` where
+/// the span has more than 10,000 rounds, all before anything is done; `Memory` only where none of them holds.
+pub fn moving_picture<P: Progress>(
+    rt: &(impl Threads + Sync),
+    alloc: Global,
+    plan: &Plan,
+    span: &Span,
+    field: u32,
+    width: u32,
+    time: u32,
+    styles: &ValueStyles<'_>,
+    progress: &mut P,
+) -> Result<Vec<u8>, PictureFault>
+    ensures text { IfOk result (λ v. v.items ≡ rounds_picture styles.now plan.now span.now field width time) }
+    ensures fits { IfOk result (λ _. moving_refusal plan.now span.now field width ≡ None) }
+    ensures refused { IfErr result (λ fault. fault ≢ Memory → moving_refusal plan.now span.now field width ≡ Some fault) }
+    ensures memory { IfErr result (λ fault. fault ≡ Memory → moving_refusal plan.now span.now field width ≡ None) }
+    ensures at_once { MatchOption (moving_refusal plan.now span.now field width) (Unit {0}) (λ fault. result ≡ Err fault) }
+{
+    if let Some(fault) = moving_refusal(plan, span, field, width) {
+        return Err(fault);
+    }
+    let text = moving_text(rt, alloc, plan, span, field, width, time, styles, progress)?;
+    Ok(text)
+}
