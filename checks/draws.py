@@ -103,10 +103,10 @@ def sample(draws, length, amount):
     return places
 
 
-def random_links(draws, nodes, count):
-    """Links at so many places of a rectangle of all pairs: in row i those of node i, then those of the node that has as many as are wanting."""
+def links_at(nodes, places):
+    """Links at places of a rectangle of all pairs: in row i those of node i, then those of the node that has as many as are wanting."""
     width = 2 * ((nodes - 1) // 2) + 1
-    for place in sample(draws, nodes // 2 * width, count):
+    for place in places:
         row, column = divmod(place, width)
         above = nodes - 1 - row
         if column < above:
@@ -114,6 +114,16 @@ def random_links(draws, nodes, count):
         else:
             other = nodes - 1 - (width - above)
             yield other, other + 1 + column - above
+
+
+def random_links(draws, nodes, count):
+    """Links at so many places that are drawn."""
+    return links_at(nodes, sample(draws, nodes * (nodes - 1) // 2, count))
+
+
+def chance_links(draws, nodes, billionths):
+    """Links at those places of all for which a number is drawn that is below so many billionths."""
+    return links_at(nodes, [place for place in range(nodes * (nodes - 1) // 2) if draws.below(10**9, 32) < billionths])
 
 
 def preferential_links(draws, nodes, each):
@@ -134,12 +144,12 @@ def preferential_links(draws, nodes, each):
     return links
 
 
-def small_world_links(draws, nodes, near, rewire):
-    """Links round a ring, of which so many in a hundred are led to a node that is drawn, 64 times at most."""
+def small_world_links(draws, nodes, near, rewire, of=100):
+    """Links round a ring, of which `rewire` in `of` are led to a node that is drawn, 64 times at most."""
     links = [(node, (node + 1 + step) % nodes) for node in range(nodes) for step in range(near)]
     pairs = {frozenset(link) for link in links}
     for place, (start, end) in enumerate(links):
-        if draws.below(100, 32) >= rewire:
+        if draws.below(of, 32) >= rewire:
             continue
         for _ in range(64):
             node = draws.below(nodes, 32)

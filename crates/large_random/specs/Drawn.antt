@@ -11,7 +11,7 @@ use Rattle.large_random.specs.declared.kind.LargeRandom.{LargeRandom}
 abbrev pub random_of : LargeRandom → RandomNetwork
 random_of (LargeRandom.Random n k) = RandomNetwork.Random n k
 random_of (LargeRandom.Preferential n e) = RandomNetwork.Preferential n e
-random_of (LargeRandom.SmallWorld n k p) = RandomNetwork.SmallWorld n k p
+random_of (LargeRandom.SmallWorld n k p q) = RandomNetwork.SmallWorld n k p q
 
 -- the network is that of links which may be drawn for the random network: in the row of each node stand, by rising number, the nodes that are linked with it, once and with weight 1
 pub record IsDrawn (wanted : RandomNetwork) (network : Neighbours) : Type 0 where

@@ -9,13 +9,25 @@ use net_random::RandomNetwork;
 #[derive(Clone, Copy)]
 pub enum LargeRandom {
     /// So many different links among all pairs of nodes.
-    Random { nodes: u32, links: u32 },
+    Random {
+        nodes: u32,
+        links: u32,
+    },
     /// Preferential attachment: each node is linked with so many different ones before it, or with all of them while they
     /// are fewer, each drawn in proportion to the links that it has.
-    Preferential { nodes: u32, each: u32 },
+    Preferential {
+        nodes: u32,
+        each: u32,
+    },
     /// A small world: nodes round a ring, each linked with so many that follow it; then each link's second end is led,
-    /// `rewire` times in a hundred, to a node that is drawn, where one is found that makes no self-loop and no parallel edge.
-    SmallWorld { nodes: u32, near: u32, rewire: u32 },
+    /// `rewire` times in `of`, to a node that is drawn, where one is found that makes no self-loop and no parallel edge; an
+    /// `of` of 0 is taken as 1.
+    SmallWorld {
+        nodes: u32,
+        near: u32,
+        rewire: u32,
+        of: u32,
+    },
 }
 
 impl LargeRandom {
@@ -33,10 +45,12 @@ impl LargeRandom {
                 nodes,
                 near,
                 rewire,
+                of,
             } => RandomNetwork::SmallWorld {
                 nodes,
                 near,
                 rewire,
+                of,
             },
         }
     }

@@ -1,5 +1,5 @@
 -- How many neighbours nodes have that begin so many links.
-use Rattle.std.proofs.Common.{◌≡◌, ℕ, ◌+◌, ◌*◌, ◌<◌, ◌≤◌, ◌==◌, Bool, true, false, ◌&&◌, ◌||◌, List, [], ◌∷◌, map, length, refl, ap, sym, subst, ◌∙◌, inl, inr, arith, zero, suc}
+use Rattle.std.proofs.Common.{◌≡◌, ℕ, ◌<◌, ◌≤◌, ◌==◌, true, false, List, [], ◌∷◌, length, refl, ap, sym, ◌∙◌, inl, inr, arith, suc}
 use Rattle.std.specs.List.{list_any, filter}
 use Rattle.std.proofs.lemmas.Bool.{cases_Bool}
 use Rattle.std.proofs.lemmas.Bool.Decides.{nat_tests}
@@ -9,11 +9,11 @@ use Rattle.link_net.specs.Links.{AllWithin, is_self_link, has_link_twice, joins,
 use Rattle.link_net.specs.Neighbours.{numbers_below, degree}
 use Rattle.net_text.specs.Listing.{Link}
 use Rattle.net_random.specs.declared.random_network.RandomNetwork.{RandomNetwork}
-use Rattle.net_random.specs.RandomNetworks.{AreSimpleLinks, IsOutcome, pair_count}
+use Rattle.net_random.specs.RandomNetworks.{AreSimpleLinks, IsOutcome}
 use Rattle.net_random.specs.Changed.{starts, ring_links}
 use Rattle.net_random.proofs.Counting.{filter_same, either_is, once_in}
 use Rattle.net_random.proofs.Changing.{joined_alike}
-use Rattle.net_random.proofs.Ring.{few_near, ring_simple, ring_count, ring_begun}
+use Rattle.net_random.proofs.Ring.{ring_count, ring_begun}
 
 -- links that begin at u, by where links begin
 begun_starts : (u : ℕ) (ls : List Link) → length (filter (λ l. l.0 == u) ls) ≡ length (filter (λ x. x == u) (starts ls))
@@ -55,8 +55,8 @@ length_starts : (ls : List Link) → length (starts ls) ≡ length ls
 length_starts ls = length-map ls (λ l. l.0)
 
 -- simple links that begin where those of a ring do make a small world
-pub small_world_has : (n near rewire : ℕ) (ls : List Link) → AreSimpleLinks n ls → starts ls ≡ starts (ring_links n near) → IsOutcome (RandomNetwork.SmallWorld n near rewire) ls
-small_world_has n near rewire ls simple begin = record {
+pub small_world_has : (n near rewire of : ℕ) (ls : List Link) → AreSimpleLinks n ls → starts ls ≡ starts (ring_links n near) → IsOutcome (RandomNetwork.SmallWorld n near rewire of) ls
+small_world_has n near rewire of ls simple begin = record {
   count = sym (length_starts ls) ∙ ap length begin ∙ length_starts (ring_links n near) ∙ ring_count n near;
   simple = simple;
   back = tt;

@@ -9,3 +9,4 @@ mod SameEnds
 mod Changing
 mod Ring
 mod Degrees
+mod Chances

@@ -1,7 +1,6 @@
 -- Links that were drawn by trial and pass the tests.
-use Rattle.std.proofs.Common.{◌≡◌, ◌<◌, ℕ, Bool, true, false, nat_lt, List, length, Result, Ok, Err, refl, sym, subst, ◌∙◌, if◌then◌else◌}
+use Rattle.std.proofs.Common.{◌≡◌, ◌<◌, ℕ, Bool, true, false, nat_lt, List, length, Ok, Err, refl, sym, if◌then◌else◌}
 use Rattle.std.specs.List.{list_any, AllByRecursion}
-use Rattle.link_net.specs.declared.fault.NetFault.{NetFault}
 use Rattle.link_net.specs.declared.fault.NetFault.TheVariants.{SelfLink, LinkTwice, TooManyLinks, TooManyNeighbours}
 use Rattle.link_net.specs.Limits.{most_links}
 use Rattle.link_net.specs.Links.{AllWithin, is_self_link, has_link_twice}
@@ -9,7 +8,7 @@ use Rattle.link_net.specs.Reading.{sound, is_crowded}
 use Rattle.net_text.specs.Listing.{Link, Listing, IsListing}
 use Rattle.std.proofs.lemmas.List.FromFn.{length-map-range_with_len}
 use Rattle.link_net.specs.Links.{network_of, neighbours_of}
-use Rattle.link_net.specs.Neighbours.{Neighbours, degree}
+use Rattle.link_net.specs.Neighbours.{degree}
 use Rattle.net_random.specs.declared.random_network.RandomNetwork.{RandomNetwork}
 use Rattle.net_random.specs.RandomNetworks.{node_count, link_count, is_by_trial, AreSimpleLinks, IsDegree, HasDegrees, IsOutcome}
 
@@ -34,7 +33,7 @@ trial_has (RandomNetwork.Tree n) list is nodes count weights degrees trial = cc
 trial_has (RandomNetwork.Preferential n e) list is nodes count weights degrees trial = cc
 trial_has (RandomNetwork.Regular n d) list is nodes count weights degrees trial =
     record { count = count; simple = simple n list.links (rw nodes at is.within) (rw nodes at is.is_sound) weights; back = tt; degrees = degrees; connected = tt }
-trial_has (RandomNetwork.SmallWorld n k p) list is nodes count weights degrees trial = cc
+trial_has (RandomNetwork.SmallWorld n k p q) list is nodes count weights degrees trial = cc
 
 -- the same, where the network that the links make has those numbers of neighbours
 pub trial_network_has : (wanted : RandomNetwork) (list : Listing) → IsListing list → list.nodes ≡ node_count wanted → length list.links ≡ link_count wanted

@@ -1,4 +1,4 @@
--- Internal: all pairs of n nodes as places that are numbered from 0. No public clause cites it.
+-- All pairs of n nodes as places that are numbered from 0.
 use Rattle.std.specs.Prelude.{◌+◌, ◌-◌, ◌*◌, ◌/◌, ◌%◌, ℕ, nat_lt, if◌then◌else◌}
 use Rattle.net_text.specs.Listing.{Link}
 

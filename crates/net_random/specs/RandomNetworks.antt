@@ -12,7 +12,7 @@ node_count (RandomNetwork.Random n k) = n
 node_count (RandomNetwork.Tree n) = n
 node_count (RandomNetwork.Preferential n e) = n
 node_count (RandomNetwork.Regular n d) = n
-node_count (RandomNetwork.SmallWorld n k p) = n
+node_count (RandomNetwork.SmallWorld n k p q) = n
 
 -- how many pairs of different nodes there are among n
 abbrev pub pair_count : ℕ → ℕ
@@ -28,7 +28,7 @@ link_count (RandomNetwork.Random n k) = k
 link_count (RandomNetwork.Tree n) = n - 1
 link_count (RandomNetwork.Preferential n e) = grown_count e n
 link_count (RandomNetwork.Regular n d) = n * d / 2
-link_count (RandomNetwork.SmallWorld n k p) = n * k
+link_count (RandomNetwork.SmallWorld n k p q) = n * k
 
 -- the random network has an odd number of ends of links
 abbrev pub has_odd_ends : RandomNetwork → Bool
@@ -61,7 +61,7 @@ HasBack wanted links = ⊤
 -- how many neighbours a node of the random network may have
 abbrev pub IsDegree : RandomNetwork → ℕ → Type 0
 IsDegree (RandomNetwork.Regular n d) k = k ≡ d
-IsDegree (RandomNetwork.SmallWorld n near p) k = near ≤ k
+IsDegree (RandomNetwork.SmallWorld n near p q) k = near ≤ k
 IsDegree wanted k = ⊤
 
 -- each node below n has as many neighbours as such a network has

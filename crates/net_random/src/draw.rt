@@ -35,7 +35,8 @@ fn links_by(
             nodes,
             near,
             rewire,
-        } => small_world_links(alloc, rng, nodes, near, rewire),
+            of,
+        } => small_world_links(alloc, rng, nodes, near, rewire, of),
     }
 }
 

@@ -2,7 +2,7 @@
 ghost use Rattle.std.specs.Prelude.{◌≡◌};
 ghost use Rattle.net_random.specs.declared.fault.RandomFault.TheVariants.{Memory};
 
-use std::alloc::AllocError;
+use std::alloc::{AllocError, AllocFailed};
 use thiserror::Error;
 
 /// Why a random network is not drawn. Where several hold, the first in this order.
@@ -32,6 +32,14 @@ impl From<AllocError> for RandomFault {
     ghost from_gives = { λ _ e. e ≡ Memory };
 
     fn from(_error: AllocError) -> RandomFault {
+        RandomFault::Memory
+    }
+}
+
+impl<T: Drop> From<AllocFailed<T>> for RandomFault {
+    ghost from_gives = { λ _ e. e ≡ Memory };
+
+    fn from(_error: AllocFailed<T>) -> RandomFault {
         RandomFault::Memory
     }
 }

@@ -2,6 +2,7 @@
 #![tactic(auto)]
 
 mod bounds;
+mod chance;
 mod changed;
 mod choice;
 mod draw;
@@ -20,6 +21,7 @@ mod weight_fault;
 mod weight_file;
 
 pub use bounds::NetworkBounds;
+pub use chance::{chance_list, chance_text};
 pub use draw::{drawn, drawn_links};
 pub use fault::RandomFault;
 pub use random_network::RandomNetwork;

@@ -18,7 +18,7 @@ fn row_width(nodes: u32) -> u32
 }
 
 /// How many places the rectangle has: as many as there are pairs of nodes.
-fn place_count(nodes: u32) -> usize
+pub(crate) fn place_count(nodes: u32) -> usize
     requires some { 1 ≤ nodes }
     ensures { result ≡ place_count nodes }
 {
@@ -44,7 +44,7 @@ fn link_at(nodes: u32, place: usize) -> Link
 }
 
 /// The links at some places of the rectangle.
-fn links_at(alloc: Global, nodes: u32, places: &[usize]) -> Result<Vec<Link>, AllocError>
+pub(crate) fn links_at(alloc: Global, nodes: u32, places: &[usize]) -> Result<Vec<Link>, AllocError>
     requires some { 1 ≤ nodes }
     requires low { All (λ place. place < place_count nodes) places.now }
     ensures { IfOk result (λ v. v.items ≡ map (link_at nodes) places.now) }

@@ -66,21 +66,22 @@ fn lead_elsewhere(
     Ok(())
 }
 
-/// The links of a small world: those round a ring, of which so many in a hundred are led elsewhere.
+/// The links of a small world: those round a ring, of which `rewire` in `of` are led elsewhere.
 pub(crate) fn small_world_links(
     alloc: Global,
     rng: &mut Pcg64,
     nodes: u32,
     near: u32,
     rewire: u32,
+    of: u32,
 ) -> Result<Vec<Link>, AllocError>
     requires some { 1 ≤ nodes }
     requires room { nodes * near ≤ pair_count nodes }
-    ensures { IfOk result (λ v. IsOutcome (SmallWorld nodes near rewire) v.items) }
+    ensures { IfOk result (λ v. IsOutcome (SmallWorld nodes near rewire of) v.items) }
 {
     let mut changed = Changed::new(alloc, ring_links(alloc, nodes, near)?)?;
     for place in 0..changed.len() {
-        if rng.random_range(0..100) < rewire {
+        if rng.random_range(0..of.max(1)) < rewire {
             lead_elsewhere(rng, &mut changed, place, nodes)?;
         }
     }

@@ -1,6 +1,5 @@
-use Rattle.std.proofs.Common.{ap, sym, subst, ◌∙◌}
-use Rattle.net_random.specs.Changed.{ArePairsOf, starts}
-use Rattle.net_random.specs.RandomNetworks.{AreSimpleLinks, IsOutcome}
+use Rattle.std.proofs.Common.{ap, ◌∙◌}
+use Rattle.net_random.specs.Changed.{starts}
 use Rattle.net_random.proofs.Ring.{few_near, ring_simple}
 use Rattle.net_random.proofs.Degrees.{small_world_has}
 use Rattle.net_random.proofs.trials.small_world_links.Goals as goal
@@ -19,4 +18,4 @@ loop-place-init c =
 pub returns : goal.returns
 returns c =
     rw c.into_links.ensures
-    (small_world_has c.args.nodes c.args.near c.args.rewire c.loop-place.changed.links.items c.loop-place.invariant.known.simple c.loop-place.invariant.begin)
+    (small_world_has c.args.nodes c.args.near c.args.rewire c.args.of c.loop-place.changed.links.items c.loop-place.invariant.known.simple c.loop-place.invariant.begin)
