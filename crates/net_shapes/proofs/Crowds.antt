@@ -127,6 +127,8 @@ crowded_none (Shape.Ring n) size many list is has = absurd (omega arith)
 crowded_none (Shape.Star n) size many list is has =
     no_row (Shape.Star n) list is has 0 1 (n - 1) (omega arith) (omega arith) many (λ x from to. grind (arith, nat_tests))
 crowded_none (Shape.Grid w h) size many list is has = absurd (omega arith)
+crowded_none (Shape.DiagonalGrid w h true) size many list is has = absurd (omega arith)
+crowded_none (Shape.DiagonalGrid w h false) size many list is has = absurd (omega arith)
 crowded_none (Shape.Torus w h true) size many list is has = absurd (omega arith)
 crowded_none (Shape.Torus w h false) size many list is has = absurd (omega arith)
 crowded_none (Shape.Complete n) size many list is has =

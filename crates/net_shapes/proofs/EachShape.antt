@@ -13,6 +13,7 @@ use Rattle.net_shapes.proofs.Paths.{path_sound}
 use Rattle.net_shapes.proofs.Rings.{ring_sound}
 use Rattle.net_shapes.proofs.Stars.{star_sound}
 use Rattle.net_shapes.proofs.Grids.{grid_sound}
+use Rattle.net_shapes.proofs.DiagonalGrids.{diagonal_sound}
 use Rattle.net_shapes.proofs.Toruses.{torus_sound}
 use Rattle.net_shapes.proofs.Completes.{complete_sound}
 use Rattle.net_shapes.proofs.Bipartites.{bipartite_sound}
@@ -25,6 +26,7 @@ sound (Shape.Path n) f = path_sound n f
 sound (Shape.Ring n) f = ring_sound n f
 sound (Shape.Star n) f = star_sound n f
 sound (Shape.Grid w h) f = grid_sound w h f
+sound (Shape.DiagonalGrid w h x) f = diagonal_sound w h x f
 sound (Shape.Torus w h d) f = torus_sound w h d f
 sound (Shape.Complete n) f = complete_sound n f
 sound (Shape.Bipartite l r) f = bipartite_sound l r f

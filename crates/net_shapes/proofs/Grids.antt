@@ -19,7 +19,7 @@ use Rattle.net_shapes.proofs.Sound.{IsSound}
 
 module _ (w h : ℕ) (wide : 1 ≤ w) where
   -- the node to the right
-  right_test : (u v : ℕ) → (nat_lt (column w u + 1) w && v == u + 1) ≡ (row w u == row w v && column w u + 1 == column w v)
+  pub right_test : (u v : ℕ) → (nat_lt (column w u + 1) w && v == u + 1) ≡ (row w u == row w v && column w u + 1 == column w v)
   right_test u v =
       let here : u + 1 ≡ place w (column w u + 1) (row w u) = omega (arith, at_place w wide u) in
       rw here (tested (column w u) (row w u) v) where
@@ -30,7 +30,7 @@ module _ (w h : ℕ) (wide : 1 ≤ w) where
           at false e = let low = column_below w wide v in grind (arith, nat_tests)
 
   -- the node below
-  down_test : (u v : ℕ) → (v == u + w) ≡ (row w u + 1 == row w v && column w u == column w v)
+  pub down_test : (u v : ℕ) → (v == u + w) ≡ (row w u + 1 == row w v && column w u == column w v)
   down_test u v =
       let here : u + w ≡ place w (column w u) (row w u + 1) = omega (arith, at_place w wide u) in
       rw here (place_test w wide (column w u) (row w u + 1) v (column_below w wide u))
@@ -106,7 +106,7 @@ rows_links w h y (suc j) wide whole =
           let two : suc (suc j) - 1 ≡ suc j = omega arith in
           rw (more, one, two) (omega arith)
 
-all_links : (w h : ℕ) → 1 ≤ w → length (links_ahead (ahead (Shape.Grid w h)) (numbers_below (w * h))) ≡ grid_links w h
+pub all_links : (w h : ℕ) → 1 ≤ w → length (links_ahead (ahead (Shape.Grid w h)) (numbers_below (w * h))) ≡ grid_links w h
 all_links w h wide =
     let turned : w * h ≡ h * w = omega arith in
     let start : 0 * w ≡ 0 = omega arith in
@@ -114,7 +114,7 @@ all_links w h wide =
       same : (h p : ℕ) → h * p + w * (h - 1) ≡ p * h + w * (h - 1)
       same h p = omega arith
 
-area : (w h : ℕ) → 1 ≤ w → 1 ≤ h → 1 ≤ w * h
+pub area : (w h : ℕ) → 1 ≤ w → 1 ≤ h → 1 ≤ w * h
 area w h a b = search arith
 
 pub grid_sound : (w h : ℕ) → has_size (Shape.Grid w h) ≡ true → IsSound (Shape.Grid w h)

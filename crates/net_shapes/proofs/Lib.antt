@@ -9,6 +9,7 @@ mod Rings
 mod Stars
 mod Places
 mod Grids
+mod DiagonalGrids
 mod Toruses
 mod Completes
 mod Bipartites

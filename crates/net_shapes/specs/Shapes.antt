@@ -1,5 +1,5 @@
 -- Shapes: which nodes they join.
-use Rattle.std.specs.Prelude.{◌≡◌, ℕ, ◌+◌, ◌-◌, ◌*◌, ◌/◌, ◌%◌, ◌^◌, ◌<◌, ◌==◌, Bool, ◌&&◌, ◌||◌, nat_le, nat_lt, if◌then◌else◌}
+use Rattle.std.specs.Prelude.{◌≡◌, ℕ, ◌+◌, ◌-◌, ◌*◌, ◌/◌, ◌%◌, ◌^◌, ◌<◌, ◌==◌, Bool, not, ◌&&◌, ◌||◌, nat_le, nat_lt, if◌then◌else◌}
 use Rattle.std.specs.List.{AllByRecursion, list_any}
 use Rattle.link_net.specs.Links.{are_linked}
 use Rattle.link_net.specs.Neighbours.{numbers_below}
@@ -12,6 +12,7 @@ node_count (Shape.Path n) = n
 node_count (Shape.Ring n) = n
 node_count (Shape.Star n) = n
 node_count (Shape.Grid w h) = w * h
+node_count (Shape.DiagonalGrid w h x) = w * h
 node_count (Shape.Torus w h d) = w * h
 node_count (Shape.Complete n) = n
 node_count (Shape.Bipartite l r) = l + r
@@ -33,6 +34,13 @@ column w u = u % w
 abbrev pub digit : ℕ → ℕ → ℕ
 digit u b = (u / 2 ^ b) % 2
 
+-- from this row down to the right, and down to the left: of hexagons from odd rows to the right and from even ones to the left
+abbrev pub slants_right : Bool → ℕ → Bool
+slants_right hexagons y = not hexagons || y % 2 == 1
+
+abbrev pub slants_left : Bool → ℕ → Bool
+slants_left hexagons y = not hexagons || y % 2 == 0
+
 -- the shape has a link from u to w: each of its links once, from one of its two ends
 abbrev pub leads : Shape → ℕ → ℕ → Bool
 -- each node to the next
@@ -43,7 +51,12 @@ leads (Shape.Ring n) u w = next n u == w
 leads (Shape.Star n) u w = nat_lt 0 u && w == 0
 -- each node to the one at its right, and to the one below it
 leads (Shape.Grid w h) u v = (row w u == row w v && column w u + 1 == column w v) || (column w u == column w v && row w u + 1 == row w v)
--- the same, where each row and each column is a ring; with diagonals also to the two nodes beside the one below
+-- the same, and down to the right and to the left, of hexagons to one of them alone
+leads (Shape.DiagonalGrid w h x) u v =
+    (row w u == row w v && column w u + 1 == column w v)
+    || (column w u == column w v && row w u + 1 == row w v)
+    || (row w u + 1 == row w v && ((slants_right x (row w u) && column w u + 1 == column w v) || (slants_left x (row w u) && column w v + 1 == column w u)))
+-- a grid where each row and each column is a ring; with diagonals also to the two nodes beside the one below
 leads (Shape.Torus w h d) u v =
     (row w u == row w v && next w (column w u) == column w v)
     || (column w u == column w v && next h (row w u) == row w v)

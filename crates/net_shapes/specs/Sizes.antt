@@ -15,6 +15,7 @@ has_size (Shape.Path n) = is_from 1 n
 has_size (Shape.Ring n) = is_from 3 n
 has_size (Shape.Star n) = is_from 1 n
 has_size (Shape.Grid w h) = (nat_le 1 w && nat_le 1 h) && nat_le (w * h) most_nodes
+has_size (Shape.DiagonalGrid w h x) = (nat_le 1 w && nat_le 1 h) && nat_le (w * h) most_nodes
 has_size (Shape.Torus w h d) = (nat_le 3 w && nat_le 3 h) && nat_le (w * h) most_nodes
 has_size (Shape.Complete n) = is_from 1 n
 has_size (Shape.Bipartite l r) = (nat_le 1 l && nat_le 1 r) && nat_le (l + r) most_nodes
@@ -24,6 +25,10 @@ has_size (Shape.Hypercube d) = nat_le d 16
 -- the links of h rows of w nodes, and those of their columns
 abbrev pub grid_links : ℕ → ℕ → ℕ
 grid_links w h = (w - 1) * h + w * (h - 1)
+
+-- the links of a grid, and two from each place where four nodes meet, or of hexagons one
+abbrev pub diagonal_links : ℕ → ℕ → Bool → ℕ
+diagonal_links w h hexagons = grid_links w h + (if hexagons then (w - 1) * (h - 1) else 2 * ((w - 1) * (h - 1)))
 
 -- two links for each node, to the right and down, or four
 abbrev pub torus_links : ℕ → ℕ → Bool → ℕ
@@ -35,6 +40,7 @@ link_count (Shape.Path n) = n - 1
 link_count (Shape.Ring n) = n
 link_count (Shape.Star n) = n - 1
 link_count (Shape.Grid w h) = grid_links w h
+link_count (Shape.DiagonalGrid w h x) = diagonal_links w h x
 link_count (Shape.Torus w h d) = torus_links w h d
 link_count (Shape.Complete n) = n * (n - 1) / 2
 link_count (Shape.Bipartite l r) = l * r
@@ -51,6 +57,7 @@ neighbour_count (Shape.Path n) = 2
 neighbour_count (Shape.Ring n) = 2
 neighbour_count (Shape.Star n) = n - 1
 neighbour_count (Shape.Grid w h) = 4
+neighbour_count (Shape.DiagonalGrid w h x) = if x then 6 else 8
 neighbour_count (Shape.Torus w h d) = if d then 8 else 4
 neighbour_count (Shape.Complete n) = n - 1
 neighbour_count (Shape.Bipartite l r) = max l r

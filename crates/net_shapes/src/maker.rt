@@ -4,8 +4,8 @@ ghost use Rattle.std.specs.List.{range_with_len};
 ghost use Rattle.link_net.specs.Neighbours.{numbers_below};
 ghost use Rattle.link_net.specs.Limits.{most_nodes};
 ghost use Rattle.net_shapes.specs.declared.shape.Shape.{Shape};
-ghost use Rattle.net_shapes.specs.Ahead.{link_to, when, prev, place, diagonals, ahead, links_ahead};
-ghost use Rattle.net_shapes.specs.Shapes.{next, row, column, node_count, HasShape, HasNone};
+ghost use Rattle.net_shapes.specs.Ahead.{link_to, when, prev, place, diagonals, slanted, ahead, links_ahead};
+ghost use Rattle.net_shapes.specs.Shapes.{next, row, column, node_count, slants_left, slants_right, HasShape, HasNone};
 ghost use Rattle.net_shapes.specs.Sizes.{has_size, link_count, refusal_of, refused_by};
 
 use crate::sizes::{link_count, node_count, power, refusal};
@@ -51,6 +51,61 @@ fn put_grid(links: &mut Vec<Link>, width: u32, height: u32, node: u32) -> Result
 {
     put_if(links, node % width + 1 < width, node, node + 1)?;
     put_if(links, node / width + 1 < height, node, node + width)?;
+    Ok(())
+}
+
+/// Whether links of a grid with diagonals lead from a row down to the right.
+fn slants_right(hexagons: bool, row: u32) -> bool
+    ensures { result ≡ slants_right hexagons row }
+{
+    !hexagons || row % 2 == 1
+}
+
+/// Whether they lead down to the left.
+fn slants_left(hexagons: bool, row: u32) -> bool
+    ensures { result ≡ slants_left hexagons row }
+{
+    !hexagons || row % 2 == 0
+}
+
+/// Puts the links from a node of a grid with diagonals to the nodes beside the one below it.
+fn put_slanted(
+    links: &mut Vec<Link>,
+    width: u32,
+    height: u32,
+    hexagons: bool,
+    node: u32,
+) -> Result<(), AllocError>
+    requires wide { 1 ≤ width }
+    requires small { width * height ≤ most_nodes }
+    requires low { node < width * height }
+    ensures { OnOk result (links.new.items ≡ links.old.items ++ map (link_to node) (slanted width height hexagons node)) }
+{
+    let row = node / width;
+    let column = node % width;
+    let inner = row + 1 < height;
+    let right = slants_right(hexagons, row) && column + 1 < width;
+    let left = slants_left(hexagons, row) && column > 0;
+    put_if(links, inner && right, node, node + width + 1)?;
+    put_if(links, inner && left, node, node + width - 1)?;
+    Ok(())
+}
+
+/// Puts the links that lead from a node of a grid with diagonals.
+fn put_diagonal_grid(
+    links: &mut Vec<Link>,
+    width: u32,
+    height: u32,
+    hexagons: bool,
+    node: u32,
+) -> Result<(), AllocError>
+    requires wide { 1 ≤ width }
+    requires small { width * height ≤ most_nodes }
+    requires low { node < width * height }
+    ensures { OnOk result (links.new.items ≡ links.old.items ++ map (link_to node) (ahead (Shape.DiagonalGrid width height hexagons) node)) }
+{
+    put_grid(links, width, height, node)?;
+    put_slanted(links, width, height, hexagons, node)?;
     Ok(())
 }
 
@@ -180,6 +235,11 @@ fn put_links(links: &mut Vec<Link>, shape: &Shape, node: u32) -> Result<(), Allo
         Shape::Ring { nodes } => put(links, node, next(nodes, node)),
         Shape::Star { .. } => put_if(links, node > 0, node, 0),
         Shape::Grid { width, height } => put_grid(links, width, height, node),
+        Shape::DiagonalGrid {
+            width,
+            height,
+            hexagons,
+        } => put_diagonal_grid(links, width, height, hexagons, node),
         Shape::Torus {
             width,
             height,

@@ -20,6 +20,14 @@ pub enum Shape {
         width: u32,
         height: u32,
     },
+    /// A grid each of whose nodes is linked with those beside its corners, too. Of hexagons it is linked with two of the four
+    /// alone: in odd rows with those at the right, in even ones with those at the left, as the cells of rows of hexagons of
+    /// which each second one is shifted to the right.
+    DiagonalGrid {
+        width: u32,
+        height: u32,
+        hexagons: bool,
+    },
     /// A grid whose rows and columns are rings of three nodes or more. With diagonals each node has eight neighbours.
     Torus {
         width: u32,

@@ -2,7 +2,7 @@
 ghost use Rattle.std.specs.Prelude.{◌≡◌, ◌≤◌, ◌*◌, ◌^◌, true};
 ghost use Rattle.link_net.specs.Limits.{most_nodes};
 ghost use Rattle.net_shapes.specs.Shapes.{node_count};
-ghost use Rattle.net_shapes.specs.Sizes.{is_from, has_size, grid_links, torus_links, tree_neighbours, link_count, neighbour_count, refusal_of};
+ghost use Rattle.net_shapes.specs.Sizes.{is_from, has_size, grid_links, diagonal_links, torus_links, tree_neighbours, link_count, neighbour_count, refusal_of};
 
 use crate::{Shape, ShapeFault};
 use link_net::{MOST_LINKS, MOST_NEIGHBOURS, MOST_NODES};
@@ -35,7 +35,7 @@ fn has_size(shape: &Shape) -> bool
         Shape::Path { nodes } => is_from(1, nodes as u64),
         Shape::Ring { nodes } => is_from(3, nodes as u64),
         Shape::Star { nodes } => is_from(1, nodes as u64),
-        Shape::Grid { width, height } => {
+        Shape::Grid { width, height } | Shape::DiagonalGrid { width, height, .. } => {
             width >= 1 && height >= 1 && width as u64 * height as u64 <= MOST_NODES as u64
         }
         Shape::Torus { width, height, .. } => {
@@ -60,6 +60,17 @@ fn grid_links(width: u64, height: u64) -> u64
     (width - 1) * height + width * (height - 1)
 }
 
+/// How many links a grid with diagonals has: those of a grid, and one or two from each place where four nodes meet.
+fn diagonal_links(width: u64, height: u64, hexagons: bool) -> u64
+    requires wide { 1 ≤ width }
+    requires high { 1 ≤ height }
+    requires small { width * height ≤ most_nodes }
+    ensures { result ≡ diagonal_links width height hexagons }
+{
+    let places = (width - 1) * (height - 1);
+    grid_links(width, height) + if hexagons { places } else { 2 * places }
+}
+
 /// How many links a torus has: two or four for each node.
 fn torus_links(width: u64, height: u64, diagonals: bool) -> u64
     requires { width * height ≤ most_nodes }
@@ -79,6 +90,11 @@ pub(crate) fn link_count(shape: &Shape) -> u64
         Shape::Ring { nodes } => nodes as u64,
         Shape::Star { nodes } => nodes as u64 - 1,
         Shape::Grid { width, height } => grid_links(width as u64, height as u64),
+        Shape::DiagonalGrid {
+            width,
+            height,
+            hexagons,
+        } => diagonal_links(width as u64, height as u64, hexagons),
         Shape::Torus {
             width,
             height,
@@ -112,6 +128,11 @@ fn neighbour_count(shape: &Shape) -> u64
         Shape::Ring { .. } => 2,
         Shape::Star { nodes } => nodes as u64 - 1,
         Shape::Grid { .. } => 4,
+        Shape::DiagonalGrid { hexagons: true, .. } => 6,
+        Shape::DiagonalGrid {
+            hexagons: false,
+            ..
+        } => 8,
         Shape::Torus {
             diagonals: false,
             ..
@@ -153,6 +174,7 @@ pub(crate) fn node_count(shape: &Shape) -> u32
         Shape::Ring { nodes } => nodes,
         Shape::Star { nodes } => nodes,
         Shape::Grid { width, height } => width * height,
+        Shape::DiagonalGrid { width, height, .. } => width * height,
         Shape::Torus { width, height, .. } => width * height,
         Shape::Complete { nodes } => nodes,
         Shape::Bipartite { left, right } => left + right,
