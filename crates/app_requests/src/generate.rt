@@ -2,7 +2,8 @@
 ghost use Rattle.std.specs.Prelude.{◌≤◌, IfOk, IfSome};
 
 use crate::arguments::{FLAG, NUMBER};
-use app_table::{Argument, Command, Kind, OPTION, Reading, Subcommand, Value, WordsFault, number};
+use crate::decimals::{Portion, billionths_of, percent_of};
+use app_table::{Argument, Command, Kind, OPTION, Reading, Subcommand, WordsFault, number};
 use net_random::RandomNetwork;
 use net_shapes::Shape;
 use std::alloc::Global;
@@ -167,17 +168,25 @@ pub(crate) static NEAR_ARGUMENT: Argument = NEAR;
 
 pub(crate) const REWIRE: Argument = Argument {
     name: "rewire",
-    value: Value::Number {
-        least: 0,
-        most: 100,
-    },
+    kind: Kind::Required,
     value_name: "PERCENT",
-    help: "How many of a hundred links are led to another node, 0 to 100",
-    ..NEEDED
+    help: "How many of a hundred links are led to another node, 0 to 100, with six decimals at most",
+    ..OPTION
 };
 
 /// `REWIRE`, as it is read.
-pub(crate) static REWIRE_ARGUMENT: Argument = REWIRE;
+static REWIRE_ARGUMENT: Argument = REWIRE;
+
+const PROBABILITY: Argument = Argument {
+    name: "probability",
+    kind: Kind::Required,
+    value_name: "P",
+    help: "The chance with which each pair of nodes is linked, 0 to 1, with nine decimals at most",
+    ..OPTION
+};
+
+/// `PROBABILITY`, as it is read.
+static PROBABILITY_ARGUMENT: Argument = PROBABILITY;
 
 /// The seed by which links are drawn.
 pub(crate) const SEED: Argument = Argument {
@@ -215,7 +224,7 @@ const SHAPE_SEED: Argument = Argument {
 };
 
 /// Shapes and random networks.
-const SHAPES: [Subcommand; 14] = [
+const SHAPES: [Subcommand; 16] = [
     Subcommand {
         name: "path",
         about: "Each node is linked with the next one",
@@ -262,6 +271,18 @@ const SHAPES: [Subcommand; 14] = [
         name: "grid",
         about: "Each node is linked with those beside it, above it and below it",
         notes: "",
+        arguments: &[
+            GRID_WIDTH,
+            GRID_HEIGHT,
+            DIAGONALS,
+            SHAPE_WEIGHTS,
+            SHAPE_SEED,
+        ],
+    },
+    Subcommand {
+        name: "hex",
+        about: "Hexagonal cells in rows, of which each second one is shifted to the right by half a cell",
+        notes: "",
         arguments: &[GRID_WIDTH, GRID_HEIGHT, SHAPE_WEIGHTS, SHAPE_SEED],
     },
     Subcommand {
@@ -281,6 +302,12 @@ const SHAPES: [Subcommand; 14] = [
         about: "M links, all sets of so many links equally likely",
         notes: "",
         arguments: &[NODES, LINKS, SEED, WEIGHTS],
+    },
+    Subcommand {
+        name: "gnp",
+        about: "Each pair of nodes is linked with the chance P",
+        notes: "",
+        arguments: &[NODES, PROBABILITY, SEED, WEIGHTS],
     },
     Subcommand {
         name: "random-tree",
@@ -329,6 +356,8 @@ pub(crate) fn generate() -> &'static Command {
 pub enum Topology {
     Shape(Shape),
     RandomNetwork(RandomNetwork),
+    /// Each pair of so many nodes is linked with a chance of so many billionths.
+    Chance { nodes: u32, billionths: u32 },
 }
 
 /// Weights that are to be drawn, from a least to a greatest one, both included.
@@ -353,18 +382,40 @@ fn size(reading: &mut Reading, argument: &Argument) -> u32 {
     reading.number_or(argument, 0)
 }
 
-/// A grid, or a torus where that is named.
-fn rows_in(reading: &mut Reading) -> Shape {
-    let width = size(reading, &GRID_WIDTH_ARGUMENT);
-    let height = size(reading, &GRID_HEIGHT_ARGUMENT);
-    if reading.subcommand() == "grid" {
-        return Shape::Grid { width, height };
+/// A grid, with diagonals or without.
+fn grid_in(reading: &mut Reading, width: u32, height: u32) -> Shape {
+    if reading.has(&DIAGONALS_ARGUMENT) {
+        return Shape::DiagonalGrid {
+            width,
+            height,
+            hexagons: false,
+        };
     }
+    Shape::Grid { width, height }
+}
+
+/// A torus, with diagonals or without.
+fn torus_in(reading: &mut Reading, width: u32, height: u32) -> Shape {
     let diagonals = reading.has(&DIAGONALS_ARGUMENT);
     Shape::Torus {
         width,
         height,
         diagonals,
+    }
+}
+
+/// A grid, hexagonal cells, or a torus, whichever is named.
+fn rows_in(reading: &mut Reading) -> Shape {
+    let width = size(reading, &GRID_WIDTH_ARGUMENT);
+    let height = size(reading, &GRID_HEIGHT_ARGUMENT);
+    match reading.subcommand() {
+        "grid" => grid_in(reading, width, height),
+        "hex" => Shape::DiagonalGrid {
+            width,
+            height,
+            hexagons: true,
+        },
+        _ => torus_in(reading, width, height),
     }
 }
 
@@ -404,20 +455,61 @@ fn shape_in(reading: &mut Reading) -> Shape {
     match reading.subcommand() {
         "bipartite" => bipartite_in(reading),
         "tree" => tree_in(reading),
-        "grid" | "torus" => rows_in(reading),
+        "grid" | "hex" | "torus" => rows_in(reading),
         "hypercube" => hypercube_in(reading),
         _ => simple_in(reading),
+    }
+}
+
+/// Notes that a text is no number of percents.
+fn refuse_percent(reading: &mut Reading, found: &str) {
+    reading.refuse_as(format!(in reading.alloc();
+        "--rewire: expected a number of percents from 0 to 100, with six decimals at most, found `{found}`"
+    ));
+}
+
+/// The share of links that are led elsewhere. Where the words name none, an invalid argument is noted.
+pub(crate) fn rewire_in(reading: &mut Reading) -> Portion {
+    let found = reading.needed_text(&REWIRE_ARGUMENT);
+    match percent_of(found.as_str()) {
+        Some(share) => share,
+        None => {
+            refuse_percent(reading, found.as_str());
+            Portion { times: 0, of: 1 }
+        }
     }
 }
 
 /// A small world of so many nodes.
 fn small_world_in(reading: &mut Reading, nodes: u32) -> RandomNetwork {
     let near = size(reading, &NEAR_ARGUMENT);
-    let rewire = size(reading, &REWIRE_ARGUMENT);
+    let Portion { times, of } = rewire_in(reading);
     RandomNetwork::SmallWorld {
         nodes,
         near,
-        rewire,
+        rewire: times,
+        of,
+    }
+}
+
+/// Notes that a text is no chance.
+fn refuse_chance(reading: &mut Reading, found: &str) {
+    reading.refuse_as(format!(in reading.alloc();
+        "--probability: expected a decimal from 0 to 1, with nine decimals at most, found `{found}`"
+    ));
+}
+
+/// A network each of whose pairs is linked with a chance. Where the words name none, an invalid argument is noted.
+fn chance_in(reading: &mut Reading) -> Topology {
+    let nodes = size(reading, &NODES_ARGUMENT);
+    let found = reading.needed_text(&PROBABILITY_ARGUMENT);
+    let chance = billionths_of(found.as_str());
+    if chance.is_none() {
+        refuse_chance(reading, found.as_str());
+    }
+    Topology::Chance {
+        nodes,
+        billionths: chance.unwrap_or(0),
     }
 }
 
@@ -445,6 +537,7 @@ fn random_network_in(reading: &mut Reading) -> RandomNetwork {
 /// The network that is named.
 fn topology_in(reading: &mut Reading) -> Topology {
     match reading.subcommand() {
+        "gnp" => chance_in(reading),
         "random" | "random-tree" | "preferential" | "regular" | "small-world" => {
             let random = random_network_in(reading);
             Topology::RandomNetwork(random)

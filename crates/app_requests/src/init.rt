@@ -4,9 +4,10 @@ ghost use Rattle.std.specs.Prelude.{◌≤◌, IfOk, IfSome};
 use crate::arguments::{
     FILE_OPTION, FLAG, NAMES, NAMES_ARGUMENT, NETWORK, NETWORK_ARGUMENT, NUMBER, WIDTH,
 };
+use crate::decimals::share_of;
 use app_table::{Argument, Choice, Command, Kind, OPTION, Reading, Value, WordsFault, number};
 use link_net::MOST_NODES;
-use net_initial::{ALL_NODES, Amount};
+use net_initial::Amount;
 use std::alloc::{AllocError, Global};
 
 /// An option that may be given as often as wanted.
@@ -268,30 +269,6 @@ pub(crate) fn sets_in(reading: &mut Reading) -> Vec<SetWord> {
         put_set(&mut sets, reading, word.as_str());
     }
     sets
-}
-
-/// The number that six decimals write, of which the last may be left out.
-fn millionths(digits: &str) -> Option<u32> {
-    if digits.len() > 6 {
-        return None;
-    }
-    let mut value = number(digits, 0, 999_999)?;
-    for _ in digits.len()..6 {
-        value = value.checked_mul(10)?;
-    }
-    Some(value)
-}
-
-/// The millionths of a percent that a number of percents writes, 100 at most, with six decimals at most.
-fn share_of(percents: &str) -> Option<u32> {
-    let (whole, digits) = percents.split_once('.').unwrap_or((percents, "0"));
-    let whole = number(whole, 0, 100)?;
-    let rest = millionths(digits)?;
-    let share = whole.checked_mul(1_000_000)?.checked_add(rest)?;
-    if share > ALL_NODES {
-        return None;
-    }
-    Some(share)
 }
 
 /// How many nodes a word asks for: a number, or a share of all nodes with `%` behind it.

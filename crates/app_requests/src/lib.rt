@@ -9,6 +9,7 @@ mod constants;
 mod count;
 mod csv;
 mod cuts;
+mod decimals;
 mod draw;
 mod expand;
 mod explain;

@@ -2,11 +2,12 @@
 ghost use Rattle.std.specs.Prelude.{◌≤◌, IfOk, IfSome};
 
 use crate::arguments::{FILE_OPTION, FLAG, NETWORK, NETWORK_ARGUMENT};
+use crate::decimals::Portion;
 use crate::generate::{
     DIAGONALS, DIAGONALS_ARGUMENT, GRID_HEIGHT, GRID_HEIGHT_ARGUMENT, GRID_WIDTH,
     GRID_WIDTH_ARGUMENT, LINKS, LINKS_ARGUMENT, LINKS_EACH, LINKS_EACH_ARGUMENT, NEAR,
-    NEAR_ARGUMENT, NODES, NODES_ARGUMENT, REWIRE, REWIRE_ARGUMENT, RING_NODES, SEED, SEED_ARGUMENT,
-    TORUS_HEIGHT, TORUS_WIDTH,
+    NEAR_ARGUMENT, NODES, NODES_ARGUMENT, REWIRE, RING_NODES, SEED, SEED_ARGUMENT, TORUS_HEIGHT,
+    TORUS_WIDTH, rewire_in,
 };
 use crate::import::{DROP_LOOPS, HEADER, SCALE, TEXT, UNDIRECTED, factor_in};
 use app_table::{Argument, Choice, Command, OPTION, Reading, Subcommand, Value, WordsFault};
@@ -361,11 +362,12 @@ fn random_in(reading: &mut Reading) -> LargeRandom {
         },
         _ => {
             let near = reading.number_or(&NEAR_ARGUMENT, 0);
-            let rewire = reading.number_or(&REWIRE_ARGUMENT, 0);
+            let Portion { times, of } = rewire_in(reading);
             LargeRandom::SmallWorld {
                 nodes,
                 near,
-                rewire,
+                rewire: times,
+                of,
             }
         }
     }

@@ -2,7 +2,10 @@
 
 use app_files::{Ending, print_out};
 use app_requests::{GenerateRequest, Topology, Weights};
-use net_random::{RandomFault, RandomNetwork, WeightFault, drawn, drawn_text, weighted_text};
+use net_random::{
+    RandomFault, RandomNetwork, WeightFault, chance_list, chance_text, drawn, drawn_text,
+    weighted_text,
+};
 use net_shapes::{Shape, ShapeFault, links_of, made_text};
 use net_text::LinkList;
 use std::alloc::Global;
@@ -16,7 +19,9 @@ fn size_text(shape: &Shape) -> &'static str {
         Shape::Bipartite { .. } => "each side has a node, and both together have 65536 at most",
         Shape::Tree { .. } => "a tree has 1 to 65536 nodes, and an arity of 1 or more",
         Shape::Hypercube { .. } => "a hypercube has 0 to 15 digits",
-        Shape::Grid { .. } => "a grid has a row and a column, and 65536 nodes at most",
+        Shape::Grid { .. } | Shape::DiagonalGrid { .. } => {
+            "a grid has a row and a column, and 65536 nodes at most"
+        }
         Shape::Torus { .. } => "a torus has 3 rows and 3 columns or more, and 65536 nodes at most",
     }
 }
@@ -49,6 +54,19 @@ fn no_random(alloc: Global, fault: RandomFault) -> Ending {
     Ending::usage(String::from_str(alloc, text))
 }
 
+/// The ending where no network is drawn each of whose pairs is linked with a chance.
+fn no_chance(alloc: Global, fault: RandomFault) -> Ending {
+    let text = match fault {
+        RandomFault::NodeCount => "there are 1 to 65536 nodes",
+        RandomFault::TooManyLinks =>
+            "--probability: more than 262144 links came out, which a network may not have: take a smaller one",
+        RandomFault::TooManyNeighbours =>
+            "--probability: a node came out with more than 4096 neighbours: take another seed, or a smaller one",
+        RandomFault::OddEnds | RandomFault::Undrawn | RandomFault::Memory => return Ending::Memory,
+    };
+    Ending::usage(String::from_str(alloc, text))
+}
+
 /// The ending where links get no weights.
 fn no_weights(alloc: Global, fault: WeightFault) -> Ending {
     match fault {
@@ -76,11 +94,22 @@ fn random_links(alloc: Global, random: &RandomNetwork, seed: u32) -> Result<Link
     }
 }
 
+/// The links of the pairs that are drawn with a chance.
+fn chance_links(alloc: Global, nodes: u32, billionths: u32, seed: u32) -> Result<LinkList, Ending> {
+    match chance_list(alloc, nodes, billionths, seed as u64) {
+        Ok(links) => Ok(links),
+        Err(fault) => Err(no_chance(alloc, fault)),
+    }
+}
+
 /// The links that are asked for, all with weight 1.
 fn links_for(alloc: Global, asked: &GenerateRequest) -> Result<LinkList, Ending> {
     match &asked.topology {
         Topology::Shape(shape) => shape_links(alloc, shape),
         Topology::RandomNetwork(random) => random_links(alloc, random, asked.seed),
+        Topology::Chance { nodes, billionths } => {
+            chance_links(alloc, *nodes, *billionths, asked.seed)
+        }
     }
 }
 
@@ -115,6 +144,14 @@ fn random_text(alloc: Global, random: &RandomNetwork, seed: u32) -> Result<Vec<u
     }
 }
 
+/// The network file of the pairs that are drawn with a chance, all of whose links have weight 1.
+fn chance_file(alloc: Global, nodes: u32, billionths: u32, seed: u32) -> Result<Vec<u8>, Ending> {
+    match chance_text(alloc, nodes, billionths, seed as u64) {
+        Ok(text) => Ok(text),
+        Err(fault) => Err(no_chance(alloc, fault)),
+    }
+}
+
 /// The network file with weights that are drawn.
 fn weighted_for(
     alloc: Global,
@@ -133,6 +170,9 @@ fn text_for(alloc: Global, asked: &GenerateRequest) -> Result<Vec<u8>, Ending> {
     match &asked.topology {
         Topology::Shape(shape) => shape_text(alloc, shape),
         Topology::RandomNetwork(random) => random_text(alloc, random, asked.seed),
+        Topology::Chance { nodes, billionths } => {
+            chance_file(alloc, *nodes, *billionths, asked.seed)
+        }
     }
 }
 
