@@ -464,6 +464,17 @@ def cyclic(net):
         yield columns(s=flat(rows))
 
 
+def snowflake(net):
+    """On cells whose centres lie on a lattice of triangles: those at the distance 1 are neighbours."""
+    centres = [(column + row % 2 / 2, row * math.sqrt(0.75)) for row in range(13) for column in range(13)]
+    beside = [{node for node, there in enumerate(centres) if abs(math.dist(here, there) - 1) < 0.01} for here in centres]
+    equal([set(net.near[node]) for node in range(net.nodes)], beside, "the cells beside each")
+    ice = {node for node, value in enumerate(net.initial("ice", 0)) if value}
+    while True:
+        yield columns(ice=[int(node in ice) for node in range(net.nodes)])
+        ice = ice | {node for node in range(net.nodes) if len(beside[node] & ice) == 1}
+
+
 def wave(net):
     is_ring(net)
     for now in count():
@@ -565,7 +576,7 @@ def once(net):
 
 EXAMPLES = [
     flooding, distances, parents, shortest_paths, components, leader, spanning_tree, eccentricity, gossip, independent_set, colouring, k_core,
-    majority, threshold, pagerank, epidemic, life, rule_90, rule_110, brians_brain, wireworld, cyclic, wave, firing_squad, sorting, game,
+    majority, threshold, pagerank, epidemic, life, rule_90, rule_110, brians_brain, wireworld, cyclic, snowflake, wave, firing_squad, sorting, game,
     argmin, once,
 ]
 HORIZON = 420  # rounds that are looked at; all that settle here, or repeat, have done so long before
