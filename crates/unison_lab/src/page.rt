@@ -4,7 +4,7 @@ use crate::explain::steps_at;
 use crate::labels::labels_at;
 use crate::page_names::value_names;
 use crate::page_size::{check_size, steps_too_many};
-use crate::plan_texts::plan_at;
+use crate::plan_texts::{NamedPlan, named_plan_at};
 use crate::progress::Telling;
 use crate::watch::no_rounds;
 use app_files::{Ending, bytes_at, name_at, path_in, print_out, read_once, shown_fields};
@@ -167,13 +167,14 @@ fn data_with(
 fn data_of(
     rt: &HostRuntime,
     threads: &(impl Threads + Sync),
-    plan: Plan,
+    named: NamedPlan,
     asked: &PageRequest,
     fields: &[u32],
 ) -> Result<Vec<u8>, Ending> {
+    let NamedPlan { plan, names } = named;
     let nodes = plan.network().nodes();
     let labels = labels_at(rt, Format::Report, &asked.view.names, nodes)?;
-    data_with(rt, threads, plan, asked, fields, &labels, &[])
+    data_with(rt, threads, plan, asked, fields, &labels, &names)
 }
 
 /// The data of what is asked for.
@@ -182,9 +183,9 @@ fn data_for(
     threads: &(impl Threads + Sync),
     asked: &PageRequest,
 ) -> Result<Vec<u8>, Ending> {
-    let plan = plan_at(rt, &asked.plan)?;
-    let fields = shown_fields(rt.alloc(), plan.program(), &asked.view.only)?;
-    data_of(rt, threads, plan, asked, &fields)
+    let named = named_plan_at(rt, &asked.plan)?;
+    let fields = shown_fields(rt.alloc(), named.plan.program(), &asked.view.only)?;
+    data_of(rt, threads, named, asked, &fields)
 }
 
 /// The ending where a text is no viewer.

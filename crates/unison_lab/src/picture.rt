@@ -1,10 +1,10 @@
 //! `image PROGRAM NETWORK` and `dot PROGRAM NETWORK`: rounds as pictures, and networks for Graphviz.
 
 use crate::labels::labels_at;
-use crate::plan_texts::plan_at;
+use crate::plan_texts::{NamedPlan, named_plan_at};
 use crate::progress::Telling;
 use crate::watch::no_rounds;
-use app_files::{Ending, coloured_field, path_in, print_out, read_once};
+use app_files::{Ending, coloured_field, names_of_field, path_in, print_out, read_once};
 use app_requests::{DotRequest, ImageRequest, PlanPaths};
 use rounds_plan::Plan;
 use run_picture::{
@@ -65,12 +65,6 @@ fn no_picture(alloc: Global, fault: PictureFault) -> Ending {
             Ending::Memory
         }
     }
-}
-
-/// The names of the values 0, 1, 2 and so on of the field that gives the colours. None are known, so that each value is
-/// shown by its number.
-fn value_names(alloc: Global) -> Vec<String> {
-    Vec::new(alloc)
 }
 
 /// How values are shown: by these names, and some in colours of their own.
@@ -150,13 +144,13 @@ fn drawn(
 fn styled_picture(
     rt: &HostRuntime,
     threads: &(impl Threads + Sync),
-    plan: &Plan,
+    named: &NamedPlan,
     asked: &ImageRequest,
     field: u32,
 ) -> Result<Vec<u8>, Ending> {
-    let names = value_names(rt.alloc());
-    let styles = styles_for(rt.alloc(), &names, &asked.colours)?;
-    match drawn(rt, threads, plan, asked, field, &styles) {
+    let names = names_of_field(&named.names, field);
+    let styles = styles_for(rt.alloc(), names, &asked.colours)?;
+    match drawn(rt, threads, &named.plan, asked, field, &styles) {
         Ok(text) => Ok(text),
         Err(fault) => Err(no_picture(rt.alloc(), fault)),
     }
@@ -166,11 +160,11 @@ fn styled_picture(
 fn picture_of(
     rt: &HostRuntime,
     threads: &(impl Threads + Sync),
-    plan: &Plan,
+    named: &NamedPlan,
     asked: &ImageRequest,
 ) -> Result<Vec<u8>, Ending> {
-    let field = coloured_field(rt.alloc(), plan.program(), &asked.field)?;
-    styled_picture(rt, threads, plan, asked, field)
+    let field = coloured_field(rt.alloc(), named.plan.program(), &asked.field)?;
+    styled_picture(rt, threads, named, asked, field)
 }
 
 /// The picture that is asked for.
@@ -179,8 +173,8 @@ fn picture_for(
     threads: &(impl Threads + Sync),
     asked: &ImageRequest,
 ) -> Result<Vec<u8>, Ending> {
-    let plan = plan_at(rt, &asked.plan)?;
-    picture_of(rt, threads, &plan, asked)
+    let named = named_plan_at(rt, &asked.plan)?;
+    picture_of(rt, threads, &named, asked)
 }
 
 /// Refuses standard input for more than one of the texts.
@@ -219,17 +213,17 @@ pub(crate) fn make_image(
 fn labelled(
     rt: &HostRuntime,
     threads: &(impl Threads + Sync),
-    plan: &Plan,
+    named: &NamedPlan,
     asked: &DotRequest,
     field: u32,
     labels: &[String],
 ) -> Result<Vec<u8>, Ending> {
-    let names = value_names(rt.alloc());
-    let styles = styles_for(rt.alloc(), &names, &asked.colours)?;
+    let names = names_of_field(&named.names, field);
+    let styles = styles_for(rt.alloc(), names, &asked.colours)?;
     match network_dot(
         threads,
         rt.alloc(),
-        plan,
+        &named.plan,
         asked.round,
         field,
         labels,
@@ -244,12 +238,13 @@ fn labelled(
 fn network_of(
     rt: &HostRuntime,
     threads: &(impl Threads + Sync),
-    plan: &Plan,
+    named: &NamedPlan,
     asked: &DotRequest,
 ) -> Result<Vec<u8>, Ending> {
+    let plan = &named.plan;
     let field = coloured_field(rt.alloc(), plan.program(), &asked.field)?;
     let labels = labels_at(rt, Format::Report, &asked.names, plan.network().nodes())?;
-    labelled(rt, threads, plan, asked, field, &labels)
+    labelled(rt, threads, named, asked, field, &labels)
 }
 
 /// The network that is asked for.
@@ -258,8 +253,8 @@ fn network_for(
     threads: &(impl Threads + Sync),
     asked: &DotRequest,
 ) -> Result<Vec<u8>, Ending> {
-    let plan = plan_at(rt, &asked.plan)?;
-    network_of(rt, threads, &plan, asked)
+    let named = named_plan_at(rt, &asked.plan)?;
+    network_of(rt, threads, &named, asked)
 }
 
 /// Prints the network that is asked for. The status with which the program ends.
