@@ -68,12 +68,12 @@ pub(crate) fn json_told(fault: JsonFault) -> Told {
         ),
         JsonFault::NoNodes => (
             None,
-            "NoNodes",
+            "NoNodeList",
             "expected an object with a list `nodes`, as NetworkX's node_link_data gives it",
         ),
         JsonFault::NoLinks => (
             None,
-            "NoLinks",
+            "NoLinkList",
             "expected an object with a list `links` or `edges`, as NetworkX's node_link_data gives it",
         ),
         JsonFault::BadNode { fault, .. } => without_line(node_told(fault)),

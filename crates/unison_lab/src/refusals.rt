@@ -23,7 +23,7 @@ fn fields_told(fault: WordsFault) -> (&'static str, &'static str) {
         ),
         WordsFault::TooManyWords => (
             "TooManyFields",
-            "expected two names and, where it has one, a weight; found more than three fields: leave these columns alone",
+            "expected two names and, where it has one, a weight; found more than three fields: take the other columns out",
         ),
         WordsFault::LongLine => ("LongField", "a field has 65536 bytes at most"),
         _ => words_told(fault),
