@@ -3,7 +3,7 @@ ghost use Rattle.std.specs.Prelude.{◌≤◌, IfOk, IfSome};
 ghost use Rattle.app_requests.specs.Requests.{IsRunWithin};
 
 use crate::arguments::{
-    EVERY, EVERY_ARGUMENT, FILE_OPTION, FROM, NAMES, NAMES_ARGUMENT, NETWORK, ONLY, PROGRAM,
+    EVERY, EVERY_ARGUMENT, FILE_OPTION, FLAG, FROM, NAMES, NAMES_ARGUMENT, NETWORK, ONLY, PROGRAM,
     PlanPaths, ROUND, ROUNDS, WIDTH, only_in, span_in,
 };
 use crate::constants::CONSTANT;
@@ -43,9 +43,8 @@ static STOP_ARGUMENT: Argument = STOP;
 
 const NAIVE: Argument = Argument {
     name: "naive",
-    kind: Kind::Flag,
     help: "With --steps, show beside them the same steps by nodes that do not wait",
-    ..OPTION
+    ..FLAG
 };
 
 /// `NAIVE`, as it is read.
