@@ -124,18 +124,14 @@ points_text rows v = flat_map (λ row. point_text row.round (count_in row.counts
 unfoldable pub title_text : KeyView → ℕ → List ℕ
 title_text key v = codes "<title>" ++ (value_text key v ++ codes "</title>")
 
--- the points of a value as a line, behind what stands first in it
-unfoldable pub line_text : List RowView → ℕ → List ℕ
-line_text rows v = codes "\" points=\"" ++ (points_text rows v ++ codes "\"/>")
-
--- what stands first in a line: the colour of a value
-unfoldable pub stroke_text : KeyView → ℕ → List ℕ
-stroke_text key v = codes "<polyline stroke=\"" ++ fill_of key (class_of key v)
+-- the points of a value as a line, with an attribute of this name and value
+unfoldable pub line_text : List ℕ → List ℕ → List RowView → ℕ → List ℕ
+line_text name value rows v = codes "<polyline " ++ (name ++ (codes "=\"" ++ (value ++ (codes "\" points=\"" ++ (points_text rows v ++ codes "\"/>")))))
 
 -- the curve of a value: an edge, and on it a line in the colour of the value
 unfoldable pub curve_text : KeyView → List RowView → ℕ → List ℕ
 curve_text key rows v =
-    codes "<g>" ++ (title_text key v ++ (codes "<polyline class=\"edge" ++ (line_text rows v ++ (stroke_text key v ++ (line_text rows v ++ codes "</g>\n")))))
+    codes "<g>" ++ (title_text key v ++ (line_text (codes "class") (codes "edge") rows v ++ (line_text (codes "stroke") (fill_of key (class_of key v)) rows v ++ codes "</g>\n")))
 
 -- Where curves are drawn, in numbers of rounds and of nodes: a view from a first round over so many, and of 0 to all nodes, fills the plot, turned so that more nodes stand higher.
 unfoldable pub view_text : ℕ → ℕ → ℕ → List ℕ

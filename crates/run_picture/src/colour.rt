@@ -1,11 +1,11 @@
 //! The colours of values.
-ghost use Rattle.std.specs.Prelude.{◌≡◌, ◌++◌, ◌≤◌, OnOk, length, slice_get, string_bytes};
+ghost use Rattle.std.specs.Prelude.{◌≡◌, ◌++◌, ◌≤◌, IfOk, OnOk, length, slice_get, string_bytes};
 ghost use Rattle.run_picture.specs.Chosen.{own_place};
 ghost use Rattle.run_picture.specs.Shades.{class_count, class_of, class_total, colour_of, fill_of, ink_of, is_dark, own_fill, own_is_dark, shade_is_dark, shade_of, step_of};
 
 use crate::chosen::{ValueColour, is_dim, own_place, put_hex};
 use crate::key::{Key, NO_VALUE, rank};
-use std::alloc::AllocError;
+use std::alloc::{AllocError, Global};
 
 /// How many colours the palette has.
 pub(crate) const CLASS_COUNT: usize = 25;
@@ -107,6 +107,15 @@ pub(crate) fn put_fill(out: &mut String, key: &Key<'_>, class: usize) -> Result<
         return out.push_str(colour_of(class));
     }
     put_own_fill(out, key.styles().colours(), class - CLASS_COUNT)
+}
+
+/// The colour of a number.
+pub(crate) fn fill_of(alloc: Global, key: &Key<'_>, class: usize) -> Result<String, AllocError>
+    ensures fill { IfOk result (λ fill. string_bytes fill ≡ fill_of key.now class) }
+{
+    let mut fill = String::new(alloc);
+    put_fill(&mut fill, key, class)?;
+    Ok(fill)
 }
 
 /// Whether black is not read on a colour of the palette.

@@ -1,10 +1,10 @@
 //! Curves of counts, as SVG.
 ghost use Rattle.std.specs.Prelude.{◌≡◌, ◌++◌, ◌<◌, ◌≤◌, OnOk, IfOk, string_bytes};
 ghost use Rattle.std.specs.List.{flat_map};
-ghost use Rattle.run_picture.specs.Curves.{axes_text, curve_text, curves_height, curves_picture, curves_text, line_text, plot_text, plotted, point_text, points_text, stroke_text, styles_text, title_text, view_text};
+ghost use Rattle.run_picture.specs.Curves.{axes_text, curve_text, curves_height, curves_picture, curves_text, line_text, plot_text, plotted, point_text, points_text, styles_text, title_text, view_text};
 
 use crate::axes::{put_count_lines, put_round_lines};
-use crate::colour::{class_of, put_fill};
+use crate::colour::{class_of, fill_of};
 use crate::key::{Key, key_of};
 use crate::legend::{legend_lines, put_legend, put_value};
 use crate::sheet::{put_opening, put_style};
@@ -44,45 +44,53 @@ fn put_title(out: &mut String, key: &Key<'_>, value: u32) -> Result<(), AllocErr
     out.push_str("</title>")
 }
 
-/// The points of a value as a line, behind what stands first in it.
+/// The points of a value as a line, with an attribute.
 #[tactic(auto, unfolding(crate::specs::Curves::line_text))]
-fn put_line(out: &mut String, rows: &[Row], value: u32) -> Result<(), AllocError>
-    ensures text { OnOk result (string_bytes out.new ≡ string_bytes out.old ++ line_text rows.now value) }
+fn put_line(
+    out: &mut String,
+    name: &str,
+    attribute: &str,
+    rows: &[Row],
+    value: u32,
+) -> Result<(), AllocError>
+    ensures text { OnOk result (string_bytes out.new ≡ string_bytes out.old ++ line_text name.now attribute.now rows.now value) }
 {
-    out.push_str("\" points=\"")?;
+    write!(out, "<polyline {name}=\"{attribute}\" points=\"")?;
     put_points(out, rows, value)?;
     out.push_str("\"/>")
 }
 
-/// What stands first in a line: the colour of a value.
-#[tactic(auto, unfolding(crate::specs::Curves::stroke_text))]
-fn put_stroke(out: &mut String, key: &Key<'_>, value: u32) -> Result<(), AllocError>
-    ensures text { OnOk result (string_bytes out.new ≡ string_bytes out.old ++ stroke_text key.now value) }
-{
-    out.push_str("<polyline stroke=\"")?;
-    put_fill(out, key, class_of(key, value))
-}
-
 /// The curve of a value: an edge, and on it a line in the colour of the value.
 #[tactic(auto, unfolding(crate::specs::Curves::curve_text))]
-fn put_curve(out: &mut String, key: &Key<'_>, rows: &[Row], value: u32) -> Result<(), AllocError>
+fn put_curve(
+    out: &mut String,
+    alloc: Global,
+    key: &Key<'_>,
+    rows: &[Row],
+    value: u32,
+) -> Result<(), AllocError>
     ensures text { OnOk result (string_bytes out.new ≡ string_bytes out.old ++ curve_text key.now rows.now value) }
 {
+    let fill = fill_of(alloc, key, class_of(key, value))?;
     out.push_str("<g>")?;
     put_title(out, key, value)?;
-    out.push_str("<polyline class=\"edge")?;
-    put_line(out, rows, value)?;
-    put_stroke(out, key, value)?;
-    put_line(out, rows, value)?;
+    put_line(out, "class", "edge", rows, value)?;
+    put_line(out, "stroke", fill.as_str(), rows, value)?;
     out.push_str("</g>\n")
 }
 
 /// The curves of values, one behind the other.
-fn put_each(out: &mut String, key: &Key<'_>, rows: &[Row], values: &[u32]) -> Result<(), AllocError>
+fn put_each(
+    out: &mut String,
+    alloc: Global,
+    key: &Key<'_>,
+    rows: &[Row],
+    values: &[u32],
+) -> Result<(), AllocError>
     ensures text { OnOk result (string_bytes out.new ≡ string_bytes out.old ++ flat_map (curve_text key.now rows.now) values.now) }
 {
     for value in values {
-        put_curve(out, key, rows, *value)?;
+        put_curve(out, alloc, key, rows, *value)?;
     }
     Ok(())
 }
@@ -101,6 +109,7 @@ fn put_view(out: &mut String, first: u32, across: u32, nodes: u32) -> Result<(),
 /// The curves of values, over the plot.
 fn put_curves(
     out: &mut String,
+    alloc: Global,
     span: &Span,
     nodes: u32,
     key: &Key<'_>,
@@ -110,7 +119,7 @@ fn put_curves(
     ensures text { OnOk result (string_bytes out.new ≡ string_bytes out.old ++ curves_text span.now nodes key.now rows.now values.now) }
 {
     put_view(out, span.first(), span.last() - span.first(), nodes)?;
-    put_each(out, key, rows, values)?;
+    put_each(out, alloc, key, rows, values)?;
     out.push_str("</g></svg>\n")
 }
 
@@ -141,7 +150,7 @@ fn put_plot(
     put_round_lines(out, alloc, span)?;
     put_count_lines(out, alloc, nodes)?;
     put_axes(out)?;
-    put_curves(out, span, nodes, key, rows, values)
+    put_curves(out, alloc, span, nodes, key, rows, values)
 }
 
 /// The styles of all that is drawn.
