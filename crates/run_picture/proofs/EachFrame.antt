@@ -1,18 +1,17 @@
 -- Each frame of a moving picture has its colours.
-use Rattle.std.proofs.Common.{◌≡◌, ◌∙◌, ◌<◌, ◌≤◌, ◌+◌, ◌-◌, ◌*◌, ◌/◌, ◌==◌, ◌↔◌, ℕ, zero, suc, List, [], ◌∷◌, ◌++◌, Bool, true, false, if◌then◌else◌, ap, arith, get_or, length, map, nat_le, refl, slice_index, subst, sym}
-use Rattle.std.proofs.Math.Nat.{div-mul-le_self}
+use Rattle.std.proofs.Common.{◌≡◌, ◌∙◌, ◌<◌, ◌≤◌, ◌+◌, ◌*◌, ◌/◌, ◌==◌, ℕ, zero, suc, List, [], ◌∷◌, ◌++◌, Bool, true, false, if◌then◌else◌, ap, arith, get_or, length, nat_le, refl, slice_index, sym}
 use Rattle.std.proofs.lemmas.Bool.Decides.{nat_tests}
 use Rattle.std.proofs.lemmas.Grind.{common_steps}
 use Rattle.std.proofs.lemmas.List.{get_or_append_left, get_or-append-add}
 use Rattle.std.proofs.lemmas.List.FromFn.{get_or-map-range_with_len, length-map-range_with_len}
 use Rattle.std.proofs.lemmas.Nat.{div-add-mod', mod_below}
-use Rattle.std.specs.List.{flat_map, range_with_len}
+use Rattle.std.specs.List.{flat_map}
 use Rattle.rounds_plan.specs.Plans.{PlanView}
 use Rattle.run_watch.specs.Spans.{SpanView, count_of, round_at, rounds_in}
 use Rattle.run_picture.specs.declared.changes.Change.{Change}
 use Rattle.run_picture.specs.Frames.{values_after, values_in}
-use Rattle.run_picture.specs.Moving.{EachFrameHasItsColours, EachFrameHasItsTime, begins, change_at, changes_from, changes_of, classes_of, most_frames, shown_in}
-use Rattle.run_picture.specs.Shades.{KeyView, class_of}
+use Rattle.run_picture.specs.Moving.{EachFrameHasItsColours, EachFrameHasItsTime, begins, change_at, changes_from, changes_of, classes_of, shown_in}
+use Rattle.run_picture.specs.Shades.{class_of}
 use Rattle.run_picture.proofs.Counts.{values_count}
 
 -- ---- colours

@@ -1,9 +1,8 @@
 -- Values that are told apart by their colours.
-use Rattle.std.proofs.Common.{◌≡◌, ◌≢◌, ◌∙◌, ◌↔◌, ◌<◌, ◌≤◌, ◌+◌, ◌-◌, ◌==◌, ◌||◌, ℕ, zero, suc, List, [], ◌∷◌, ◌++◌, Bool, true, false, cond, if◌then◌else◌, ap, arith, length, max, nat_le, nat_lt, not, refl, slice_index, slice_index_or, subst, sym, take}
+use Rattle.std.proofs.Common.{◌≡◌, ◌≢◌, ◌∙◌, ◌<◌, ◌≤◌, ◌+◌, ◌==◌, ◌||◌, ℕ, zero, suc, List, [], ◌∷◌, Bool, true, false, cond, if◌then◌else◌, ap, arith, length, max, nat_le, nat_lt, not, refl, slice_index, slice_index_or, subst, sym, take}
 use Rattle.std.proofs.lemmas.Bool.Decides.{nat_tests}
-use Rattle.std.proofs.lemmas.Grind.{common_steps}
 use Rattle.std.proofs.lemmas.List.Sums.{prefix_len-le-length}
-use Rattle.std.specs.List.{IsAmong, insert, list_any}
+use Rattle.std.specs.List.{insert, list_any}
 use Rattle.run_picture.specs.declared.chosen.ValueColour.{ValueColour}
 use Rattle.run_picture.specs.Chosen.{StylesView, has_own, own_place}
 use Rattle.run_picture.specs.Shades.{KeyView, SameClassSameValue, blank_key, class_count, class_of, is_among, is_few, key_from, key_of, no_value, rank, shade_of, step_of, with_cell, with_value}

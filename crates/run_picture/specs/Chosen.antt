@@ -1,5 +1,5 @@
 -- How the values of a field are shown: by names, and in colours that are chosen for them.
-use Rattle.std.specs.Prelude.{ℕ, ◌+◌, ◌*◌, ◌/◌, ◌%◌, ◌==◌, Bool, List, [], ◌∷◌, ◌++◌, codes, length, map, max, nat_lt, not, false}
+use Rattle.std.specs.Prelude.{ℕ, ◌+◌, ◌*◌, ◌/◌, ◌%◌, ◌==◌, Bool, List, [], ◌∷◌, ◌++◌, codes, length, max, nat_lt, not, false}
 use Rattle.std.specs.Fmt.{digits}
 use Rattle.std.specs.List.{prefix_len}
 use Rattle.run_picture.specs.declared.chosen.Colour.{Colour}

@@ -1,7 +1,6 @@
-use Rattle.std.proofs.Common.{◌≡◌, ◌≤◌, ℕ, length, arith, nat_lt}
+use Rattle.std.proofs.Common.{ℕ, arith, nat_lt}
 use Rattle.std.proofs.lemmas.List.Sums.{prefix_len-le-length}
 use Rattle.std.proofs.lemmas.Grind.{common_steps}
-use Rattle.run_picture.specs.Shades.{rank}
 use Rattle.run_picture.proofs.key.put_value.Goals as goal
 
 pub insert-requires : goal.insert-requires

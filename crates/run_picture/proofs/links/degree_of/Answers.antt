@@ -1,4 +1,4 @@
-use Rattle.std.proofs.Common.{◌≡◌, ◌∙◌, ℕ, zero, suc, List, [], ◌∷◌, ap, length, refl, slice_get, slice_index_or}
+use Rattle.std.proofs.Common.{◌≡◌, ◌∙◌, ℕ, zero, suc, [], ◌∷◌, ap, length, refl, slice_get}
 use Rattle.std.specs.Option.{option_map, unwrap_or}
 use Rattle.link_net.specs.Neighbours.{Neighbours, degree}
 use Rattle.run_picture.proofs.links.degree_of.Goals as goal

@@ -1,4 +1,4 @@
-use Rattle.std.proofs.Common.{◌≡◌, ◌<◌, arith, append_assoc}
+use Rattle.std.proofs.Common.{◌<◌, arith, append_assoc}
 use Rattle.std.proofs.lemmas.Grind.{common_steps}
 use Rattle.link_net.specs.Neighbours.{degree}
 use Rattle.run_picture.specs.Drawn.{slot_line}

@@ -1,4 +1,4 @@
-use Rattle.std.proofs.Common.{◌≡◌, ◌≤◌, ◌+◌, ◌*◌, ℕ, ap, arith, length, slice_index}
+use Rattle.std.proofs.Common.{◌+◌, ◌*◌, ℕ, ap, arith, length, slice_index}
 use Rattle.std.proofs.lemmas.List.FromFn.{length-map-range_with_len}
 use Rattle.run_picture.specs.Shades.{class_of}
 use Rattle.run_picture.proofs.moving.put_node.Goals as goal

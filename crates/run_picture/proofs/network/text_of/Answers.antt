@@ -1,4 +1,4 @@
-use Rattle.std.proofs.Common.{◌≡◌, ◌∙◌, ◌≤◌, ap, arith, length}
+use Rattle.std.proofs.Common.{ap, arith, length}
 use Rattle.run_picture.proofs.Counts.{values_count}
 use Rattle.run_picture.proofs.network.text_of.Goals as goal
 

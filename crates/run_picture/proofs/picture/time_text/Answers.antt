@@ -1,4 +1,4 @@
-use Rattle.std.proofs.Common.{◌≡◌, ◌∙◌, ◌≤◌, ap, arith, length}
+use Rattle.std.proofs.Common.{ap, arith, length}
 use Rattle.run_picture.proofs.Counts.{cells_few}
 use Rattle.run_picture.proofs.picture.time_text.Goals as goal
 

@@ -1,4 +1,4 @@
-use Rattle.std.proofs.Common.{◌≡◌, ◌<◌, arith, append_assoc}
+use Rattle.std.proofs.Common.{◌<◌, arith, append_assoc}
 use Rattle.std.proofs.lemmas.Grind.{common_steps}
 use Rattle.run_picture.specs.Sheets.{class_style}
 use Rattle.run_watch.proofs.Ranges.{flat_left}

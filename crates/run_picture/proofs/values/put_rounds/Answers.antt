@@ -1,4 +1,4 @@
-use Rattle.std.proofs.Common.{◌≡◌, ◌∙◌, ◌<◌, ◌≤◌, ◌+◌, ◌-◌, ◌++◌, ℕ, List, ap, append_assoc, arith, map, sym}
+use Rattle.std.proofs.Common.{◌≡◌, ◌∙◌, ◌<◌, ◌+◌, ◌-◌, ◌++◌, ℕ, List, ap, append_assoc, arith, map, sym}
 use Rattle.std.specs.List.{flat_map, range_with_len}
 use Rattle.rounds_plan.specs.Plans.{PlanView}
 use Rattle.lockstep.specs.Walking.{RoundView}
