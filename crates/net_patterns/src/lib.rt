@@ -13,6 +13,7 @@ mod runs;
 mod span;
 mod spelling;
 mod states;
+mod writer;
 
 pub use board::Cell;
 pub use fault::PatternFault;

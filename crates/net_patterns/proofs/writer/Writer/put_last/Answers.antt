@@ -1,6 +1,6 @@
 use Rattle.std.proofs.Common.{[], ap, ◌∙◌, ◌++◌, string_bytes}
 use Rattle.net_patterns.specs.OnGrids.{spelling_of}
-use Rattle.net_patterns.proofs.grid_text.Writer.put_last.Goals as goal
+use Rattle.net_patterns.proofs.writer.Writer.put_last.Goals as goal
 
 pub returns : goal.returns
 returns c =

@@ -2,7 +2,7 @@ use Rattle.std.proofs.Common.{◌≡◌, ◌≤◌, ◌+◌, ◌++◌, drop, nat
 use Rattle.std.specs.List.{list_all}
 use Rattle.net_patterns.specs.OnGrids.{no_span, spans_from, spelling_of}
 use Rattle.net_patterns.specs.Written.{written_from}
-use Rattle.net_patterns.proofs.grid_text.Writer.put_cells.Given as goal
+use Rattle.net_patterns.proofs.writer.Writer.put_cells.Given as goal
 
 abbrev pub invariant-loop-node : goal.invariant-loop-node
 invariant-loop-node l = record {
