@@ -106,7 +106,7 @@ fn put_state(
 
 /// The greatest state of cells; 0 where there are none.
 fn greatest_state(cells: &[Cell]) -> u8 {
-    let mut greatest = 0;
+    let mut greatest: u8 = 0;
     for cell in cells {
         greatest = greatest.max(cell.state);
     }
