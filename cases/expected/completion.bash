@@ -6,7 +6,7 @@ _unison() {
   if [ "$COMP_CWORD" -gt "$at" ]; then command=${COMP_WORDS[at]}; fi
   if [ "$COMP_CWORD" -gt $((at + 1)) ]; then form=${COMP_WORDS[at + 1]}; fi
   case $command:$form in
-  :) words="check lockstep run replay compare expand watch count settle cuts schedule explain naive verify page image dot generate import init info csv pack large why completion manual" ;;
+  :) words="check lockstep run replay compare expand watch count settle cuts schedule explain naive verify page image dot generate import init info csv cells pack large why completion manual" ;;
   check:*) options="" ;;
   lockstep:*) options="--rounds --from" ;;
   run:*) options="--rounds --workers --trace --from" ;;
@@ -50,16 +50,31 @@ _unison() {
   schedule:ahead | steps:ahead)
     options="--names --stop --count --seed --refused --from --const"
     ;;
+  schedule:central | steps:central)
+    options="--stop --count --seed --refused --from --const"
+    ;;
+  schedule:synchronous | steps:synchronous)
+    options="--stop --count --seed --refused --from --const"
+    ;;
+  schedule:distributed | steps:distributed)
+    options="--share --stop --count --seed --refused --from --const"
+    ;;
+  schedule:round-robin | steps:round-robin)
+    options="--stop --count --seed --refused --from --const"
+    ;;
+  schedule:adversary | steps:adversary)
+    options="--names --stop --count --seed --refused --from --const"
+    ;;
   schedule:write | steps:write)
     options="--names --from --const"
     ;;
   schedule:* | steps:*)
-    words="sweeps random slow-links starve ahead write"
+    words="sweeps random slow-links starve ahead central synchronous distributed round-robin adversary write"
     options=""
     ;;
   explain:* | tell:*)
     words=""
-    options="--stop --counts --from --const"
+    options="--stop --names --counts --slots --from --const"
     ;;
   naive:*)
     words=""
@@ -71,15 +86,15 @@ _unison() {
     ;;
   page:*)
     words=""
-    options="--rounds --every --steps --stop --only --names --grid --from --const --viewer"
+    options="--rounds --every --steps --stop --naive --only --names --node-field --grid --from --const --viewer"
     ;;
   image:*)
     words=""
-    options="--rounds --every --field --counts --grid --from --const"
+    options="--rounds --every --field --counts --grid --animate --frame-time --colours --from --const"
     ;;
   dot:*)
     words=""
-    options="--rounds --field --names --from --const"
+    options="--rounds --field --names --colours --from --const"
     ;;
   generate:path | make:path)
     options="--weights --seed"
@@ -103,6 +118,9 @@ _unison() {
     options="--weights --seed"
     ;;
   generate:grid | make:grid)
+    options="--diagonals --weights --seed"
+    ;;
+  generate:hex | make:hex)
     options="--weights --seed"
     ;;
   generate:torus | make:torus)
@@ -110,6 +128,9 @@ _unison() {
     ;;
   generate:random | make:random)
     options="--links --seed --weights"
+    ;;
+  generate:gnp | make:gnp)
+    options="--probability --seed --weights"
     ;;
   generate:random-tree | make:random-tree)
     options="--seed --weights"
@@ -124,12 +145,13 @@ _unison() {
     options="--near --rewire --seed --weights"
     ;;
   generate:* | make:*)
-    words="path ring star complete bipartite tree hypercube grid torus random random-tree preferential regular small-world"
+    words="path ring star complete bipartite tree hypercube grid hex torus random gnp random-tree preferential regular small-world"
     options=""
     ;;
   import:edges | take:edges)
-    options="--scale --drop-loops --parallel --names --header --numbers"
+    options="--scale --drop-loops --parallel --names --header --numbers --separator"
     [ "$previous" = --parallel ] && words="min max first"
+    [ "$previous" = --separator ] && words="tab comma"
     ;;
   import:matrix-market | take:matrix-market)
     options="--scale --drop-loops --parallel --undirected"
@@ -139,8 +161,12 @@ _unison() {
     options="--scale --drop-loops --parallel --names --undirected"
     [ "$previous" = --parallel ] && words="min max first"
     ;;
+  import:json | take:json)
+    options="--scale --drop-loops --parallel --names --undirected"
+    [ "$previous" = --parallel ] && words="min max first"
+    ;;
   import:* | take:*)
-    words="edges matrix-market dot"
+    words="edges matrix-market dot json"
     options=""
     ;;
   init:* | open:*)
@@ -155,6 +181,11 @@ _unison() {
   csv:* | names:*)
     words=""
     options="--names --node-field"
+    ;;
+  cells:*)
+    words=""
+    options="--width --field --format"
+    [ "$previous" = --format ] && words="rle text"
     ;;
   pack:edges)
     options="--nodes --directed --scale --drop-loops --keep-loops --parallel --header --names"

@@ -113,7 +113,8 @@ fn greatest_state(cells: &[Cell]) -> u8 {
     greatest
 }
 
-/// Puts the openings that a word of `--cells` asks for, one for each state of its pattern.
+/// Puts the openings that a word of `--cells` asks for, one for each state of its pattern, and where it has no live cell one of
+/// no node.
 fn put_word(
     openings: &mut Vec<Opening>,
     rt: &HostRuntime,
@@ -122,7 +123,7 @@ fn put_word(
 ) -> Result<(), Ending> {
     let cells = cells_at(rt, word.path.as_str())?;
     let _all = nodes_under(rt.alloc(), grid, word, &cells)?;
-    for state in 1..=greatest_state(&cells) {
+    for state in 1..=greatest_state(&cells).max(1) {
         put_state(openings, rt.alloc(), grid, word, &cells, state)?;
     }
     Ok(())
