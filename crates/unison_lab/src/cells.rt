@@ -80,7 +80,7 @@ fn grid_of(alloc: Global, nodes: u32, width: u32) -> Result<Grid, Ending> {
     Ok(Grid { width, nodes })
 }
 
-/// Puts the opening that the cells of a state ask for, where there are some.
+/// Puts the opening that the cells of a state ask for, where there are some, or no cells at all.
 fn put_state(
     openings: &mut Vec<Opening>,
     alloc: Global,
@@ -90,7 +90,7 @@ fn put_state(
     state: u8,
 ) -> Result<(), Ending> {
     let alike = cells_of_state(alloc, cells, state)?;
-    if alike.is_empty() {
+    if alike.is_empty() && !cells.is_empty() {
         return Ok(());
     }
     let nodes = nodes_under(alloc, grid, word, &alike)?;
