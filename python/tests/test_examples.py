@@ -9,12 +9,11 @@ from unison import schedule
 
 
 def lists():
-    """Three of the lists of `examples/check`: programs, networks and rounds of the examples and of the cookbook, and replays. The second of
-    all has models and the fifth has pictures."""
+    """The first three lists of `examples/check`: programs, networks and rounds of the examples and of the cookbook, and replays; the others have
+    pictures and models."""
     found = re.findall(r"<<LIST\n(.*?)\nLIST\n", (EXAMPLES / "check").read_text(), re.DOTALL)
     assert len(found) == 5, "examples/check has other lists"
-    examples, _, cookbook, steps, _ = ([line.split() for line in text.splitlines()] for text in found)
-    return examples, cookbook, steps
+    return [[line.split() for line in text.splitlines()] for text in found[:3]]
 
 
 def runs():
