@@ -126,13 +126,37 @@ function hypercubeLayout(run) {
   return isCube ? layoutOf("hypercube", ...places(run, (node) => [sum(node, 0), -sum(node, 1)])) : null;
 }
 
-/** Rows of nodes, each linked with the one at its right and the one below it. */
+/** How many links a grid has, with so many from each place where four of its nodes meet. */
+function gridLinks(width, height, slanted) {
+  return width * (height - 1) + (width - 1) * height + slanted * (width - 1) * (height - 1);
+}
+
+/** Whether a node of a grid is linked with a later one in its own row, or in the next one with the node below or one so many columns off. */
+function isGridStep(from, to, width, offs) {
+  const across = (to % width) - (from % width);
+  const down = Math.floor(to / width) - Math.floor(from / width);
+  return down === 0 ? across === 1 : down === 1 && (across === 0 || offs.includes(across));
+}
+
+/** Rows of nodes, each linked with the one at its right and the one below it; with diagonals or without. */
 function gridLayout(run) {
+  const diagonals = run.degree(0) === 3;
+  const width = run.degree(0) === 2 || diagonals ? run.near[1] : 0;
+  const height = run.nodes / width;
+  const joins = (from, to) => isGridStep(from, to, width, diagonals ? [-1, 1] : []);
+  const isGrid = width > 1 && Number.isInteger(height) && linkCount(run) === gridLinks(width, height, diagonals ? 2 : 0) && allLinks(run, joins);
+  return isGrid ? latticeLayout(run, diagonals ? "grid with diagonals" : "grid", width) : null;
+}
+
+/** Hexagonal cells in rows, of which each second one is shifted to the right by half a cell. */
+function hexagonLayout(run) {
   const width = run.degree(0) === 2 ? run.near[1] : 0;
   const height = run.nodes / width;
-  const joins = (from, to) => (to === from + 1 && to % width !== 0) || to === from + width;
-  const isGrid = width > 1 && Number.isInteger(height) && linkCount(run) === width * (height - 1) + (width - 1) * height && allLinks(run, joins);
-  return isGrid ? latticeLayout(run, "grid", width) : null;
+  const row = (node) => Math.floor(node / width);
+  const joins = (from, to) => isGridStep(from, to, width, [row(from) % 2 === 1 ? 1 : -1]);
+  const isHexagons = width > 1 && height > 1 && Number.isInteger(height) && linkCount(run) === gridLinks(width, height, 1) && allLinks(run, joins);
+  const place = (node) => [(node % width) + (row(node) % 2) / 2, row(node) * Math.sqrt(0.75)];
+  return isHexagons ? layoutOf("hexagons", ...places(run, place), { isLattice: true }) : null;
 }
 
 /** Whether two cells of a torus are neighbours, by how far apart their rows and columns are; with diagonals or without. */
@@ -157,7 +181,7 @@ function latticeLayout(run, kind, width) {
     return cellLayout(run, width, kind);
   }
   const [xs, ys] = places(run, (node) => [node % width, Math.floor(node / width)]);
-  return layoutOf(kind, xs, ys, { isLattice: true, stubs: kind === "grid" ? null : stubsOf(run, width, run.nodes / width) });
+  return layoutOf(kind, xs, ys, { isLattice: true, stubs: kind.startsWith("grid") ? null : stubsOf(run, width, run.nodes / width) });
 }
 
 /** For each link how it sets out from its lesser end where it goes round the edge, as two parts at places 2 l and 2 l + 1; 0 and 0 elsewhere. */
@@ -257,7 +281,7 @@ function roundTree(run, tree, spots) {
 }
 
 /** The shapes that are recognised, the first one that fits. */
-const SHAPES = [starLayout, completeLayout, chainLayout, gridLayout, torusLayout, treeLayout, bipartiteLayout, hypercubeLayout];
+const SHAPES = [starLayout, completeLayout, chainLayout, gridLayout, hexagonLayout, torusLayout, treeLayout, bipartiteLayout, hypercubeLayout];
 
 /**
  * The layout of a run's network: cells where a grid is asked for, else the first known shape that its links have, else spread out; null where

@@ -43,9 +43,16 @@ def hypercube(digits):
     return [(node, node | 1 << digit) for node in range(1 << digits) for digit in range(digits) if not node >> digit & 1]
 
 
-def grid(width, height):
+def grid(width, height, diagonals=False):
     across = [(row * width + column, row * width + column + 1) for row in range(height) for column in range(width - 1)]
-    return across + [(node, node + width) for node in range(width * (height - 1))]
+    slanted = [(row * width + column + far, (row + 1) * width + column + 1 - far) for row in range(height - 1) for column in range(width - 1) for far in (0, 1)]
+    return across + [(node, node + width) for node in range(width * (height - 1))] + (slanted if diagonals else [])
+
+
+def hexagons(width, height):
+    """Rows of hexagonal cells, each second one shifted to the right by half a cell."""
+    shifted = [(row * width + column, (row + 1) * width + column + (1 if row % 2 else -1)) for row in range(height - 1) for column in range(width)]
+    return grid(width, height) + [(one, other) for one, other in shifted if other // width == one // width + 1]
 
 
 def torus(width, height, diagonals=False):
