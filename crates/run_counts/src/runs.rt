@@ -87,6 +87,7 @@ pub(crate) fn runs_of<R: Threads + Sync>(
 {
     let runs = variants
         .par_iter()
+        .with_min_len(1)
         .map(
             |variant: &Variant<'_>| -> Result<Run, AllocError>
                 requires { refusal_of variant.now.plan.now span.now counting.now ≡ None }
