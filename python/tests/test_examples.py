@@ -86,7 +86,7 @@ def test_replayed_sweeps_end_with_the_reports():
 def test_what_becomes_of_each_program_of_the_cookbook():
     """The table of docs/cookbook.md tells it."""
     rows = re.findall(r"^\| \[`(\w+)`\].*?`examples/([\w/]+)\.toml` \|[^|]*\| ([^|]*) \|$", (ROOT / "docs" / "cookbook.md").read_text(), re.MULTILINE)
-    assert len(rows) == 26
+    assert len(rows) == 29
     refused = 0
     for name, net, outcome in rows:
         rules = program(f"cookbook/{name}")
