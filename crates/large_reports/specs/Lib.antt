@@ -1,2 +1,3 @@
 pub mod Reported
 pub mod Csv
+pub mod Records

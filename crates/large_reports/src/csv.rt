@@ -1,20 +1,21 @@
 //! The states of all nodes as CSV.
-ghost use Rattle.std.specs.Prelude.{◌≡◌, ◌≤◌, ◌++◌, IfOk, OnOk, length, map, string_bytes};
+ghost use Rattle.std.specs.Prelude.{◌≡◌, ◌≤◌, ◌++◌, IfOk, OnOk, length, map, slice_get, string_bytes};
 ghost use Rattle.std.specs.List.{flat_map};
 ghost use Rattle.rule_check.specs.Value.{names_of};
-ghost use Rattle.large_reports.specs.Csv.{csv_line, csv_text, heading_line, name_cell, value_cell};
+ghost use Rattle.run_watch.specs.Watching.{names_in};
+ghost use Rattle.large_reports.specs.Csv.{cell, csv_line, csv_text, heading_line, value_label, value_labels};
 
 use crate::names::field_names;
 use rule_check::{Program, State};
+use run_watch::put_label;
 use std::alloc::{AllocError, Global};
 
 /// Puts names, each behind a comma.
 fn put_names(out: &mut String, names: &[&str]) -> Result<(), AllocError>
-    ensures text { OnOk result (string_bytes out.new ≡ string_bytes out.old ++ flat_map name_cell (map (λ name. name.now) names.now)) }
+    ensures text { OnOk result (string_bytes out.new ≡ string_bytes out.old ++ flat_map cell (map (λ name. name.now) names.now)) }
 {
     for name in names {
-        out.push_str(",")?;
-        out.push_str(name)?;
+        write!(out, ",{name}")?;
     }
     Ok(())
 }
@@ -29,37 +30,68 @@ fn put_headings(out: &mut String, program: &Program) -> Result<(), AllocError>
     out.push_str("\n")
 }
 
-/// Puts values, each behind a comma.
-fn put_values(out: &mut String, values: &[u32]) -> Result<(), AllocError>
-    ensures text { OnOk result (string_bytes out.new ≡ string_bytes out.old ++ flat_map value_cell values.now) }
+/// The names of the values of the field at a place; none past the last field that has some.
+fn names_at(names: &[Vec<String>], place: usize) -> &[String]
+    ensures names { result.now ≡ names_in (slice_get names.now place) }
 {
-    for value in values {
-        write!(out, ",{value}")?;
+    match names.get(place) {
+        Some(names) => names.as_slice(),
+        None => &[],
+    }
+}
+
+/// Puts what stands for a value, which has one of these names where there are so many, behind a comma.
+fn put_value(out: &mut String, names: &[String], value: u32) -> Result<(), AllocError>
+    ensures text { OnOk result (string_bytes out.new ≡ string_bytes out.old ++ cell (value_label names.now value)) }
+{
+    out.push_str(",")?;
+    put_label(out, names, value)
+}
+
+/// Puts what stands for the values of the first fields, each behind a comma.
+fn put_values(out: &mut String, names: &[Vec<String>], values: &[u32]) -> Result<(), AllocError>
+    ensures text { OnOk result (string_bytes out.new ≡ string_bytes out.old ++ flat_map cell (value_labels names.now 0 values.now)) }
+{
+    for (place, value) in values.iter().enumerate() {
+        put_value(out, names_at(names, place), *value)?;
     }
     Ok(())
 }
 
 /// Puts the line of a node.
-fn put_node(out: &mut String, fields: u32, node: usize, state: &State) -> Result<(), AllocError>
+fn put_node(
+    out: &mut String,
+    names: &[Vec<String>],
+    fields: u32,
+    node: usize,
+    state: &State,
+) -> Result<(), AllocError>
     requires few { fields ≤ 8 }
-    ensures text { OnOk result (string_bytes out.new ≡ string_bytes out.old ++ csv_line fields node state.now) }
+    ensures text { OnOk result (string_bytes out.new ≡ string_bytes out.old ++ csv_line names.now fields node state.now) }
 {
     write!(out, "{node}")?;
-    put_values(out, &state.words[..fields as usize])?;
+    put_values(out, names, &state.words[..fields as usize])?;
     out.push_str("\n")
 }
 
 /// The states of all nodes as CSV: a line of headings, `node` and the program's fields in order of declaration, and a
-/// line for each node by rising number, with its values. It is what `unison csv` prints of a report with numbers for
-/// names.
-pub fn csv_states(alloc: Global, program: &Program, states: &[State]) -> Result<Vec<u8>, AllocError>
-    ensures text { IfOk result (λ v. v.items ≡ csv_text (names_of program.now) states.now) }
+/// line for each node by rising number, with its values. Of a field whose values have names, 0 and so on, the name stands
+/// in place of the number; `names` has those of each field in order, and a value past the last name, or of a field past
+/// the last of `names`, is its number. What a reader gets back, `csv_is_read_back` says. Where no field has names, it is
+/// what `unison csv` prints of a report with numbers for the nodes' names.
+pub fn csv_states(
+    alloc: Global,
+    program: &Program,
+    names: &[Vec<String>],
+    states: &[State],
+) -> Result<Vec<u8>, AllocError>
+    ensures text { IfOk result (λ v. v.items ≡ csv_text names.now (names_of program.now) states.now) }
 {
     let fields = program.field_count();
     let mut out = String::new(alloc);
     put_headings(&mut out, program)?;
     for (node, state) in states.iter().enumerate() {
-        put_node(&mut out, fields, node, state)?;
+        put_node(&mut out, names, fields, node, state)?;
     }
     Ok(out.into_bytes())
 }

@@ -5,19 +5,46 @@ use crate::binary::check_output;
 use crate::progress::Telling;
 use crate::rounds::{move_to, plan_of};
 use crate::start::Start;
-use app_files::{Ending, field_place, print_out};
+use app_files::{Ending, field_place, names_of_field, print_out};
 use app_requests::ColumnFormat;
 use large_rounds::{LargeWalk, push_column};
 use npy_arrays::ArrayShape;
 use rule_check::State;
-use run_watch::{Progress, Span};
+use run_watch::{Progress, Span, put_label};
 use std::alloc::{AllocError, Global};
 use std::thread::Threads;
 
-/// Adds a line for each node: the round, its number, and its value.
-fn put_lines(text: &mut String, round: u32, values: &[u32]) -> Result<(), AllocError> {
+/// A field that is shown.
+#[derive(Clone, Copy)]
+struct ShownField<'a> {
+    place: u32,
+    name: &'a str,
+    /// What its values are called, 0 and so on; a value past the last is its number.
+    values: &'a [String],
+}
+
+/// Adds the line of a node: the round, its number, and its value, by its name among these where it has one.
+fn put_line(
+    text: &mut String,
+    round: u32,
+    node: usize,
+    names: &[String],
+    value: u32,
+) -> Result<(), AllocError> {
+    write!(text, "{round},{node},")?;
+    put_label(text, names, value)?;
+    text.push_str("\n")
+}
+
+/// Adds the lines of all nodes.
+fn put_lines(
+    text: &mut String,
+    round: u32,
+    names: &[String],
+    values: &[u32],
+) -> Result<(), AllocError> {
     for (node, value) in values.iter().enumerate() {
-        write!(text, "{round},{node},{value}\n")?;
+        put_line(text, round, node, names, *value)?;
     }
     Ok(())
 }
@@ -54,14 +81,14 @@ fn put_rounds(
     alloc: Global,
     walk: &mut LargeWalk<'_>,
     span: &Span,
-    field: u32,
+    field: ShownField<'_>,
     telling: &mut Telling<'_>,
 ) -> Result<(), AllocError> {
     for step in 0..=span.steps() {
         let round = span.round_at(step);
         let states = states_at(alloc, threads, walk, round, telling)?;
-        let values = column_of(alloc, &states, field)?;
-        put_lines(text, round, &values)?;
+        let values = column_of(alloc, &states, field.place)?;
+        put_lines(text, round, field.values, &values)?;
     }
     Ok(())
 }
@@ -89,10 +116,10 @@ fn lines_of(
     threads: &(impl Threads + Sync),
     walk: &mut LargeWalk<'_>,
     span: &Span,
-    field: u32,
-    name: &str,
+    field: ShownField<'_>,
     telling: &mut Telling<'_>,
 ) -> Result<Vec<u8>, AllocError> {
+    let name = field.name;
     let mut text = format!(in alloc; "round,node,{name}\n")?;
     put_rounds(threads, &mut text, alloc, walk, span, field, telling)?;
     Ok(text.into_bytes())
@@ -127,7 +154,7 @@ fn output_of(
     count: usize,
 ) -> Result<Vec<u8>, Ending> {
     let alloc = rt.alloc();
-    let field = field_place(alloc, &start.program, "--field", name)?;
+    let place = field_place(alloc, &start.program, "--field", name)?;
     let plan = plan_of(alloc, start, count)?;
     let mut walk = plan.shared_walk(alloc, count)?;
     let last = span.round_at(span.steps());
@@ -135,10 +162,16 @@ fn output_of(
     let nodes = start.network.nodes();
     match format {
         ColumnFormat::Csv => {
-            let lines = lines_of(alloc, threads, &mut walk, span, field, name, &mut telling)?;
+            let values = names_of_field(&start.names, place);
+            let field = ShownField {
+                place,
+                name,
+                values,
+            };
+            let lines = lines_of(alloc, threads, &mut walk, span, field, &mut telling)?;
             Ok(lines)
         }
-        ColumnFormat::Npy => table_of(alloc, threads, &mut walk, span, field, nodes, &mut telling),
+        ColumnFormat::Npy => table_of(alloc, threads, &mut walk, span, place, nodes, &mut telling),
     }
 }
 

@@ -199,7 +199,7 @@ fn output_of(
 ) -> Result<Vec<u8>, Ending> {
     match show {
         Show::All(StatesFormat::Report) => Ok(report_states(alloc, program, rounds, states)?),
-        Show::All(StatesFormat::Csv) => Ok(csv_states(alloc, program, states)?),
+        Show::All(StatesFormat::Csv) => Ok(csv_states(alloc, program, names, states)?),
         Show::All(StatesFormat::Npy) => table_of(alloc, program, states),
         Show::Column(field) => row_of(alloc, states, field),
         Show::Counts(field) => {

@@ -5,4 +5,4 @@ use Rattle.large_reports.proofs.csv.csv_states.Given as goal
 
 abbrev pub invariant-loop-node : goal.invariant-loop-node
 invariant-loop-node l =
-    string_bytes l.out ++ csv_lines (length (names_of l.program)) l.node (drop l.node l.states) ≡ csv_text (names_of l.program) l.states
+    string_bytes l.out ++ csv_lines l.names (length (names_of l.program)) l.node (drop l.node l.states) ≡ csv_text l.names (names_of l.program) l.states
