@@ -24,6 +24,7 @@ pub use counting::counted;
 pub use ensemble::{Ensemble, Variant};
 pub use laws::{cells_are_counts, csv_is_read_back, means_are_nearest};
 pub use rows::counted_rows;
+pub use runs::RunsProgress;
 pub use table::Row;
 pub use together::{MOST_RUNS, counted_runs, mean_counts};
 pub use values::{count_in, values_of};

@@ -46,6 +46,12 @@ impl Run {
     }
 }
 
+/// Who is told how many of several runs are made.
+pub trait RunsProgress {
+    /// One more run is made. Threads that make runs side by side may tell it at once.
+    fn made(&self);
+}
+
 /// Nobody is told how far the rounds are.
 #[derive(Drop)]
 struct Silent;
@@ -55,12 +61,13 @@ impl Progress for Silent {
 }
 
 /// The run of a variant, in one thread.
-fn run_of(
+fn run_of<P: RunsProgress>(
     rt: &(impl Threads + Sync),
     alloc: Global,
     variant: &Variant<'_>,
     span: &Span,
     counting: &Counting<'_>,
+    progress: &P,
 ) -> Result<Run, AllocError>
     requires fits { refusal_of variant.now.plan.now span.now counting.now ≡ None }
     ensures run { IfOk result (IsRunOf span.now counting.now variant.now) }
@@ -68,6 +75,7 @@ fn run_of(
     let course = Course::new(alloc, variant.plan)?;
     let mut walk = course.walk(alloc)?;
     let rows = rows_of(rt, alloc, &mut walk, span, counting, &mut Silent)?;
+    progress.made();
     Ok(Run {
         value: variant.value,
         rows,
@@ -75,12 +83,13 @@ fn run_of(
 }
 
 /// The runs of variants, in their order, made side by side by as many threads as there are processors.
-pub(crate) fn runs_of<R: Threads + Sync>(
+pub(crate) fn runs_of<R: Threads + Sync, P: RunsProgress + Sync>(
     rt: &R,
     alloc: Global,
     variants: &[Variant<'_>],
     span: &Span,
     counting: &Counting<'_>,
+    progress: &P,
 ) -> Result<Vec<Run>, AllocError>
     requires fits { All (λ v. refusal_of v.plan.now span.now counting.now ≡ None) variants.now }
     ensures runs { IfOk result (λ runs. AllZip (IsRunOf span.now counting.now) variants.now runs.items) }
@@ -92,7 +101,7 @@ pub(crate) fn runs_of<R: Threads + Sync>(
             |variant: &Variant<'_>| -> Result<Run, AllocError>
                 requires { refusal_of variant.now.plan.now span.now counting.now ≡ None }
                 ensures { IfOk result (IsRunOf span.entry.now counting.entry.now variant.now) }
-            { run_of(rt, alloc, variant, span, counting) },
+            { run_of(rt, alloc, variant, span, counting, progress) },
         )
         .collect::<Result<Vec<Run>, AllocError>>(rt, alloc)?;
     runs

@@ -14,7 +14,7 @@ use crate::ensemble::{Ensemble, Variant};
 use crate::mean_columns::columns_of;
 use crate::mean_table::means_table;
 use crate::run_table::runs_table;
-use crate::runs::runs_of;
+use crate::runs::{RunsProgress, runs_of};
 use crate::values::values_in;
 use rule_check::Program;
 use run_watch::{Span, WatchFault};
@@ -45,18 +45,19 @@ fn first_program<'a>(variants: &[Variant<'a>]) -> &'a Program
 }
 
 /// The text of runs, where nothing refuses them.
-fn counted_text<R: Threads + Sync>(
+fn counted_text<R: Threads + Sync, P: RunsProgress + Sync>(
     rt: &R,
     alloc: Global,
     ensemble: &Ensemble<'_>,
     span: &Span,
     counting: &Counting<'_>,
+    progress: &P,
 ) -> Result<Vec<u8>, AllocError>
     requires some { 1 ≤ length ensemble.now.variants.now }
     requires fits { refusal_in span.now counting.now ensemble.now.variants.now ≡ None }
     ensures text { IfOk result (λ v. AreCounted ensemble.now span.now counting.now v.items) }
 {
-    let runs = runs_of(rt, alloc, ensemble.variants, span, counting)?;
+    let runs = runs_of(rt, alloc, ensemble.variants, span, counting, progress)?;
     let values = values_in(alloc, &runs)?;
     let program = first_program(ensemble.variants);
     let text = runs_table(alloc, ensemble.name, program, counting, &values, &runs)?;
@@ -64,19 +65,20 @@ fn counted_text<R: Threads + Sync>(
 }
 
 /// The text of the means of runs, where nothing refuses them.
-fn means_text<R: Threads + Sync>(
+fn means_text<R: Threads + Sync, P: RunsProgress + Sync>(
     rt: &R,
     alloc: Global,
     ensemble: &Ensemble<'_>,
     span: &Span,
     counting: &Counting<'_>,
+    progress: &P,
 ) -> Result<Vec<u8>, AllocError>
     requires some { 1 ≤ length ensemble.now.variants.now }
     requires few { length ensemble.now.variants.now ≤ most_runs }
     requires fits { refusal_in span.now counting.now ensemble.now.variants.now ≡ None }
     ensures text { IfOk result (λ v. AreMeans ensemble.now span.now counting.now v.items) }
 {
-    let runs = runs_of(rt, alloc, ensemble.variants, span, counting)?;
+    let runs = runs_of(rt, alloc, ensemble.variants, span, counting, progress)?;
     let values = values_in(alloc, &runs)?;
     let columns = columns_of(alloc, &values, counting.figures)?;
     let program = first_program(ensemble.variants);
@@ -86,16 +88,18 @@ fn means_text<R: Threads + Sync>(
 
 /// What `counted` gives of each of several runs, in one table: the lines of a run behind those of the run before, each
 /// with the run's value of what varies in a column in front. A column for each value stands there where 64 values at
-/// most occur in all rounds of all runs. The runs are made side by side by as many threads as there are processors.
+/// most occur in all rounds of all runs. The runs are made side by side by as many threads as there are processors, and
+/// `progress` is told of each that is made.
 ///
 /// The fault is that of the first run that has one, as `counted` tells it, before anything is done; `Memory` only where
 /// none has one.
-pub fn counted_runs<R: Threads + Sync>(
+pub fn counted_runs<R: Threads + Sync, P: RunsProgress + Sync>(
     rt: &R,
     alloc: Global,
     ensemble: &Ensemble<'_>,
     span: &Span,
     counting: &Counting<'_>,
+    progress: &P,
 ) -> Result<Vec<u8>, WatchFault>
     requires some { 1 ≤ length ensemble.now.variants.now }
     ensures text { IfOk result (λ v. AreCounted ensemble.now span.now counting.now v.items) }
@@ -106,7 +110,7 @@ pub fn counted_runs<R: Threads + Sync>(
     if let Some(fault) = refusal_in(span, counting, ensemble.variants) {
         return Err(fault);
     }
-    let text = counted_text(rt, alloc, ensemble, span, counting)?;
+    let text = counted_text(rt, alloc, ensemble, span, counting, progress)?;
     Ok(text)
 }
 
@@ -114,16 +118,17 @@ pub fn counted_runs<R: Threads + Sync>(
 /// line of the round, how many runs are counted in it, and for each column the mean of its numbers in these runs and the
 /// standard deviation of the sample, both with four digits behind the point and rounded to the nearest. There is no
 /// deviation where one run is counted. Where more than 64 values occur in all rounds of all runs, there are columns for
-/// the further numbers alone.
+/// the further numbers alone. The runs are made, and told, as those of `counted_runs`.
 ///
 /// The fault is that of the first run that has one, as `counted` tells it, before anything is done; `Memory` only where
 /// none has one.
-pub fn mean_counts<R: Threads + Sync>(
+pub fn mean_counts<R: Threads + Sync, P: RunsProgress + Sync>(
     rt: &R,
     alloc: Global,
     ensemble: &Ensemble<'_>,
     span: &Span,
     counting: &Counting<'_>,
+    progress: &P,
 ) -> Result<Vec<u8>, WatchFault>
     requires some { 1 ≤ length ensemble.now.variants.now }
     requires few { length ensemble.now.variants.now ≤ most_runs }
@@ -135,6 +140,6 @@ pub fn mean_counts<R: Threads + Sync>(
     if let Some(fault) = refusal_in(span, counting, ensemble.variants) {
         return Err(fault);
     }
-    let text = means_text(rt, alloc, ensemble, span, counting)?;
+    let text = means_text(rt, alloc, ensemble, span, counting, progress)?;
     Ok(text)
 }

@@ -5,6 +5,7 @@ ghost use Rattle.run_counts.specs.Ensembles.{most_runs};
 
 use crate::count::Counted;
 use crate::plan_texts::plan_of;
+use crate::progress::RunsTelling;
 use crate::watch::no_rounds;
 use app_files::{Ending, bytes_at, bytes_where, check_model, expanded_text, state_names};
 use app_requests::{CountRequest, PlanPaths, Varied};
@@ -30,10 +31,8 @@ struct Run {
     plan: Plan,
 }
 
-/// The texts at these paths; the program is to be a model.
-fn texts_at(rt: &HostRuntime, paths: &PlanPaths) -> Result<Texts, Ending> {
-    check_model(rt.alloc(), paths.program.as_str())?;
-    let model = bytes_at(rt, paths.program.as_str())?;
+/// The texts at these paths, of which that of the program is this.
+fn texts_with(rt: &HostRuntime, paths: &PlanPaths, model: Vec<u8>) -> Result<Texts, Ending> {
     let network = bytes_at(rt, paths.network.as_str())?;
     let report = bytes_where(rt, &paths.from)?;
     Ok(Texts {
@@ -41,6 +40,13 @@ fn texts_at(rt: &HostRuntime, paths: &PlanPaths) -> Result<Texts, Ending> {
         network,
         report,
     })
+}
+
+/// The texts at these paths; the program is to be a model.
+fn texts_at(rt: &HostRuntime, paths: &PlanPaths) -> Result<Texts, Ending> {
+    check_model(rt.alloc(), paths.program.as_str())?;
+    let model = bytes_at(rt, paths.program.as_str())?;
+    texts_with(rt, paths, model)
 }
 
 /// Puts a constant with this value behind the others.
@@ -130,11 +136,14 @@ fn ensemble_text<R: Threads + Sync>(
     requires some { 1 ≤ length ensemble.now.variants.now }
     requires few { length ensemble.now.variants.now ≤ most_runs }
 {
+    let (alloc, span) = (rt.alloc(), &asked.span);
+    let telling = RunsTelling::new(rt, ensemble.variants.len());
     let text = if asked.runs.means {
-        mean_counts(threads, rt.alloc(), ensemble, &asked.span, counting)
+        mean_counts(threads, alloc, ensemble, span, counting, &telling)
     } else {
-        counted_runs(threads, rt.alloc(), ensemble, &asked.span, counting)
+        counted_runs(threads, alloc, ensemble, span, counting, &telling)
     };
+    telling.end();
     match text {
         Ok(text) => Ok(text),
         Err(fault) => Err(no_rounds(fault)),
@@ -182,6 +191,22 @@ fn text_of<R: Threads + Sync>(
     ensemble_text(rt, threads, asked, &counting, &ensemble)
 }
 
+/// The text of these runs of the model of this text.
+fn model_text<R: Threads + Sync>(
+    rt: &HostRuntime,
+    threads: &R,
+    asked: &CountRequest,
+    name: &str,
+    model: &[u8],
+    runs: &[Run],
+) -> Result<Vec<u8>, Ending>
+    requires some { 1 ≤ length runs.now }
+    requires few { length runs.now ≤ most_runs }
+{
+    let names = state_names(rt.alloc(), asked.runs.plan.program.as_str(), model)?;
+    text_of(rt, threads, asked, name, &names, runs)
+}
+
 /// The text of the runs that are asked for, one for each value of a constant.
 pub(crate) fn runs_text<R: Threads + Sync>(
     rt: &HostRuntime,
@@ -194,6 +219,12 @@ pub(crate) fn runs_text<R: Threads + Sync>(
     let paths = &asked.runs.plan;
     let texts = texts_at(rt, paths)?;
     let runs = runs_of(rt.alloc(), paths, &texts, varied)?;
-    let names = state_names(rt.alloc(), paths.program.as_str(), &texts.model)?;
-    text_of(rt, threads, asked, varied.name.as_str(), &names, &runs)
+    model_text(
+        rt,
+        threads,
+        asked,
+        varied.name.as_str(),
+        &texts.model,
+        &runs,
+    )
 }
