@@ -47,14 +47,20 @@ fn values_at(rt: &HostRuntime, path: &str) -> Result<Vec<u32>, Ending> {
     }
 }
 
+/// Refuses an array at a path that has not one element for each of so many nodes.
+fn check_count(alloc: Global, path: &str, found: usize, nodes: u32) -> Result<(), Ending> {
+    if found == nodes as usize {
+        return Ok(());
+    }
+    let name = name_at(path);
+    Err(Ending::refused(format!(in alloc;
+        "array Count\n{name}: the array has {found} elements; expected one for each of the {nodes} nodes"
+    )))
+}
+
 /// The values of the array at a path, one for each of so many nodes.
 pub(crate) fn column_at(rt: &HostRuntime, path: &str, nodes: u32) -> Result<Vec<u32>, Ending> {
     let values = values_at(rt, path)?;
-    let (name, found) = (name_at(path), values.len());
-    if found != nodes as usize {
-        return Err(Ending::refused(format!(in rt.alloc();
-            "array Count\n{name}: the array has {found} elements; expected one for each of the {nodes} nodes"
-        )));
-    }
+    check_count(rt.alloc(), path, values.len(), nodes)?;
     Ok(values)
 }

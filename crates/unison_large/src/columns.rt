@@ -3,14 +3,14 @@
 use crate::arrays::array_of;
 use crate::binary::check_output;
 use crate::progress::Telling;
-use crate::rounds::{move_to, plan_of};
+use crate::rounds::{plan_of, states_at};
 use crate::start::Start;
 use app_files::{Ending, field_place, names_of_field, print_out};
 use app_requests::ColumnFormat;
-use large_rounds::{LargeWalk, push_column};
+use large_rounds::{LargePlan, LargeWalk, push_column};
 use npy_arrays::ArrayShape;
 use rule_check::State;
-use run_watch::{Progress, Span, put_label};
+use run_watch::{Span, put_label};
 use std::alloc::{AllocError, Global};
 use std::thread::Threads;
 
@@ -58,20 +58,6 @@ pub(crate) fn column_of(
     let mut values = Vec::with_capacity(alloc, states.len())?;
     push_column(&mut values, states, field)?;
     Ok(values)
-}
-
-/// The states of a round, to which the walk is moved on unless it is there, which is told.
-fn states_at(
-    alloc: Global,
-    threads: &(impl Threads + Sync),
-    walk: &mut LargeWalk<'_>,
-    round: u32,
-    telling: &mut Telling<'_>,
-) -> Result<Vec<State>, AllocError> {
-    move_to(threads, walk, round);
-    let states = walk.states(alloc)?;
-    telling.reached(round);
-    Ok(states)
 }
 
 /// The lines of all rounds of a span.
@@ -143,6 +129,29 @@ fn table_of(
     array_of(alloc, shape, &words)
 }
 
+/// What is printed of a field in rounds of a plan, which are shared among so many threads.
+fn output_along<'a>(
+    rt: &HostRuntime,
+    threads: &(impl Threads + Sync),
+    start: &Start,
+    plan: &'a LargePlan<'a>,
+    span: &Span,
+    field: ShownField<'_>,
+    format: ColumnFormat,
+    count: usize,
+) -> Result<Vec<u8>, Ending> {
+    let alloc = rt.alloc();
+    let mut walk = plan.shared_walk(alloc, count)?;
+    let mut telling = Telling::new(rt, start.opening.round, span.round_at(span.steps()));
+    match format {
+        ColumnFormat::Csv => Ok(lines_of(alloc, threads, &mut walk, span, field, &mut telling)?),
+        ColumnFormat::Npy => {
+            let (place, nodes) = (field.place, start.network.nodes());
+            table_of(alloc, threads, &mut walk, span, place, nodes, &mut telling)
+        }
+    }
+}
+
 /// What is printed of the field of this name in rounds that are shared among so many threads.
 fn output_of(
     rt: &HostRuntime,
@@ -153,26 +162,15 @@ fn output_of(
     format: ColumnFormat,
     count: usize,
 ) -> Result<Vec<u8>, Ending> {
-    let alloc = rt.alloc();
-    let place = field_place(alloc, &start.program, "--field", name)?;
-    let plan = plan_of(alloc, start, count)?;
-    let mut walk = plan.shared_walk(alloc, count)?;
-    let last = span.round_at(span.steps());
-    let mut telling = Telling::new(rt, start.opening.round, last);
-    let nodes = start.network.nodes();
-    match format {
-        ColumnFormat::Csv => {
-            let values = names_of_field(&start.names, place);
-            let field = ShownField {
-                place,
-                name,
-                values,
-            };
-            let lines = lines_of(alloc, threads, &mut walk, span, field, &mut telling)?;
-            Ok(lines)
-        }
-        ColumnFormat::Npy => table_of(alloc, threads, &mut walk, span, place, nodes, &mut telling),
-    }
+    let place = field_place(rt.alloc(), &start.program, "--field", name)?;
+    let values = names_of_field(&start.names, place);
+    let field = ShownField {
+        place,
+        name,
+        values,
+    };
+    let plan = plan_of(rt.alloc(), start, count)?;
+    output_along(rt, threads, start, &plan, span, field, format, count)
 }
 
 /// Prints the field of this name, of all nodes, in the rounds of a span, which are shared among so many threads. The status

@@ -56,22 +56,28 @@ fn weights_of(rows: &NetRows<'_>) -> Extremes {
     extremes
 }
 
-/// The lines about a network.
-fn lines_of(alloc: Global, network: &LargeNetwork) -> Result<String, AllocError> {
+/// Adds a line about some numbers, called so.
+fn put_extremes(text: &mut String, name: &str, extremes: Extremes) -> Result<(), AllocError> {
+    let Extremes { least, greatest } = extremes;
+    write!(text, "{name} {least} to {greatest}\n")
+}
+
+/// Adds the lines about a network.
+fn put_lines(text: &mut String, network: &LargeNetwork) -> Result<(), AllocError> {
     let rows = network.rows();
-    let degrees = degrees_of(&rows);
-    let mut text = String::new(alloc);
     let (nodes, ends) = (network.nodes(), network.ends());
     write!(text, "nodes {nodes}\nneighbours {ends}\n")?;
-    write!(
-        text,
-        "neighbours of a node {} to {}\n",
-        degrees.least, degrees.greatest
-    )?;
+    put_extremes(text, "neighbours of a node", degrees_of(&rows))?;
     if ends > 0 {
-        let weights = weights_of(&rows);
-        write!(text, "weights {} to {}\n", weights.least, weights.greatest)?;
+        put_extremes(text, "weights", weights_of(&rows))?;
     }
+    Ok(())
+}
+
+/// The lines about a network.
+fn lines_of(alloc: Global, network: &LargeNetwork) -> Result<String, AllocError> {
+    let mut text = String::new(alloc);
+    put_lines(&mut text, network)?;
     Ok(text)
 }
 

@@ -26,28 +26,36 @@ use app_requests::{LargeRequest, Task};
 use std::process::ExitCode;
 use std::thread::Threads;
 
+/// Does what `large` is asked for. The status with which the program ends.
+fn serve_large(
+    rt: &HostRuntime,
+    threads: &(impl Threads + Sync),
+    asked: &LargeRequest,
+) -> Result<u8, Ending> {
+    match asked {
+        LargeRequest::Info { network } => show_info(rt, network.as_str()),
+        LargeRequest::Lockstep {
+            texts,
+            rounds,
+            view,
+        } => report_round(rt, threads, texts, *rounds, view),
+        LargeRequest::Watch { texts, span, view } => watch_rounds(rt, threads, texts, span, view),
+        LargeRequest::Settle {
+            texts,
+            limit,
+            report,
+        } => settle_rounds(rt, threads, texts, *limit, *report),
+    }
+}
+
 /// Does what `large` is asked for by these words, its own name first. The status with which the program ends.
 fn run_large(
     rt: &HostRuntime,
     threads: &(impl Threads + Sync),
     words: &[String],
 ) -> Result<u8, Ending> {
-    match LargeRequest::parse(rt.alloc(), words)? {
-        LargeRequest::Info { network } => show_info(rt, network.as_str()),
-        LargeRequest::Lockstep {
-            texts,
-            rounds,
-            view,
-        } => report_round(rt, threads, &texts, rounds, &view),
-        LargeRequest::Watch { texts, span, view } => {
-            watch_rounds(rt, threads, &texts, &span, &view)
-        }
-        LargeRequest::Settle {
-            texts,
-            limit,
-            report,
-        } => settle_rounds(rt, threads, &texts, limit, report),
-    }
+    let asked = LargeRequest::parse(rt.alloc(), words)?;
+    serve_large(rt, threads, &asked)
 }
 
 /// The ending where the first word is no command of this program.

@@ -65,6 +65,12 @@ fn matrix_at(rt: &HostRuntime, path: &str, options: &MatrixOptions) -> Result<Ou
     }
 }
 
+/// Writes a file of the names of a network's nodes.
+fn write_names(rt: &HostRuntime, named: &NamedNetwork, names_path: &str) -> Result<(), Ending> {
+    let names = list_text(rt.alloc(), &named.names)?;
+    write_file(rt, names_path, names.as_slice())
+}
+
 /// The binary file of a network of named nodes, whose names are written into their file once it is made.
 fn named_output(
     rt: &HostRuntime,
@@ -72,8 +78,7 @@ fn named_output(
     names_path: &str,
 ) -> Result<Output, Ending> {
     let output = packed_output(rt.alloc(), &named.packed)?;
-    let names = list_text(rt.alloc(), &named.names)?;
-    write_file(rt, names_path, names.as_slice())?;
+    write_names(rt, named, names_path)?;
     Ok(output)
 }
 

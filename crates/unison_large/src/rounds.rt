@@ -82,19 +82,34 @@ pub(crate) fn states_after<'a>(
 }
 
 /// Moves a walk on to a round, unless it is there or beyond.
-pub(crate) fn move_to(threads: &(impl Threads + Sync), walk: &mut LargeWalk<'_>, round: u32) {
+fn move_to(threads: &(impl Threads + Sync), walk: &mut LargeWalk<'_>, round: u32) {
     if walk.round() < round {
         walk.go_to_shared(threads, round);
     }
 }
 
+/// The states of a round, to which the walk is moved on unless it is there, which is told.
+pub(crate) fn states_at(
+    alloc: Global,
+    threads: &(impl Threads + Sync),
+    walk: &mut LargeWalk<'_>,
+    round: u32,
+    telling: &mut Telling<'_>,
+) -> Result<Vec<State>, AllocError> {
+    move_to(threads, walk, round);
+    let states = walk.states(alloc)?;
+    telling.reached(round);
+    Ok(states)
+}
+
 /// Moves a walk on to the last round of a way, and tells at some rounds that it is there.
 fn go_told(
+    rt: &HostRuntime,
     threads: &(impl Threads + Sync),
     walk: &mut LargeWalk<'_>,
     way: &Span,
-    telling: &mut Telling<'_>,
 ) {
+    let mut telling = Telling::new(rt, way.first(), way.last());
     for part in 0..way.steps() {
         let round = way.round_at(part);
         move_to(threads, walk, round);
@@ -102,6 +117,28 @@ fn go_told(
     }
     move_to(threads, walk, way.last());
     telling.reached(way.last());
+}
+
+/// The states of a plan after a way by fields.
+fn packed_along<'a>(
+    rt: &HostRuntime,
+    threads: &(impl Threads + Sync),
+    plan: &'a LargePlan<'a>,
+    way: &Span,
+    count: usize,
+) -> Result<PackedStates, AllocError> {
+    let mut walk = plan.shared_walk(rt.alloc(), count)?;
+    go_told(rt, threads, &mut walk, way);
+    Ok(walk.into_packed())
+}
+
+/// The way to a round from the one with which rounds begin, in the parts in which it is told.
+fn way_to(start: &Start, rounds: u32) -> Result<Span, Ending> {
+    let first = start.opening.round;
+    match Span::new(first, rounds, rounds.saturating_sub(first) / TOLD_PARTS + 1) {
+        Some(way) => Ok(way),
+        None => Err(no_round(RoundFault::RoundsBelowStart)),
+    }
 }
 
 /// The states after a round by fields. How far the rounds are is told where they are long.
@@ -112,15 +149,9 @@ fn packed_from(
     rounds: u32,
     count: usize,
 ) -> Result<PackedStates, Ending> {
-    let first = start.opening.round;
     let plan = plan_of(rt.alloc(), start, count)?;
-    let Some(way) = Span::new(first, rounds, rounds.saturating_sub(first) / TOLD_PARTS + 1) else {
-        return Err(no_round(RoundFault::RoundsBelowStart));
-    };
-    let mut walk = plan.shared_walk(rt.alloc(), count)?;
-    let mut telling = Telling::new(rt, first, rounds);
-    go_told(threads, &mut walk, &way, &mut telling);
-    Ok(walk.into_packed())
+    let way = way_to(start, rounds)?;
+    Ok(packed_along(rt, threads, &plan, &way, count)?)
 }
 
 /// What is shown of the states after a round.
@@ -209,6 +240,36 @@ fn output_of(
     }
 }
 
+/// Prints what is shown of the states after a round; the values of fields have these names. The status with which the
+/// program ends.
+fn print_states(
+    rt: &HostRuntime,
+    program: &Program,
+    names: &[Vec<String>],
+    rounds: u32,
+    packed: PackedStates,
+    show: Show,
+) -> Result<u8, Ending> {
+    let states = packed.states(rt.alloc())?;
+    let output = output_of(rt.alloc(), program, names, rounds, &states, show)?;
+    print_out(rt, &output)
+}
+
+/// Prints what is shown of the states after a round to which a start leads. The status with which the program ends.
+fn report_from(
+    rt: &HostRuntime,
+    threads: &(impl Threads + Sync),
+    start: Start,
+    rounds: u32,
+    show: Show,
+    count: usize,
+) -> Result<u8, Ending> {
+    let packed = packed_from(rt, threads, &start, rounds, count)?;
+    // The network and the initial states are dropped before the list of the states is made.
+    let Start { program, names, .. } = start;
+    print_states(rt, &program, &names, rounds, packed, show)
+}
+
 /// Prints the states after a round, or how many nodes have each value. The status with which the program ends.
 pub(crate) fn report_round(
     rt: &HostRuntime,
@@ -220,10 +281,5 @@ pub(crate) fn report_round(
     let start = start_at(rt, texts)?;
     let show = Show::of(rt, &start.program, view)?;
     let count = threads_for(threads, texts);
-    let packed = packed_from(rt, threads, &start, rounds, count)?;
-    // The network and the initial states are dropped before the list of the states is made.
-    let Start { program, names, .. } = start;
-    let states = packed.states(rt.alloc())?;
-    let output = output_of(rt.alloc(), &program, &names, rounds, &states, show)?;
-    print_out(rt, &output)
+    report_from(rt, threads, start, rounds, show, count)
 }

@@ -46,7 +46,36 @@ fn line_of(alloc: Global, found: Settling) -> Result<Vec<u8>, AllocError> {
     Ok(line.into_bytes())
 }
 
-/// What was found, as a line, with the report of its round behind it where it is asked for.
+/// Adds the report of the round that was found.
+fn put_report<'a>(
+    text: &mut Vec<u8>,
+    alloc: Global,
+    threads: &(impl Threads + Sync),
+    plan: &'a LargePlan<'a>,
+    found: Settling,
+    count: usize,
+) -> Result<(), Ending> {
+    let report = report_of(alloc, threads, plan, found, count)?;
+    Ok(text.extend_from_slice(&report)?)
+}
+
+/// What was found of a plan, as a line, with the report of its round behind it where it is asked for.
+fn found_text<'a>(
+    alloc: Global,
+    threads: &(impl Threads + Sync),
+    plan: &'a LargePlan<'a>,
+    found: Settling,
+    count: usize,
+    is_reported: bool,
+) -> Result<Vec<u8>, Ending> {
+    let mut text = line_of(alloc, found)?;
+    if is_reported {
+        put_report(&mut text, alloc, threads, plan, found, count)?;
+    }
+    Ok(text)
+}
+
+/// What becomes of the rounds of a start, as text.
 fn text_of(
     alloc: Global,
     threads: &(impl Threads + Sync),
@@ -57,12 +86,7 @@ fn text_of(
 ) -> Result<Vec<u8>, Ending> {
     let plan = plan_of(alloc, start, count)?;
     let found = found_for(alloc, threads, &plan, limit, count)?;
-    let mut text = line_of(alloc, found)?;
-    if is_reported {
-        let report = report_of(alloc, threads, &plan, found, count)?;
-        text.extend_from_slice(&report)?;
-    }
-    Ok(text)
+    found_text(alloc, threads, &plan, found, count, is_reported)
 }
 
 /// Tells from which round on nothing changes, or all states come again. The status with which the program ends.

@@ -143,6 +143,20 @@ fn put_random(
     Ok(())
 }
 
+/// Gives the values that the words of `--set-random` name to the nodes that they draw, in their order.
+fn put_drawn(
+    states: &mut [State],
+    alloc: Global,
+    program: &Program,
+    words: &[RandomWord],
+    drawn: &[Vec<u32>],
+) -> Result<(), Ending> {
+    for (word, part) in words.iter().zip(drawn) {
+        put_random(states, alloc, program, word, part)?;
+    }
+    Ok(())
+}
+
 /// Gives the values that the words of `--set-random` name, of so many nodes, in their order. They draw the nodes that `unison
 /// init` draws by the same words.
 fn put_randoms(
@@ -154,10 +168,7 @@ fn put_randoms(
 ) -> Result<(), Ending> {
     let amounts = amounts_of(alloc, &words.random)?;
     let drawn = drawn_parts(alloc, nodes, &amounts, words.seed, words.overlap)?;
-    for (word, part) in words.random.iter().zip(&drawn) {
-        put_random(states, alloc, program, word, part)?;
-    }
-    Ok(())
+    put_drawn(states, alloc, program, &words.random, &drawn)
 }
 
 /// Gives a field of each of so many nodes its value.
@@ -262,18 +273,28 @@ fn check_paths(alloc: Global, texts: &LargeTexts) -> Result<(), Ending> {
     read_once(alloc, &paths)
 }
 
-/// What rounds begin with by these words.
-pub(crate) fn start_at(rt: &HostRuntime, texts: &LargeTexts) -> Result<Start, Ending> {
-    check_paths(rt.alloc(), texts)?;
-    let named = named_program_at(rt, texts.program.as_str(), &texts.constants)?;
-    let program = program_in(rt.alloc(), &named.text)?;
+/// What rounds of a program, whose values have these names, begin with by these words.
+fn start_with(
+    rt: &HostRuntime,
+    texts: &LargeTexts,
+    program: Program,
+    names: Vec<Vec<String>>,
+) -> Result<Start, Ending> {
     let network = network_at(rt, texts.network.as_str())?;
     let opening = opening_for(rt, &program, &network, texts)?;
-    let NamedProgram { names, .. } = named;
     Ok(Start {
         program,
         names,
         network,
         opening,
     })
+}
+
+/// What rounds begin with by these words.
+pub(crate) fn start_at(rt: &HostRuntime, texts: &LargeTexts) -> Result<Start, Ending> {
+    check_paths(rt.alloc(), texts)?;
+    let named = named_program_at(rt, texts.program.as_str(), &texts.constants)?;
+    let program = program_in(rt.alloc(), &named.text)?;
+    let NamedProgram { names, .. } = named;
+    start_with(rt, texts, program, names)
 }

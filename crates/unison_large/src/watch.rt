@@ -3,13 +3,14 @@
 use crate::columns::watch_column;
 use crate::counts::{counted, put_counts};
 use crate::progress::Telling;
-use crate::rounds::{move_to, no_round, plan_of, threads_for};
+use crate::rounds::{no_round, plan_of, states_at, threads_for};
 use crate::start::{Start, start_at};
 use app_files::{Ending, names_of_field, print_out};
 use app_requests::{LargeTexts, RoundsView};
-use large_rounds::{LargeWalk, changed_nodes};
+use large_rounds::{LargePlan, LargeWalk, changed_nodes};
 use rounds_plan::RoundFault;
-use run_watch::{Progress, Span};
+use rule_check::State;
+use run_watch::Span;
 use std::alloc::{AllocError, Global};
 use std::thread::Threads;
 
@@ -32,6 +33,22 @@ impl Show {
     }
 }
 
+/// Adds how many nodes changed up to a round, before which these were the states. Those of the round.
+fn put_change(
+    threads: &(impl Threads + Sync),
+    text: &mut String,
+    alloc: Global,
+    walk: &mut LargeWalk<'_>,
+    round: u32,
+    before: &[State],
+    telling: &mut Telling<'_>,
+) -> Result<Vec<State>, AllocError> {
+    let states = states_at(alloc, threads, walk, round, telling)?;
+    let changed = changed_nodes(before, &states);
+    write!(text, "{round},{changed}\n")?;
+    Ok(states)
+}
+
 /// Adds how many nodes changed in each round of a span since the round before in it; in the first one none.
 fn put_changes(
     threads: &(impl Threads + Sync),
@@ -41,18 +58,11 @@ fn put_changes(
     span: &Span,
     telling: &mut Telling<'_>,
 ) -> Result<(), AllocError> {
-    move_to(threads, walk, span.first());
-    let mut before = walk.states(alloc)?;
     write!(text, "{},0\n", span.first())?;
-    telling.reached(span.first());
+    let mut before = states_at(alloc, threads, walk, span.first(), telling)?;
     for step in 1..=span.steps() {
         let round = span.round_at(step);
-        move_to(threads, walk, round);
-        let states = walk.states(alloc)?;
-        let changed = changed_nodes(&before, &states);
-        write!(text, "{round},{changed}\n")?;
-        telling.reached(round);
-        before = states;
+        before = put_change(threads, text, alloc, walk, round, &before, telling)?;
     }
     Ok(())
 }
@@ -70,10 +80,8 @@ fn put_all_counts(
 ) -> Result<(), AllocError> {
     for step in 0..=span.steps() {
         let round = span.round_at(step);
-        move_to(threads, walk, round);
-        let states = walk.states(alloc)?;
+        let states = states_at(alloc, threads, walk, round, telling)?;
         put_counts(text, alloc, round, &states, field, names)?;
-        telling.reached(round);
     }
     Ok(())
 }
@@ -106,6 +114,48 @@ fn check_span(start: &Start, span: &Span) -> Result<(), Ending> {
     Ok(())
 }
 
+/// Adds what is shown of the rounds of a span of a plan, which are shared among so many threads.
+fn put_along<'a>(
+    rt: &HostRuntime,
+    threads: &(impl Threads + Sync),
+    text: &mut String,
+    start: &Start,
+    plan: &'a LargePlan<'a>,
+    span: &Span,
+    show: Show,
+    count: usize,
+) -> Result<(), AllocError> {
+    let alloc = rt.alloc();
+    let mut walk = plan.shared_walk(alloc, count)?;
+    let mut telling = Telling::new(rt, start.opening.round, span.round_at(span.steps()));
+    let names = start.names.as_slice();
+    put_rounds(
+        threads,
+        text,
+        alloc,
+        &mut walk,
+        span,
+        show,
+        names,
+        &mut telling,
+    )
+}
+
+/// The text of the rounds of a span of a plan.
+fn text_along<'a>(
+    rt: &HostRuntime,
+    threads: &(impl Threads + Sync),
+    start: &Start,
+    plan: &'a LargePlan<'a>,
+    span: &Span,
+    show: Show,
+    count: usize,
+) -> Result<String, AllocError> {
+    let mut text = String::from_str(rt.alloc(), show.heading())?;
+    put_along(rt, threads, &mut text, start, plan, span, show, count)?;
+    Ok(text)
+}
+
 /// The text of the rounds of a span, which are shared among so many threads.
 fn text_of(
     rt: &HostRuntime,
@@ -116,21 +166,7 @@ fn text_of(
     count: usize,
 ) -> Result<String, Ending> {
     let plan = plan_of(rt.alloc(), start, count)?;
-    let mut walk = plan.shared_walk(rt.alloc(), count)?;
-    let mut text = String::from_str(rt.alloc(), show.heading())?;
-    let last = span.round_at(span.steps());
-    let mut telling = Telling::new(rt, start.opening.round, last);
-    put_rounds(
-        threads,
-        &mut text,
-        rt.alloc(),
-        &mut walk,
-        span,
-        show,
-        &start.names,
-        &mut telling,
-    )?;
-    Ok(text)
+    Ok(text_along(rt, threads, start, &plan, span, show, count)?)
 }
 
 /// Prints what is shown of the rounds of a span, which are shared among so many threads. The status with which the program
@@ -147,6 +183,28 @@ fn print_rounds(
     print_out(rt, text.as_bytes())
 }
 
+/// Prints what the words ask for of the rounds of a span. The status with which the program ends.
+fn print_view(
+    rt: &HostRuntime,
+    threads: &(impl Threads + Sync),
+    start: &Start,
+    span: &Span,
+    view: &RoundsView,
+    count: usize,
+) -> Result<u8, Ending> {
+    match view {
+        RoundsView::Changes => print_rounds(rt, threads, start, span, Show::Changes, count),
+        RoundsView::Counts(name) => {
+            let field = counted(rt.alloc(), &start.program, name.as_str())?;
+            print_rounds(rt, threads, start, span, Show::Counts(field), count)
+        }
+        RoundsView::Column { field, format } => {
+            let name = field.as_str();
+            watch_column(rt, threads, start, span, name, *format, count)
+        }
+    }
+}
+
 /// Prints the rounds of a span. The status with which the program ends.
 pub(crate) fn watch_rounds(
     rt: &HostRuntime,
@@ -157,16 +215,5 @@ pub(crate) fn watch_rounds(
 ) -> Result<u8, Ending> {
     let start = start_at(rt, texts)?;
     check_span(&start, span)?;
-    let count = threads_for(threads, texts);
-    match view {
-        RoundsView::Changes => print_rounds(rt, threads, &start, span, Show::Changes, count),
-        RoundsView::Counts(name) => {
-            let field = counted(rt.alloc(), &start.program, name.as_str())?;
-            print_rounds(rt, threads, &start, span, Show::Counts(field), count)
-        }
-        RoundsView::Column { field, format } => {
-            let name = field.as_str();
-            watch_column(rt, threads, &start, span, name, *format, count)
-        }
-    }
+    print_view(rt, threads, &start, span, view, threads_for(threads, texts))
 }
