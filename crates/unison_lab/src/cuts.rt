@@ -73,6 +73,27 @@ fn told_of(
     Ok(text.into_bytes())
 }
 
+/// What is told of a plan of the program with this text, by these operators' sites and these labels of nodes.
+fn text_by(
+    alloc: Global,
+    program: &[u8],
+    plan: &Plan,
+    asked: &CutsRequest,
+    sites: &[Site],
+    labels: &[String],
+) -> Result<Vec<u8>, Ending> {
+    let name = program_name(alloc, asked.plan.program.as_str())?;
+    let telling = Telling {
+        name: name.as_str(),
+        sites,
+        labels,
+        rounds: asked.rounds,
+        below: asked.below,
+    };
+    let found = cuts_in(alloc, program, plan, asked)?;
+    Ok(told_of(alloc, asked.format, &telling, &found)?)
+}
+
 /// What is told of a plan of the program with this text.
 fn text_with(
     rt: &HostRuntime,
@@ -83,17 +104,7 @@ fn text_with(
     let nodes = plan.network().nodes();
     let labels = labels_at(rt, labels_form(asked.format), &asked.names, nodes)?;
     let sites = sites_of(rt.alloc(), program)?;
-    let name = program_name(rt.alloc(), asked.plan.program.as_str())?;
-    let telling = Telling {
-        name: name.as_str(),
-        sites: &sites,
-        labels: &labels,
-        rounds: asked.rounds,
-        below: asked.below,
-    };
-    let found = cuts_in(rt.alloc(), program, plan, asked)?;
-    let text = told_of(rt.alloc(), asked.format, &telling, &found)?;
-    Ok(text)
+    text_by(rt.alloc(), program, plan, asked, &sites, &labels)
 }
 
 /// What is told of the texts that are named.

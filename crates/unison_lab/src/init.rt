@@ -127,6 +127,12 @@ fn put_set(
     Ok(())
 }
 
+/// The nodes that each word of `--set-random` draws, of so many.
+fn drawn_for(alloc: Global, nodes: u32, asked: &InitRequest) -> Result<Vec<Vec<u32>>, Ending> {
+    let amounts = amounts_of(alloc, &asked.random)?;
+    drawn_parts(alloc, nodes, &amounts, asked.seed, asked.overlap)
+}
+
 /// Puts the openings that the words of `--set-random` ask for.
 fn put_random(
     openings: &mut Vec<Opening>,
@@ -134,8 +140,7 @@ fn put_random(
     nodes: u32,
     asked: &InitRequest,
 ) -> Result<(), Ending> {
-    let amounts = amounts_of(alloc, &asked.random)?;
-    let drawn = drawn_parts(alloc, nodes, &amounts, asked.seed, asked.overlap)?;
+    let drawn = drawn_for(alloc, nodes, asked)?;
     for (word, part) in asked.random.iter().zip(drawn) {
         let chosen = Chosen::These(part);
         put_same(openings, alloc, word.field.as_str(), chosen, word.value)?;
