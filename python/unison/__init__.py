@@ -11,10 +11,27 @@ initial ones. Calls give the interpreter's lock back: several threads may call a
 
 from . import schedule
 from ._library import LibraryMissing
-from .faults import NetworkError, PlanError, ProgramError, ReportError, RunError, ScheduleError, UnisonError
+from ._programs import ProgramsMissing
+from .counting import Counts, count
+from .faults import (
+    ModelError,
+    NetworkError,
+    PictureError,
+    PlanError,
+    ProgramError,
+    ReportError,
+    RunError,
+    ScheduleError,
+    TraceError,
+    UnisonError,
+    UsageError,
+)
+from .inspection import Cut, Verdict, cuts, explain, naive, verify
 from .jobs import NONE, first_fault, lockstep, replay, settle, watch, why
 from .large import LargeNetwork
+from .model import Model
 from .network import Network
+from .pictures import Image, Page, image, page
 from .program import Program
 from .results import Replayed, Rounds, Settling, States, Table
 
@@ -22,13 +39,21 @@ __version__ = "0.1.0"
 
 __all__ = [
     "NONE",
+    "Counts",
+    "Cut",
+    "Image",
     "LargeNetwork",
     "LibraryMissing",
+    "Model",
+    "ModelError",
     "Network",
     "NetworkError",
+    "Page",
+    "PictureError",
     "PlanError",
     "Program",
     "ProgramError",
+    "ProgramsMissing",
     "Replayed",
     "ReportError",
     "Rounds",
@@ -37,12 +62,22 @@ __all__ = [
     "Settling",
     "States",
     "Table",
+    "TraceError",
     "UnisonError",
+    "UsageError",
+    "Verdict",
+    "count",
+    "cuts",
+    "explain",
     "first_fault",
+    "image",
     "lockstep",
+    "naive",
+    "page",
     "replay",
     "schedule",
     "settle",
+    "verify",
     "watch",
     "why",
 ]

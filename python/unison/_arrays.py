@@ -5,7 +5,7 @@ from __future__ import annotations
 
 import operator
 from array import array
-from typing import Any, NamedTuple, Sequence, Tuple
+from typing import Any, Iterable, Mapping, NamedTuple, Sequence, Tuple
 
 from . import faults
 from .results import numpy
@@ -86,6 +86,8 @@ def numbers(values: Any, size: int, what: str) -> Numbers:
         if given.dtype.kind in "biuf":
             held = of_numpy(given, size, what)
             return Numbers(held.size, held.__array_interface__["data"][0], held)
+    if isinstance(values, (str, bytes, Mapping)) or not isinstance(values, Iterable):
+        raise TypeError(f"{what} is {values!r}: a list or an array of whole numbers is wanted")
     listed = of_list(values, size, what)
     return Numbers(len(listed), listed.buffer_info()[0] or SOMEWHERE, listed)
 

@@ -76,10 +76,18 @@ MEANINGS = {
 }
 
 PLACE = re.compile(r"[^:\n]*:([0-9]+):([0-9]+): ")
+TOLD = re.compile(r"fault: (\S+)(?: ([A-Z]\w*))?([^\n]*)\n?")
+NO_NUMBER = 0  # of a fault that a program tells, and that no call of the library has
+
+
+def place_in(diagnosis: str) -> Optional[Tuple[int, int]]:
+    """Line and column that a diagnosis tells, in its first line, or in the second where the first is the fault's name."""
+    found = [place for place in map(PLACE.match, diagnosis.splitlines()[:2]) if place]
+    return (int(found[0][1]), int(found[0][2])) if found else None
 
 
 class UnisonError(ValueError):
-    """A text, or a number, that the library refuses. Its subclasses say which part is at fault.
+    """A text, or a number, that the library refuses, or one of the proved programs. Its subclasses say which part is at fault.
 
     >>> import unison
     >>> try:
@@ -89,24 +97,24 @@ class UnisonError(ValueError):
     program Syntax 18 (1, 29)
     """
 
-    #: The part at fault: `program`, `network`, `lists` of a large network, `plan`, `report`, `schedule` or `run`.
+    #: The part at fault: `program`, `network`, `lists` of a large network, `plan`, `report`, `schedule` or `run`; `model`, `trace`, `image`,
+    #: `page`, `usage` and others where a proved program tells it.
     part: str
     #: The fault's name, as in docs/formats.md: `Syntax`, `BadLink`, ..
     name: str
-    #: The fault's number, as in library/unison.h.
+    #: The fault's number, as in library/unison.h; 0 where no call of the library has it.
     number: int
     #: What is wrong, where, and what to do: some lines of text; empty where there is nothing to be told.
     diagnosis: str
     #: Line and column of the text at fault, both from 1; None where the fault has no place in a text.
     place: Optional[Tuple[int, int]]
 
-    def __init__(self, number: int, diagnosis: str = "") -> None:
+    def __init__(self, number: int, diagnosis: str = "", called: Optional[Tuple[str, str]] = None) -> None:
         self.number = number
-        self.part, self.name = FAULTS.get(number, ("library", f"Fault{number}"))
+        self.part, self.name = called or FAULTS.get(number, ("library", f"Fault{number}"))
         self.diagnosis = diagnosis
-        found = PLACE.match(diagnosis)
-        self.place = (int(found[1]), int(found[2])) if found else None
-        super().__init__(number, diagnosis)
+        self.place = place_in(diagnosis)
+        super().__init__(number, diagnosis, called)
 
     def __str__(self) -> str:
         if self.diagnosis:
@@ -124,6 +132,10 @@ class Missing(KeyError):
 
 class ProgramError(UnisonError):
     """A program's text is refused."""
+
+
+class ModelError(ProgramError):
+    """A model's text, or a value for one of its constants, is refused."""
 
 
 class NetworkError(UnisonError):
@@ -146,6 +158,18 @@ class RunError(UnisonError):
     """A round, a stop or a limit is refused."""
 
 
+class TraceError(UnisonError):
+    """A line of a trace says no step."""
+
+
+class PictureError(UnisonError):
+    """A picture or a page is refused, since it would have more than it can show."""
+
+
+class UsageError(UnisonError):
+    """The arguments of a call do not go together."""
+
+
 KINDS: Dict[str, Type[UnisonError]] = {
     "program": ProgramError,
     "network": NetworkError,
@@ -154,7 +178,13 @@ KINDS: Dict[str, Type[UnisonError]] = {
     "report": ReportError,
     "schedule": ScheduleError,
     "run": RunError,
+    "model": ModelError,
+    "trace": TraceError,
+    "image": PictureError,
+    "page": PictureError,
+    "usage": UsageError,
 }
+NUMBERS = {called: number for number, called in FAULTS.items()}
 
 
 def error_of(number: int, diagnosis: str = "") -> UnisonError:
@@ -166,3 +196,16 @@ def error_of(number: int, diagnosis: str = "") -> UnisonError:
 def fault_of(number: int, diagnosis: str = "") -> Exception:
     """The exception for an answer of the library."""
     return MemoryError("unison: out of memory") if number == MEMORY else error_of(number, diagnosis)
+
+
+def told_by_program(text: str) -> Exception:
+    """The exception for what a program tells on standard error: `fault: PART NAME`, and below it where and what to do."""
+    found = TOLD.match(text)
+    if found is None:
+        return UnisonError(NO_NUMBER, text, ("program", "Unknown"))
+    part, name = found[1], found[2] or found[1].capitalize()
+    if part == "memory":
+        return MemoryError("unison: out of memory")
+    below = text[found.end() :]
+    diagnosis = below if part == "usage" and below else f"{part} {name}{found[3]}\n{below}"
+    return KINDS.get(part, UnisonError)(NUMBERS.get((part, name), NO_NUMBER), diagnosis, (part, name))

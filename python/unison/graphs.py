@@ -2,16 +2,13 @@
 
 from __future__ import annotations
 
-from array import array
-from collections import Counter
 from fractions import Fraction
 from typing import Any, Dict, FrozenSet, List, Mapping, Optional, Tuple, Type, Union
 
-from .large import LargeNetwork, from_edges
+from . import _checks
+from .large import LargeNetwork
 from .network import InitialValues, Network
 from .results import Table
-
-MOST_NODES, MOST_LINKS, MOST_NEIGHBOURS = 65536, 262144, 4096  # of a `Network`
 
 KEPT = {"min": min, "max": max, "first": lambda first, _: first}
 OLD_WORDS = {"least": "min", "most": "max", "first": "first"}  # of `merge_doubles`, an old name of `parallel`
@@ -90,6 +87,11 @@ def from_networkx(
         import networkx, unison
         network = unison.Network.from_networkx(networkx.karate_club_graph(), weight=None)
     """
+    _checks.graph("Network.from_networkx", graph)
+    flags = {"undirected": undirected, "drop_loops": drop_loops}
+    undirected, drop_loops = (_checks.flag("Network.from_networkx", name, value) for name, value in flags.items())
+    if weight is not None and not isinstance(weight, str):
+        _checks.refuse("Network.from_networkx", "weight", weight, "the name of an attribute, or None, is wanted")
     if graph.is_directed() and not undirected:
         raise ValueError("the graph is directed, and links have no direction: undirected=True takes its edges as links")
     parallel = parallel_of(parallel, merge_doubles)
@@ -99,25 +101,7 @@ def from_networkx(
             raise ValueError(f"an edge joins {one!r} with itself, a self-loop, and no link does: drop_loops=True leaves it out")
         if one != other:
             edges.append((one, other, weight_of(data, weight, f"({one!r}, {other!r})", scale)))
-    links = merged(edges, parallel)
-    if is_beyond(len(graph), links):
-        return large_of(list(graph), links, set)
-    return kind(list(graph), links, set=set, phase=phase)
-
-
-def is_beyond(nodes: int, links: List[Tuple[Any, Any, int]]) -> bool:
-    """Whether so many nodes with these links are beyond the limits of a `Network`."""
-    if nodes > MOST_NODES or len(links) > MOST_LINKS:
-        return True
-    degrees = Counter(end for link in links for end in link[:2]) if len(links) > MOST_NEIGHBOURS else {}
-    return max(degrees.values(), default=0) > MOST_NEIGHBOURS
-
-
-def large_of(names: List[Any], links: List[Tuple[Any, Any, int]], set: Optional[Mapping[str, InitialValues]]) -> LargeNetwork:
-    """The network of any size with nodes of these names, and these links."""
-    numbers = {name: number for number, name in enumerate(names)}
-    ends = [array("I", (numbers[link[place]] for link in links)) for place in (0, 1)]
-    return from_edges(len(names), *ends, [weight for _, _, weight in links], False, names=names, set=set)
+    return kind(list(graph), merged(edges, parallel), set=set, phase=phase)
 
 
 def to_networkx(network: Network, values: Optional[Table] = None) -> Any:

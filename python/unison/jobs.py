@@ -4,13 +4,13 @@ from __future__ import annotations
 
 from typing import Any, Iterable, Optional, Tuple, Union
 
-from . import _calls, faults, large
+from . import _calls, _checks, faults, large
 from ._calls import Texts
 from .large import LargeNetwork
 from .network import Network
 from .program import Program
 from .results import Replayed, Rounds, Settling, States
-from .schedule import Step, spell
+from .schedule import Step
 
 #: The greatest number there is. Programs use it for "none" and "not reached".
 NONE = 4294967295
@@ -20,37 +20,10 @@ AnyNetwork = Union[Network, LargeNetwork]
 MANNERS = {1: "settles", 2: "repeats", 3: "open"}
 
 
-def bytes_of(text: Any) -> bytes:
-    return text.encode("utf-8", "surrogateescape") if isinstance(text, str) else bytes(text)
-
-
-def report_bytes(from_: From) -> bytes:
-    """The text of a report to go on from, empty for none."""
-    if from_ is None:
-        return b""
-    report = bytes_of(from_.report() if isinstance(from_, States) else from_)
-    if not report:
-        raise ValueError("the report to go on from is empty")
-    return report
-
-
-def schedule_bytes(schedule: Union[str, bytes, Iterable[Step]]) -> bytes:
-    return bytes_of(schedule if isinstance(schedule, (str, bytes, bytearray)) else spell(schedule))
-
-
-def check_program(program: Any) -> None:
-    if not isinstance(program, Program):
-        raise TypeError(f"the program is no unison.Program: {type(program).__name__}; unison.Program(text) makes one")
-
-
-def texts_of(program: Program, network: Network, from_: From = None) -> Texts:
-    """The texts of a job."""
-    check_program(program)
-    if isinstance(network, LargeNetwork):
-        raise TypeError("this job is for a unison.Network; of a large network there are `lockstep` and `watch`")
-    if not isinstance(network, Network):
-        raise TypeError(f"the network is no unison.Network: {type(network).__name__}; unison.Network.from_text(text) makes one")
-    return Texts(program.text, network._bytes, report_bytes(from_))
+def texts_of(call: str, program: Any, network: Any, from_: From = None) -> Texts:
+    """The texts of a job, whose arguments are looked at."""
+    rules, links = _checks.program(call, program), _checks.network(call, network)
+    return Texts(rules.text, links._bytes, _checks.report(call, from_, rules, links))
 
 
 def lockstep(program: Program, network: AnyNetwork, rounds: int, from_: From = None) -> States:
@@ -72,11 +45,12 @@ def lockstep(program: Program, network: AnyNetwork, rounds: int, from_: From = N
     >>> first.by_name("s"), unison.lockstep(program, network, 2, from_=first).by_name("s")
     ({0: 7, 1: 5}, {0: 5, 1: 7})
     """
-    asked = _calls.number(rounds, "the round")
+    _checks.program("lockstep", program)
+    asked = _checks.round_of("lockstep", "rounds", rounds)
     if isinstance(network, LargeNetwork):
-        check_program(program)
         return large.lockstep(program, network, asked, from_)
-    table = _calls.lockstep(texts_of(program, network, from_), asked, network.nodes * len(program.fields))
+    texts = texts_of("lockstep", program, network, from_)
+    table = _calls.lockstep(texts, asked, network.nodes * len(program.fields))
     return States(asked, program.fields, table.nodes, table.words, network._names)
 
 
@@ -95,11 +69,11 @@ def watch(program: Program, network: AnyNetwork, rounds: Iterable[int], from_: F
     >>> [states.by_name("dist")[2] == unison.NONE for states in watched]
     [True, True, False]
     """
-    asked = [_calls.number(round, "a round") for round in rounds]
+    _checks.program("watch", program)
+    asked = _checks.rising_rounds("watch", "rounds", rounds)
     if isinstance(network, LargeNetwork):
-        check_program(program)
         return large.watch(program, network, asked, from_)
-    texts = texts_of(program, network, from_)
+    texts = texts_of("watch", program, network, from_)
     table = _calls.watch(texts, asked, len(asked) * network.nodes * len(program.fields))
     return Rounds(asked, program.fields, table.nodes, table.words, network._names)
 
@@ -118,7 +92,8 @@ def settle(program: Program, network: Network, limit: int = 1_000_000, from_: Fr
     >>> unison.settle(unison.Program("field s = 0; next s = (s + 1);"), network, limit=50)
     Settling(manner='open', round=50, period=0)
     """
-    manner, round, period = _calls.settle(texts_of(program, network, from_), _calls.number(limit, "the limit"))
+    asked = _checks.round_of("settle", "limit", limit, _checks.LIMIT_TOO_LARGE)
+    manner, round, period = _calls.settle(texts_of("settle", program, network, from_), asked)
     return Settling(MANNERS[manner], round, period)
 
 
@@ -140,10 +115,11 @@ def replay(
     0 moves 1 s=7
     1 moves 0 s=7
     """
-    texts = texts_of(program, network, from_)._replace(schedule=schedule_bytes(schedule))
+    asked = _checks.round_of("replay", "stop", stop, _checks.STOP_TOO_LARGE)
+    texts = texts_of("replay", program, network, from_)._replace(schedule=_checks.schedule("replay", schedule))
     nodes, width = network.nodes, len(program.fields)
     line = 24 + sum(len(field) + 12 for field in program.fields)
-    found = _calls.replay(texts, _calls.number(stop, "the stop"), (nodes * line, nodes, nodes * width))
+    found = _calls.replay(texts, asked, (nodes * line, nodes, nodes * width))
     table = found.table
     return Replayed(found.report.decode("ascii"), found.counts, program.fields, table.nodes, table.words, network._names)
 
@@ -154,20 +130,36 @@ TextOrSteps = Union[None, str, bytes, Iterable[Step]]
 
 
 def asked_of(
-    program: TextOrProgram, network: TextOrNetwork, rounds: Optional[int], schedule: TextOrSteps, stop: Optional[int], from_: From
+    call: str,
+    program: TextOrProgram,
+    network: TextOrNetwork,
+    rounds: Optional[int],
+    schedule: TextOrSteps,
+    stop: Optional[int],
+    from_: From,
 ) -> Tuple[int, Texts, int]:
-    """The job that `why` looks at, its texts, and its round or stop."""
+    """The job that `why` looks at, its texts, and its round or stop. A round or a stop above the limit is one of the faults that it tells."""
     whole = Texts(
-        program.text if isinstance(program, Program) else bytes_of(program),
-        b"" if network is None else network._bytes if isinstance(network, Network) else bytes_of(network),
-        report_bytes(from_),
-        b"" if schedule is None else schedule_bytes(schedule),
+        program.text if isinstance(program, Program) else _checks.text(call, "program", program, "a unison.Program, or its text"),
+        b"" if network is None else text_of_network(call, network),
+        b"" if from_ is None else from_.report().encode("ascii") if isinstance(from_, States) else _checks.text(call, "from_", from_),
+        b"" if schedule is None else _checks.schedule(call, schedule),
     )
     if network is None:
         return _calls.CHECK, whole, 0
     if schedule is None:
-        return _calls.LOCKSTEP, whole, _calls.number(rounds or 0, "the round")
-    return _calls.REPLAY, whole, _calls.number(1_000_000_000 if stop is None else stop, "the stop")
+        return _calls.LOCKSTEP, whole, 0 if rounds is None else _checks.whole(call, "rounds", rounds)
+    return _calls.REPLAY, whole, _checks.LAST_ROUND if stop is None else _checks.whole(call, "stop", stop)
+
+
+def text_of_network(call: str, network: Union[Network, str, bytes]) -> bytes:
+    """The text of a network, or the text that is given for one."""
+    if isinstance(network, Network):
+        return network._bytes
+    wanted = "a unison.Network, or the text of a network file"
+    if isinstance(network, LargeNetwork):
+        _checks.refuse(call, "network", network, f"{wanted}, is wanted; a large network has no text")
+    return _checks.text(call, "network", network, wanted)
 
 
 def why(
@@ -188,7 +180,7 @@ def why(
     >>> print(unison.why("field s = 0; next s = s;"), end="")
     nothing is wrong
     """
-    return _calls.why(*asked_of(program, network, rounds, schedule, stop, from_)).text
+    return _calls.why(*asked_of("why", program, network, rounds, schedule, stop, from_)).text
 
 
 def first_fault(
@@ -208,5 +200,5 @@ def first_fault(
     >>> unison.first_fault("field s = 0; next s = (s + 1;").name
     'Syntax'
     """
-    told = _calls.why(*asked_of(program, network, rounds, schedule, stop, from_))
+    told = _calls.why(*asked_of("first_fault", program, network, rounds, schedule, stop, from_))
     return faults.error_of(told.fault, told.text) if told.fault else None

@@ -5,7 +5,7 @@ from __future__ import annotations
 from array import array
 from typing import Any, Hashable, Iterable, List, Mapping, Optional, Sequence, Tuple
 
-from . import _calls, faults
+from . import _calls, _checks, faults
 from ._arrays import LONG, WORD, Numbers, numbers, rows_of_edges, text_of_fault
 from .network import InitialValues, is_number
 from .program import Program
@@ -58,7 +58,7 @@ class LargeNetwork:
         self._numbers = None if self._names is None else {name: number for number, name in enumerate(self._names)}
         if self._names is not None and not len(self._numbers or ()) == len(self._names) == self.nodes:
             raise ValueError(f"expected {self.nodes} names, each once")
-        self._set = {str(field): self._values(field, given) for field, given in (set or {}).items()}
+        self._set = {field: self._values(field, given) for field, given in _checks.initial_values("LargeNetwork", set).items()}
 
     def _look(self) -> None:
         """Raises the first fault of the lists."""
@@ -87,7 +87,8 @@ class LargeNetwork:
         """The same nodes and links with these initial values, and no others."""
         other = type(self).__new__(type(self))
         other.__dict__.update(self.__dict__)
-        other._set = {str(field): self._values(field, given) for field, given in set.items()}
+        sets = _checks.initial_values("LargeNetwork.with_set", set)
+        other._set = {field: self._values(field, given) for field, given in sets.items()}
         return other
 
     @property

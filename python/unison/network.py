@@ -4,11 +4,14 @@ from __future__ import annotations
 
 import operator
 import os
+from array import array
+from collections import Counter
 from pathlib import Path
-from typing import TYPE_CHECKING, Any, Dict, Hashable, Iterable, List, Mapping, Optional, Sequence, Tuple, Union
+from typing import TYPE_CHECKING, Any, Dict, Hashable, Iterable, List, Mapping, Optional, Sequence, Tuple, Type, Union
 
-from . import _calls, faults
+from . import _calls, _checks, faults
 from ._document import Document, Link, Sets, read, write
+from .makers import MOST_LINKS, MOST_NEIGHBOURS, MOST_NODES, Makers
 
 if TYPE_CHECKING:
     from .large import LargeNetwork
@@ -17,20 +20,6 @@ Name = Hashable
 #: Initial values of a field: one for all nodes, one for each node by rising number, or some by the names of their nodes.
 InitialValues = Union[int, Sequence[int], Mapping[Any, int]]
 Openings = InitialValues  # an old name
-
-LONGEST = 2**63
-
-
-def whole(value: Any, what: str) -> int:
-    """A whole number that a network file can spell; the library refuses what is out of its range."""
-    try:
-        number = operator.index(value)
-    except TypeError:
-        raise TypeError(f"{what} is no whole number: {value!r}") from None
-    if not -LONGEST <= number < LONGEST:
-        raise ValueError(f"{what} is out of range: {number}")
-    return number
-
 
 def is_number(value: Any) -> bool:
     """Whether a value is one whole number, and no array or list."""
@@ -42,19 +31,22 @@ def plain(values: Any) -> Any:
     return values.tolist() if hasattr(values, "tolist") else values
 
 
-class Network:
-    """Nodes, numbered from 0, and undirected links between them, with weights and initial values.
+class Network(Makers):
+    """Nodes, numbered from 0, and undirected links between them, with weights and initial values. Shapes and random networks are made by
+    `Network.ring(n)`, `grid`, `torus`, `hex`, `small_world` and others (`unison.makers.Makers`).
 
-    - `nodes`: how many there are, 1 to 65,536; or their names in order, any values that can be keys of a dict, each once. With names, links
-      and initial values name their nodes by them.
-    - `links`: pairs of nodes, or triples of two nodes and a weight: at most 262,144, and 4,096 of one node; none of a node with
-      itself, none twice. A weight is a whole number from 0 to 4294967295, and 1 where none is given.
+    - `nodes`: how many there are; or their names in order, any values that can be keys of a dict, each once. With names, links and initial
+      values name their nodes by them.
+    - `links`: pairs of nodes, or triples of two nodes and a weight; none of a node with itself, none twice. A weight is a whole number from
+      0 to 4294967295, and 1 where none is given.
     - `weights`: one for all links, or one for each link in their order; then links are pairs.
     - `set`: for each field its initial values: one for all nodes, one for each node in order, or a dict from nodes to values.
       Nodes and fields that are not named open as the program says. A network without `set` serves all programs.
     - `phase`: the initial phase of the nodes' registers, 0, 1 or 2; no result depends on it.
 
-    Raises `NetworkError` or `PlanError` where the library refuses it, KeyError for a node that has no such name.
+    More than 65,536 nodes, 262,144 links, or 4,096 links of one node make a `LargeNetwork`, which has no phase.
+
+    Raises TypeError, ValueError or KeyError for an argument that cannot be, `NetworkError` or `PlanError` where it is refused.
 
     >>> import unison
     >>> network = unison.Network(["ann", "bob", "cid"], [("ann", "bob", 3), ("bob", "cid")], set={"dist": {"ann": 0}})
@@ -79,29 +71,38 @@ class Network:
     _document: Optional[Document]
     _rows: Optional[List[Dict[int, int]]]
 
-    def __init__(
-        self,
+    def __new__(
+        cls,
         nodes: Union[int, Iterable[Name]],
         links: Iterable[Sequence[Any]],
         weights: Union[None, int, Iterable[int]] = None,
         *,
         set: Optional[Mapping[str, InitialValues]] = None,
         phase: int = 0,
-    ) -> None:
-        self._call_nodes(None if is_number(nodes) else tuple(plain(nodes)))
-        self._count = count = whole(nodes, "the number of nodes") if self._names is None else len(self._names)
-        listed = [self._link(link) for link in plain(links)]
+    ) -> Network:
+        network = blank(cls)
+        called = _checks.nodes("Network", nodes)
+        network._call_nodes(None if isinstance(called, int) else called)
+        network._count = count = called if isinstance(called, int) else len(called)
+        wanted = "a list of pairs of nodes, or of triples of two nodes and a weight,"
+        listed = [network._link(place, link) for place, link in enumerate(_checks.items("Network", "links", links, wanted))]
         if weights is not None:
-            listed = weighted(listed, plain(weights))
-        document = Document(count, listed, whole(phase, "the phase"), {})
-        self._adopt(document._replace(sets=self._sets(set or {}, count)))
+            listed = weighted(listed, weights)
+        sets = _checks.initial_values("Network", set)
+        document = Document(count, listed, _checks.whole("Network", "phase", phase, 0, 2, _checks.BAD_PHASE), {})
+        if is_beyond(count, listed):
+            return large_of(network._names, document, sets)  # type: ignore[return-value]
+        network._adopt(document._replace(sets=network._sets("Network", sets)))
+        return network
+
+    def __reduce__(self) -> Tuple[Any, ...]:
+        """How a network goes to other processes."""
+        return blank, (type(self),), self.__dict__
 
     def _call_nodes(self, names: Optional[Tuple[Name, ...]]) -> None:
         """Takes the nodes' names, where they have any."""
         self._names = names
         self._numbers = None if names is None else {name: number for number, name in enumerate(names)}
-        if names is not None and len(self._numbers or {}) < len(names):
-            raise ValueError("two nodes have the same name")
 
     def _adopt(self, document: Document) -> None:
         """Takes what the network is, where the library accepts it."""
@@ -110,29 +111,34 @@ class Network:
         self._rows = None
         accept(self._text, document.sets)
 
-    def _link(self, link: Sequence[Any]) -> Link:
-        if len(link) not in (2, 3):
-            raise ValueError(f"a link is a pair of nodes, or two nodes and a weight: {link!r}")
-        weight = whole(link[2], f"the weight of the link {link!r}") if len(link) == 3 else 1
-        return self._end(link[0]), self._end(link[1]), weight
+    def _link(self, place: int, given: Any) -> Link:
+        link = _checks.link("Network", place, given)
+        weight = _checks.cell("Network", f"links[{place}][2]", link[2], _checks.BAD_WEIGHT) if len(link) == 3 else 1
+        one, other = (self._end("Network", f"links[{place}][{end}]", link[end], _checks.BAD_LINK) for end in (0, 1))
+        return one, other, weight
 
-    def _end(self, node: Any) -> int:
-        """The number of a node, which the library looks at where nodes have no names."""
-        return whole(node, "the number of a node") if self._numbers is None else self.number(node)
+    def _end(self, call: str, name: str, node: Any, fault: int) -> int:
+        """The number of a node, called by its name, or by the number itself where nodes have no names."""
+        if self._numbers is None:
+            return _checks.whole(call, name, node, 0, self.nodes - 1, fault)
+        try:
+            return self._numbers[node]
+        except (KeyError, TypeError):
+            raise faults.Missing(f"{call}: {name} is {_checks.shown(node)}: the name of a node is wanted, and none is called so") from None
 
-    def _sets(self, sets: Mapping[str, InitialValues], count: int) -> Sets:
-        return {str(field): self._pairs(field, given, count) for field, given in sets.items()}
+    def _sets(self, call: str, sets: Mapping[str, InitialValues]) -> Sets:
+        return {field: self._pairs(call, f"set[{field!r}]", given) for field, given in sets.items()}
 
-    def _pairs(self, field: str, given: Any, count: int) -> List[Tuple[int, int]]:
+    def _pairs(self, call: str, what: str, given: Any) -> List[Tuple[int, int]]:
         """The entries of a field, by rising number."""
-        what = f"an initial value of {field}"
         if isinstance(given, Mapping):
-            return sorted((self._end(node), whole(value, what)) for node, value in given.items())
-        if is_number(given):
-            return [(node, whole(given, what)) for node in range(count)]
-        values = [whole(value, what) for value in plain(given)]
-        if len(values) != count:
-            raise ValueError(f"{field} has {len(values)} initial values, and there are {count} nodes")
+            pairs = given.items()
+            return sorted((self._end(call, f"a key of {what}", node, _checks.BAD_NODE), _checks.cell(call, f"{what}[{node!r}]", value)) for node, value in pairs)
+        if _checks.is_whole(given) or isinstance(given, bool):
+            return [(node, _checks.cell(call, what, given)) for node in range(self.nodes)]
+        values = [_checks.cell(call, f"{what}[{place}]", value) for place, value in enumerate(plain(given))]
+        if len(values) != self.nodes:
+            raise ValueError(f"{call}: {what} has {len(values)} values: one for each of the {self.nodes} nodes is wanted")
         return list(enumerate(values))
 
     @classmethod
@@ -143,11 +149,12 @@ class Network:
         >>> unison.Network.from_text("nodes = 2\\nlinks = [[0, 1, 7]]\\n").links
         ((0, 1, 7),)
         """
-        network = cls.__new__(cls)
-        network._text = text if isinstance(text, str) else bytes(text).decode("utf-8", "surrogateescape")
+        network = blank(cls)
+        network._text = _checks.text("Network.from_text", "text", text).decode("utf-8", "surrogateescape")
         network._document = None
         network._rows = None
-        network._call_nodes(None if names is None else tuple(names))
+        called = _checks.names("Network.from_text", names)
+        network._call_nodes(None if called is None else tuple(called))
         try:
             network._count = accept(network._text, {})
         except faults.PlanError:  # it is a network, with initial values for fields
@@ -163,10 +170,11 @@ class Network:
 
         `unison.Network.from_file("examples/karate.toml", names="examples/karate.names")`
         """
-        lines = None if names is None else Path(names).read_text(encoding="utf-8").split("\n")
-        if lines is not None and lines[-1] == "":
-            lines.pop()
-        return cls.from_text(Path(path).read_bytes(), lines)
+        file = Path(_checks.path("Network.from_file", "path", path))
+        if names is None:
+            return cls.from_text(file.read_bytes())
+        lines = Path(_checks.path("Network.from_file", "names", names)).read_text(encoding="utf-8").split("\n")
+        return cls.from_text(file.read_bytes(), lines[:-1] if lines[-1] == "" else lines)
 
     @classmethod
     def from_networkx(cls, graph: Any, weight: Optional[str] = "weight", **how: Any) -> Union[Network, LargeNetwork]:
@@ -206,7 +214,8 @@ class Network:
         """
         from .large import from_edges
 
-        return from_edges(nodes, a, b, weights, directed, **how)
+        count = None if nodes is None else _checks.whole("Network.from_edges", "nodes", nodes, 1)
+        return from_edges(count, a, b, weights, _checks.flag("Network.from_edges", "directed", directed), **how)
 
     @staticmethod
     def from_scipy(matrix: Any, *, weights: bool = True, **how: Any) -> LargeNetwork:
@@ -217,7 +226,9 @@ class Network:
         """
         from .large import from_scipy
 
-        return from_scipy(matrix, weights, **how)
+        if not hasattr(matrix, "tocsr"):
+            _checks.refuse("Network.from_scipy", "matrix", matrix, "a sparse matrix of SciPy is wanted")
+        return from_scipy(matrix, _checks.flag("Network.from_scipy", "weights", weights), **how)
 
     def to_networkx(self, values: Any = None) -> Any:
         """The network as a graph of NetworkX: see `unison.graphs.to_networkx`."""
@@ -233,9 +244,10 @@ class Network:
         >>> network.with_set({"t": {1: 5}}).set
         {'t': {1: 5}}
         """
-        other = type(self).__new__(type(self))
+        other = blank(type(self))
         other._names, other._numbers, other._count = self._names, self._numbers, self.nodes
-        other._adopt(self._read()._replace(sets=other._sets(set, self.nodes)))
+        sets = _checks.initial_values("Network.with_set", set)
+        other._adopt(self._read()._replace(sets=other._sets("Network.with_set", sets)))
         return other
 
     def _read(self) -> Document:
@@ -326,14 +338,46 @@ class Network:
         return f"<Network of {self.nodes} nodes and {len(self._read().links)} links>"
 
 
+def blank(kind: Type[Network]) -> Network:
+    """A network of which nothing is told yet."""
+    return object.__new__(kind)
+
+
 def weighted(links: List[Link], weights: Any) -> List[Link]:
     """The links with these weights: one for all, or one for each."""
-    if is_number(weights):
-        weights = [weights] * len(links)
-    numbers = [whole(weight, "a weight") for weight in weights]
+    if _checks.is_whole(weights):
+        one = _checks.cell("Network", "weights", weights, _checks.BAD_WEIGHT)
+        numbers = [one] * len(links)
+    else:
+        listed = _checks.items("Network", "weights", weights, "a whole number, or a list with one for each link,")
+        numbers = [_checks.cell("Network", f"weights[{place}]", weight, _checks.BAD_WEIGHT) for place, weight in enumerate(listed)]
     if len(numbers) != len(links):
-        raise ValueError(f"there are {len(links)} links, and {len(numbers)} weights")
+        raise ValueError(f"Network: weights has {len(numbers)} entries: one for each of the {len(links)} links is wanted")
     return [(one, other, weight) for (one, other, _), weight in zip(links, numbers)]
+
+
+def is_beyond(nodes: int, links: Sequence[Tuple[Any, Any, int]]) -> bool:
+    """Whether so many nodes with these links are beyond the limits of a `Network`."""
+    if nodes > MOST_NODES or len(links) > MOST_LINKS:
+        return True
+    degrees = Counter(end for link in links for end in link[:2]) if len(links) > MOST_NEIGHBOURS else {}
+    return max(degrees.values(), default=0) > MOST_NEIGHBOURS
+
+
+def large_of(names: Optional[Sequence[Name]], document: Document, sets: Mapping[str, InitialValues]) -> LargeNetwork:
+    """The network of any size with these links, of which none joins a node with itself, and none stands twice."""
+    from .large import from_edges
+
+    seen: Dict[Tuple[int, int], int] = {}
+    for place, (one, other, _) in enumerate(document.links):
+        first = seen.setdefault((min(one, other), max(one, other)), place)
+        if one == other:
+            raise faults.error_of(53, f"Network: links[{place}] joins node {one} with itself, and no link does (network SelfLink)")
+        if first != place:
+            raise faults.error_of(54, f"Network: links[{place}] joins the same nodes as links[{first}], {one} and {other} (network LinkTwice)")
+    ends = [array("I", (link[end] for link in document.links)) for end in (0, 1)]
+    weights = [weight for *_, weight in document.links]
+    return from_edges(document.nodes, *ends, weights, False, names=names, set=sets)
 
 
 def accept(text: str, sets: Sets) -> Optional[int]:

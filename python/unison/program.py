@@ -7,7 +7,7 @@ import re
 from pathlib import Path
 from typing import Dict, Tuple, Union
 
-from . import _calls
+from . import _calls, _checks
 
 FIELD = re.compile(r"^field ([A-Za-z0-9_]+) = ([0-9]+);$", re.MULTILINE)
 
@@ -27,7 +27,7 @@ class Program:
     """
 
     def __init__(self, text: Union[str, bytes]) -> None:
-        self._text = text.encode() if isinstance(text, str) else bytes(text)
+        self._text = _checks.text("Program", "text", text)
         self._canonical = _calls.check(self._text).decode("ascii")
         self._initial = {name: int(value) for name, value in FIELD.findall(self._canonical)}
 
@@ -37,7 +37,7 @@ class Program:
 
         `unison.Program.from_file("examples/distance.rules")`
         """
-        return cls(Path(path).read_bytes())
+        return cls(Path(_checks.path("Program.from_file", "path", path)).read_bytes())
 
     @property
     def text(self) -> bytes:

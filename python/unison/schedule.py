@@ -18,10 +18,14 @@ True
 from __future__ import annotations
 
 import re
-from typing import Any, Iterable, List, NamedTuple, Union
+from typing import TYPE_CHECKING, Any, Hashable, Iterable, List, NamedTuple, Union
 
 from . import faults
-from .network import Name, Network
+
+if TYPE_CHECKING:
+    from .network import Network
+
+Name = Hashable
 
 LINE = re.compile(r"(?:read (0|[1-9][0-9]*) (0|[1-9][0-9]*)|write (0|[1-9][0-9]*))\n")
 GREATEST = 4294967295

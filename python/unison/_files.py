@@ -1,0 +1,83 @@
+"""The texts of a job as files for the proved programs: a program or a model, a network, and what else a command reads."""
+
+from __future__ import annotations
+
+from typing import Any, Dict, List, Mapping, NamedTuple, Optional, Sequence
+
+from . import _calls, _checks, _programs, faults
+from .model import Model
+from .network import Network
+from .program import Program
+
+PROGRAM, NETWORK, REPORT, NAMES = "program.rules", "network.toml", "report.txt", "names.txt"
+LAST = _checks.LAST_ROUND
+
+
+class Job(NamedTuple):
+    """A command's words on what it works on, and the files that they name."""
+
+    options: List[str]
+    positions: List[str]  # the program and the network, then what else the command reads
+    files: Dict[str, bytes]
+    texts: Optional[_calls.Texts] = None  # by which the library tells where initial values or a report are wrong
+
+    def run(self, *words: str) -> bytes:
+        """What the command prints that begins with these words."""
+        return self.ran(words, (0,)).output
+
+    def ran(self, words: Sequence[str], answers: Sequence[int]) -> _programs.Done:
+        """Its status, one of those that are answers, and what it prints."""
+        try:
+            return _programs.ran([*words, *self.options, "--", *self.positions], files=self.files, answers=answers)
+        except faults.UnisonError as error:
+            raise self.told(error) from None
+
+    def told(self, error: faults.UnisonError) -> faults.UnisonError:
+        """The fault of a plan, a report or a run as the library tells it: the program names the words of a command line."""
+        if self.texts is None or error.number == faults.NO_NUMBER or error.part not in ("plan", "report", "run"):
+            return error
+        in_texts = error.part != "run"
+        return faults.error_of(error.number, _calls.diagnosis_of(error.number, _calls.LOCKSTEP, self.texts, LAST) if in_texts else "")
+
+    def reading(self, name: str, content: bytes) -> Job:
+        """The same job of a command that reads a file besides."""
+        return self._replace(positions=[*self.positions, name], files={**self.files, name: content})
+
+    def naming(self, option: str, name: str, content: bytes) -> Job:
+        """The same job with a file that an option names."""
+        return self._replace(options=[*self.options, f"{option}={name}"], files={**self.files, name: content})
+
+    def saying(self, *words: str) -> Job:
+        """The same job with these options."""
+        return self._replace(options=[*self.options, *words])
+
+
+def job_of(call: str, program: Any, network: Any, from_: Any = None, constants: Optional[Mapping[str, str]] = None) -> Job:
+    """The job of a call, whose arguments are looked at. `constants` stand before those that the model was given."""
+    rules, links = _checks.program(call, program), _checks.network(call, network)
+    report = _checks.report(call, from_, rules, links)
+    job = program_job(rules, constants or {}).reading(NETWORK, links._bytes)
+    job = job._replace(texts=_calls.Texts(rules.text, links._bytes, report))
+    return job.naming("--from", REPORT, report) if report else job
+
+
+def program_job(program: Program, constants: Mapping[str, str]) -> Job:
+    """The part of a job that is the program, or the model with values for its constants. A model is called as its own file is."""
+    if not isinstance(program, Model):
+        return Job([], [], {}).reading(PROGRAM, program.text)
+    given = {**{name: str(value) for name, value in program._given.items()}, **constants}
+    return Job([f"--const={name}={value}" for name, value in given.items()], [], {}).reading(program._called, program._source)
+
+
+def span_words(call: str, rounds: Any, name: str = "rounds") -> List[str]:
+    """The words for the rounds that are shown."""
+    first, last, every = _checks.span(call, name, rounds)
+    return [f"--rounds={first}..{last}", *([f"--every={every}"] if every > 1 else [])]
+
+
+def names_file(network: Network) -> Optional[bytes]:
+    """The names of the nodes, a line each; None where nodes have none, or one that no line can be."""
+    names = None if network._names is None else [str(name) for name in network._names]
+    if names is None or len(set(names)) < len(names) or any(not name or len(name.splitlines()) != 1 for name in names):
+        return None
+    return "".join(f"{name}\n" for name in names).encode("utf-8", "surrogateescape")

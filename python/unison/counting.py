@@ -1,0 +1,332 @@
+"""How many nodes have each value of a field, round by round: counted by the proved program."""
+
+from __future__ import annotations
+
+import csv
+import html
+import io
+from typing import Any, Dict, Iterator, List, Mapping, NamedTuple, Optional, Sequence, Tuple, Union
+
+from . import _checks, _files, _packed
+from .faults import Missing
+from .large import LargeNetwork
+from .model import Model, constants_of
+from .network import Network
+from .pictures import Image, image, value_of
+from .program import Program
+from .results import numpy, pandas_or_tell
+
+Values = Union[int, Sequence[int]]
+Cell = Union[int, float, str, None]
+CountTable = Tuple[List[str], List[List[Cell]]]
+MOST_COLUMNS = 64
+SHOWN = 12  # rows in a table of a notebook
+LEFT_OUT = "&hellip;"
+
+
+class Asked(NamedTuple):
+    """What was counted: all that a picture of the counts is made of."""
+
+    program: Program
+    network: Network
+    rounds: range
+    field: str
+    from_: Any
+
+
+class Counts:
+    """How many nodes have each value of a field: a row for each round, and a column for each value, called as the value is, or as the state
+    of a `Model`. `unison.count` answers it.
+
+    Columns, from the left: the constant that has several values, where one has; `round`, the round, counted from round 0; the values,
+    each the number of nodes that have it; `sum FIELD`, `least FIELD` and `most FIELD`, where they were asked for. A state that no node is in
+    has a column of zeros. Where more than 64 values occur, each value has a row, with the columns `round`, `value` and `nodes`. With
+    `mean=True` there are `round`, `runs`, and two columns for each of the others, `.. mean` and `.. deviation`, numbers with a point.
+
+    >>> import unison
+    >>> path = unison.Network(4, [(0, 1), (1, 2), (2, 3)], set={"s": {0: 1}})
+    >>> counts = unison.count(unison.Program("field s = 0; next s = (s max most n.s);"), path, 3)
+    >>> counts.columns, list(counts.rounds), list(counts[1])
+    (('round', '0', '1'), [0, 1, 2, 3], [1, 2, 3, 4])
+    >>> counts.at(2)
+    {'round': 2, '0': 1, '1': 3}
+    """
+
+    def __init__(self, columns: Sequence[str], rows: Sequence[Sequence[Cell]], field: str, asked: Optional[Asked] = None) -> None:
+        self._columns = tuple(columns)
+        self._rows = [tuple(row) for row in rows]
+        self._field = field
+        self._asked = asked
+
+    @property
+    def columns(self) -> Tuple[str, ...]:
+        """What the columns are called, from the left."""
+        return self._columns
+
+    @property
+    def field(self) -> str:
+        """The field whose values are counted."""
+        return self._field
+
+    @property
+    def rounds(self) -> Any:
+        """The round of each row: whole numbers, an array of shape (rows,), else a list."""
+        return self["round"]
+
+    @property
+    def rows(self) -> List[Tuple[Cell, ...]]:
+        """The rows, each with a cell for each column."""
+        return list(self._rows)
+
+    def __getitem__(self, column: Union[str, int]) -> Any:
+        """A column, a number for each row: an array of shape (rows,) of type int64, float64 for means, else a list. A value may be given as
+        the number that it is; one that no node has in any of the rounds has zeros."""
+        name = column if isinstance(column, str) else str(_checks.whole("Counts[..]", "column", column))
+        if name in self._columns:
+            place = self._columns.index(name)
+            return listed([row[place] for row in self._rows])
+        if isinstance(column, str) or not self._has_columns_of_values():
+            raise Missing(f"there is no column {column!r}: the columns are {', '.join(self._columns)}")
+        return listed([0] * len(self._rows))
+
+    def _has_columns_of_values(self) -> bool:
+        return not {"value", "runs"} & set(self._columns)
+
+    def at(self, round: int) -> Dict[str, Cell]:
+        """The row of a round, by columns: the first one where several rows have it."""
+        asked = _checks.round_of("Counts.at", "round", round)
+        place = self._columns.index("round")
+        for row in self._rows:
+            if row[place] == asked:
+                return dict(zip(self._columns, row))
+        raise Missing(f"there is no row of round {asked}")
+
+    def run(self, value: int) -> Counts:
+        """The rows of one run, where a constant has several values: those in whose first column this value stands."""
+        if self._columns[0] == "round":
+            raise Missing("there is one run: no constant has several values")
+        rows = [row[1:] for row in self._rows if row[0] == value]
+        if not rows:
+            raise Missing(f"there is no run with {self._columns[0]}={value}")
+        return Counts(self._columns[1:], rows, self._field)
+
+    def __len__(self) -> int:
+        """How many rows there are."""
+        return len(self._rows)
+
+    def __iter__(self) -> Iterator[Dict[str, Cell]]:
+        """The rows, each a dict from columns to cells."""
+        return (dict(zip(self._columns, row)) for row in self._rows)
+
+    def __eq__(self, other: object) -> bool:
+        """The same columns with the same rows."""
+        return (self._columns, self._rows) == (other._columns, other._rows) if isinstance(other, Counts) else NotImplemented
+
+    __hash__ = None  # type: ignore[assignment]
+
+    def to_pandas(self) -> Any:
+        """A frame with a column for each column, whose index is `round`, or the constant that has several values and `round`. Needs
+        pandas."""
+        pandas = pandas_or_tell()
+        frame = pandas.DataFrame({name: self._series(place) for place, name in enumerate(self._columns)}, columns=list(self._columns))
+        return frame.set_index(list(self._columns[: self._columns.index("round") + 1]))
+
+    def _series(self, place: int) -> List[Cell]:
+        return [float("nan") if row[place] is None else row[place] for row in self._rows]
+
+    def to_csv(self) -> str:
+        """The table as CSV: a line of columns, then a line for each row."""
+        out = io.StringIO()
+        csv.writer(out, lineterminator="\n").writerows([self._columns, *(["" if cell is None else cell for cell in row] for row in self._rows)])
+        return out.getvalue()
+
+    def image(self) -> Image:
+        """The counts as curves, over the rounds: drawn by the proved program. Raises PictureError where there are no two rounds, or too many
+        values or rounds."""
+        if self._asked is None:
+            raise ValueError("Counts.image: curves are drawn of the counts of one run, on a unison.Network")
+        program, network, rounds, field, from_ = self._asked
+        return image(program, network, rounds, field=field, counts=True, from_=from_)
+
+    def _repr_svg_(self) -> Optional[str]:
+        """The counts as curves; None where there are none to draw."""
+        try:
+            return None if self._asked is None or len(self._asked.rounds) < 2 else self.image().svg
+        except (ValueError, OSError):
+            return None
+
+    def _repr_html_(self) -> str:
+        """The first rows as a table."""
+        rows = [self._columns, *self._rows[:SHOWN]]
+        lines = [row_of("th" if place == 0 else "td", row) for place, row in enumerate(rows)]
+        if len(self._rows) > SHOWN:
+            lines.append(f"<tr><td colspan='{len(self._columns)}'>{LEFT_OUT} {len(self._rows)} rows</td></tr>")
+        return f"<table>\n{''.join(lines)}</table>\n"
+
+    def __repr__(self) -> str:
+        return f"<Counts of {self._field}, {len(self._rows)} rows: {', '.join(self._columns)}>"
+
+
+def row_of(kind: str, cells: Sequence[Any]) -> str:
+    """A row of a table in HTML."""
+    return "<tr>" + "".join(f"<{kind}>{'' if cell is None else html.escape(str(cell))}</{kind}>" for cell in cells) + "</tr>\n"
+
+
+def listed(cells: List[Cell]) -> Any:
+    """The cells of a column as an array, where numpy is there and they are numbers; else as a list."""
+    if numpy is None or any(isinstance(cell, str) for cell in cells):
+        return cells
+    if all(isinstance(cell, int) for cell in cells):
+        return numpy.array(cells, dtype=numpy.int64)
+    return numpy.array([float("nan") if cell is None else cell for cell in cells], dtype=numpy.float64)
+
+
+def cell_of(text: str, column: str) -> Cell:
+    """A cell of CSV: a whole number, one with a point, nothing, or the name of a state."""
+    if column.endswith((" mean", " deviation")):
+        return float(text) if text else None
+    return int(text) if text.isdigit() else text
+
+
+def table_of(text: str) -> CountTable:
+    """The columns and the rows of a table in CSV."""
+    columns, *rows = csv.reader(io.StringIO(text))
+    return columns, [[cell_of(cell, column) for cell, column in zip(row, columns)] for row in rows]
+
+
+def count(
+    program: Program,
+    network: Union[Network, LargeNetwork],
+    rounds: Any,
+    field: Optional[str] = None,
+    *,
+    sum: Union[str, Sequence[str]] = (),
+    least: Union[str, Sequence[str]] = (),
+    most: Union[str, Sequence[str]] = (),
+    until: Optional[Mapping[str, Union[int, str]]] = None,
+    constants: Optional[Mapping[str, Values]] = None,
+    mean: bool = False,
+    from_: Any = None,
+) -> Counts:
+    """How many nodes have each value of a field, round by round: counted by the proved program in one pass.
+
+    - `program`: a `Program`, or a `Model`, whose states are the names of columns.
+    - `network`: a `Network`; or a `LargeNetwork`, for which rounds are made by as many threads as there are processors, and which takes no
+      `sum`, `least`, `most`, `until`, `constants`, and no text for `from_`.
+    - `rounds`: the last round, counted from round 0, 1,000,000,000 at most: all up to it are counted; or rounds that are evenly apart, as
+      `range(0, 101, 10)`.
+    - `field`: the field whose values are counted; may be left out where the program has one alone.
+    - `sum`, `least`, `most`: fields whose sum, least and greatest value over all nodes have a column each.
+    - `until`: `{"state": "infected"}`, a value or a state: the counts end behind the first round in which no node has it.
+    - `constants`: values for constants of a `Model`, as `{"seed": range(1, 21)}`; one of them may have several, 1000 at most: a run is
+      counted for each, by several threads.
+    - `mean`: in place of the runs their means and standard deviations.
+    - `from_`: a result of `lockstep`, or the text of a report, to go on from.
+
+    Raises TypeError, ValueError or KeyError for an argument that cannot be, ModelError, PlanError, ReportError or RunError where it is
+    refused, ProgramsMissing where the proved program is nowhere.
+
+    >>> import unison
+    >>> pair = unison.Network(2, [(0, 1)], set={"s": [5, 7]})
+    >>> unison.count(unison.Program("field s = 0; next s = total n.s;"), pair, [0, 2], sum="s").rows
+    [(0, 1, 1, 12), (2, 1, 1, 12)]
+    """
+    rules = _checks.program("count", program)
+    named = _checks.only_field("count", "field", field, rules)
+    if isinstance(network, LargeNetwork):
+        plain_only(sum=sum, least=least, most=most, until=until, constants=constants, mean=mean)
+        return large_counts(rules, network, rounds, named, from_)
+    given = constants_given(rules, constants)
+    job = _files.job_of("count", rules, network, from_, given)
+    words = ["count", *_files.span_words("count", rounds), f"--field={named}", *column_words(rules, sum, least, most)]
+    if until is not None:
+        words.append(until_word(rules, until))
+    if _checks.flag("count", "mean", mean):
+        return Counts(*table_of(job.run(*words, "--mean").decode("utf-8")), named)
+    table = table_of(job.run(*words).decode("utf-8"))
+    asked = None if given or until is not None else Asked(rules, network, range_of("count", rounds), named, from_)
+    return counts_of(table, rules, named, asked)
+
+
+def range_of(call: str, rounds: Any) -> range:
+    """The rounds that are meant."""
+    first, last, every = _checks.span(call, "rounds", rounds)
+    return range(first, last + 1, every)
+
+
+def counts_of(table: CountTable, program: Program, field: str, asked: Optional[Asked]) -> Counts:
+    """The counts of a table, with a column for each state of the field, also for one that no node is in. Where values have lines, and
+    where a run's constant is called as a state is, so that values are numbers, columns stay as they are."""
+    columns, rows = table
+    states = program.states.get(field, ()) if isinstance(program, Model) else ()
+    ahead = columns.index("round") + 1
+    if columns[ahead : ahead + 2] == ["value", "nodes"] or set(states) & set(columns[:ahead]):
+        return Counts(columns, rows, field, asked)
+    order = [*columns[:ahead], *states, *(column for column in columns[ahead:] if column not in states)]
+    places = [columns.index(column) if column in columns else None for column in order]
+    return Counts(order, [[0 if place is None else row[place] for place in places] for row in rows], field, asked)
+
+
+def constants_given(program: Program, constants: Optional[Mapping[str, Values]]) -> Dict[str, str]:
+    """The values for constants of a model, as words have them."""
+    if constants is None:
+        return {}
+    if not isinstance(constants, Mapping):
+        _checks.refuse("count", "constants", constants, "a dict from names of constants to values is wanted")
+    if not isinstance(program, Model):
+        raise ValueError("count: constants are given, and the program is no unison.Model: a Program has none")
+    several = [name for name, value in constants.items() if not _checks.is_whole(value)]
+    if len(several) > 1:
+        raise ValueError(f"count: constants {' and '.join(several)} have several values: one of them at most may")
+    return {name: constant_text(name, value) for name, value in constants.items()}
+
+
+def constant_text(name: str, value: Any) -> str:
+    """One value of a constant, or several with commas between them."""
+    if _checks.is_whole(value):
+        return str(constants_of("count", {name: value})[name])
+    values = _checks.items("count", f"constants[{name!r}]", value, "a whole number, or a list of them,")
+    if not values:
+        raise ValueError(f"count: constants[{name!r}] has no value: a whole number, or a list of them, is wanted")
+    return ",".join(str(_checks.whole("count", f"constants[{name!r}][{place}]", one)) for place, one in enumerate(values))
+
+
+def column_words(program: Program, sum: Any, least: Any, most: Any) -> List[str]:
+    """The words for the further columns."""
+    asked = {"sum": sum, "least": least, "most": most}
+    return [f"--{name}={field}" for name, given in asked.items() for field in _checks.fields("count", name, given, program)]
+
+
+def until_word(program: Program, until: Any) -> str:
+    """The word for the value without which the counts end."""
+    if not isinstance(until, Mapping) or len(until) != 1:
+        _checks.refuse("count", "until", until, "a dict from one field to a value or a state, as {'state': 'infected'}, is wanted")
+    ((name, value),) = until.items()
+    field = _checks.field("count", "until", name, program)
+    return f"--until={field}={value_of('count', f'until[{field!r}]', program, field, value)}"
+
+
+def plain_only(**given: Any) -> None:
+    """Raises where something is asked for that is not counted on a large network."""
+    for name, value in given.items():
+        if value is not None and value is not False and value != ():
+            raise ValueError(f"count: {name} is given, and the network is a unison.LargeNetwork: a unison.Network is wanted for it")
+
+
+def large_counts(program: Program, network: LargeNetwork, rounds: Any, field: str, from_: Any) -> Counts:
+    """The counts on a large network: `unison large watch` tells them by lines."""
+    words = ["large", "watch", *_files.span_words("count", rounds), f"--count={field}"]
+    table = table_of(_packed.job_of("count", program, network, from_).run(*words).decode("utf-8"))
+    return counts_of(in_columns(table), program, field, None)
+
+
+def in_columns(table: CountTable) -> CountTable:
+    """Counts with a line for each value as a table with a column for each, by rising value, where at most 64 values occur."""
+    found = {row[1] for row in table[1]}
+    if len(found) > MOST_COLUMNS:
+        return table
+    values = sorted(found, key=lambda value: (isinstance(value, int), value))
+    counts: Dict[Cell, Dict[Cell, Cell]] = {}
+    for round, value, nodes in table[1]:
+        counts.setdefault(round, {})[value] = nodes
+    return ["round", *map(str, values)], [[round, *(counts[round].get(value, 0) for value in values)] for round in counts]
