@@ -7,8 +7,11 @@ It writes karate.png and rule_110.png into the folder, the one that it is called
 matplotlib it prints the same in letters.
 """
 
+from __future__ import annotations
+
 import sys
 from pathlib import Path
+from typing import Any, Tuple
 
 try:
     import unison
@@ -39,22 +42,23 @@ next s = ((s max any (n.s min ((n.id == (id + 1)) max ((n.id == 0) min (id > 1))
 CELLS, ROWS = 80, 60
 
 
-def club():
+def club() -> Tuple[Any, unison.Rounds]:
     """The club, and the distances from its member 0 after each round up to the one in which nothing changes any more."""
     graph = networkx.karate_club_graph()
     program = unison.Program(DISTANCES)
     network = unison.Network.from_networkx(graph, weight=None, set={"dist": {0: 0}})
+    assert isinstance(network, unison.Network), "a club of 34 is no large network"
     last = unison.settle(program, network).round
     return graph, unison.watch(program, network, range(last + 1))
 
 
-def cells():
+def cells() -> Any:
     """The cells of rule 110 after each round, on a ring that opens with one live cell."""
     ring = unison.Network(CELLS, [(cell, (cell + 1) % CELLS) for cell in range(CELLS)], set={"s": {CELLS - 1: 1}})
     return unison.watch(unison.Program(RULE_110), ring, range(ROWS))["s"]
 
 
-def draw_club(graph, rounds, path):
+def draw_club(graph: Any, rounds: unison.Rounds, path: Path) -> None:
     places = networkx.spring_layout(graph, seed=4)
     figure, parts = pyplot.subplots(1, len(rounds), figsize=(4 * len(rounds), 4))
     for part, states in zip(parts, rounds):
@@ -65,7 +69,7 @@ def draw_club(graph, rounds, path):
     figure.savefig(path, dpi=120)
 
 
-def main():
+def main() -> None:
     folder = Path(sys.argv[1] if len(sys.argv) > 1 else ".")
     graph, rounds = club()
     rows = cells()

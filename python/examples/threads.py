@@ -6,6 +6,8 @@
 While a call runs, Python's lock is free, so that threads use as many processors as there are.
 """
 
+from __future__ import annotations
+
 import argparse
 import sys
 import threading
@@ -22,7 +24,7 @@ SIDE = 64
 PROGRAM = unison.Program("field s = 0; next s = ((total n.s + id) % 1009);")
 
 
-def torus():
+def torus() -> unison.Network:
     """A torus of SIDE rows and columns."""
     nodes = [(row, column) for row in range(SIDE) for column in range(SIDE)]
     right = [((row, column), (row, (column + 1) % SIDE)) for row, column in nodes]
@@ -30,12 +32,12 @@ def torus():
     return unison.Network(nodes, right + below)
 
 
-def calls_in(seconds, threads, network):
+def calls_in(seconds: float, threads: int, network: unison.Network) -> int:
     """How many calls so many threads make in this time."""
     counts = [0] * threads
     end = time.perf_counter() + seconds
 
-    def work(place):
+    def work(place: int) -> None:
         while time.perf_counter() < end:
             unison.lockstep(PROGRAM, network, 300)
             counts[place] += 1
@@ -48,7 +50,7 @@ def calls_in(seconds, threads, network):
     return sum(counts)
 
 
-def main():
+def main() -> None:
     parser = argparse.ArgumentParser(description=__doc__, formatter_class=argparse.RawDescriptionHelpFormatter)
     parser.add_argument("--seconds", type=float, default=3)
     parser.add_argument("--threads", type=int, default=4)

@@ -204,3 +204,23 @@ def test_jobs_of_small_networks_alone():
         assert "large network" in str(raised(TypeError, call))
     assert "States" in str(raised(TypeError, lambda: unison.lockstep(rule, pair, 1, from_="round 0\n0 s=0\n1 s=0\n")))
     raised(TypeError, lambda: unison.lockstep(SWAP, pair, 1))
+
+
+def test_large_networks_go_to_other_processes():
+    """A copy lends its own memory, and not what lay there in the process that it comes from."""
+    import copy
+    import pickle
+
+    rule = unison.Program(TOTALS)
+    rows = random_rows(3, 9)
+    given = unison.Network.from_arrays(*lists_of(rows), set={"s": list(range(9))})
+    lent = unison.Network.from_arrays(array("Q", [0, 1, 2]), array("I", [1, 0]), set={"s": {1: 5}})
+    for network in (given, lent):
+        before = as_tuples(unison.lockstep(rule, network, 1))
+        again = pickle.loads(pickle.dumps(network))
+        copied = copy.deepcopy(network)
+        for other in (again, copied):
+            assert as_tuples(unison.lockstep(rule, other, 1)) == before
+            assert other._neighbours.address != network._neighbours.address
+            assert (list(other.indptr), list(other.indices)) == (list(network.indptr), list(network.indices))
+    raised(BufferError, lambda: copied.indices.append(0))

@@ -160,3 +160,42 @@ def test_weights_that_are_scaled():
     assert weight_of({"weight": 5}, None, "(0, 1)", None) == 1
     for bad in (0.5, None, "x", float("nan"), float("inf"), [1]):
         raised(ValueError, lambda: weight_of({"weight": bad}, "weight", "(0, 1)", None))
+
+
+def test_a_text_is_read_once_for_many_calls():
+    """Its lists are held against the library's own reading, once; a text that this package reads otherwise goes to the library each time."""
+    from unison import _calls, _lists
+
+    text = "nodes = 3\nlinks = [[0, 1, 7], [1, 2]]\n[set]\ns = [[0, 4], [2, 9]]\n"
+    rule = unison.Program("field s = 1; next s = (total (n.s * n.weight) % 1009);")
+    seen, given = [], _calls.lockstep
+    watched = _calls.watch
+    _calls.lockstep, _calls.watch = (lambda *texts: seen.append("lockstep") or given(*texts)), (lambda *texts: seen.append("watch") or watched(*texts))
+    try:
+        read = unison.Network.from_text(text)
+        assert [unison.lockstep(rule, read, 1).by_name("s") for _ in range(3)] == [{0: 7, 1: 37, 2: 1}] * 3
+        assert unison.watch(rule, read, [1])["s"][0][1] == 37
+        assert seen == ["watch"], "the library reads the text once"
+        wrong = unison.Network.from_text(text)
+        wrong._links_held.append(_lists.links_of(unison.Network(3, [(0, 1, 6), (1, 2)])))
+        assert unison.lockstep(rule, wrong, 1).by_name("s") == {0: 7, 1: 37, 2: 1}
+        assert seen == ["watch", "watch", "lockstep"], "lists that are other than the text are not used"
+        made = unison.Network(3, [(0, 1, 7), (1, 2)], set={"s": {0: 4, 2: 9}})
+        assert unison.lockstep(rule, made, 1).by_name("s") == unison.lockstep(rule, made.with_set({"s": [4, 1, 9]}), 1).by_name("s") == {0: 7, 1: 37, 2: 1}
+        assert made.with_set({})._links_held is made._links_held and len(seen) == 3
+    finally:
+        _calls.lockstep, _calls.watch = given, watched
+
+
+def test_what_needs_a_text_still_goes_by_it():
+    """A report to go on from, and whatever is refused: the library tells it of the texts."""
+    rule, pair = unison.Program("field s = 0; next s = total n.s;"), unison.Network(2, [(0, 1)], set={"s": [5, 7]})
+    assert unison.lockstep(rule, pair, 3, from_="round 2\n0 s=1\n1 s=2\n").by_name("s") == {0: 2, 1: 1}
+    for call, kind, name in (
+        (lambda: unison.lockstep(rule, pair.with_set({"t": 1}), 1), unison.PlanError, "UnknownField"),
+        (lambda: unison.lockstep(rule, pair, 1_000_000_001), unison.RunError, "TooManyRounds"),
+        (lambda: unison.watch(rule, pair, [1, 1]), unison.RunError, "NotRising"),
+        (lambda: unison.lockstep(rule, pair, 1, from_=unison.lockstep(rule, pair, 2)), unison.RunError, "RoundsBelowStart"),
+        (lambda: unison.lockstep(rule, pair, 9, from_=unison.States.from_values(rule, [[1], [2]], 1_000_000_001)), unison.ReportError, "TooManyRounds"),
+    ):
+        assert raised(kind, call).name == name

@@ -112,7 +112,8 @@ def test_tables_of_pandas():
     frame = unison.lockstep(TWO, NAMED, 1).to_pandas()
     assert list(frame.index) == ["ann", "bob", "cid"] and frame.index.name == "node"
     assert {name: list(frame[name]) for name in frame} == {"a": [7, 7, 0], "b": [1, 2, 3]}
-    assert [str(kind) for kind in frame.dtypes] == ["uint32", "uint32"]
+    assert [str(kind) for kind in frame.dtypes] == ["UInt32", "UInt32"]
+    assert [str(kind) for kind in unison.lockstep(TWO, NAMED, 1).to_pandas(missing=False).dtypes] == ["uint32", "uint32"]
     rounds = unison.watch(TWO, NAMED, [0, 2]).to_pandas()
     assert rounds.index.names == ["round", "node"] and len(rounds) == 6
     assert rounds.loc[(2, "cid"), "a"] == 7 and rounds.loc[(0, "cid"), "a"] == 0
@@ -126,6 +127,67 @@ def test_tables_of_pandas():
     assert list(unison.watch(unison.Program(SWAP), pairs, [0]).to_pandas().index.get_level_values("node")) == [(0, 0), (0, 1)]
     assert unison.lockstep(unison.Program(""), pairs, 0).to_pandas().shape == (2, 0)
     assert isinstance(frame, pandas.DataFrame)
+
+
+FAR = unison.Program(DISTANCE)
+ROW = unison.Network(["ann", "bob", "cid"], [("ann", "bob"), ("bob", "cid")], set={"dist": {"ann": 0}})
+
+
+def test_none_is_missing_where_that_is_asked_for():
+    states, watched = unison.lockstep(FAR, ROW, 1), unison.watch(FAR, ROW, [0, 2])
+    assert states.by_name("dist", missing=True) == {"ann": 0, "bob": 1, "cid": None}
+    assert states.by_name("dist") == {"ann": 0, "bob": 1, "cid": 4294967295}
+    found, rounds = states.column("dist", missing=True), watched.column("dist", missing=True)
+    assert plain(found) == [0, 1, None] and plain(rounds) == [[0, None, None], [0, 1, 2]]
+    assert plain(states.column("dist")) == plain(states["dist"]) == [0, 1, 4294967295]
+    if results.numpy is not None:
+        assert isinstance(found, results.numpy.ma.MaskedArray) and found.mask.tolist() == [False, False, True]
+        assert found.mean() == 0.5 and rounds.count() == 4
+    raised(unison.faults.Missing, lambda: states.column("far", missing=True))
+
+
+def test_none_is_missing_in_tables_of_pandas():
+    pandas = wanted("pandas")
+    frame = unison.lockstep(FAR, ROW, 1).to_pandas()
+    assert str(frame["dist"].dtype) == "UInt32" and frame["dist"].isna().tolist() == [False, False, True]
+    assert frame["dist"].mean() == 0.5 and frame["dist"].iloc[2] is pandas.NA
+    assert unison.lockstep(FAR, ROW, 1).to_pandas(missing=False)["dist"].tolist() == [0, 1, 4294967295]
+    assert unison.watch(FAR, ROW, [0, 2]).to_pandas()["dist"].isna().sum() == 2
+    assert unison.watch(FAR, ROW, [0, 2]).to_pandas(missing=False)["dist"].tolist() == [0, 4294967295, 4294967295, 0, 1, 2]
+    assert unison.replay(FAR, ROW, "", 3).to_pandas()["dist"].isna().tolist() == [False, True, True]
+
+
+def test_differences_have_a_sign():
+    first, later = unison.lockstep(TWO, NAMED, 0), unison.lockstep(TWO, NAMED, 2)
+    assert plain(first["a"]) == [7, 0, 0] and plain(later["a"]) == [7, 7, 7]
+    assert plain(first.difference("a", "b")) == [6, -2, -3]
+    assert plain(first.difference("a", later)) == [0, -7, -7] and plain(later.difference("a", first)) == [0, 7, 7]
+    assert plain(first - later) == [[0, 0], [-7, 0], [-7, 0]]
+    watched = unison.watch(TWO, NAMED, [0, 1])
+    assert plain(watched.difference("a", "b")) == [[6, -2, -3], [6, 5, -3]]
+    assert plain(watched - unison.watch(TWO, NAMED, [1, 2])) == [[[0, 0], [-7, 0], [0, 0]], [[0, 0], [0, 0], [-7, 0]]]
+    far = unison.lockstep(FAR, ROW, 0), unison.lockstep(FAR, ROW, 1)
+    assert plain(far[1].difference("dist", far[0])) == [0, 1 - 4294967295, 0]
+    assert plain(far[1].difference("dist", far[0], missing=True)) == [0, None, None]
+    raised(ValueError, lambda: first - far[0])
+    raised(ValueError, lambda: first.difference("a", watched))
+    raised(TypeError, lambda: first.difference("a", 3))
+    raised(TypeError, lambda: first - 3)
+    raised(unison.faults.Missing, lambda: first.difference("a", "c"))
+
+
+def test_what_notebooks_show_of_results():
+    """A table of the first and the last six nodes and rounds, where there is no page."""
+    names = [f"<{place}>" for place in range(40)]
+    path = unison.Network(names, list(zip(names, names[1:])), set={"dist": {"<0>": 0}})
+    watched = unison.watch(FAR, path, range(30))
+    watched._made_of = None
+    shown, rounds = watched.at(29)._repr_html_(), watched._repr_html_()
+    assert shown.count("<tr>") == 14 and "<td>&lt;5&gt;</td><td>5</td>" in shown and "<td>&lt;39&gt;</td><td>none</td>" in shown
+    assert "&lt;6&gt;" not in shown and "&lt;33&gt;" not in shown and "&lt;34&gt;" in shown
+    assert rounds.count("<tr>") == 14 and "<tr><td>2</td><td>0</td><td>1</td><td>2</td><td>none</td>" in rounds
+    assert "<caption>dist: 30 rounds of 40 nodes: dist</caption>" in rounds
+    assert unison.replay(FAR, ROW, "read 1 0\nwrite 1\n", 3)._repr_html_().count("<tr>") == 4
 
 
 def test_results_do_not_share_what_they_hold():

@@ -27,13 +27,14 @@ from .faults import (
     UsageError,
 )
 from .inspection import Cut, Verdict, cuts, explain, naive, verify
-from .jobs import NONE, first_fault, lockstep, replay, settle, watch, why
+from .jobs import first_fault, lockstep, replay, settle, watch, why
 from .large import LargeNetwork
 from .model import Model
 from .network import Network
 from .pictures import Image, Page, image, page
 from .program import Program
-from .results import Replayed, Rounds, Settling, States, Table
+from .results import NONE, Replayed, Rounds, Settling, States, Table
+from .sweep import Sweep, sweep
 
 __version__ = "0.1.0"
 
@@ -61,6 +62,7 @@ __all__ = [
     "ScheduleError",
     "Settling",
     "States",
+    "Sweep",
     "Table",
     "TraceError",
     "UnisonError",
@@ -77,6 +79,7 @@ __all__ = [
     "replay",
     "schedule",
     "settle",
+    "sweep",
     "verify",
     "watch",
     "why",

@@ -5,7 +5,7 @@ from __future__ import annotations
 
 import operator
 from array import array
-from typing import Any, Iterable, Mapping, NamedTuple, Sequence, Tuple
+from typing import Any, Iterable, List, Mapping, NamedTuple, Sequence, Tuple
 
 from . import faults
 from .results import numpy
@@ -20,10 +20,21 @@ SOMEWHERE = NOTHING.buffer_info()[0]  # where no number lies: no pointer may be 
 class Numbers(NamedTuple):
     """Numbers that lie one behind the other in memory: how many, where, and what holds them there."""
 
-    count: int
+    count: int  # type: ignore[assignment]  # not the method of tuples
     address: int
     held: Any  # an array of numpy, or an `array`: it answers `held[place]`
     lock: Any = None  # while it is held, an `array` grows and shrinks not
+
+    def __reduce__(self) -> Tuple[Any, ...]:
+        """A copy, also in another process, lies elsewhere."""
+        return held_numbers, (self.held,)
+
+
+def held_numbers(held: Any) -> Numbers:
+    """The numbers of an `array`, or of an array of numpy, that lie one behind the other."""
+    if isinstance(held, array):
+        return Numbers(len(held), held.buffer_info()[0] or SOMEWHERE, held, memoryview(held))
+    return Numbers(held.size, held.__array_interface__["data"][0], held)
 
 
 def refused(what: str, place: int, found: Any, most: int) -> ValueError:
@@ -80,16 +91,14 @@ def is_lent(values: Any, size: int) -> bool:
 def numbers(values: Any, size: int, what: str) -> Numbers:
     """Numbers of so many bytes each. `what` is how a fault calls them."""
     if is_lent(values, size):
-        return Numbers(len(values), values.buffer_info()[0] or SOMEWHERE, values, memoryview(values))
+        return held_numbers(values)
     if numpy is not None and (hasattr(values, "__array_interface__") or isinstance(values, array)):
         given = numpy.asarray(values)
         if given.dtype.kind in "biuf":
-            held = of_numpy(given, size, what)
-            return Numbers(held.size, held.__array_interface__["data"][0], held)
+            return held_numbers(of_numpy(given, size, what))
     if isinstance(values, (str, bytes, Mapping)) or not isinstance(values, Iterable):
         raise TypeError(f"{what} is {values!r}: a list or an array of whole numbers is wanted")
-    listed = of_list(values, size, what)
-    return Numbers(len(listed), listed.buffer_info()[0] or SOMEWHERE, listed)
+    return held_numbers(of_list(values, size, what))
 
 
 def text_of_fault(number: int, place: int, offsets: Numbers, neighbours: Numbers, weights: Numbers) -> str:
@@ -137,12 +146,13 @@ def rows_of_edges(nodes: int, ends: Tuple[Any, Any], weights: Any, directed: boo
 
 def rows_of_lists(nodes: int, ends: Tuple[Any, Any], weights: Any, directed: bool) -> Tuple[Any, Any, Any]:
     """The same, without numpy."""
-    rows = [[] for _ in range(nodes)]  # type: ignore[var-annotated]
+    rows: List[List[Tuple[int, int]]] = [[] for _ in range(nodes)]
     for place, (one, other) in enumerate(zip(*ends)):
         rows[one].append((other, place))
         if not directed and one != other:
             rows[other].append((one, place))
-    offsets, neighbours, order = array("Q", [0]), array("I"), []
+    offsets, neighbours = array("Q", [0]), array("I")
+    order: List[int] = []
     for row in rows:
         row.sort()
         neighbours.extend(node for node, _ in row)

@@ -2,6 +2,7 @@
 
 from __future__ import annotations
 
+import json
 import re
 from typing import Any, Dict, List, NamedTuple, Tuple
 
@@ -9,6 +10,8 @@ Link = Tuple[int, int, int]
 Sets = Dict[str, List[Tuple[int, int]]]
 
 BARE = re.compile(r"[A-Za-z0-9_-]+")
+#: Links as `write` spells them, at the head of a text.
+LINKS = re.compile(r"links = \[\n((?:    \[[0-9]+, [0-9]+(?:, [0-9]+)?\],\n)+)\]\n")
 ESCAPES = {"b": "\b", "t": "\t", "n": "\n", "f": "\f", "r": "\r", "e": "\x1b"}
 ESCAPE = re.compile(r"\\(?:u([0-9A-Fa-f]{4})|U([0-9A-Fa-f]{8})|x([0-9A-Fa-f]{2})|(.))", re.DOTALL)
 TOKEN = re.compile(
@@ -132,7 +135,9 @@ class Reader:
 
 def read(text: str) -> Document:
     """What the text of a network file says. The library has accepted it."""
-    whole = Reader(text).document()
-    links = [(link[0], link[1], link[2] if len(link) == 3 else 1) for link in whole["links"]]
+    found = LINKS.match(text)  # most texts begin so, and are read faster
+    whole = Reader(text[found.end() :] if found else text).document()
+    listed = json.loads(f"[{found[1].rstrip()[:-1]}]") if found else whole["links"]
+    links = [(link[0], link[1], link[2] if len(link) == 3 else 1) for link in listed]
     sets = {name: [(node, value) for node, value in pairs] for name, pairs in whole.get("set", {}).items()}
     return Document(whole["nodes"], links, whole.get("phase", 0), sets)

@@ -3,14 +3,14 @@
 from __future__ import annotations
 
 from fractions import Fraction
-from typing import Any, Dict, FrozenSet, List, Mapping, Optional, Tuple, Type, Union
+from typing import Any, Callable, Dict, FrozenSet, List, Mapping, Optional, Tuple, Type, Union
 
 from . import _checks
 from .large import LargeNetwork
 from .network import InitialValues, Network
 from .results import Table
 
-KEPT = {"min": min, "max": max, "first": lambda first, _: first}
+KEPT: Dict[str, Callable[[int, int], int]] = {"min": min, "max": max, "first": lambda first, _: first}
 OLD_WORDS = {"least": "min", "most": "max", "first": "first"}  # of `merge_doubles`, an old name of `parallel`
 
 

@@ -2,18 +2,16 @@
 
 from __future__ import annotations
 
-from typing import Any, Iterable, Optional, Tuple, Union
+from typing import Any, Iterable, Optional, Sequence, Tuple, Union
 
 from . import _calls, _checks, faults, large
 from ._calls import Texts
-from .large import LargeNetwork
+from ._lists import lists_of
+from .large import LargeNetwork, Start
 from .network import Network
 from .program import Program
 from .results import Replayed, Rounds, Settling, States
 from .schedule import Step
-
-#: The greatest number there is. Programs use it for "none" and "not reached".
-NONE = 4294967295
 
 From = Union[None, States, str, bytes]
 AnyNetwork = Union[Network, LargeNetwork]
@@ -24,6 +22,30 @@ def texts_of(call: str, program: Any, network: Any, from_: From = None) -> Texts
     """The texts of a job, whose arguments are looked at."""
     rules, links = _checks.program(call, program), _checks.network(call, network)
     return Texts(rules.text, links._bytes, _checks.report(call, from_, rules, links))
+
+
+def start_of(call: str, program: Program, network: AnyNetwork, rounds: Sequence[int], from_: From) -> Optional[Start]:
+    """Where rounds begin that are made on lists, so that no text of a network is read; None where a text is needed: a report to go on from,
+    or the texts with which something is refused, since the library tells faults of texts."""
+    if isinstance(network, LargeNetwork):
+        return large.start_of(program, network, from_)
+    links = _checks.network(call, network)
+    if isinstance(from_, States):
+        _checks.states_fit(call, from_, program, links)
+    first = 0 if from_ is None else from_.round if isinstance(from_, States) else _checks.LAST_ROUND + 1
+    if first > _checks.LAST_ROUND or any(round < first for round in rounds[:1]) or not set(links._read().sets).issubset(program.fields):
+        return None
+    lists = lists_of(links)
+    return None if lists is None else large.start_of(program, lists, from_)
+
+
+def lists_for(call: str, program: Program, network: AnyNetwork) -> LargeNetwork:
+    """The lists of a network for this program."""
+    start = start_of(call, program, network, [0], None)
+    if start is None:  # the library tells what is wrong with the text
+        lockstep(program, network, 0)
+        raise RuntimeError(f"{call}: the library reads other links in the network's text: unison.Network(nodes, links) makes the network anew")
+    return start.lists
 
 
 def lockstep(program: Program, network: AnyNetwork, rounds: int, from_: From = None) -> States:
@@ -47,11 +69,14 @@ def lockstep(program: Program, network: AnyNetwork, rounds: int, from_: From = N
     """
     _checks.program("lockstep", program)
     asked = _checks.round_of("lockstep", "rounds", rounds)
-    if isinstance(network, LargeNetwork):
-        return large.lockstep(program, network, asked, from_)
-    texts = texts_of("lockstep", program, network, from_)
-    table = _calls.lockstep(texts, asked, network.nodes * len(program.fields))
-    return States(asked, program.fields, table.nodes, table.words, network._names)
+    start = start_of("lockstep", program, network, [asked], from_)
+    if start is None:
+        words = _calls.lockstep(texts_of("lockstep", program, network, from_), asked, network.nodes * len(program.fields)).words
+    else:
+        words = large.words_after(program, start, asked)
+    states = States(asked, program.fields, network.nodes, words, network._names)
+    states._made_of = (program, network, from_)
+    return states
 
 
 def watch(program: Program, network: AnyNetwork, rounds: Iterable[int], from_: From = None) -> Rounds:
@@ -71,11 +96,14 @@ def watch(program: Program, network: AnyNetwork, rounds: Iterable[int], from_: F
     """
     _checks.program("watch", program)
     asked = _checks.rising_rounds("watch", "rounds", rounds)
-    if isinstance(network, LargeNetwork):
-        return large.watch(program, network, asked, from_)
-    texts = texts_of("watch", program, network, from_)
-    table = _calls.watch(texts, asked, len(asked) * network.nodes * len(program.fields))
-    return Rounds(asked, program.fields, table.nodes, table.words, network._names)
+    start = start_of("watch", program, network, asked, from_)
+    if start is None:
+        words = _calls.watch(texts_of("watch", program, network, from_), asked, len(asked) * network.nodes * len(program.fields)).words
+    else:
+        words = large.words_of_each(program, start, asked)
+    seen = Rounds(asked, program.fields, network.nodes, words, network._names)
+    seen._made_of = (program, network, from_)
+    return seen
 
 
 def settle(program: Program, network: Network, limit: int = 1_000_000, from_: From = None) -> Settling:

@@ -3,13 +3,13 @@
 from __future__ import annotations
 
 from array import array
-from typing import Any, Hashable, Iterable, List, Mapping, Optional, Sequence, Tuple
+from typing import Any, Hashable, Iterable, List, Mapping, NamedTuple, Optional, Sequence, Tuple
 
 from . import _calls, _checks, faults
 from ._arrays import LONG, WORD, Numbers, numbers, rows_of_edges, text_of_fault
 from .network import InitialValues, is_number
 from .program import Program
-from .results import Rounds, States, numpy
+from .results import States, numpy
 
 Name = Hashable
 
@@ -89,6 +89,12 @@ class LargeNetwork:
         other.__dict__.update(self.__dict__)
         sets = _checks.initial_values("LargeNetwork.with_set", set)
         other._set = {field: self._values(field, given) for field, given in sets.items()}
+        return other
+
+    def with_more(self, set: Mapping[str, InitialValues]) -> LargeNetwork:
+        """The same nodes and links with these initial values, and for all other fields those that it has."""
+        other = self.with_set(set)
+        other._set = {**self._set, **other._set}
         return other
 
     @property
@@ -174,7 +180,7 @@ def from_edges(nodes: Optional[int], one: Any, other: Any, weights: Any, directe
     if listed is not None and listed.count != ends[0].count:
         raise ValueError(f"there are {listed.count} weights: expected one for each of the {ends[0].count} edges")
     count = nodes_of(nodes, ends)
-    held = tuple(given.held if numpy is None else numpy.asarray(given.held) for given in ends)
+    held = (ends[0].held, ends[1].held) if numpy is None else (numpy.asarray(ends[0].held), numpy.asarray(ends[1].held))
     loose = None if listed is None else listed.held if numpy is None else numpy.asarray(listed.held)
     return LargeNetwork(*rows_of_edges(count, held, loose, directed), **how)
 
@@ -199,10 +205,18 @@ def from_scipy(matrix: Any, weights: bool, **how: Any) -> LargeNetwork:
     return LargeNetwork(rows.indptr, rows.indices, rows.data if weights else None, **how)
 
 
-def words_from(program: Program, network: LargeNetwork, from_: Any) -> Tuple[int, "array[int]"]:
-    """The round to go on from and the words of its states, which may be changed."""
+class Start(NamedTuple):
+    """Where rounds on lists begin: a round, and the words of its states, which a call may change."""
+
+    lists: LargeNetwork
+    round: int
+    words: "array[int]"
+
+
+def start_of(program: Program, network: LargeNetwork, from_: Any) -> Start:
+    """The initial states, or those to go on from."""
     if from_ is None:
-        return 0, network._initial_words(program)
+        return Start(network, 0, network._initial_words(program))
     if not isinstance(from_, States):
         raise TypeError(
             f"a large network goes on from States, and not from {type(from_).__name__}: "
@@ -213,25 +227,33 @@ def words_from(program: Program, network: LargeNetwork, from_: Any) -> Tuple[int
             f"the states to go on from are of {from_.nodes} nodes with the fields {', '.join(from_.fields)}: "
             f"expected {network.nodes} nodes with {', '.join(program.fields)}"
         )
-    return from_.round, from_._words[:] or _calls.room_for(0)
+    return Start(network, from_.round, from_._words[:] or _calls.room_for(0))
 
 
-def lockstep(program: Program, network: LargeNetwork, asked: int, from_: Any) -> States:
-    """The states after a round: see `unison.lockstep`."""
-    start, words = words_from(program, network, from_)
-    _calls.large_rounds(program.text, network._lists(), start, asked, words, network.nodes * len(program.fields))
-    return States(asked, program.fields, network.nodes, _calls.cut(words, network.nodes * len(program.fields)), network._names)
+def words_after(program: Program, start: Start, round: int) -> "array[int]":
+    """The words after a round."""
+    size = start.lists.nodes * len(program.fields)
+    _calls.large_rounds(program.text, start.lists._lists(), start.round, round, start.words, size)
+    return _calls.cut(start.words, size)
 
 
-def watch(program: Program, network: LargeNetwork, asked: Sequence[int], from_: Any) -> Rounds:
-    """The states after each of some rounds: see `unison.watch`. Each round is gone on to by a call of its own."""
-    start, words = words_from(program, network, from_)
-    size, seen = network.nodes * len(program.fields), array("I")
-    for before, after in zip(asked, asked[1:]):
-        if after <= before:
-            raise faults.error_of(4)
-    for round in asked:
-        _calls.large_rounds(program.text, network._lists(), start, round, words, size)
-        seen.extend(words[:size])
-        start = round
-    return Rounds(asked, program.fields, network.nodes, seen, network._names)
+def is_rising(rounds: Sequence[int]) -> bool:
+    """Whether each round is above the one before it."""
+    return all(before < after for before, after in zip(rounds, rounds[1:]))
+
+
+def check_rising(rounds: Sequence[int]) -> None:
+    """Raises RunError where a round is not above the one before it."""
+    if not is_rising(rounds):
+        raise faults.error_of(4)
+
+
+def words_of_each(program: Program, start: Start, rounds: Sequence[int]) -> "array[int]":
+    """The words after each of some rounds, one round behind the other."""
+    check_rising(rounds)
+    size, seen, before = start.lists.nodes * len(program.fields), array("I"), start.round
+    for round in rounds:
+        _calls.large_rounds(program.text, start.lists._lists(), before, round, start.words, size)
+        seen.extend(start.words[:size])
+        before = round
+    return seen

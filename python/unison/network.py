@@ -70,6 +70,9 @@ class Network(Makers):
     _count: Optional[int]
     _document: Optional[Document]
     _rows: Optional[List[Dict[int, int]]]
+    _lists: Optional[LargeNetwork] = None  # the same as lists in memory, where a call has needed them
+    _links_held: List[LargeNetwork]  # its links alone, shared by all networks that differ in `set`
+    _is_read = False  # it is what the library and this package read in a text
 
     def __new__(
         cls,
@@ -101,6 +104,7 @@ class Network(Makers):
 
     def _call_nodes(self, names: Optional[Tuple[Name, ...]]) -> None:
         """Takes the nodes' names, where they have any."""
+        self._links_held = []
         self._names = names
         self._numbers = None if names is None else {name: number for number, name in enumerate(names)}
 
@@ -152,6 +156,7 @@ class Network(Makers):
         network = blank(cls)
         network._text = _checks.text("Network.from_text", "text", text).decode("utf-8", "surrogateescape")
         network._document = None
+        network._is_read = True
         network._rows = None
         called = _checks.names("Network.from_text", names)
         network._call_nodes(None if called is None else tuple(called))
@@ -246,6 +251,7 @@ class Network(Makers):
         """
         other = blank(type(self))
         other._names, other._numbers, other._count = self._names, self._numbers, self.nodes
+        other._links_held = self._links_held
         sets = _checks.initial_values("Network.with_set", set)
         other._adopt(self._read()._replace(sets=other._sets("Network.with_set", sets)))
         return other

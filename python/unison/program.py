@@ -68,7 +68,9 @@ class Program:
 
     def __eq__(self, other: object) -> bool:
         """Programs are equal where their canonical spellings are."""
-        return self._canonical == other._canonical if isinstance(other, Program) else NotImplemented
+        if not isinstance(other, Program):
+            return NotImplemented
+        return self._canonical == other._canonical
 
     def __hash__(self) -> int:
         return hash(self._canonical)
