@@ -11,7 +11,7 @@ from support import PYTHON, ROOT, run_python, skip, wanted
 
 import unison
 
-MODULES = ["", ".faults", ".graphs", ".jobs", ".large", ".network", ".program", ".results", ".schedule"]
+MODULES = ["", *(f".{path.stem}" for path in sorted((PYTHON / "unison").glob("[a-z]*.py")))]
 
 
 def test_examples_in_docstrings():
@@ -81,6 +81,19 @@ def test_the_page_of_the_package():
 
 def test_the_tutorial():
     run_page(ROOT / "docs" / "tutorials" / "python.md")
+
+
+def test_the_page_of_all_calls_is_that_of_the_docstrings():
+    """`python/api_page --write` makes it anew."""
+    import subprocess
+    import sys
+
+    done = subprocess.run([sys.executable, str(PYTHON / "api_page")], capture_output=True, text=True, timeout=120)
+    assert done.returncode == 0, done.stdout + done.stderr
+    page = (ROOT / "docs" / "python_api.md").read_text()
+    for name in unison.__all__:
+        assert name == "NONE" or f"\n## {name}\n" in page, name
+    assert all(len(line) <= 120 for line in page.splitlines() if not line.startswith((">>>", "...")))
 
 
 def test_the_version_stands_once():
