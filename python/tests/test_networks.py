@@ -37,7 +37,7 @@ def test_weights_of_each_form():
         assert tuple(link[2] for link in unison.Network(3, [(0, 1), (1, 2)], weights).links) == expected
     raised(ValueError, lambda: unison.Network(3, [(0, 1), (1, 2)], [5]))
     raised(TypeError, lambda: unison.Network(3, [(0, 1, 0.5)]))
-    raised(ValueError, lambda: unison.Network(3, [(0, 1, 2**70)]))
+    raised(unison.NetworkError, lambda: unison.Network(3, [(0, 1, 2**70)]))
     raised(ValueError, lambda: unison.Network(3, [(0, 1, 2, 3)]))
 
 

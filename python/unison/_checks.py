@@ -41,7 +41,7 @@ def shown(value: Any) -> str:
     if value is None:
         return "None"
     spelled = repr(value)
-    if len(spelled) > LONGEST_SHOWN or "\n" in spelled:
+    if len(spelled) > LONGEST_SHOWN or "\n" in spelled or " object at 0x" in spelled:
         return kind_of(value)
     return spelled if spelled.startswith("<") else f"{spelled}, {kind_of(value)}"
 
@@ -78,9 +78,16 @@ def whole(call: str, name: str, value: Any, least: int = 0, most: int = GREATEST
     return number
 
 
-def cell(call: str, name: str, value: Any, fault: int = BAD_VALUE) -> int:
+def at(name: str, *places: Any) -> str:
+    """How a message calls what stands at these places of an argument: `links[3][0]`, `set['dist'][2]`."""
+    return name + "".join(f"[{place!r}]" for place in places)
+
+
+def cell(call: str, name: str, value: Any, *places: Any, fault: int = BAD_VALUE) -> int:
     """A value of a field or a weight, from 0 to 4294967295; True is 1 and False is 0."""
-    return whole(call, name, int(value) if isinstance(value, bool) else value, fault=fault)
+    if type(value) is int and 0 <= value <= GREATEST:  # the usual case, for which no words are made
+        return value
+    return whole(call, at(name, *places), int(value) if isinstance(value, bool) else value, fault=fault)
 
 
 def round_of(call: str, name: str, value: Any, fault: int = TOO_MANY_ROUNDS, least: int = 0) -> int:
@@ -167,9 +174,9 @@ def any_network(call: str, value: Any) -> "Union[Network, LargeNetwork]":
 
 def rising_rounds(call: str, name: str, value: Any) -> List[int]:
     """Rounds of which each is above the one before it."""
-    wanted = "rounds that rise, as range(0, 11) or [1, 10, 100]"
+    wanted = "a list of rising rounds, as range(0, 11) or [1, 10, 100],"
     if isinstance(value, (set, frozenset)):
-        refuse(call, name, value, f"{wanted}, is wanted")
+        refuse(call, name, value, f"{wanted} is wanted")
     listed = items(call, name, value, wanted)
     rounds = [round_of(call, f"{name}[{place}]", round) for place, round in enumerate(listed)]
     for place, (before, after) in enumerate(zip(rounds, rounds[1:]), 1):
@@ -282,7 +289,7 @@ def nodes(call: str, value: Any) -> Union[int, Tuple[Any, ...]]:
     if isinstance(value, (set, frozenset)):
         refuse(call, "nodes", value, f"{wanted} is wanted")
     names = items(call, "nodes", value, wanted)
-    seen = {}
+    seen: Dict[Any, int] = {}
     for place, name in enumerate(names):
         try:
             first = seen.setdefault(name, place)
@@ -293,21 +300,19 @@ def nodes(call: str, value: Any) -> Union[int, Tuple[Any, ...]]:
     return tuple(names)
 
 
-def link(call: str, place: int, value: Any) -> Sequence[Any]:
-    """A link: two nodes, or two nodes and a weight."""
+def link(call: str, place: int, value: Any) -> None:
+    """Looks whether a link is two nodes, or two nodes and a weight."""
     wanted = "a pair of nodes, or two nodes and a weight, is wanted"
     if isinstance(value, (str, bytes, Mapping)) or not hasattr(value, "__len__") or not hasattr(value, "__getitem__"):
         refuse(call, f"links[{place}]", value, wanted)
     if len(value) not in (2, 3):
         refuse(call, f"links[{place}]", value, wanted, ValueError)
-    return value
 
 
-def graph(call: str, value: Any) -> Any:
-    """A graph of NetworkX."""
+def graph(call: str, value: Any) -> None:
+    """Looks whether a value is a graph of NetworkX."""
     if not all(hasattr(value, part) for part in ("is_directed", "edges", "nodes")):
         refuse(call, "graph", value, "a graph of NetworkX is wanted")
-    return value
 
 
 def names(call: str, value: Any) -> Optional[List[Any]]:

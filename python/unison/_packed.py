@@ -54,7 +54,9 @@ def write(network: LargeNetwork) -> bytes:
     weighted = network._weights.count == network._neighbours.count > 0
     head = numbers([network.nodes, network.ends, int(weighted)], LONG, "head")
     parts = [MAGIC, bytes_of(head, LONG), bytes_of(network._offsets, LONG), bytes_of(network._neighbours, WORD)]
-    return b"".join([*parts, bytes_of(network._weights, WORD)] if weighted else parts)
+    if weighted:
+        parts.append(bytes_of(network._weights, WORD))
+    return b"".join(parts)
 
 
 def column(values: Numbers) -> bytes:

@@ -120,7 +120,7 @@ class Counts:
 
     def __eq__(self, other: object) -> bool:
         """The same columns with the same rows."""
-        return (self._columns, self._rows) == (other._columns, other._rows) if isinstance(other, Counts) else NotImplemented
+        return isinstance(other, Counts) and (self._columns, self._rows) == (other._columns, other._rows)
 
     __hash__ = None  # type: ignore[assignment]
 

@@ -111,7 +111,7 @@ class UnisonError(ValueError):
 
     def __init__(self, number: int, diagnosis: str = "", called: Optional[Tuple[str, str]] = None) -> None:
         self.number = number
-        self.part, self.name = called or FAULTS.get(number, ("library", f"Fault{number}"))
+        self.part, self.name = FAULTS.get(number, ("library", f"Fault{number}")) if called is None else called
         self.diagnosis = diagnosis
         self.place = place_in(diagnosis)
         super().__init__(number, diagnosis, called)

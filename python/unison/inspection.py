@@ -123,7 +123,7 @@ def line_of(place: int, step: Any, network: Network, by_name: bool) -> bytes:
             number = network.number(said[key])
             said[key] = str(network.names[number]) if by_name else number
     for field, value in dict(said.get("state", {})).items():
-        said["state"] = {**said["state"], field: _checks.cell("verify", f"trace[{place}]['state'][{field!r}]", value)}
+        said["state"] = {**said["state"], field: _checks.cell("verify", "trace", value, place, "state", field)}
     return json.dumps(said).encode("ascii") + b"\n"
 
 

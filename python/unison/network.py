@@ -116,33 +116,38 @@ class Network(Makers):
         accept(self._text, document.sets)
 
     def _link(self, place: int, given: Any) -> Link:
-        link = _checks.link("Network", place, given)
-        weight = _checks.cell("Network", f"links[{place}][2]", link[2], _checks.BAD_WEIGHT) if len(link) == 3 else 1
-        one, other = (self._end("Network", f"links[{place}][{end}]", link[end], _checks.BAD_LINK) for end in (0, 1))
+        _checks.link("Network", place, given)
+        weight = _checks.cell("Network", "links", given[2], place, 2, fault=_checks.BAD_WEIGHT) if len(given) == 3 else 1
+        one, other = (self._end("Network", "links", given[end], place, end, fault=_checks.BAD_LINK) for end in (0, 1))
         return one, other, weight
 
-    def _end(self, call: str, name: str, node: Any, fault: int) -> int:
+    def _end(self, call: str, name: str, node: Any, *places: Any, fault: int) -> int:
         """The number of a node, called by its name, or by the number itself where nodes have no names."""
         if self._numbers is None:
-            return _checks.whole(call, name, node, 0, self.nodes - 1, fault)
+            if type(node) is int and 0 <= node < self.nodes:  # the usual case, for which no words are made
+                return node
+            return _checks.whole(call, _checks.at(name, *places), node, 0, self.nodes - 1, fault)
         try:
             return self._numbers[node]
         except (KeyError, TypeError):
-            raise faults.Missing(f"{call}: {name} is {_checks.shown(node)}: the name of a node is wanted, and none is called so") from None
+            where = _checks.at(name, *places)
+            raise faults.Missing(f"{call}: {where} is {_checks.shown(node)}: the name of a node is wanted, and none is called so") from None
 
     def _sets(self, call: str, sets: Mapping[str, InitialValues]) -> Sets:
-        return {field: self._pairs(call, f"set[{field!r}]", given) for field, given in sets.items()}
+        return {field: self._pairs(call, field, given) for field, given in sets.items()}
 
-    def _pairs(self, call: str, what: str, given: Any) -> List[Tuple[int, int]]:
+    def _pairs(self, call: str, field: str, given: Any) -> List[Tuple[int, int]]:
         """The entries of a field, by rising number."""
         if isinstance(given, Mapping):
             pairs = given.items()
-            return sorted((self._end(call, f"a key of {what}", node, _checks.BAD_NODE), _checks.cell(call, f"{what}[{node!r}]", value)) for node, value in pairs)
+            ends = [self._end(call, f"a key of set[{field!r}]", node, fault=_checks.BAD_NODE) for node, _ in pairs]
+            return sorted(zip(ends, (_checks.cell(call, "set", value, field, node) for node, value in pairs)))
         if _checks.is_whole(given) or isinstance(given, bool):
-            return [(node, _checks.cell(call, what, given)) for node in range(self.nodes)]
-        values = [_checks.cell(call, f"{what}[{place}]", value) for place, value in enumerate(plain(given))]
+            value = _checks.cell(call, "set", given, field)
+            return [(node, value) for node in range(self.nodes)]
+        values = [_checks.cell(call, "set", value, field, place) for place, value in enumerate(plain(given))]
         if len(values) != self.nodes:
-            raise ValueError(f"{call}: {what} has {len(values)} values: one for each of the {self.nodes} nodes is wanted")
+            raise ValueError(f"{call}: set[{field!r}] has {len(values)} values: one for each of the {self.nodes} nodes is wanted")
         return list(enumerate(values))
 
     @classmethod
@@ -352,11 +357,10 @@ def blank(kind: Type[Network]) -> Network:
 def weighted(links: List[Link], weights: Any) -> List[Link]:
     """The links with these weights: one for all, or one for each."""
     if _checks.is_whole(weights):
-        one = _checks.cell("Network", "weights", weights, _checks.BAD_WEIGHT)
-        numbers = [one] * len(links)
+        numbers = [_checks.cell("Network", "weights", weights, fault=_checks.BAD_WEIGHT)] * len(links)
     else:
         listed = _checks.items("Network", "weights", weights, "a whole number, or a list with one for each link,")
-        numbers = [_checks.cell("Network", f"weights[{place}]", weight, _checks.BAD_WEIGHT) for place, weight in enumerate(listed)]
+        numbers = [_checks.cell("Network", "weights", weight, place, fault=_checks.BAD_WEIGHT) for place, weight in enumerate(listed)]
     if len(numbers) != len(links):
         raise ValueError(f"Network: weights has {len(numbers)} entries: one for each of the {len(links)} links is wanted")
     return [(one, other, weight) for (one, other, _), weight in zip(links, numbers)]
@@ -366,7 +370,7 @@ def is_beyond(nodes: int, links: Sequence[Tuple[Any, Any, int]]) -> bool:
     """Whether so many nodes with these links are beyond the limits of a `Network`."""
     if nodes > MOST_NODES or len(links) > MOST_LINKS:
         return True
-    degrees = Counter(end for link in links for end in link[:2]) if len(links) > MOST_NEIGHBOURS else {}
+    degrees: Counter[Any] = Counter(end for link in links for end in link[:2]) if len(links) > MOST_NEIGHBOURS else Counter()
     return max(degrees.values(), default=0) > MOST_NEIGHBOURS
 
 
@@ -381,9 +385,8 @@ def large_of(names: Optional[Sequence[Name]], document: Document, sets: Mapping[
             raise faults.error_of(53, f"Network: links[{place}] joins node {one} with itself, and no link does (network SelfLink)")
         if first != place:
             raise faults.error_of(54, f"Network: links[{place}] joins the same nodes as links[{first}], {one} and {other} (network LinkTwice)")
-    ends = [array("I", (link[end] for link in document.links)) for end in (0, 1)]
-    weights = [weight for *_, weight in document.links]
-    return from_edges(document.nodes, *ends, weights, False, names=names, set=sets)
+    columns = [array("I", (link[part] for link in document.links)) for part in range(3)]
+    return from_edges(document.nodes, columns[0], columns[1], columns[2], False, names=names, set=sets)
 
 
 def accept(text: str, sets: Sets) -> Optional[int]:

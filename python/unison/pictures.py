@@ -38,7 +38,7 @@ class Image:
 
     def __eq__(self, other: object) -> bool:
         """The same text."""
-        return self._svg == other._svg if isinstance(other, Image) else NotImplemented
+        return isinstance(other, Image) and self._svg == other._svg
 
     def __hash__(self) -> int:
         return hash(self._svg)
@@ -69,7 +69,7 @@ class Page:
 
     def __eq__(self, other: object) -> bool:
         """The same text."""
-        return self._html == other._html if isinstance(other, Page) else NotImplemented
+        return isinstance(other, Page) and self._html == other._html
 
     def __hash__(self) -> int:
         return hash(self._html)
