@@ -120,7 +120,11 @@ class Columns:
 
         Raises KeyError for a field that is not there.
         """
-        values = shaped(self._column(field), self._shape)
+        self._check_field(field)
+        if numpy is None:
+            values = shaped(self._column(field), self._shape)
+        else:
+            values = shaped(self._words, (*self._shape, len(self._fields)))[..., self._fields.index(field)]
         return with_missing(values) if missing else values
 
     def difference(self, field: str, other: Union[str, "Columns"], missing: bool = False) -> Any:
@@ -158,9 +162,12 @@ class Columns:
         self._check_like(other)
         return minus(self.values, other.values)
 
-    def _column(self, field: str) -> "array[int]":
+    def _check_field(self, field: str) -> None:
         if field not in self._fields:
             raise Missing(f"there is no field {field!r}: the fields are {', '.join(self._fields) or 'none'}")
+
+    def _column(self, field: str) -> "array[int]":
+        self._check_field(field)
         return self._words[self._fields.index(field) :: len(self._fields)]
 
     def _frame(self, pandas: Any, index: Any, missing: bool) -> Any:

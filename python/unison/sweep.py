@@ -278,10 +278,11 @@ def blocks_of(program: Program, start: Start, plan: Plan) -> Iterator[Rounds]:
 
 def told_of(block: Rounds, asked: Asked) -> List[Found]:
     """What is found in each of some rounds."""
-    columns = {field: block[field] for field in {*asked.counted, *(field for _, field in asked.totals)}}
+    columns = {field: block[field] for field in {field for _, field in asked.totals}}
+    nodes_with = {field: counts_of_each(block[field]) for field in asked.counted}
     found = []
     for place, round in enumerate(block.rounds):
-        counts = {(field, value): nodes for field in asked.counted for value, nodes in counted(columns[field][place]).items()}
+        counts = {(field, value): nodes for field in asked.counted for value, nodes in nodes_with[field][place].items()}
         numbers: Row = {f"{kind} {field}": TOTALS[kind](columns[field][place]) for kind, field in asked.totals}
         if asked.of is not None:
             numbers.update(answer_of(asked.of, block.at(round)))
@@ -300,18 +301,24 @@ def answer_of(of: Callable[[States], Any], states: States) -> Row:
     return {"of" if name == "<lambda>" else name: answer}
 
 
-def counted(values: Any) -> Dict[int, int]:
-    """How many of some values are the same."""
+def counts_of_each(values: Any) -> List[Dict[int, int]]:
+    """How many nodes have each value, round by round: 0 of some values that do not occur."""
     if numpy is None:
-        return dict(Counter(values))
+        return [dict(Counter(row)) for row in values]
+    most = int(values.max(initial=0))
+    if most >= FEW:
+        return [counted(row) for row in values]
+    small = values.astype(numpy.uint8)
+    marks = [small == value for value in range(most + 1)]
+    return [{value: int(numpy.count_nonzero(mark[place])) for value, mark in enumerate(marks)} for place in range(len(values))]
+
+
+def counted(values: Any) -> Dict[int, int]:
+    """How many nodes have each of some values."""
     absent = int(numpy.count_nonzero(values == NONE))
     if absent:
         return {**counted(values[values != NONE]), NONE: absent}
-    most = int(values.max(initial=0))
-    if most < FEW:
-        each = [int(numpy.count_nonzero(values == value)) for value in range(most + 1)]
-        return {value: nodes for value, nodes in enumerate(each) if nodes}
-    if most < DENSE:
+    if int(values.max(initial=0)) < DENSE:
         each = numpy.bincount(values).tolist()
         return {value: nodes for value, nodes in enumerate(each) if nodes}
     found, nodes = numpy.unique(values, return_counts=True)
@@ -352,7 +359,7 @@ def columns_of_values(program: Program, asked: Asked, found: Sequence[Found], na
     """What the column of each counted value is called, by field and value: states first, then other values that occur, rising."""
     states = program.states if isinstance(program, Model) and asked.counted else {}
     columns: Dict[Tuple[str, int], str] = {}
-    occur = {key for part in found for key in part.counts}
+    occur = {key for part in found for key, nodes in part.counts.items() if nodes}
     for field in asked.counted:
         names = states.get(field, ())
         names = () if set(names) & set(named) else names
