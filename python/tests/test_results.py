@@ -2,10 +2,10 @@
 
 import json
 
-from support import DISTANCE, SWAP, raised, run_python, wanted
+from support import DISTANCE, SWAP, raised, run_python, skip, wanted
 
 import unison
-from unison import results
+from unison import _notebook, results
 
 NAMED = unison.Network(["ann", "bob", "cid"], [("ann", "bob"), ("bob", "cid")], set={"a": {"ann": 7}, "b": [1, 2, 3]})
 TWO = unison.Program("field a = 0; field b = 9; next a = (a max most n.a);")
@@ -188,6 +188,20 @@ def test_what_notebooks_show_of_results():
     assert rounds.count("<tr>") == 14 and "<tr><td>2</td><td>0</td><td>1</td><td>2</td><td>none</td>" in rounds
     assert "<caption>dist: 30 rounds of 40 nodes: dist</caption>" in rounds
     assert unison.replay(FAR, ROW, "read 1 0\nwrite 1\n", 3)._repr_html_().count("<tr>") == 4
+
+
+def test_small_runs_are_shown_as_pages():
+    """The page that the proved program makes of the same rounds."""
+    if not _notebook.is_at_hand():
+        skip("there is no program unison_lab at hand")
+    watched = unison.watch(FAR, ROW, range(3))
+    assert watched._repr_html_() == unison.page(FAR, ROW, 2)._repr_html_() and watched._repr_html_().startswith("<iframe srcdoc=")
+    assert watched.at(1)._repr_html_() == unison.page(FAR, ROW, [1])._repr_html_()
+    later = unison.lockstep(FAR, ROW, 2, from_=watched.at(1))
+    assert later._repr_html_() == unison.page(FAR, ROW, [2], from_=watched.at(1))._repr_html_()
+    assert unison.watch(FAR, ROW, [0, 1, 5])._repr_html_().startswith("<table>"), "rounds that are not evenly apart"
+    large = unison.Network.from_edges([0, 1], [1, 2], set={"dist": {0: 0}})
+    assert unison.lockstep(FAR, large, 1)._repr_html_().startswith("<table>"), "a large network has no page"
 
 
 def test_results_do_not_share_what_they_hold():

@@ -3,12 +3,22 @@
 import json
 import threading
 
-from support import DISTANCE, raised, run_python, wanted
+from support import DISTANCE, EXAMPLES, network, raised, run_python, skip, wanted
 
 import unison
 
 STEP = unison.Program("field s = 0; field step = 1; next s = (s + step);")
 SPREAD = unison.Program("field s = 0; field wanted = 1; next s = (s max (count n.s >= wanted));")
+
+
+def model_of(name):
+    """A model of the examples, where there is a program that expands it."""
+    try:
+        return unison.Model.from_file(EXAMPLES / "models" / f"{name}.model")
+    except unison.ProgramsMissing as error:
+        return skip(str(error))
+
+
 PATH = unison.Network(5, [(node, node + 1) for node in range(4)], set={"s": {0: 1}})
 
 
@@ -115,6 +125,37 @@ def test_runs_are_made_side_by_side():
     seen = set()
     unison.sweep(STEP, unison.Network(1, []), {"step": range(5)}, [1], of=lambda states: seen.add(threading.get_ident()), workers=1)
     assert len(seen) == 1
+
+
+def models():
+    """Models of the examples, each with a network and values of its constants."""
+    club = network("karate").with_set({"state": {0: 1, 33: 1}})
+    yield "epidemic", club, {"infection": 9000, "seed": [1, 2, 3]}
+    yield "epidemic", club, {"recovery": 30000, "infection": [0, 65536]}
+    yield "colouring", network("karate").with_set({}), {"seed": range(2)}
+    yield "majority", network("votes"), {"seed": [0, 7]}
+
+
+def test_sweeps_of_models_beside_the_counts_of_the_proved_program():
+    for name, net, values in models():
+        model = model_of(name)
+        field = model.fields[0]
+        found = unison.sweep(model, net, values, 8, count=field, sum=field)
+        counted = unison.count(model, net, 8, field, sum=field, constants=values)
+        several = next(constant for constant, given in values.items() if not isinstance(given, int))
+        columns = [several, *counted.columns[counted.columns.index("round") :]]
+        assert set(found.columns) == {*values, *columns}, name
+        assert [tuple(row[column] for column in columns) for row in found] == [tuple(row) for row in counted.rows], name
+
+
+def test_a_model_and_the_fields_and_constants_that_are_swept():
+    model = model_of("epidemic")
+    path = unison.Network(4, [(0, 1), (1, 2), (2, 3)])
+    found = unison.sweep(model, path, {"infection": [0, 65536], "state": [{0: 1}, {0: 1, 3: 1}], "recovery": 0}, [0, 1], count="state")
+    infected = [(row["infection"], row["round"], row["infected"]) for row in found]
+    assert infected == [(0, 0, 1), (0, 1, 1), (0, 0, 2), (0, 1, 2), (65536, 0, 1), (65536, 1, 2), (65536, 0, 2), (65536, 1, 4)]
+    assert found.columns == ("infection", "state", "recovery", "round", "susceptible", "infected", "recovered")
+    assert raised(unison.ModelError, lambda: unison.sweep(model, path, {"infektion": [1]}, 1)).part == "model"
 
 
 def test_what_is_refused():
