@@ -97,16 +97,16 @@ def test_initial_values_of_each_form_by_names():
 
 
 def test_rounds_that_do_not_fit_into_one_block():
-    from unison import large
+    from unison import _runs
 
-    before = unison.sweep.__globals__["BLOCK"]
+    before = _runs.BLOCK
     expected = unison.sweep(SPREAD, PATH, {"wanted": [1, 0]}, range(1, 9, 2), count="s").rows
-    unison.sweep.__globals__["BLOCK"] = 20  # two rounds of five nodes with two fields
+    _runs.BLOCK = 20  # two rounds of five nodes with two fields
     try:
         assert unison.sweep(SPREAD, PATH, {"wanted": [1, 0]}, range(1, 9, 2), count="s").rows == expected
     finally:
-        unison.sweep.__globals__["BLOCK"] = before
-    assert [row["1"] for row in expected] == [2, 4, 5, 5, 5, 5, 5, 5] and large is not None
+        _runs.BLOCK = before
+    assert [row["1"] for row in expected] == [2, 4, 5, 5, 5, 5, 5, 5]
 
 
 def test_states_to_go_on_from():

@@ -1,0 +1,155 @@
+"""The runs of a sweep: made side by side by threads, and what is told of each round."""
+
+from __future__ import annotations
+
+from collections import Counter
+from concurrent.futures import ThreadPoolExecutor
+from typing import Any, Callable, Dict, Iterator, List, Mapping, NamedTuple, Optional, Sequence, Tuple
+
+from . import _calls, large
+from .jobs import AnyNetwork
+from .large import LargeNetwork, Start
+from .model import Model
+from .program import Program
+from .results import NONE, Rounds, States, numpy
+
+Row = Dict[str, Any]
+
+BLOCK = 1 << 22  # words of rounds that a thread holds at once, if a round has no more
+FEW = 8  # values below this are counted one by one
+DENSE = 1 << 16  # and values below this by a list of counts
+
+
+class Asked(NamedTuple):
+    """What is told of each round."""
+
+    counted: Tuple[str, ...]  # fields whose values are counted
+    totals: Tuple[Tuple[str, str], ...]  # one of TOTALS and a field
+    of: Optional[Callable[[States], Any]]
+
+    def is_nothing(self) -> bool:
+        return not self.counted and not self.totals and self.of is None
+
+
+class Found(NamedTuple):
+    """What was found in a round: numbers by their columns, and how many nodes have a value, by field and value."""
+
+    numbers: Row
+    counts: Dict[Tuple[str, int], int]
+
+
+class Plan(NamedTuple):
+    """What all runs of a sweep have in common."""
+
+    program: Program
+    network: AnyNetwork
+    lists: LargeNetwork
+    rounds: List[int]
+    from_: Optional[States]
+    asked: Asked
+
+
+def in_threads(call: Callable[[Any], Any], given: Sequence[Any], workers: int) -> List[Any]:
+    """What a call answers for each of some things, in their order. The first error ends all."""
+    with ThreadPoolExecutor(max_workers=min(workers, max(len(given), 1))) as threads:
+        try:
+            return list(threads.map(call, given))
+        except BaseException:
+            threads.shutdown(wait=True, cancel_futures=True)
+            raise
+
+
+def rounds_found(plan: Plan, run: Dict[str, Any]) -> List[Found]:
+    """What is found in the rounds of one combination of values."""
+    fields = plan.program.fields
+    constants = {name: value for name, value in run.items() if name not in fields}
+    program = plan.program.with_constants(constants) if isinstance(plan.program, Model) and constants else plan.program
+    lists = with_values(plan, {name: value for name, value in run.items() if name in fields})
+    start = large.start_of(program, lists, plan.from_)
+    found: List[Found] = []
+    for block in blocks_of(program, start, plan):
+        found.extend(told_of(block, plan.asked))
+    return found
+
+
+def with_values(plan: Plan, values: Mapping[str, Any]) -> LargeNetwork:
+    """The network with these initial values in place of its own of the same fields. Its lists know no names that a `Network` has."""
+    if plan.lists is not plan.network:
+        values = {field: numbered(plan.network, given) if isinstance(given, Mapping) else given for field, given in values.items()}
+    return plan.lists.with_more(values) if values else plan.lists
+
+
+def numbered(network: AnyNetwork, values: Mapping[Any, int]) -> Dict[int, int]:
+    """Values by the nodes' numbers in place of their names."""
+    return {network.number(node): value for node, value in values.items()}
+
+
+def blocks_of(program: Program, start: Start, plan: Plan) -> Iterator[Rounds]:
+    """The rounds, as many at once as are held in memory."""
+    nodes, size = plan.lists.nodes, plan.lists.nodes * len(program.fields)
+    several = max(1, BLOCK // max(size, 1))
+    for place in range(0, len(plan.rounds), several):
+        rounds = plan.rounds[place : place + several]
+        words = large.words_of_each(program, start, rounds)
+        yield Rounds(rounds, program.fields, nodes, words, plan.network._names)
+        start = Start(start.lists, rounds[-1], words[len(words) - size :] or _calls.room_for(0))
+
+
+def told_of(block: Rounds, asked: Asked) -> List[Found]:
+    """What is found in each of some rounds."""
+    columns = {field: block[field] for field in {field for _, field in asked.totals}}
+    nodes_with = {field: counts_of_each(block[field]) for field in asked.counted}
+    found = []
+    for place, round in enumerate(block.rounds):
+        counts = {(field, value): nodes for field in asked.counted for value, nodes in nodes_with[field][place].items()}
+        numbers: Row = {f"{kind} {field}": TOTALS[kind](columns[field][place]) for kind, field in asked.totals}
+        if asked.of is not None:
+            numbers.update(answer_of(asked.of, block.at(round)))
+        elif asked.is_nothing():
+            numbers["states"] = block.at(round)
+        found.append(Found(numbers, counts))
+    return found
+
+
+def answer_of(of: Callable[[States], Any], states: States) -> Row:
+    """What a function answers, by its columns."""
+    answer = of(states)
+    if isinstance(answer, Mapping):
+        return {str(column): value for column, value in answer.items()}
+    name = getattr(of, "__name__", "of")
+    return {"of" if name == "<lambda>" else name: answer}
+
+
+def counts_of_each(values: Any) -> List[Dict[int, int]]:
+    """How many nodes have each value, round by round: 0 of some values that do not occur."""
+    if numpy is None:
+        return [dict(Counter(row)) for row in values]
+    most = int(values.max(initial=0))
+    if most >= FEW:
+        return [counted(row) for row in values]
+    small = values.astype(numpy.uint8)
+    marks = [small == value for value in range(most + 1)]
+    return [{value: int(numpy.count_nonzero(mark[place])) for value, mark in enumerate(marks)} for place in range(len(values))]
+
+
+def counted(values: Any) -> Dict[int, int]:
+    """How many nodes have each of some values."""
+    absent = int(numpy.count_nonzero(values == NONE))
+    if absent:
+        return {**counted(values[values != NONE]), NONE: absent}
+    if int(values.max(initial=0)) < DENSE:
+        each = numpy.bincount(values).tolist()
+        return {value: nodes for value, nodes in enumerate(each) if nodes}
+    found, nodes = numpy.unique(values, return_counts=True)
+    return dict(zip(found.tolist(), nodes.tolist()))
+
+
+def sum_of(values: Any) -> int:
+    return int(sum(values) if numpy is None else values.sum(dtype=numpy.uint64))
+
+
+TOTALS: Dict[str, Callable[[Any], int]] = {
+    "sum": sum_of,
+    "least": lambda values: int(min(values) if numpy is None else values.min()),
+    "most": lambda values: int(max(values) if numpy is None else values.max()),
+}
