@@ -45,7 +45,7 @@ def ends_of(count: int) -> List[Any]:
 
 
 def cell(value: Any) -> str:
-    return "none" if value == NONE else html.escape(str(value))
+    return "none" if isinstance(value, int) and value == NONE else html.escape(str(value))
 
 
 def row(kind: str, cells: Iterable[str]) -> str:
