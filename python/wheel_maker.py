@@ -1,25 +1,35 @@
 """Makes the wheel of the package, for pip: the sources in `unison`, and the library that `library/build` has made.
 
-A backend of its own, since it needs neither setuptools nor wheel: `pip install ./python` works without a network.
+A backend of its own, since it needs neither setuptools nor wheel: `pip install ./python` works without a network. `./release` makes a wheel by it
+that has the proved programs besides (packages/README.md). Of the same files it makes the same bytes.
 """
 
 import base64
 import hashlib
+import io
 import os
 import re
+import stat
 import sysconfig
 import zipfile
 from pathlib import Path
 
 HERE = Path(__file__).resolve().parent
+FILE = stat.S_IFREG | 0o644
+COMMANDS = "[console_scripts]\nunison = unison.command:main\n"
 PLACES = [HERE.parent / "library" / "out" / "libunison.so", HERE / "unison" / "libunison.so"]
 
 
+def version():
+    """The version of all that is made of this repository."""
+    return re.search(r'^__version__ = "(.*)"$', (HERE / "unison" / "__init__.py").read_text(encoding="utf-8"), re.MULTILINE)[1]
+
+
 def project():
-    """What `[project]` says: its texts by key, and the packages of each extra."""
+    """What `[project]` says: its texts by key, with the version, and the packages of each extra."""
     text = (HERE / "pyproject.toml").read_text(encoding="utf-8")
     texts = dict(re.findall(r'^([a-z-]+) = "([^"]*)"$', text.partition("[project]")[2], re.MULTILINE))
-    return texts, re.findall(r'^([a-z]+) = \["([^"]*)"\]$', text.partition("[project.optional-dependencies]")[2], re.MULTILINE)
+    return {**texts, "version": version()}, re.findall(r'^([a-z]+) = \["([^"]*)"\]$', text.partition("[project.optional-dependencies]")[2], re.MULTILINE)
 
 
 def metadata(texts, extras):
@@ -52,21 +62,36 @@ def package():
     return {f"unison/{path.name}": path.read_bytes() for path in sources}
 
 
-def write_wheel(directory, tag, files):
-    """Writes a wheel with these files and all that tells of it, and returns its name."""
+def wheel(tag, files):
+    """A wheel with these files, each with its mode, and all that tells of it: its name and its bytes."""
     texts, extras = project()
     about = f"{texts['name']}-{texts['version']}.dist-info"
-    files = {
-        **files,
-        f"{about}/METADATA": metadata(texts, extras).encode(),
-        f"{about}/WHEEL": f"Wheel-Version: 1.0\nGenerator: wheel_maker\nRoot-Is-Purelib: false\nTag: {tag}\n".encode(),
+    told = {
+        "METADATA": metadata(texts, extras),
+        "WHEEL": f"Wheel-Version: 1.0\nGenerator: wheel_maker\nRoot-Is-Purelib: false\nTag: {tag}\n",
+        "entry_points.txt": COMMANDS,
     }
-    rows = [f"{name},sha256={digest(content)},{len(content)}\n" for name, content in files.items()]
-    files[f"{about}/RECORD"] = ("".join(rows) + f"{about}/RECORD,,\n").encode()
-    name = f"{texts['name']}-{texts['version']}-{tag}.whl"
-    with zipfile.ZipFile(Path(directory) / name, "w", zipfile.ZIP_DEFLATED) as wheel:
-        for path, content in files.items():
-            wheel.writestr(zipfile.ZipInfo(path), content, zipfile.ZIP_DEFLATED)
+    files = {**files, **{f"{about}/{name}": (text.encode(), FILE) for name, text in told.items()}}
+    rows = [f"{name},sha256={digest(content)},{len(content)}\n" for name, (content, _) in files.items()]
+    files[f"{about}/RECORD"] = ("".join(rows) + f"{about}/RECORD,,\n").encode(), FILE
+    return f"{texts['name']}-{texts['version']}-{tag}.whl", packed(files)
+
+
+def packed(files):
+    """The bytes of a wheel with these files."""
+    made = io.BytesIO()
+    with zipfile.ZipFile(made, "w", zipfile.ZIP_DEFLATED) as archive:
+        for path, (content, mode) in files.items():
+            entry = zipfile.ZipInfo(path)  # (its time is the first that there is)
+            entry.external_attr = mode << 16
+            archive.writestr(entry, content, zipfile.ZIP_DEFLATED)
+    return made.getvalue()
+
+
+def write_wheel(directory, tag, files):
+    """Writes a wheel with these files into a folder, and returns its name."""
+    name, content = wheel(tag, {path: (content, FILE) for path, content in files.items()})
+    (Path(directory) / name).write_bytes(content)
     return name
 
 

@@ -1,0 +1,251 @@
+# What ./unison and the `unison` of a package share: which program has a command, models in the place of programs, and what is told below a
+# fault line. A script that reads it sets `own`, as which it is called, `names`, those of the commands, `own_names`, those of what it does
+# itself, and `viewer`, into which pages are put. It has three functions: find_program NAME sets `program` to the one that answers for NAME, and
+# `note` to what is told of it; more_help tells what the script does besides, below the help of the programs; tell_version tells the version.
+work=
+trap '[ -z "$work" ] || rm -rf "$work"' EXIT
+
+say() { echo "unison: $*" >&2; }
+
+# Makes the folder for what is read once and told of.
+make_work() {
+  [ -n "$work" ] && return
+  work=$(mktemp -d) && : >"$work/stdin" || exit 1
+}
+
+# What it does besides, below the help of one of the five commands.
+model_help() {
+  cat <<TEXT
+
+By $own itself:
+      --const <NAME=VALUE>  Where PROGRAM is a model, a file whose name ends in .model: give a constant this value, a whole number from 0 to 4294967295; as often as wanted
+TEXT
+}
+
+# The program that has a command.
+program_of() {
+  case $1 in
+  check | lockstep | run | replay | compare) echo unison_cli ;;
+  pack | large) echo unison_large ;;
+  *) echo unison_lab ;;
+  esac
+}
+
+# Sets `program` to the one that answers for NAME, in the folder that UNISON_PROGRAMS names, or else where the script has it.
+choose() {
+  if [ -z "${UNISON_PROGRAMS-}" ]; then
+    find_program "$1"
+    return
+  fi
+  program=$UNISON_PROGRAMS/$1 note=
+  [ -x "$program" ] && return
+  say "there is no program $program: UNISON_PROGRAMS names a folder that has it"
+  exit 1
+}
+
+tell_note() {
+  if [ -n "$note" ] && [ "${UNISON_QUIET-}" != 1 ]; then say "$note"; fi
+}
+
+# Whether the program has this command: each is named, but for old names.
+is_command() {
+  local name
+  for name in "${names[@]}"; do
+    [ "$name" != "$1" ] || return 0
+  done
+  "$program" "$1" --help </dev/null >/dev/null 2>&1
+}
+
+# Tells the command whose name is nearest to a word, below its fault line.
+tell_nearest() {
+  local name nearest known=()
+  for name in "${names[@]}"; do
+    case $name in
+    *[!a-z]*) ;;
+    *) known+=("$name") ;;
+    esac
+  done
+  # (without python3 nothing is told)
+  nearest=$(python3 -c 'import difflib, sys; print(*difflib.get_close_matches(sys.argv[1], sys.argv[2:], 1))' "$1" "${known[@]}" "${own_names[@]}" 2>/dev/null)
+  [ -z "$nearest" ] || echo "the nearest one is \`$nearest\`" >&2
+}
+
+# The first word that names a pipe, which cannot be read twice; standard input is kept.
+first_pipe() {
+  local word
+  for word; do
+    [ "$word" != /dev/stdin ] && [ -p "$word" ] && echo "$word" && return
+  done
+}
+
+# Below a fault line of one of the five commands: what `why` says of the same words, where that is more. The first argument is what the
+# command said, the others are its words.
+explain() {
+  local said=$1 told lines pipe program note
+  shift
+  pipe=$(first_pipe "$@")
+  if [ -n "$pipe" ]; then
+    echo "$pipe is a pipe, which is read once: name a file, or - for standard input, to be told where" >&2
+    return
+  fi
+  choose unison_lab
+  told=$("$program" why "$@" 2>"$work/why" <"$work/stdin")
+  lines=$(sed 1d "$work/why")
+  [ "$(head -n 1 "$work/why")" = "$(head -n 1 <<<"$said")" ] || told='' lines=$(unwritten "$@")
+  [ "${lines//unison why /unison }" != "$(sed 1d <<<"$said")" ] || lines=
+  [ -z "$told" ] || echo "$told" >&2
+  [ -z "$lines" ] || echo "$lines" >&2
+}
+
+# What is told of a trace that could not be written, which `why` does not look for.
+unwritten() {
+  local before='' word reason
+  for word; do
+    case $before:$word in
+    --trace:*) ;;
+    *:--trace=*) word=${word#--trace=} ;;
+    *) before=$word && continue ;;
+    esac
+    reason=$({ : >>"$word"; } 2>&1) || echo "$word: ${reason##*: }"
+    before=
+  done
+}
+
+# Sets `words` to the words of a command with standard input where a file is named `-`, and `reads` to how many are.
+standard_input() {
+  local before='' word
+  words=() reads=0
+  for word; do
+    case $before:$word in
+    --trace:*) ;;
+    *:- | *:/dev/stdin) word=/dev/stdin reads=$((reads + 1)) ;;
+    *:--from=-) word=--from=/dev/stdin reads=$((reads + 1)) ;;
+    esac
+    words+=("$word")
+    before=$word
+  done
+}
+
+# Looks for a model among the words of one of the five commands: sets `model` to the word that names it, and `constants` to the words that
+# give constants values.
+find_model() {
+  local before='' word
+  model= constants=()
+  for word; do
+    case $before:$word in
+    --const:*) constants+=("--const=$word") ;;
+    *:--const=*) constants+=("$word") ;;
+    --trace:* | --from:*) ;;
+    *:*.model) [ -n "$model" ] || model=$word ;;
+    esac
+    before=$word
+  done
+}
+
+# Puts the program that the model is expanded to in its place among `words`, and leaves out those that give constants values. Ends where
+# the model has no program.
+expand_model() {
+  local before='' word others=()
+  make_work
+  choose unison_lab
+  "$program" expand ${constants[@]+"${constants[@]}"} -- "$model" >"$work/program.rules" || { status=$? && tell_note && exit "$status"; }
+  for word in "${words[@]}"; do
+    case $before:$word in
+    --const:* | *:--const | *:--const=*) ;;
+    --trace:* | --from:*) others+=("$word") ;;
+    *:"$model") others+=("$work/program.rules") ;;
+    *) others+=("$word") ;;
+    esac
+    before=$word
+  done
+  words=("${others[@]}")
+}
+
+# Runs one of the five commands, of which standard output, the fault line and the status are what the program gives. Standard input is read
+# once, by the command; what it read is there for what is told of a fault.
+run_five() {
+  local said status tee
+  if [ "$reads" -gt 0 ]; then
+    make_work
+    exec {given}< <(exec tee "$work/stdin")
+    tee=$!
+  else
+    exec {given}<&0
+  fi
+  # (what stands behind the last line end is kept by the x)
+  { said=$("$program" "${words[@]}" 2>&1 >&3 3>&- <&"$given" || { status=$?; printf x; exit "$status"; } && printf x); } 3>&1
+  status=$?
+  [ -z "${tee-}" ] || kill "$tee" 2>/dev/null
+  printf %s "${said%x}" >&2
+  case $status:$said in
+  2:* | 3:* | 1:"fault: file"*) make_work && explain "${said%x}" "$@" ;;
+  esac
+  case $status:${2-} in
+  0:--help | 0:-h) model_help ;;
+  esac
+  tell_note
+  exit "$status"
+}
+
+# Runs one of the five commands, where its words name standard input once at most, and constants for a model alone. Else it says nothing, and
+# `why` refuses them, in its words.
+try_five() {
+  standard_input "$@"
+  find_model "$@"
+  [ "$reads" -le 1 ] || return
+  if [ -n "$model" ]; then
+    expand_model
+    choose unison_cli
+    run_five "$@"
+  elif [ "${#constants[@]}" = 0 ]; then
+    run_five "$@"
+  fi
+}
+
+# Runs a command of unison_lab or unison_large, which is chosen, and tells below it what is told besides.
+run_other() {
+  local nearest_to='' status
+  case ${1-} in
+  -* | "") ;;
+  *) is_command "$1" || nearest_to=$1 ;;
+  esac
+  case $nearest_to$* in
+  --help | "") ;;
+  *) [ -n "$note$nearest_to" ] || exec "$program" "$@" ;;
+  esac
+  "$program" "$@"
+  status=$?
+  [ -z "$nearest_to" ] || tell_nearest "$nearest_to"
+  case $* in
+  --help) more_help ;;
+  "") more_help >&2 ;;
+  esac
+  tell_note
+  exit "$status"
+}
+
+# Runs the words of a command line: a command by the program that has it, or the version.
+run_words() {
+  local name
+  case ${1-} in
+  --version | -V) tell_version && exit ;;
+  help)
+    shift
+    [ $# -gt 0 ] && set -- "$@" --help || set -- --help
+    ;;
+  page)
+    case " $* " in
+    *" --viewer"*) ;;
+    *) set -- "$@" --viewer "$viewer" ;;
+    esac
+    ;;
+  esac
+  name=$(program_of "${1-}")
+  choose "$name"
+  if [ "$name" = unison_cli ]; then
+    try_five "$@"
+    choose unison_lab
+    set -- why "$@"
+  fi
+  run_other "$@"
+}
