@@ -1,10 +1,11 @@
 """What the scripts share that build programs: the kit's own module, the repository's crates, the level of the processor, and the notes that
-stand beside built programs: of which sources they were built, by which kit and for which processor."""
+stand beside built programs: of which sources they were built, by which kit and for which processor, and what the prover said of them."""
 
 import hashlib
 import json
 import os
 import pathlib
+import shutil
 import subprocess
 import sys
 
@@ -70,10 +71,28 @@ def sum_of(program):
     return hashlib.sha256(program.read_bytes()).hexdigest()
 
 
-def write_note(program, sources, cpu):
-    """Notes of which sources a program was built, by which kit and for which processor."""
-    note = {"sources": sources, "kit": version_of_kit(), "processor": cpu, "program": sum_of(program)}
+def verdict_in(lines):
+    """The last verdict among lines that the prover printed, as it stands there, or None."""
+    return next((line.rstrip("\n") for line in reversed(list(lines)) if line.startswith("logic=proved ")), None)
+
+
+def write_note(program, sources, cpu, verdict=None):
+    """Notes of which sources a program was built, by which kit and for which processor, and the prover's verdict, where it is proved."""
+    note = {"sources": sources, "kit": version_of_kit(), "processor": cpu, "program": sum_of(program), "verdict": verdict}
     note_of(program).write_text(json.dumps(note) + "\n")
+
+
+def kept_for(program, cpu):
+    """Where a program is kept for a level, beside the one that was built last, which may be for another."""
+    return program.parent / cpu / program.name
+
+
+def keep(program, cpu):
+    """Keeps a program with its note for its level."""
+    kept = kept_for(program, cpu)
+    kept.parent.mkdir(exist_ok=True)
+    shutil.copy2(program, kept)
+    shutil.copy2(note_of(program), note_of(kept))
 
 
 def read_note(program):
