@@ -15,6 +15,7 @@ import zipfile
 from pathlib import Path
 
 HERE = Path(__file__).resolve().parent
+PACKED = 6  # how far files are packed, from 0 to 9
 FILE = stat.S_IFREG | 0o644
 COMMANDS = "[console_scripts]\nunison = unison.command:main\n"
 PLACES = [HERE.parent / "library" / "out" / "libunison.so", HERE / "unison" / "libunison.so"]
@@ -80,11 +81,11 @@ def wheel(tag, files):
 def packed(files):
     """The bytes of a wheel with these files."""
     made = io.BytesIO()
-    with zipfile.ZipFile(made, "w", zipfile.ZIP_DEFLATED) as archive:
+    with zipfile.ZipFile(made, "w", zipfile.ZIP_DEFLATED, compresslevel=PACKED) as archive:
         for path, (content, mode) in files.items():
             entry = zipfile.ZipInfo(path)  # (its time is the first that there is)
             entry.external_attr = mode << 16
-            archive.writestr(entry, content, zipfile.ZIP_DEFLATED)
+            archive.writestr(entry, content, zipfile.ZIP_DEFLATED, PACKED)
     return made.getvalue()
 
 

@@ -1,0 +1,56 @@
+"""What ./release refuses: programs that are not there, not proved, of other sources, for another level, or by another kit."""
+
+import os
+import subprocess
+import sys
+
+import parts
+from parts import TOP, kit
+
+SOURCES, WAY_ON = "5" * 64, "what to do"
+VERDICT = "logic=proved functions=1"
+
+
+class Note:
+    """A program of a text, with a note beside it."""
+
+    def __init__(self, folder):
+        self.path = folder / "program"
+        self.path.write_text("text")
+
+    def refused(self, level=kit.DEFAULT_LEVEL, **changes):
+        """Why the program is refused with a note that differs so from the one that passes; None where it is not."""
+        kit.write_note(self.path, SOURCES, kit.DEFAULT_LEVEL, VERDICT)
+        note = {**kit.json.loads(kit.note_of(self.path).read_text()), **changes}
+        kit.note_of(self.path).write_text(kit.json.dumps(note))
+        try:
+            parts.proved(self.path, level, SOURCES, WAY_ON)
+        except parts.Refused as refusal:
+            return str(refusal)
+        return None
+
+
+def tell(tally, what, refused, reason):
+    well = refused is not None and reason in refused and refused.endswith(f": {WAY_ON}") and "\n" not in refused
+    tally.tell(f"refused: {what}", well, f"{refused}")
+
+
+def all_of(tally, work):
+    note = Note(work)
+    tally.equal("a proved program is taken", note.refused(), None)
+    tell(tally, "a quick program, of which there is no verdict", note.refused(verdict=None), "is not proved: its note has no verdict of the prover")
+    tell(tally, "a program whose proof failed", note.refused(verdict="logic=not-proved functions=1"), "is not proved")
+    tell(tally, "a program of other sources", note.refused(sources="6" * 64), "was proved of other sources than those at hand")
+    tell(tally, "a program for another level", note.refused("x86-64-v3"), "is for default, and one for x86-64-v3 is wanted")
+    tell(tally, "a program of another kit", note.refused(kit="another kit"), "was proved by another kit, and `rt version` says")
+    tell(tally, "a program with the note of another", note.refused(program="7" * 64), "has no note that is its own")
+    note.path.unlink()
+    try:
+        parts.proved(note.path, kit.DEFAULT_LEVEL, SOURCES, WAY_ON)
+        told = None
+    except parts.Refused as refusal:
+        told = str(refusal)
+    tell(tally, "a program that is not there", told, "is not there")
+    done = subprocess.run([sys.executable, TOP / "release", work / "none"], env={**os.environ, "UNISON_CPU": "x86-64-v3"}, capture_output=True, text=True)
+    refused = done.returncode == 1 and done.stderr.startswith("unison: UNISON_CPU is x86-64-v3: a package has") and not (work / "none").exists()
+    tally.tell("refused: a package for one level above the default", refused, done.stderr)
