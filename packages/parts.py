@@ -11,7 +11,7 @@ sys.path[:0] = [str(TOP / "first_use"), str(TOP / "python")]
 import kit  # noqa: E402
 import wheel_maker  # noqa: E402
 
-VERDICTS = ("logic=proved ", "rt: ")  # how a line begins that says of a program that it is proved
+VERDICT = r"logic=proved |rt: \w+ is kept: "  # how a line begins that says of a program that it is proved (first_use/noted)
 LIBRARIES = ("libunison.so", "libunison.a")
 HOME = TOP / "packages"
 
@@ -40,12 +40,20 @@ class Repository:
         return sorted(pathlib.Path(it) for it in self.git("ls-files", "-z", *folders).split("\0") if it)
 
 
+def is_proved(note):
+    """Whether a note has a verdict by which a program is proved."""
+    return bool(re.match(VERDICT, note.get("verdict") or ""))
+
+
 class Proved:
     """A program or library with its level and its note."""
 
     def __init__(self, path, level, note):
         self.path, self.name, self.level, self.note = path, path.name, level, note
         self.content = path.read_bytes()
+
+    def is_proved(self):
+        return is_proved(self.note)
 
 
 def levels(asked):
@@ -62,7 +70,7 @@ def proved(path, level, sources, way_on):
     note = kit.read_note(path)
     if note is None:
         raise Refused(f"{named(path)} has no note that is its own, so nothing tells of what it was built: {way_on}")
-    if not (note.get("verdict") or "").startswith(VERDICTS):
+    if not is_proved(note):
         raise Refused(f"{named(path)} is not proved: its note has no verdict of the prover: {way_on}")
     if note["processor"] != level:
         raise Refused(f"{named(path)} is for {note['processor']}, and one for {level} is wanted: {way_on}")

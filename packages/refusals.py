@@ -38,6 +38,7 @@ def tell(tally, what, refused, reason):
 def all_of(tally, work):
     note = Note(work)
     tally.equal("a proved program is taken", note.refused(), None)
+    tally.equal("a program is taken that the gate kept", note.refused(verdict="rt: program is kept: an earlier run proved the same files"), None)
     tell(tally, "a quick program, of which there is no verdict", note.refused(verdict=None), "is not proved: its note has no verdict of the prover")
     tell(tally, "a program whose proof failed", note.refused(verdict="logic=not-proved functions=1"), "is not proved")
     tell(tally, "a program of other sources", note.refused(sources="6" * 64), "was proved of other sources than those at hand")

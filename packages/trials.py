@@ -9,6 +9,7 @@ import subprocess
 import sys
 import tarfile
 
+import parts
 import refusals
 from parts import TOP, kit
 
@@ -242,7 +243,7 @@ def try_debian(tally, of, work, file):
     tally.equal("debian: its fields", fields, f"Package: unison-networks\nVersion: {of.version}\nArchitecture: amd64\n")
     try_prefix(tally, Installed("debian", root / "usr" / "bin", root, "usr/lib/unison/manifest.txt", work), of, root / "usr")
     try_dpkg(tally, work, file)
-    return try_clean_root(tally, root)
+    return try_clean_root(tally, of, root)
 
 
 def try_dpkg(tally, work, file):
@@ -269,21 +270,23 @@ def put_file(file, place):
 
 
 def put_tools(root):
-    """Puts the tools into a root, with what they are linked with, and the C library, with which the programs are."""
+    """Puts the tools into a root, with what they and the programs are linked with. The names of the libraries of the programs."""
     libraries = set()
     for name in TOOLS:
         tool = pathlib.Path(shutil.which(name)).resolve()
         put_file(tool, root / "usr" / "bin" / name)
         libraries.update(linked_with(tool))
-    for program in (root / "usr" / "lib" / "unison").glob("*/unison_*"):
-        libraries.update(it for it in linked_with(program) if re.match(r"(libc|libm|libdl|librt|libpthread|ld-linux-x86-64)\.so\.", it.rpartition("/")[2]))
-    for library in libraries:
+    of_programs = {it for program in (root / "usr" / "lib" / "unison").glob("*/unison_*") for it in linked_with(program)}
+    for library in libraries | of_programs:
         put_file(library, root / library.lstrip("/"))
+    return sorted(pathlib.Path(it).name for it in of_programs)
 
 
-def try_clean_root(tally, root):
+def try_clean_root(tally, of, root):
     """The commands of README.md in a root that has the package and the tools alone, and nothing else of this machine."""
-    put_tools(root)
+    linked = put_tools(root)
+    if of.programs[0].is_proved():
+        tally.equal("debian: the programs are linked with the C library alone", linked, ["ld-linux-x86-64.so.2", "libc.so.6"])
     (root / "tmp").mkdir()
     (root / "tmp" / "examples").symlink_to("/usr/share/doc/unison/examples")
     enter = ["chroot", root] if os.geteuid() == 0 else ["unshare", "--map-root-user", "chroot", root]
@@ -348,6 +351,24 @@ def try_choice(tally, work):
     tally.equal("the launcher chooses the level of this processor", (told.stdout, told.stderr), (wanted.stdout, ""))
 
 
+def try_command(tally, work):
+    """The package's command where it was not installed from a wheel of ./release: it is the checkout's ./unison, or says what to do."""
+    words = [sys.executable, "-m", "unison.command", "--version"]
+    told = {}
+    alone = work / "alone" / "unison"
+    alone.mkdir(parents=True)
+    shutil.copy2(TOP / "python" / "unison" / "command.py", alone)
+    for what, folder, path in (("checkout", TOP / "python", os.environ["PATH"]), ("alone", alone.parent, os.environ["PATH"]), ("no bash", alone.parent, "/nowhere")):
+        environment = {**os.environ, "PYTHONPATH": str(folder), "PATH": path, "PYTHONDONTWRITEBYTECODE": "1"}
+        done = subprocess.run(words, env=environment, cwd=work, capture_output=True, text=True)
+        told[what] = (done.stdout, done.stderr, done.returncode)
+    tally.equal("the command in a checkout is ./unison", told["checkout"], (f"unison {parts.wheel_maker.version()}\n", "", 0))
+    out, error, status = told["alone"]
+    tally.tell("the command without programs says what to do", (out, status) == ("", 1) and "install the wheel that ./release makes" in error, error)
+    out, error, status = told["no bash"]
+    tally.tell("the command without bash says what to do", (out, status) == ("", 1) and "there is no bash here" in error, error)
+
+
 def try_listed(tally, of, made):
     """The manifest beside the packages names them with their sums."""
     files = sorted(path for path in made.iterdir() if path.name != "manifest.txt")
@@ -359,6 +380,7 @@ def try_listed(tally, of, made):
 def all_of(tally, of, work, made):
     refusals.all_of(tally, work)
     try_choice(tally, work)
+    try_command(tally, work)
     try_listed(tally, of, made)
     try_archive(tally, of, work, next(made.glob("*.tar.gz")))
     try_debian(tally, of, work, next(made.glob("*.deb")))
