@@ -17,6 +17,7 @@ from parts import TOP, kit
 TOOLS = ("env", "bash", "readlink", "dirname", "mktemp", "rm", "tee", "cat", "head", "sed")
 REPORTS = TOP / "examples" / "reports"
 CANONICAL = "field dist = 4294967295;\nnext dist = (dist min least (n.dist + 1));\n"
+EXAMPLE = "share/doc/unison/library/call.c"
 DISTANCE = ("examples/distance.rules", "examples/path.toml", "--rounds", "2")
 
 
@@ -204,15 +205,16 @@ def try_completion(tally, it, prefix):
 def try_library(tally, it, prefix):
     """The example in C, by the words of pkg-config, with the shared object and with the archive."""
     lacking = [name for name in ("cc", "pkg-config") if not shutil.which(name)]
-    if lacking or not (prefix / "lib" / "libunison.so").is_file():
-        return tally.skip(f"{it.name}: the library for C", f"there is no {lacking[0]}" if lacking else "the package was made without it")
-    search, source = {"PATH": os.environ["PATH"], "PKG_CONFIG_PATH": f"{prefix}/lib/pkgconfig"}, prefix / "share" / "doc" / "unison" / "library" / "call.c"
-    built = it.run(f"cc -std=c11 -o call {source} $(pkg-config --cflags --libs unison)", **search)
-    shared = it.run(f"./call check {DISTANCE[0]}", LD_LIBRARY_PATH=f"{prefix}/lib")
-    tally.tell(f"{it.name}: the example in C, with the shared object", built[2] == 0 and shared == (CANONICAL, "", 0), f"{built}\n{shared}")
-    built = it.run(f"cc -std=c11 -o call_static {source} $(pkg-config --cflags unison) {prefix}/lib/libunison.a", **search)
-    alone = it.run(f"./call_static check {DISTANCE[0]}")
-    tally.tell(f"{it.name}: the example in C, with the archive", built[2] == 0 and alone == (CANONICAL, "", 0), f"{built}\n{alone}")
+    for what, file in (("the shared object", "libunison.so"), ("the archive", "libunison.a")):
+        trial = f"{it.name}: the example in C, with {what}"
+        if lacking or not (prefix / "lib" / file).is_file():
+            tally.skip(trial, f"there is no {lacking[0]}" if lacking else "the package was made without it")
+            continue
+        linked = f"{prefix}/lib/{file}" if file.endswith(".a") else "$(pkg-config --libs unison)"
+        text = f"cc -std=c11 -o call {prefix}/{EXAMPLE} $(pkg-config --cflags unison) {linked}"
+        built = it.run(text, PATH=os.environ["PATH"], PKG_CONFIG_PATH=f"{prefix}/lib/pkgconfig")
+        told = it.run(f"./call check {DISTANCE[0]}", LD_LIBRARY_PATH=f"{prefix}/lib")
+        tally.tell(trial, built[2] == 0 and told == (CANONICAL, "", 0), f"{built}\n{told}")
 
 
 def try_prefix(tally, it, of, prefix):
