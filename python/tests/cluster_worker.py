@@ -1,0 +1,226 @@
+"""What mpirun starts for the tests of `unison.cluster` (test_cluster.py, checks/cluster): random runs beside the interpreter in `reference`, and the
+command with a process that is slow or that is killed.
+
+    mpirun -n N python cluster_worker.py random --cases K --seed S      a line for each difference, and `K agree, D differ` last
+    mpirun -n N python cluster_worker.py slow SECONDS PROCESS WORDS..   the command, with a process that sleeps before each message
+    mpirun -n N python cluster_worker.py kill MESSAGES PROCESS WORDS..  the command, with a process that is killed at its so many-th message
+"""
+
+import os
+import random
+import signal
+import struct
+import sys
+import tempfile
+import time
+from pathlib import Path
+
+from support import reference, unison  # noqa: F401
+
+import numpy as np  # noqa: E402
+from mpi4py import MPI  # noqa: E402
+
+from unison import cluster  # noqa: E402
+from unison.cluster import words  # noqa: E402
+
+MOST = 4294967295
+
+
+class Changed:
+    """A communicator before whose messages something is done; those that are made of it are the same."""
+
+    def __init__(self, comm, before):
+        self.comm, self.before = comm, before
+
+    def __getattr__(self, name):
+        return getattr(self.comm, name)
+
+    def Dup(self):
+        return Changed(self.comm.Dup(), self.before)
+
+    def Isend(self, *given, **named):
+        self.before()
+        return self.comm.Isend(*given, **named)
+
+    def Iallreduce(self, *given):
+        self.before()
+        return self.comm.Iallreduce(*given)
+
+
+def packed(rows):
+    """The binary file of rows of (neighbour, weight), by docs/formats.md."""
+    ends = [end for row in rows for end in row]
+    offsets = np.cumsum([0] + [len(row) for row in rows], dtype="<u8")
+    flag = int(any(weight != 1 for _, weight in ends))
+    columns = [np.array([end[column] for end in ends], dtype="<u4").tobytes() for column in range(1 + flag)]
+    return b"".join([b"UNISONW1", struct.pack("<3Q", len(rows), len(ends), flag), offsets.tobytes(), *columns])
+
+
+def drawn_rows(draws):
+    """Rows of a network: links one way, several between two nodes, of a node with itself; hubs, components, nodes without links."""
+    nodes = draws.choice([1, 2, 3, 5, 9, 20, 45])
+    weight = lambda: draws.choice([1, 1, 1, 0, 5, MOST]) if is_weighted else 1
+    shape, is_weighted = draws.choice(["random", "directed", "ring", "hub", "components", "none"]), draws.random() < 0.5
+    rows = [[] for _ in range(nodes)]
+    pairs = {
+        "random": [(draws.randrange(nodes), draws.randrange(nodes)) for _ in range(2 * nodes)],
+        "directed": [(draws.randrange(nodes), draws.randrange(nodes)) for _ in range(3 * nodes)],
+        "ring": [(node, (node + 1) % nodes) for node in range(nodes)],
+        "hub": [(0, node) for node in range(nodes)] + [(nodes - 1, node) for node in range(nodes)],
+        "components": [(node, node + 1) for node in range(0, nodes - 1, 2)],
+        "none": [],
+    }[shape]
+    for one, other in pairs:
+        rows[one].append((other, weight()))
+        if shape != "directed":
+            rows[other].append((one, weight()))
+    return rows
+
+
+def drawn_program(draws, interpreter, compare):
+    """A sound program's text and what it is for the interpreter; now and then one that settles."""
+    while True:
+        text = draws.choice([None, None, None, "field s = 9; next s = (s min least n.s);", "field a = 0; field b = 7; next a = (a max most n.a);"])
+        text = text or compare.program_text(draws, [])
+        try:
+            return text, interpreter.check(interpreter.read_items(text.encode()))
+        except interpreter.Fault:
+            continue
+
+
+def drawn_settings(draws, program, nodes):
+    """Words of --set, and the states that they ask for."""
+    states, asked = [dict(program.fields) for _ in range(nodes)], []
+    for name in program.fields:
+        for _ in range(draws.randrange(4)):
+            first, value = draws.randrange(nodes), draws.choice([0, 1, draws.number()])
+            last = draws.randrange(first, nodes)
+            word, chosen = draws.choice([("*", range(nodes)), (f"{first}", [first]), (f"{first}..{last}", range(first, last + 1))])
+            asked.append(f"{name}={word}:{value}")
+            for node in chosen:
+                states[node][name] = value
+    return asked, states
+
+
+def drawn_parts(draws, nodes, processes):
+    """A part for each node, or None for those by number; now and then most parts are empty."""
+    if draws.random() < 0.3:
+        return None
+    some = draws.sample(range(processes), draws.randrange(1, processes + 1))
+    return [draws.choice(some) for _ in range(nodes)]
+
+
+def wanted_of(interpreter, program, rows, states, rounds, until):
+    """The states of the last round, that round, and where the rounds settle or reach what ends them; and all states up to there."""
+    plan = interpreter.Plan(program, interpreter.Network(rows, 0, 0, {}), states)
+    seen = [states]
+    is_reached = lambda: until is not None and all(state[until[0]] == until[1] for state in seen[-1])
+    while len(seen) <= rounds and not is_reached():
+        seen.append(interpreter.round_after(plan, seen[-1], len(seen) - 1))
+    reached = len(seen) - 1 if is_reached() else None
+    same = [] if program.reads_round else [round for round in range(len(seen) - 1) if seen[round] == seen[round + 1]]
+    return seen, reached, same[0] if same else None
+
+
+class Case:
+    """A random run: its texts and what it has to leave."""
+
+    def __init__(self, number, seed, most, interpreter, compare):
+        draws = self.draws = compare.Draws(seed * 1_000_003 + number)
+        self.text, program = drawn_program(draws, interpreter, compare)
+        self.rows, self.processes = drawn_rows(draws), draws.randrange(1, most + 1)
+        self.fields, self.rounds = list(program.fields), draws.choice([0, 1, 2, 5, 12, 40])
+        self.settings, states = drawn_settings(draws, program, len(self.rows))
+        self.until = (draws.choice(self.fields), draws.choice([0, 1, 7])) if self.fields and draws.random() < 0.4 else None
+        self.parts = drawn_parts(draws, len(self.rows), self.processes)
+        self.sums = draws.sample(self.fields, draws.randrange(len(self.fields) + 1))
+        self.is_delayed = draws.random() < 0.5
+        self.seen, self.reached, self.settled = wanted_of(interpreter, program, self.rows, states, self.rounds, self.until)
+
+    def write(self, folder):
+        (folder / "case.rules").write_text(self.text)
+        (folder / "case.net").write_bytes(packed(self.rows))
+        if self.parts is not None:
+            (folder / "case.parts").write_text("".join(f"{part}\n" for part in self.parts))
+
+    def run(self, comm, folder):
+        """What is wrong with the run by these processes, as process 0 sees it; nothing where all is well."""
+        if self.is_delayed:
+            own = random.Random(self.draws.random() + comm.Get_rank())
+            comm = Changed(comm, lambda: time.sleep(own.choice([0, 0, 0.0005, 0.002])))
+        outcome = cluster.run(
+            str(folder / "case.rules"), str(folder / "case.net"), self.rounds, comm=comm, set=self.settings, sums=self.sums,
+            until=None if self.until is None else f"{self.until[0]}={self.until[1]}",
+            parts_file=None if self.parts is None else str(folder / "case.parts"),
+        )  # fmt: skip
+        counts, whole = [outcome.count(field) for field in self.fields], outcome.gather()
+        return "" if whole is None else self.difference(outcome, whole, counts)
+
+    def difference(self, outcome, whole, counts):
+        after = self.seen[-1]
+        round = self.rounds if self.reached is None else self.reached
+        count = lambda field: {value: sum(state[field] == value for state in after) for value in sorted({state[field] for state in after})}
+        made = self.seen[outcome.first : 1 + (self.reached if self.reached is not None else self.settled + 1 if self.settled is not None else self.rounds)]
+        checks = {
+            "states": (whole.tolist(), [list(state.values()) for state in after]),
+            "round": (outcome.round, round),
+            "reached": (outcome.reached, self.reached),
+            "settled": (None if self.reached is not None else outcome.settled, None if self.reached is not None else self.settled),
+            "counts": (counts, [count(field) for field in self.fields]),
+            "sums": (outcome.sums.tolist(), [[sum(state[field] for state in states) for field in self.sums] for states in made]),
+        }
+        wrong = [f"{what}: found {found}, expected {wanted}" for what, (found, wanted) in checks.items() if found != wanted]
+        return "\n".join([*wrong, self.text, repr((self.rows, self.processes, self.parts, self.settings, self.until, self.rounds))]) if wrong else ""
+
+
+def random_runs(cases, seed):
+    """Runs random cases; how many differ."""
+    interpreter, compare = reference()
+    world = MPI.COMM_WORLD
+    differ = 0
+    folder = world.bcast(tempfile.mkdtemp() if world.Get_rank() == 0 else None)
+    for number in range(cases):
+        case = Case(number, seed, world.Get_size(), interpreter, compare)
+        if world.Get_rank() == 0:
+            case.write(Path(folder))
+        comm = world.Split(int(world.Get_rank() < case.processes), world.Get_rank())
+        wrong = case.run(comm, Path(folder)) if world.Get_rank() < case.processes else ""
+        comm.Free()
+        differ += bool(wrong)
+        if wrong:
+            print(f"case {number} of seed {seed}: {wrong}", flush=True)
+        world.Barrier()
+    if world.Get_rank() == 0:
+        print(f"{cases - differ} agree, {differ} differ", flush=True)
+
+
+def with_process(process, before, given):
+    """The command, with something that one process does before each message."""
+    if MPI.COMM_WORLD.Get_rank() == process:
+        MPI.COMM_WORLD = Changed(MPI.COMM_WORLD, before)
+    return words.main(given)
+
+
+def killer(messages):
+    """Kills this process at its so many-th message."""
+    left = [messages]
+
+    def before():
+        left[0] -= 1
+        if left[0] == 0:
+            os.kill(os.getpid(), signal.SIGKILL)
+
+    return before
+
+
+def main(kind, *given):
+    if kind == "random":
+        random_runs(int(given[1]), int(given[3]))
+        return 0
+    before = killer(int(given[0])) if kind == "kill" else lambda: time.sleep(float(given[0]))
+    signal.pthread_sigmask(signal.SIG_BLOCK, {signal.SIGTERM})
+    return with_process(int(given[1]), before, list(given[2:]))
+
+
+if __name__ == "__main__":
+    sys.exit(main(*sys.argv[1:]))

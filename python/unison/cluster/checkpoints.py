@@ -1,0 +1,148 @@
+"""Checkpoints: the states of all nodes after a round, a file for each process, and a file `complete` which names the last whole one.
+
+A file is a line of JSON, its head, which says of what it is; the words of the process's nodes, in the order of `Part.numbers`, each with its
+lowest byte first; and the SHA-256 of all before it.
+"""
+
+from __future__ import annotations
+
+import hashlib
+import json
+import os
+import zlib
+from pathlib import Path
+from typing import Any, Dict, List, Optional, Tuple
+
+import numpy as np
+
+from .faults import FAULT, Refusal, agreed
+from .part import Part
+from .totals import wait_until
+
+Array = Any
+Head = Dict[str, Any]
+DIGEST = 32  # how many bytes a SHA-256 has
+
+
+def head_of(comm: Any, canonical: str, fields: Tuple[str, ...], part: Part) -> Head:
+    """What a checkpoint is of, but for its run and round."""
+    digest = 0
+    for rows in (part.inner, part.rim):
+        for values in (rows.ids, rows.offsets, rows.neighbours, rows.weights):
+            digest = digest if values is None else zlib.crc32(values, digest)
+    program = hashlib.sha256(canonical.encode()).hexdigest()
+    own = len(part.numbers)
+    return {"processes": comm.Get_size(), "process": comm.Get_rank(), "program": program, "fields": fields, "nodes": own, "rows": digest}
+
+
+def file_of(folder: str, round: int, process: int) -> Path:
+    return Path(folder) / f"round-{round}.process-{process}"
+
+
+def write_whole(path: Path, parts: List[bytes]) -> None:
+    """Writes a file that is there whole or not at all."""
+    draft = path.with_name(path.name + ".draft")
+    with open(draft, "wb") as file:
+        for part in parts:
+            file.write(part)
+        file.flush()
+        os.fsync(file.fileno())
+    os.replace(draft, path)
+
+
+class Checkpoints:
+    """Writes a checkpoint each so many rounds. It is complete when all processes have written it, which none of them waits for."""
+
+    def __init__(self, comm: Any, folder: str, every: int, head: Head, before: Optional[int]) -> None:
+        self._comm, self._folder, self._every, self._before = comm, folder, every, before
+        self._head = {**head, "run": comm.bcast(os.urandom(8).hex())}
+        self._pending: Optional[Tuple[int, Any, Array, Array]] = None
+        agreed(comm, lambda: self._prepare())
+
+    def _prepare(self) -> None:
+        """Makes the folder; where this run goes on from no checkpoint, what stands in it counts no more."""
+        os.makedirs(self._folder, exist_ok=True)
+        if self._before is None and self._comm.Get_rank() == 0:
+            (Path(self._folder) / "complete").unlink(missing_ok=True)
+
+    def reach(self, round: int, words: Array) -> None:
+        """Writes the states of a round, where it is one of those to be written."""
+        if round % self._every == 0:
+            self.finish()
+            head = json.dumps({**self._head, "round": round}).encode() + b"\n"
+            body = np.ascontiguousarray(words, dtype="<u4").tobytes()
+            digest = hashlib.sha256(head + body).digest()
+            write_whole(file_of(self._folder, round, self._comm.Get_rank()), [head, body, digest])
+            self._begin(round, 1)
+
+    def pass_by(self, round: int) -> None:
+        """Tells the others that this process does not write the states of a round, since the rounds ended before it."""
+        if round % self._every == 0:
+            self.finish()
+            self._begin(round, 0)
+
+    def _begin(self, round: int, has_written: int) -> None:
+        mine, whole = np.array([has_written], dtype=np.uint64), np.empty(1, dtype=np.uint64)
+        self._pending = (round, self._comm.Iallreduce(mine, whole), mine, whole)
+
+    def finish(self) -> None:
+        """Waits until the others have written the last checkpoint. All have named the one before it complete then, so older ones can go."""
+        if self._pending is None:
+            return
+        round, request, _, whole = self._pending
+        wait_until(request.Test)
+        self._pending = None
+        if whole[0] != self._comm.Get_size():
+            return
+        if self._comm.Get_rank() == 0:
+            named = {"round": round, "run": self._head["run"], "processes": self._comm.Get_size()}
+            write_whole(Path(self._folder) / "complete", [json.dumps(named).encode() + b"\n"])
+        kept = {file_of(self._folder, kept, self._comm.Get_rank()) for kept in (round, self._before) if kept is not None}
+        for path in Path(self._folder).glob(f"round-*.process-{self._comm.Get_rank()}"):
+            if path not in kept:
+                path.unlink()
+        self._before = round
+
+
+def complete(folder: str) -> Head:
+    """The round, the run and the number of processes that the file `complete` of a folder names."""
+    named = json.loads((Path(folder) / "complete").read_bytes())
+    return {"round": int(named["round"]), "run": str(named["run"]), "processes": int(named["processes"])}
+
+
+def last_of(comm: Any, folder: str) -> Head:
+    """The last complete checkpoint, as process 0 finds it."""
+
+    def read() -> Head:
+        try:
+            return complete(folder) if comm.Get_rank() == 0 else {}
+        except FileNotFoundError:
+            raise Refusal("checkpoint Missing", f"{folder}: there is no complete checkpoint: no file `complete` stands there", FAULT) from None
+        except (ValueError, KeyError, TypeError):
+            raise damaged(Path(folder) / "complete", "it is no line of JSON with a round, a run and a number of processes") from None
+
+    found: Head = comm.bcast(agreed(comm, read))
+    if found["processes"] != comm.Get_size():
+        told = f"it is of {found['processes']} processes, and there are {comm.Get_size()}; mpirun -n {found['processes']} goes on"
+        raise Refusal("checkpoint Other", f"{folder}: {told}")
+    return found
+
+
+def damaged(path: Path, why: str) -> Refusal:
+    return Refusal("checkpoint Damaged", f"{path}: {why}; an undamaged copy of the file is needed, or the run begins anew")
+
+
+def read_words(folder: str, named: Head, head: Head) -> Array:
+    """The states of a process's nodes, (own, fields) uint32, from the checkpoint that is named."""
+    path = file_of(folder, named["round"], head["process"])
+    whole = path.read_bytes()
+    if hashlib.sha256(whole[:-DIGEST]).digest() != whole[-DIGEST:]:
+        raise damaged(path, "its checksum is not that of its bytes")
+    line, _, body = whole[:-DIGEST].partition(b"\n")
+    wanted = {**head, "fields": list(head["fields"]), "round": named["round"], "run": named["run"]}
+    found = json.loads(line)
+    for key, value in wanted.items():
+        if found.get(key) != value:
+            told = "the network or the parts are others" if key in ("nodes", "rows") else f"its {key} is another one"
+            raise Refusal("checkpoint Other", f"{path}: {told}; a run goes on with the program, the network and the parts that it began with")
+    return np.frombuffer(body, dtype="<u4").astype(np.uint32).reshape(head["nodes"], len(head["fields"]))

@@ -1,0 +1,59 @@
+"""The words that give nodes initial values: FIELD=NODE:VALUE, with * for all nodes and A..B for those from A to B."""
+
+from __future__ import annotations
+
+import re
+from typing import Any, List, Mapping, NamedTuple, Sequence, Tuple, Union
+
+import numpy as np
+
+from .faults import usage
+
+Array = Any
+MOST = 4294967295
+WORD = re.compile(r"(?P<field>[^=]+)=(?P<nodes>\*|[0-9]{1,12}|[0-9]{1,12}\.\.[0-9]{1,12}):(?P<value>[0-9]{1,12})")
+
+
+class Setting(NamedTuple):
+    """The nodes from first to last, both included, get this value."""
+
+    column: int
+    first: int
+    last: int
+    value: int
+
+
+def column_of(option: str, field: str, fields: Sequence[str]) -> int:
+    """Which of the program's fields this is."""
+    if field not in fields:
+        raise usage(f"{option}: the program has no field `{field}`; its fields are {', '.join(fields) or 'none'}")
+    return fields.index(field)
+
+
+def setting_of(word: str, fields: Sequence[str], nodes: int) -> Setting:
+    """What a word of --set asks for."""
+    found = WORD.fullmatch(word)
+    if found is None or int(found["value"]) > MOST:
+        raise usage(f"--set: expected FIELD=NODE:VALUE, with a whole number from 0 to {MOST} behind the last colon, found `{word}`")
+    column = column_of("--set", found["field"], fields)
+    first, _, last = ("0", "..", str(nodes - 1)) if found["nodes"] == "*" else found["nodes"].partition("..")
+    if not int(first) <= int(last or first) < nodes:
+        raise usage(f"--set: {found['field']}: expected * or a node's number below {nodes}, or A..B, found `{found['nodes']}`")
+    return Setting(column, int(first), int(last or first), int(found["value"]))
+
+
+def until_of(word: str, fields: Sequence[str]) -> Tuple[int, int]:
+    """The column and the value of a word of --until."""
+    field, _, value = word.partition("=")
+    if not re.fullmatch(r"[0-9]{1,12}", value) or int(value) > MOST:
+        raise usage(f"--until: expected FIELD=VALUE, with a whole number from 0 to {MOST}, found `{word}`")
+    return column_of("--until", field, fields), int(value)
+
+
+def initial_words(numbers: Array, initial: Mapping[str, int], settings: List[Setting]) -> Array:
+    """The initial states of these nodes: (nodes, fields) uint32. Of several words the last counts."""
+    words = np.empty((numbers.size, len(initial)), dtype=np.uint32)
+    words[:] = np.array(list(initial.values()), dtype=np.uint32)
+    for column, first, last, value in settings:
+        words[(numbers >= first) & (numbers <= last), column] = value
+    return words

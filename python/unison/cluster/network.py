@@ -1,0 +1,87 @@
+"""Packed network files (docs/formats.md, Binary network file), mapped: what is not asked for is not read."""
+
+from __future__ import annotations
+
+import os
+import struct
+from typing import Any, Optional, Tuple
+
+import numpy as np
+
+from .faults import Refusal
+
+Array = Any  # an array of numpy
+MAGIC, HEADER = b"UNISONW1", 32
+
+
+class PackedFile:
+    """A packed network in a file.
+
+    - `offsets`: (nodes + 1,) uint64: where each node's neighbours begin
+    - `neighbours`: (ends,) uint32
+    - `weights`: (ends,) uint32, or None where each weight is 1
+
+    Its header and length are looked at here; its lists by `check_offsets`, and by who reads rows.
+    """
+
+    def __init__(self, path: str) -> None:
+        self.path = path
+        with open(path, "rb") as file:
+            head = file.read(HEADER)
+        self.nodes, self.ends, weighted = self._numbers(head, os.path.getsize(path))
+        raw = np.memmap(path, dtype=np.uint8, mode="r").view(np.ndarray)
+        first = HEADER + 8 * (self.nodes + 1)
+        self.offsets: Array = raw[HEADER:first].view("<u8")
+        self.neighbours: Array = raw[first : first + 4 * self.ends].view("<u4")
+        self.weights: Optional[Array] = raw[first + 4 * self.ends :].view("<u4") if weighted else None
+
+    def _numbers(self, head: bytes, size: int) -> Tuple[int, int, int]:
+        """How many nodes and ends there are, and whether weights follow."""
+        if head[:8] != MAGIC:
+            raise self._refusal("Magic", f"it begins with {head[:8]!r}, expected {MAGIC!r}; unison pack makes such a file")
+        if len(head) < HEADER or struct.unpack_from("<Q", head, 24)[0] > 1:
+            raise self._refusal("Header", "expected 32 bytes, the last eight of them the number 0 or 1; unison pack makes such a file")
+        nodes, ends, weighted = struct.unpack_from("<3Q", head, 8)
+        if not 1 <= nodes <= 4294967295:
+            raise self._refusal("NodeCount", f"found {nodes} nodes, expected 1 to 4294967295")
+        asked = HEADER + 8 * (nodes + 1) + 4 * ends * (1 + weighted)
+        if size != asked:
+            raise self._refusal("Length", f"the file has {size} bytes, and its header asks for {asked}; unison pack makes such a file")
+        return nodes, ends, weighted
+
+    def _refusal(self, name: str, told: str) -> Refusal:
+        return Refusal(f"network {name}", f"{self.path}: {told}")
+
+    def check_offsets(self, share: int, shares: int) -> None:
+        """Raises the first fault of the offsets in one of so many shares of them, which together are all."""
+        first, last = self.nodes * share // shares, self.nodes * (share + 1) // shares
+        offsets = self.offsets[first : last + 1]
+        if share == 0 and offsets[0] != 0:
+            raise self._refusal("Offsets", f"the neighbours of node 0 begin at {offsets[0]}, expected 0")
+        falls = np.flatnonzero(offsets[1:] < offsets[:-1])
+        if falls.size:
+            node = first + int(falls[0])
+            raise self._refusal("Offsets", f"node {node}: its neighbours begin at {offsets[falls[0]]} and end at {offsets[falls[0] + 1]}")
+        if last == self.nodes and offsets[-1] != self.ends:
+            raise self._refusal("Offsets", f"the last offset is {offsets[-1]}, expected {self.ends}, the number of neighbours")
+        crowded = np.flatnonzero(offsets[1:] - offsets[:-1] > 4294967295)
+        if crowded.size:
+            raise self._refusal("TooManyNeighbours", f"node {first + int(crowded[0])} has more than 4294967295 neighbours")
+
+    def check_neighbours(self, own: Array, offsets: Array, neighbours: Array) -> None:
+        """Raises the first neighbour in these nodes' rows that is no node."""
+        wrong = np.flatnonzero(neighbours >= self.nodes) if self.nodes < 4294967295 else neighbours[:0]
+        if wrong.size:
+            node = own[np.searchsorted(offsets, wrong[0], side="right") - 1]
+            raise self._refusal("Neighbour", f"node {node}: found the neighbour {neighbours[wrong[0]]}, expected one below {self.nodes}")
+
+    def rows_of(self, own: Array) -> Tuple[Array, Array, Optional[Array]]:
+        """The rows of these nodes, by rising number: offsets (nodes + 1,) int64 from 0, neighbours and weights (ends,) uint32, copied."""
+        begins, ends = self.offsets[own].astype(np.int64), self.offsets[own + 1].astype(np.int64)
+        offsets = np.concatenate(([0], np.cumsum(ends - begins)))
+        if own.size and int(own[-1]) - int(own[0]) + 1 == own.size:
+            chosen: Any = slice(begins[0], ends[-1])
+        else:
+            chosen = np.arange(offsets[-1]) + np.repeat(begins - offsets[:-1], ends - begins)
+        weights = None if self.weights is None else np.array(self.weights[chosen], dtype=np.uint32)
+        return offsets, np.array(self.neighbours[chosen], dtype=np.uint32), weights
