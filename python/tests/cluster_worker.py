@@ -2,20 +2,22 @@
 command with a process that is slow or that is killed.
 
     mpirun -n N python cluster_worker.py random --cases K --seed S      a line for each difference, and `K agree, D differ` last
+    mpirun -n N python cluster_worker.py commands FILE                  commands, of which FILE has a list of words each; behind each `== STATUS`
     mpirun -n N python cluster_worker.py slow SECONDS PROCESS WORDS..   the command, with a process that sleeps before each message
     mpirun -n N python cluster_worker.py kill MESSAGES PROCESS WORDS..  the command, with a process that is killed at its so many-th message
 """
 
+import json
 import os
 import random
 import signal
 import struct
 import sys
-import tempfile
 import time
 from pathlib import Path
 
-from support import reference, unison  # noqa: F401
+from cluster_support import new_folder
+from support import reference
 
 import numpy as np  # noqa: E402
 from mpi4py import MPI  # noqa: E402
@@ -135,7 +137,8 @@ class Case:
         self.parts = drawn_parts(draws, len(self.rows), self.processes)
         self.sums = draws.sample(self.fields, draws.randrange(len(self.fields) + 1))
         self.is_delayed = draws.random() < 0.5
-        self.seen, self.reached, self.settled = wanted_of(interpreter, program, self.rows, states, self.rounds, self.until)
+        if MPI.COMM_WORLD.Get_rank() == 0:
+            self.seen, self.reached, self.settled = wanted_of(interpreter, program, self.rows, states, self.rounds, self.until)
 
     def write(self, folder):
         (folder / "case.rules").write_text(self.text)
@@ -153,8 +156,11 @@ class Case:
             until=None if self.until is None else f"{self.until[0]}={self.until[1]}",
             parts_file=None if self.parts is None else str(folder / "case.parts"),
         )  # fmt: skip
-        counts, whole = [outcome.count(field) for field in self.fields], outcome.gather()
-        return "" if whole is None else self.difference(outcome, whole, counts)
+        counts = [outcome.count(field) for field in self.fields]
+        whole = np.full((len(self.rows), len(self.fields)), 99, dtype=np.uint32)
+        for numbers, values in comm.allgather((outcome.numbers, outcome.values)):
+            whole[numbers] = values
+        return "" if comm.Get_rank() else self.difference(outcome, whole, counts)
 
     def difference(self, outcome, whole, counts):
         after = self.seen[-1]
@@ -178,13 +184,13 @@ def random_runs(cases, seed):
     interpreter, compare = reference()
     world = MPI.COMM_WORLD
     differ = 0
-    folder = world.bcast(tempfile.mkdtemp() if world.Get_rank() == 0 else None)
+    folder = world.bcast(new_folder() if world.Get_rank() == 0 else None)
     for number in range(cases):
         case = Case(number, seed, world.Get_size(), interpreter, compare)
         if world.Get_rank() == 0:
-            case.write(Path(folder))
+            case.write(folder)
         comm = world.Split(int(world.Get_rank() < case.processes), world.Get_rank())
-        wrong = case.run(comm, Path(folder)) if world.Get_rank() < case.processes else ""
+        wrong = case.run(comm, folder) if world.Get_rank() < case.processes else ""
         comm.Free()
         differ += bool(wrong)
         if wrong:
@@ -213,12 +219,22 @@ def killer(messages):
     return before
 
 
+def run_commands(path):
+    """Runs commands, one after the other; behind the output of each, on both streams, stands its status."""
+    for line in json.loads(Path(path).read_text()):
+        status = words.main(line)
+        for stream in (sys.stdout, sys.stderr):
+            print(f"== {status}" if MPI.COMM_WORLD.Get_rank() == 0 else "", end="\n" if MPI.COMM_WORLD.Get_rank() == 0 else "", file=stream, flush=True)
+
+
 def main(kind, *given):
+    if kind == "commands":
+        run_commands(given[0])
+        return 0
     if kind == "random":
         random_runs(int(given[1]), int(given[3]))
         return 0
     before = killer(int(given[0])) if kind == "kill" else lambda: time.sleep(float(given[0]))
-    signal.pthread_sigmask(signal.SIG_BLOCK, {signal.SIGTERM})
     return with_process(int(given[1]), before, list(given[2:]))
 
 

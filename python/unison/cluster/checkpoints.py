@@ -4,22 +4,20 @@ A file is a line of JSON, its head, which says of what it is; the words of the p
 lowest byte first; and the SHA-256 of all before it.
 """
 
-from __future__ import annotations
-
 import hashlib
 import json
 import os
 import zlib
 from pathlib import Path
-from typing import Any, Dict, List, Optional, Tuple
+from typing import Any, Dict, Optional, Tuple
 
 import numpy as np
 
 from .faults import FAULT, Refusal, agreed
+from .network import Array
 from .part import Part
 from .totals import wait_until
 
-Array = Any
 Head = Dict[str, Any]
 DIGEST = 32  # how many bytes a SHA-256 has
 
@@ -39,12 +37,11 @@ def file_of(folder: str, round: int, process: int) -> Path:
     return Path(folder) / f"round-{round}.process-{process}"
 
 
-def write_whole(path: Path, parts: List[bytes]) -> None:
+def write_whole(path: Path, *parts: bytes) -> None:
     """Writes a file that is there whole or not at all."""
     draft = path.with_name(path.name + ".draft")
     with open(draft, "wb") as file:
-        for part in parts:
-            file.write(part)
+        file.writelines(parts)
         file.flush()
         os.fsync(file.fileno())
     os.replace(draft, path)
@@ -72,7 +69,7 @@ class Checkpoints:
             head = json.dumps({**self._head, "round": round}).encode() + b"\n"
             body = np.ascontiguousarray(words, dtype="<u4").tobytes()
             digest = hashlib.sha256(head + body).digest()
-            write_whole(file_of(self._folder, round, self._comm.Get_rank()), [head, body, digest])
+            write_whole(file_of(self._folder, round, self._comm.Get_rank()), head, body, digest)
             self._begin(round, 1)
 
     def pass_by(self, round: int) -> None:
@@ -96,7 +93,7 @@ class Checkpoints:
             return
         if self._comm.Get_rank() == 0:
             named = {"round": round, "run": self._head["run"], "processes": self._comm.Get_size()}
-            write_whole(Path(self._folder) / "complete", [json.dumps(named).encode() + b"\n"])
+            write_whole(Path(self._folder) / "complete", json.dumps(named).encode() + b"\n")
         kept = {file_of(self._folder, kept, self._comm.Get_rank()) for kept in (round, self._before) if kept is not None}
         for path in Path(self._folder).glob(f"round-*.process-{self._comm.Get_rank()}"):
             if path not in kept:
@@ -110,10 +107,10 @@ def complete(folder: str) -> Head:
     return {"round": int(named["round"]), "run": str(named["run"]), "processes": int(named["processes"])}
 
 
-def last_of(comm: Any, folder: str) -> Head:
-    """The last complete checkpoint, as process 0 finds it."""
+def last_words(comm: Any, folder: str, head: Head, rounds: int) -> Tuple[int, Array]:
+    """The round of the last complete checkpoint, as process 0 finds it, and the states of this process's nodes, (own, fields) uint32."""
 
-    def read() -> Head:
+    def find() -> Head:
         try:
             return complete(folder) if comm.Get_rank() == 0 else {}
         except FileNotFoundError:
@@ -121,11 +118,14 @@ def last_of(comm: Any, folder: str) -> Head:
         except (ValueError, KeyError, TypeError):
             raise damaged(Path(folder) / "complete", "it is no line of JSON with a round, a run and a number of processes") from None
 
-    found: Head = comm.bcast(agreed(comm, read))
+    found: Head = comm.bcast(agreed(comm, find))
     if found["processes"] != comm.Get_size():
         told = f"it is of {found['processes']} processes, and there are {comm.Get_size()}; mpirun -n {found['processes']} goes on"
         raise Refusal("checkpoint Other", f"{folder}: {told}")
-    return found
+    words = agreed(comm, lambda: read_words(folder, found, head))
+    if found["round"] > rounds:
+        raise Refusal("run RoundsBelowStart", f"{folder}: the checkpoint is of round {found['round']}, and the rounds end with {rounds}", FAULT)
+    return int(found["round"]), words
 
 
 def damaged(path: Path, why: str) -> Refusal:
@@ -133,15 +133,14 @@ def damaged(path: Path, why: str) -> Refusal:
 
 
 def read_words(folder: str, named: Head, head: Head) -> Array:
-    """The states of a process's nodes, (own, fields) uint32, from the checkpoint that is named."""
+    """The states of a process's nodes from the checkpoint that is named."""
     path = file_of(folder, named["round"], head["process"])
     whole = path.read_bytes()
     if hashlib.sha256(whole[:-DIGEST]).digest() != whole[-DIGEST:]:
         raise damaged(path, "its checksum is not that of its bytes")
     line, _, body = whole[:-DIGEST].partition(b"\n")
-    wanted = {**head, "fields": list(head["fields"]), "round": named["round"], "run": named["run"]}
-    found = json.loads(line)
-    for key, value in wanted.items():
+    found: Head = json.loads(line)
+    for key, value in {**head, "fields": list(head["fields"]), "round": named["round"], "run": named["run"]}.items():
         if found.get(key) != value:
             told = "the network or the parts are others" if key in ("nodes", "rows") else f"its {key} is another one"
             raise Refusal("checkpoint Other", f"{path}: {told}; a run goes on with the program, the network and the parts that it began with")

@@ -4,15 +4,12 @@ A message is an array of uint32: the round, how many nodes it tells, and of thes
 nodes' places in the border where not all are told, which is done where it is shorter.
 """
 
-from __future__ import annotations
-
 from typing import Any, Dict, List, Optional, Tuple
 
 import numpy as np
 
+from .network import Array
 from .part import Border
-
-Array = Any
 
 
 class Exchange:

@@ -1,7 +1,5 @@
 """Why a run is not begun: told once, by one process, and known to all of them."""
 
-from __future__ import annotations
-
 from typing import Any, Callable, List, Optional, TypeVar
 
 from .. import _library, faults
@@ -41,7 +39,7 @@ def refusal_of(error: Exception) -> Optional[Refusal]:
 
 
 def agreed(comm: Any, work: Callable[[], T]) -> T:
-    """What each process makes by itself; where some refuse, all raise the refusal of the first of them."""
+    """What each process makes by itself; where some refuse, all raise the refusal of the first of them. Without `comm` there is one."""
     made: List[T] = []
     refusal = None
     try:
@@ -50,7 +48,7 @@ def agreed(comm: Any, work: Callable[[], T]) -> T:
         refusal = refusal_of(error)
         if refusal is None:
             raise
-    first = next((found for found in comm.allgather(refusal) if found is not None), None)
+    first = next((found for found in (comm.allgather(refusal) if comm else [refusal]) if found is not None), None)
     if first is not None:
         raise first
     return made[0]

@@ -1,16 +1,14 @@
-"""The words that give nodes initial values: FIELD=NODE:VALUE, with * for all nodes and A..B for those from A to B."""
-
-from __future__ import annotations
+"""The words that give nodes initial values, FIELD=NODE:VALUE, with * for all nodes and A..B for those from A to B; and other words."""
 
 import re
-from typing import Any, List, Mapping, NamedTuple, Sequence, Tuple, Union
+from typing import Any, List, Mapping, NamedTuple, Sequence, Tuple
 
 import numpy as np
 
 from .faults import usage
+from .network import Array
 
-Array = Any
-MOST = 4294967295
+MOST, MOST_ROUNDS = 4294967295, 1_000_000_000
 WORD = re.compile(r"(?P<field>[^=]+)=(?P<nodes>\*|[0-9]{1,12}|[0-9]{1,12}\.\.[0-9]{1,12}):(?P<value>[0-9]{1,12})")
 
 
@@ -21,6 +19,13 @@ class Setting(NamedTuple):
     first: int
     last: int
     value: int
+
+
+def number(option: str, word: Any, least: int, most: int = MOST_ROUNDS) -> int:
+    """The number that a word is to be."""
+    if not re.fullmatch("[0-9]{1,12}", str(word)) or not least <= int(word) <= most:
+        raise usage(f"{option}: expected a whole number from {least} to {most}, found `{word}`")
+    return int(word)
 
 
 def column_of(option: str, field: str, fields: Sequence[str]) -> int:
@@ -44,10 +49,10 @@ def setting_of(word: str, fields: Sequence[str], nodes: int) -> Setting:
 
 def until_of(word: str, fields: Sequence[str]) -> Tuple[int, int]:
     """The column and the value of a word of --until."""
-    field, _, value = word.partition("=")
-    if not re.fullmatch(r"[0-9]{1,12}", value) or int(value) > MOST:
-        raise usage(f"--until: expected FIELD=VALUE, with a whole number from 0 to {MOST}, found `{word}`")
-    return column_of("--until", field, fields), int(value)
+    field, sign, value = word.partition("=")
+    if not sign:
+        raise usage(f"--until: expected FIELD=VALUE, found `{word}`")
+    return column_of("--until", field, fields), number(f"--until: {field}", value, 0, MOST)
 
 
 def initial_words(numbers: Array, initial: Mapping[str, int], settings: List[Setting]) -> Array:

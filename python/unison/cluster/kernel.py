@@ -1,14 +1,11 @@
 """The proved call that makes a part's round (library/unison.h, unison_part_round), on arrays of numpy."""
 
-from __future__ import annotations
-
 import ctypes
 from typing import Any, Optional, Tuple
 
 from .. import _arrays, _library, faults
+from .network import Array
 from .part import Rows
-
-Array = Any
 
 
 def pointer(values: Optional[Array]) -> Tuple[int, int]:

@@ -1,7 +1,5 @@
 """Packed network files (docs/formats.md, Binary network file), mapped: what is not asked for is not read."""
 
-from __future__ import annotations
-
 import os
 import struct
 from typing import Any, Optional, Tuple
@@ -25,29 +23,24 @@ class PackedFile:
     """
 
     def __init__(self, path: str) -> None:
-        self.path = path
+        self.path, size = path, os.path.getsize(path)
         with open(path, "rb") as file:
             head = file.read(HEADER)
-        self.nodes, self.ends, weighted = self._numbers(head, os.path.getsize(path))
-        raw = np.memmap(path, dtype=np.uint8, mode="r").view(np.ndarray)
-        first = HEADER + 8 * (self.nodes + 1)
-        self.offsets: Array = raw[HEADER:first].view("<u8")
-        self.neighbours: Array = raw[first : first + 4 * self.ends].view("<u4")
-        self.weights: Optional[Array] = raw[first + 4 * self.ends :].view("<u4") if weighted else None
-
-    def _numbers(self, head: bytes, size: int) -> Tuple[int, int, int]:
-        """How many nodes and ends there are, and whether weights follow."""
         if head[:8] != MAGIC:
             raise self._refusal("Magic", f"it begins with {head[:8]!r}, expected {MAGIC!r}; unison pack makes such a file")
         if len(head) < HEADER or struct.unpack_from("<Q", head, 24)[0] > 1:
             raise self._refusal("Header", "expected 32 bytes, the last eight of them the number 0 or 1; unison pack makes such a file")
-        nodes, ends, weighted = struct.unpack_from("<3Q", head, 8)
-        if not 1 <= nodes <= 4294967295:
-            raise self._refusal("NodeCount", f"found {nodes} nodes, expected 1 to 4294967295")
-        asked = HEADER + 8 * (nodes + 1) + 4 * ends * (1 + weighted)
+        self.nodes, self.ends, weighted = struct.unpack_from("<3Q", head, 8)
+        if not 1 <= self.nodes <= 4294967295:
+            raise self._refusal("NodeCount", f"found {self.nodes} nodes, expected 1 to 4294967295")
+        first = HEADER + 8 * (self.nodes + 1)
+        asked = first + 4 * self.ends * (1 + weighted)
         if size != asked:
             raise self._refusal("Length", f"the file has {size} bytes, and its header asks for {asked}; unison pack makes such a file")
-        return nodes, ends, weighted
+        raw = np.memmap(path, dtype=np.uint8, mode="r").view(np.ndarray)
+        self.offsets: Array = raw[HEADER:first].view("<u8")
+        self.neighbours: Array = raw[first : first + 4 * self.ends].view("<u4")
+        self.weights: Optional[Array] = raw[first + 4 * self.ends :].view("<u4") if weighted else None
 
     def _refusal(self, name: str, told: str) -> Refusal:
         return Refusal(f"network {name}", f"{self.path}: {told}")
@@ -68,20 +61,20 @@ class PackedFile:
         if crowded.size:
             raise self._refusal("TooManyNeighbours", f"node {first + int(crowded[0])} has more than 4294967295 neighbours")
 
-    def check_neighbours(self, own: Array, offsets: Array, neighbours: Array) -> None:
-        """Raises the first neighbour in these nodes' rows that is no node."""
-        wrong = np.flatnonzero(neighbours >= self.nodes) if self.nodes < 4294967295 else neighbours[:0]
-        if wrong.size:
-            node = own[np.searchsorted(offsets, wrong[0], side="right") - 1]
-            raise self._refusal("Neighbour", f"node {node}: found the neighbour {neighbours[wrong[0]]}, expected one below {self.nodes}")
-
     def rows_of(self, own: Array) -> Tuple[Array, Array, Optional[Array]]:
-        """The rows of these nodes, by rising number: offsets (nodes + 1,) int64 from 0, neighbours and weights (ends,) uint32, copied."""
+        """The rows of these nodes, by rising number: offsets (nodes + 1,) int64 from 0, neighbours and weights (ends,) uint32, copied.
+
+        Raises where a neighbour is no node.
+        """
         begins, ends = self.offsets[own].astype(np.int64), self.offsets[own + 1].astype(np.int64)
         offsets = np.concatenate(([0], np.cumsum(ends - begins)))
         if own.size and int(own[-1]) - int(own[0]) + 1 == own.size:
             chosen: Any = slice(begins[0], ends[-1])
         else:
             chosen = np.arange(offsets[-1]) + np.repeat(begins - offsets[:-1], ends - begins)
-        weights = None if self.weights is None else np.array(self.weights[chosen], dtype=np.uint32)
-        return offsets, np.array(self.neighbours[chosen], dtype=np.uint32), weights
+        neighbours = np.array(self.neighbours[chosen], dtype=np.uint32)
+        if neighbours.size and neighbours.max() >= self.nodes:
+            place = int(np.argmax(neighbours >= self.nodes))
+            node = own[np.searchsorted(offsets, place, side="right") - 1]
+            raise self._refusal("Neighbour", f"node {node}: found the neighbour {neighbours[place]}, expected one below {self.nodes}")
+        return offsets, neighbours, None if self.weights is None else np.array(self.weights[chosen], dtype=np.uint32)

@@ -1,16 +1,12 @@
 """Which process has which node: parts by number, or those of a file, a line for each node with the number of its part, as METIS writes it."""
 
-from __future__ import annotations
-
 import warnings
-from typing import Any, List, Tuple
+from typing import Any, List
 
 import numpy as np
 
 from .faults import Refusal
-from .network import PackedFile
-
-Array = Any
+from .network import Array, PackedFile
 
 
 class ByNumber:
@@ -41,12 +37,9 @@ class Listed:
 
     def __init__(self, parts: Array) -> None:
         self.parts = parts
-        self._own: Tuple[int, Array] = (-1, None)
 
     def own(self, part: int) -> Array:
-        if self._own[0] != part:
-            self._own = (part, np.flatnonzero(self.parts == part).astype(np.uint32))
-        return self._own[1]
+        return np.flatnonzero(self.parts == part).astype(np.uint32)
 
     def owner(self, numbers: Array) -> Array:
         return self.parts[numbers].astype(np.int64)

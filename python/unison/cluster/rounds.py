@@ -1,7 +1,5 @@
 """The rounds of a process: it goes on as soon as the borders of its neighbouring processes have come, and waits for no other."""
 
-from __future__ import annotations
-
 from typing import Any, Dict, List, NamedTuple, Optional, Tuple
 
 import numpy as np
@@ -9,10 +7,10 @@ import numpy as np
 from . import kernel
 from .checkpoints import Checkpoints
 from .exchange import Exchange
+from .network import Array
 from .part import Part
 from .totals import Totals, wait_until
 
-Array = Any
 AHEAD = 256  # how many rounds a process goes beyond the last one whose totals are known
 KEPT = 8  # the same where the states of these rounds are kept, since one of them may be the last
 
@@ -39,20 +37,15 @@ class Rounds:
         width = words.shape[1]
         self._outer = np.empty((part.rim.ids.size, width), dtype=np.uint32)  # the rim, the near nodes and the border
         self._copy_outer()
-        self._exchange = Exchange(comm, part.borders, self._outer[part.rim.own + part.near :])
+        self.exchange = Exchange(comm, part.borders, self._outer[part.rim.own + part.near.size :])
         self._kept: Dict[int, Array] = {}
         self.changed, self.waited = 0, 0.0
-
-    @property
-    def sent(self) -> int:
-        """How many bytes were sent to other processes."""
-        return self._exchange.bytes
 
     def _copy_outer(self) -> None:
         """Takes over the states of the rim and the near nodes for the round of the rim."""
         rim, near = self._part.rim.own, self._part.near
         self._outer[:rim] = self.words[self._inner :]
-        self._outer[rim : rim + near] = self.words[self._inner - near : self._inner]
+        self._outer[rim : rim + near.size] = self.words[near]
 
     def run(self, totals: Totals, checkpoints: Optional[Checkpoints]) -> None:
         """Makes the rounds up to the last one, or the one that ends them."""
@@ -65,17 +58,16 @@ class Rounds:
     def _begin(self) -> None:
         """Tells the neighbouring processes the first states, and all of them whether these are as `--until` asks."""
         if self.round < self._asked.last:
-            self._exchange.send(self.round, self.words[self._inner :], None)
+            self.exchange.send(self.round, self.words[self._inner :], None)
         if self._asked.until is not None:
             self._totals.begin(self.round, [1, *self._sums()])
             self._keep()
 
     def _step(self) -> bool:
         """Makes a round; False where the rounds ended before it."""
-        exchange, ahead = self._exchange, AHEAD if self._asked.until is None else KEPT
+        exchange, ahead = self.exchange, AHEAD if self._asked.until is None else KEPT
         changed = None if exchange.has_come() else self._make_inner()
-        is_far = lambda: self.round - self._totals.known >= ahead
-        self.waited += wait_until(lambda: self._totals.look() or not is_far() and exchange.has_come())
+        self.waited += wait_until(lambda: self._totals.look() or (self.round - self._totals.known < ahead and exchange.has_come()))
         if self._totals.has_ended():
             return False
         exchange.take(self.round)
@@ -92,7 +84,7 @@ class Rounds:
         after = self._next[self._inner :]
         changed = kernel.part_round(self._program, self._part.rim, self.round, self._outer, after)
         if self.round + 1 < self._asked.last:
-            self._exchange.send(self.round + 1, after, np.any(after != self._outer[: len(after)], axis=1))
+            self.exchange.send(self.round + 1, after, np.any(after != self._outer[: len(after)], axis=1))
         return changed
 
     def _go_on(self) -> None:
@@ -114,30 +106,26 @@ class Rounds:
 
     def _keep(self) -> None:
         """Keeps the states of this round, and forgets those of rounds that were not the last."""
-        self._kept[self.round] = self.words.copy()
-        for round in [round for round in self._kept if round < self._totals.known]:
-            del self._kept[round]
+        kept = {round: words for round, words in self._kept.items() if round >= self._totals.known}
+        self._kept = {**kept, self.round: self.words.copy()}
 
     def _end(self) -> None:
         """Ends the rounds with all other processes: each goes as far as the farthest one, without computing, so that no message is left."""
         farthest = max(self._comm.allgather(self.round))
         last = self._asked.last
         for round in range(self.round, farthest):
-            self._drain(round)
+            self.waited += wait_until(self.exchange.has_come)
             if round + 1 < last:
-                self._exchange.send_nothing(round + 1)
+                self.exchange.send_nothing(round + 1)
             self._totals.begin(round + 1, [0] * (2 + len(self._asked.sums)))
             if self._checkpoints is not None:
                 self._checkpoints.pass_by(round + 1)
         if farthest < last:
-            self._drain(farthest)
-        self._exchange.finish()
+            self.waited += wait_until(self.exchange.has_come)
+        self.exchange.finish()
         self._totals.finish()
         if self._checkpoints is not None:
             self._checkpoints.finish()
         if self._totals.reached is not None:
             self.round = self._totals.reached
             self.words = self._kept[self.round]
-
-    def _drain(self, round: int) -> None:
-        self.waited += wait_until(self._exchange.has_come)

@@ -1,14 +1,12 @@
 """What all processes know of a round together, added up while the rounds go on: no process waits for it."""
 
-from __future__ import annotations
-
 import time
 from collections import deque
 from typing import Any, Callable, Deque, List, Optional, Tuple
 
 import numpy as np
 
-Array = Any
+from .network import Array
 
 
 class Totals:
@@ -54,11 +52,9 @@ class Totals:
 
     def finish(self) -> None:
         """Waits for all that is pending."""
-        wait_until(self._is_done)
-
-    def _is_done(self) -> bool:
-        self.look()
-        return not self._pending
+        while self._pending:
+            wait_until(self._pending[0][1].Test)
+            self.look()
 
 
 def wait_until(has_come: Callable[[], bool]) -> float:

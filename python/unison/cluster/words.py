@@ -1,28 +1,23 @@
 """The command: its words, what it prints, and its status (docs/formats.md)."""
 
-from __future__ import annotations
-
 import argparse
+import contextlib
 import os
 import signal
 import sys
 import threading
 import traceback
-from typing import Any, List, NoReturn, Optional
+from typing import Any, Callable, Dict, List, NoReturn, Optional
 
 import numpy as np
 
 from . import checkpoints, parts
-from .faults import FAULT, Refusal, refusal_of, usage
-from .initial import column_of
+from .faults import FAULT, Refusal, agreed, refusal_of, usage
+from .initial import number
 from .network import PackedFile
-from .running import MOST_ROUNDS, Outcome, run
+from .running import Outcome, run
 
-HELP = """mpirun -n N python -m unison.cluster PROGRAM NETWORK --rounds T [WORDS]
-python -m unison.cluster parts NETWORK -n N
-
-makes the rounds of a program on a packed network by N processes, or prints parts for so many (docs/cluster.md).
-"""
+USAGE = "mpirun -n N python -m unison.cluster PROGRAM NETWORK --rounds T [WORDS]\n       python -m unison.cluster parts NETWORK -n N"
 OPTIONS = {
     "--rounds": "the last round, counted from round 0",
     "--set": "FIELD=NODE:VALUE: an initial value of a node, of those from A to B as A..B, or of all as *; as often as wanted",
@@ -44,35 +39,26 @@ class Words(argparse.ArgumentParser):
         raise usage(f"{message}; --help tells the words")
 
 
-def parsed(words: List[str]) -> argparse.Namespace:
-    """The words of a run."""
-    parser = Words(add_help=False, allow_abbrev=False)
-    parser.add_argument("program")
-    parser.add_argument("network")
-    for option, told in OPTIONS.items():
+def parser_of(names: List[str], options: Dict[str, str]) -> Words:
+    """Reads these words, of which the first option has to be there."""
+    parser = Words(usage=USAGE, add_help=False, allow_abbrev=False)
+    for name in names:
+        parser.add_argument(name)
+    for place, (option, told) in enumerate(options.items()):
         often: Any = {"action": "append", "default": []} if option in ("--set", "--npy") else {}
-        parser.add_argument(option, help=told, required=option == "--rounds", **often)
-    asked = parser.parse_args(words)
-    asked.rounds = number("--rounds", asked.rounds, 0)
-    if asked.every is not None and asked.checkpoint is None:
-        raise usage("--every: it is how many rounds lie between two checkpoints, and there is no --checkpoint FOLDER")
-    if asked.count is not None and asked.sum is not None:
-        raise usage("--count, --sum: one of them at a time is shown")
-    asked.every = 1000 if asked.every is None else number("--every", asked.every, 1)
-    return asked
+        parser.add_argument(option, help=told, required=place == 0, metavar="", **often)
+    return parser
 
 
-def number(option: str, word: str, least: int, most: int = MOST_ROUNDS) -> int:
-    if not (word.isascii() and word.isdigit() and len(word) <= 12 and least <= int(word) <= most):
-        raise usage(f"{option}: expected a whole number from {least} to {most}, found `{word}`")
-    return int(word)
+RUN, PARTS = parser_of(["program", "network"], OPTIONS), parser_of(["network"], {"-n": "for how many processes"})
 
 
 def main(words: List[str]) -> int:
     """Does what the words ask for; the status."""
+    if "--help" in words:
+        return told(lambda: print(RUN.format_help(), end=""), os.environ.get("OMPI_COMM_WORLD_RANK", "0") == "0")
     if words[:1] == ["parts"]:
-        return told(lambda: print_parts(words[1:]), True)
-    signal.pthread_sigmask(signal.SIG_BLOCK, {signal.SIGTERM})  # before MPI starts threads, which do the same then
+        return told(lambda: agreed(None, lambda: print_parts(words[1:])), True)
     try:
         from mpi4py import MPI
     except ImportError as error:
@@ -88,7 +74,7 @@ def main(words: List[str]) -> int:
         return FAULT
 
 
-def told(work: Any, is_told: bool) -> int:
+def told(work: Callable[[], None], is_told: bool) -> int:
     """The status of some work, whose refusal one process tells."""
     try:
         work()
@@ -101,82 +87,67 @@ def told(work: Any, is_told: bool) -> int:
 
 def run_words(words: List[str], comm: Any) -> None:
     """Makes the rounds that the words ask for, and prints what is to be shown."""
-    is_first = comm.Get_rank() == 0
-    if "--help" in words:
-        lines = [f"  {option}: {text}\n" for option, text in OPTIONS.items()]
-        print(HELP + "".join(lines) if is_first else "", end="")
-        return
-    asked = parsed(words)
-    threading.Thread(target=await_end, args=(asked.checkpoint or asked.resume, is_first), daemon=True).start()
-    shown = [word.partition("=") for word in asked.npy]
-    sums = [] if asked.sum is None else [asked.sum]
-
-    def check(fields: Any) -> None:
-        for field in [asked.count] * (asked.count is not None) + [field for field, _, _ in shown]:
-            column_of("--npy" if field != asked.count else "--count", field, fields)
-
+    asked = RUN.parse_args(words)
+    if asked.every is not None and asked.checkpoint is None:
+        raise usage("--every: it is how many rounds lie between two checkpoints, and there is no --checkpoint FOLDER")
+    if asked.count is not None and asked.sum is not None:
+        raise usage("--count, --sum: one of them at a time is shown")
+    watch_for_end(asked.checkpoint or asked.resume, comm.Get_rank() == 0)
+    shown = [word.partition("=")[::2] for word in asked.npy]
     outcome = run(
-        asked.program, asked.network, asked.rounds, comm=comm, set=asked.set, until=asked.until, sums=sums, parts_file=asked.parts,
-        checkpoint=asked.checkpoint, every=asked.every, resume=asked.resume, check=check,
+        asked.program, asked.network, number("--rounds", asked.rounds, 0), comm=comm, set=asked.set, until=asked.until,
+        sums=[] if asked.sum is None else [asked.sum], parts_file=asked.parts, checkpoint=asked.checkpoint,
+        every=number("--every", asked.every or "1000", 1), resume=asked.resume,
+        shown={"--npy": [field for field, _ in shown], "--count": [] if asked.count is None else [asked.count]},
     )  # fmt: skip
-    for field, _, path in shown:
-        outcome.write_npy(field, path)
+    for field, path in shown:
+        agreed(comm, lambda: outcome.write_npy(field, path))
     counts = None if asked.count is None else outcome.count(asked.count)
-    if is_first:
-        print_outcome(outcome, asked, counts)
+    if comm.Get_rank() == 0:
+        print(text_of(outcome, asked, counts), flush=True)
 
 
-def print_outcome(outcome: Outcome, asked: argparse.Namespace, counts: Any) -> None:
-    """Prints counts or sums as CSV, or what became of the rounds: `settles R`, `reached R`, `open T`, or `round T`."""
+def text_of(outcome: Outcome, asked: argparse.Namespace, counts: Any) -> str:
+    """Counts or sums as CSV, or what became of the rounds: `settles R`, `reached R`, `open T`, or `round T`."""
     if counts is not None:
-        print("round,value,nodes")
-        print("".join(f"{outcome.round},{value},{count}\n" for value, count in counts.items()), end="")
-    elif asked.sum is not None:
-        print(f"round,{asked.sum}")
-        print("".join(f"{round},{line[0]}\n" for round, line in enumerate(outcome.sums, outcome.first)), end="")
-    elif outcome.reached is not None:
-        print(f"reached {outcome.reached}")
-    elif outcome.settled is not None:
-        print(f"settles {outcome.settled}")
-    else:
-        print(f"{'round' if asked.until is None else 'open'} {outcome.round}")
+        return "\n".join(["round,value,nodes", *(f"{outcome.round},{value},{count}" for value, count in counts.items())])
+    if asked.sum is not None:
+        return "\n".join([f"round,{asked.sum}", *(f"{round},{line[0]}" for round, line in enumerate(outcome.sums, outcome.first))])
+    if outcome.reached is not None:
+        return f"reached {outcome.reached}"
+    if outcome.settled is not None:
+        return f"settles {outcome.settled}"
+    return f"{'round' if asked.until is None else 'open'} {outcome.round}"
 
 
-def await_end(folder: Optional[str], is_told: bool) -> None:
-    """Waits until mpirun asks this process to end, which it does where another one was killed, and says how to go on."""
-    signal.sigwait({signal.SIGTERM})
-    if is_told:
-        print(f"fault: run Ended\nanother process, or mpirun, ended: {way_on(folder)}", file=sys.stderr, flush=True)
-    os._exit(FAULT)
+def watch_for_end(folder: Optional[str], is_told: bool) -> None:
+    """Lets a thread wait until mpirun asks this process to end, which it does where another one was killed; it says then how to go on."""
+    heard, written = os.pipe()
+    os.set_blocking(written, False)
+    signal.set_wakeup_fd(written)  # whichever thread gets the signal, and also while a call of the library runs
+    signal.signal(signal.SIGTERM, lambda *_: None)
 
+    def wait() -> None:
+        while os.read(heard, 1)[0] != signal.SIGTERM:
+            pass
+        if is_told:
+            told = "no complete checkpoint is there, so the run has to begin anew; --checkpoint FOLDER writes some"
+            with contextlib.suppress(OSError, ValueError, KeyError, TypeError):
+                told = f"--resume {folder} goes on from round {checkpoints.complete(folder or '')['round']}"
+            print(f"fault: run Ended\nanother process, or mpirun, ended: {told}", file=sys.stderr, flush=True)
+        os._exit(FAULT)
 
-def way_on(folder: Optional[str]) -> str:
-    try:
-        return f"--resume {folder} goes on from round {checkpoints.complete(folder or '')['round']}"
-    except (OSError, ValueError, KeyError, TypeError):
-        return "there is no complete checkpoint, so the run has to begin anew; --checkpoint FOLDER writes some"
+    threading.Thread(target=wait, daemon=True).start()
 
 
 def print_parts(words: List[str]) -> None:
     """Prints parts that grow breadth first, and tells how many ends lead from one to another."""
-    parser = Words(add_help=False, allow_abbrev=False)
-    parser.add_argument("network")
-    parser.add_argument("-n", required=True)
-    if "--help" in words:
-        print(HELP, end="")
-        return
-    asked = parser.parse_args(words)
-    count = number("-n", asked.n, 1, 1_000_000)
-    try:
-        file = PackedFile(asked.network)
-        for share in range(16):
-            file.check_offsets(share, 16)
-        grown = parts.Listed(parts.grown(file, count))
-        cut, by_number = parts.cut_ends(file, grown.owner), parts.cut_ends(file, parts.shares(file, count).owner)
-    except OSError as error:
-        raise refusal_of(error) or error from None
+    asked = PARTS.parse_args(words)
+    count, file = number("-n", asked.n, 1, 1_000_000), PackedFile(asked.network)
+    file.check_offsets(0, 1)
+    grown = parts.Listed(parts.grown(file, count))
+    cut, by_number = parts.cut_ends(file, grown.owner), parts.cut_ends(file, parts.shares(file, count).owner)
     sizes = np.bincount(grown.parts, minlength=count)
     np.savetxt(sys.stdout, grown.parts, fmt="%d")
-    share = 100 * cut / max(file.ends, 1)
-    told = f"{cut} of {file.ends} neighbours are in another part ({share:.1f} %), by number {by_number}; parts have {sizes.min()} to {sizes.max()} nodes"
+    told = f"{cut} of {file.ends} neighbours are in another part, by number {by_number}; parts have {sizes.min()} to {sizes.max()} nodes"
     print(told, file=sys.stderr)
