@@ -166,14 +166,14 @@ class Case:
         after = self.seen[-1]
         round = self.rounds if self.reached is None else self.reached
         count = lambda field: {value: sum(state[field] == value for state in after) for value in sorted({state[field] for state in after})}
-        made = self.seen[outcome.first : 1 + (self.reached if self.reached is not None else self.settled + 1 if self.settled is not None else self.rounds)]
+        first, last = int(self.until is None), self.reached if self.reached is not None else self.rounds if self.settled is None else self.settled + 1
         checks = {
             "states": (whole.tolist(), [list(state.values()) for state in after]),
             "round": (outcome.round, round),
             "reached": (outcome.reached, self.reached),
             "settled": (None if self.reached is not None else outcome.settled, None if self.reached is not None else self.settled),
             "counts": (counts, [count(field) for field in self.fields]),
-            "sums": (outcome.sums.tolist(), [[sum(state[field] for state in states) for field in self.sums] for states in made]),
+            "sums": (outcome.sums, {at: [sum(state[field] for state in self.seen[at]) for field in self.sums] for at in range(first, last + 1)}),
         }
         wrong = [f"{what}: found {found}, expected {wanted}" for what, (found, wanted) in checks.items() if found != wanted]
         return "\n".join([*wrong, self.text, repr((self.rows, self.processes, self.parts, self.settings, self.until, self.rounds))]) if wrong else ""

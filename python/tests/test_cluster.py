@@ -105,7 +105,7 @@ def test_cluster_refusals():
         ([*base, "--count", "s"], 2, "usage", "--count: the program has no field `s`"),
         ([*base, "--npy", "s=s.npy"], 2, "usage", "--npy: the program has no field `s`"),
         ([*base, "--until", "dist"], 2, "usage", "--until: expected FIELD=VALUE"),
-        ([*base, "--every", "5"], 2, "usage", "there is no --checkpoint FOLDER"),
+        ([*base, "--every", "5"], 2, "usage", "--every stands with --checkpoint FOLDER alone"),
         ([*base, "--resume", "none", "--set", "dist=0:0"], 2, "usage", "--resume"),
         (["bad.rules", *base[1:]], 3, "program Syntax", "program:1:28"),
         (["missing.rules", *base[1:]], 1, "file", "missing.rules: No such file or directory"),

@@ -29,15 +29,8 @@ class Exchange:
     def send(self, round: int, rim: Array, changed: Optional[Array]) -> None:
         """Sends the states of the rim, (rim, fields), after a round, those of which `changed` holds, or all; and awaits the others' ones."""
         for border in self._borders:
-            message = message_of(round, rim, changed, border.sent)
-            self._post(border.rank, round, message)
-        pairs = zip(self._borders, self._room)
-        self._awaited = [self._comm.Irecv(room, source=border.rank) for border, room in pairs]
-
-    def send_nothing(self, round: int) -> None:
-        """Sends that nothing changed."""
-        none = self._nodes[:0]
-        self.send(round, none, np.zeros(0, dtype=bool))
+            self._post(border.rank, round, message_of(round, rim, changed, border.sent))
+        self._awaited = [self._comm.Irecv(room, source=border.rank) for border, room in zip(self._borders, self._room)]
 
     def _post(self, rank: int, round: int, message: Array) -> None:
         """Sends a message; the one before the last to this process has come by now, as it went on since."""
@@ -63,7 +56,6 @@ class Exchange:
         """Waits until all that was sent has come."""
         for request, _ in self._sent.values():
             request.Wait()
-        self._sent.clear()
 
 
 def message_of(round: int, rim: Array, changed: Optional[Array], sent: Array) -> Array:

@@ -2,7 +2,7 @@
 
 from typing import Any, Callable, List, Optional, TypeVar
 
-from .. import _library, faults
+from .. import faults
 
 T = TypeVar("T")
 FAULT, USAGE, REFUSED = 1, 2, 3  # the statuses of docs/formats.md
@@ -32,14 +32,14 @@ def refusal_of(error: Exception) -> Optional[Refusal]:
         return Refusal(f"{error.part} {error.name}", str(error))
     if isinstance(error, MemoryError):
         return Refusal("memory Memory", "", FAULT)
-    if isinstance(error, (_library.LibraryMissing, OSError)):
-        named = f"{error.filename}: {error.strerror}" if error.filename is not None else str(error)
+    if isinstance(error, (OSError, ImportError)):
+        named = f"{error.filename}: {error.strerror}" if isinstance(error, OSError) and error.filename else str(error)
         return Refusal("file", named, FAULT)
     return None
 
 
 def agreed(comm: Any, work: Callable[[], T]) -> T:
-    """What each process makes by itself; where some refuse, all raise the refusal of the first of them. Without `comm` there is one."""
+    """What each process makes by itself; where some refuse, all raise the refusal of the first of them."""
     made: List[T] = []
     refusal = None
     try:
@@ -48,7 +48,7 @@ def agreed(comm: Any, work: Callable[[], T]) -> T:
         refusal = refusal_of(error)
         if refusal is None:
             raise
-    first = next((found for found in (comm.allgather(refusal) if comm else [refusal]) if found is not None), None)
+    first = next((found for found in comm.allgather(refusal) if found is not None), None)
     if first is not None:
         raise first
     return made[0]

@@ -47,7 +47,7 @@ class Rounds:
         self._outer[:rim] = self.words[self._inner :]
         self._outer[rim : rim + near.size] = self.words[near]
 
-    def run(self, totals: Totals, checkpoints: Optional[Checkpoints]) -> None:
+    def run(self, totals: Totals, checkpoints: Checkpoints) -> None:
         """Makes the rounds up to the last one, or the one that ends them."""
         self._totals, self._checkpoints = totals, checkpoints
         self._begin()
@@ -95,8 +95,7 @@ class Rounds:
         self._totals.begin(self.round, [self.changed, *self._sums()])
         if self._asked.until is not None:
             self._keep()
-        if self._checkpoints is not None:
-            self._checkpoints.reach(self.round, self.words)
+        self._checkpoints.reach(self.round, self.words)
 
     def _sums(self) -> List[int]:
         """How many nodes are not as `--until` asks, and the sums of columns."""
@@ -111,21 +110,18 @@ class Rounds:
 
     def _end(self) -> None:
         """Ends the rounds with all other processes: each goes as far as the farthest one, without computing, so that no message is left."""
-        farthest = max(self._comm.allgather(self.round))
-        last = self._asked.last
+        farthest, last = max(self._comm.allgather(self.round)), self._asked.last
         for round in range(self.round, farthest):
             self.waited += wait_until(self.exchange.has_come)
             if round + 1 < last:
-                self.exchange.send_nothing(round + 1)
+                self.exchange.send(round + 1, self.words, np.zeros(1, dtype=bool))
             self._totals.begin(round + 1, [0] * (2 + len(self._asked.sums)))
-            if self._checkpoints is not None:
-                self._checkpoints.pass_by(round + 1)
+            self._checkpoints.reach(round + 1, None)
         if farthest < last:
             self.waited += wait_until(self.exchange.has_come)
         self.exchange.finish()
         self._totals.finish()
-        if self._checkpoints is not None:
-            self._checkpoints.finish()
+        self._checkpoints.finish()
         if self._totals.reached is not None:
             self.round = self._totals.reached
             self.words = self._kept[self.round]

@@ -1,5 +1,7 @@
 """A run as a call: `unison.cluster.run`."""
 
+import os
+import time
 from dataclasses import dataclass
 from typing import Any, Dict, List, Mapping, Optional, Sequence, Tuple
 
@@ -20,9 +22,8 @@ class Outcome:
 
     - `round`: the round of the states; `settled`: the first from which on nothing changes, `reached`: the first that is as `until` asks, or None
     - `numbers`: (own,) uint32: the numbers of this process's nodes; `values`: (own, fields) uint32: their states
-    - `sums`: (rounds, asked) uint64: the sums over all nodes of the fields that were asked for, after each round that was made; `first`: the
-      first of these rounds
-    - `waited`: how many seconds this process waited for others; `sent`: how many bytes it sent to them
+    - `sums`: for each round that was made the sums over all nodes of the fields that were asked for
+    - `seconds`: how long the rounds took; `waited`: how many of these this process waited for others; `sent`: how many bytes it sent to them
     """
 
     fields: Tuple[str, ...]
@@ -32,8 +33,8 @@ class Outcome:
     reached: Optional[int]
     numbers: Array
     values: Array
-    sums: Array
-    first: int
+    sums: Dict[int, List[int]]
+    seconds: float
     waited: float
     sent: int
     comm: Any
@@ -103,20 +104,20 @@ def run(
         start, words = 0, initial.initial_words(part.numbers, text.initial_values, settings)
     else:
         start, words = checkpoints.last_words(comm, resume, head, rounds)
-    writing = (checkpoint, every, head, None if resume is None else start) if checkpoint else None
-    return made(comm, text, file.nodes, part, start, words, asked, writing)
+    is_same = resume is not None and checkpoint is not None and os.path.realpath(resume) == os.path.realpath(checkpoint)
+    return made(comm, text, file.nodes, part, start, words, asked, (checkpoint, every, head, start if is_same else None))
 
 
 def made(comm: Any, text: Program, nodes: int, part: Part, start: int, words: Array, asked: Asked, writing: Any) -> Outcome:
     """Makes the rounds, with communicators of their own, so that no other message comes between."""
-    own = [comm.Dup() for _ in range(3 if writing else 2)]
+    own = [comm.Dup() for _ in range(3)]
     totals = Totals(own[1], start, settles=not text.reads_round, until=asked.until is not None)
-    writer = checkpoints.Checkpoints(own[2], *writing) if writing else None
+    writer = checkpoints.Checkpoints(own[2], *writing)
     rounds = Rounds(own[0], text.text, part, start, words, asked)
+    begun = time.perf_counter()
     rounds.run(totals, writer)
+    times = (time.perf_counter() - begun, rounds.waited)
     for each in own:
         each.Free()
-    sums = np.array(totals.lines, dtype=np.uint64).reshape(-1, 2 + len(asked.sums))[:, 2:]
-    last, first = asked.last if totals.reached is None else totals.reached, start + (asked.until is None)
-    ends = (last, totals.settled, totals.reached)
-    return Outcome(text.fields, nodes, *ends, part.numbers, rounds.words, sums, first, rounds.waited, rounds.exchange.bytes, comm)
+    ends = (asked.last if totals.reached is None else totals.reached, totals.settled, totals.reached)
+    return Outcome(text.fields, nodes, *ends, part.numbers, rounds.words, totals.sums, *times, rounds.exchange.bytes, comm)

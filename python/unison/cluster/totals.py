@@ -2,7 +2,7 @@
 
 import time
 from collections import deque
-from typing import Any, Callable, Deque, List, Optional, Tuple
+from typing import Any, Callable, Deque, Dict, List, Optional, Tuple
 
 import numpy as np
 
@@ -22,7 +22,7 @@ class Totals:
         self.known = start  # the last round of which the sums are known
         self.settled: Optional[int] = None
         self.reached: Optional[int] = None
-        self.lines: List[Array] = []  # of each round the sums that are known, up to the end
+        self.sums: Dict[int, List[int]] = {}  # those that are asked for, of each round up to the end
 
     def begin(self, round: int, own: List[int]) -> None:
         """Begins to add up what each process has of a round."""
@@ -44,7 +44,7 @@ class Totals:
         self.known = round
         if self.has_ended():
             return
-        self.lines.append(whole)
+        self.sums[round] = whole[2:].tolist()
         if self._until and whole[1] == 0:
             self.reached = round
         elif self._settles and whole[0] == 0:

@@ -7,7 +7,7 @@ import signal
 import sys
 import threading
 import traceback
-from typing import Any, Callable, Dict, List, NoReturn, Optional
+from typing import Any, Dict, List, NoReturn, Optional
 
 import numpy as np
 
@@ -55,43 +55,39 @@ RUN, PARTS = parser_of(["program", "network"], OPTIONS), parser_of(["network"], 
 
 def main(words: List[str]) -> int:
     """Does what the words ask for; the status."""
-    if "--help" in words:
-        return told(lambda: print(RUN.format_help(), end=""), os.environ.get("OMPI_COMM_WORLD_RANK", "0") == "0")
-    if words[:1] == ["parts"]:
-        return told(lambda: agreed(None, lambda: print_parts(words[1:])), True)
+    comm: Any = None
     try:
-        from mpi4py import MPI
-    except ImportError as error:
-        print(f"fault: file\n{error}: mpi4py is needed, in Debian the package python3-mpi4py", file=sys.stderr)
-        return FAULT
-    comm: Any = MPI.COMM_WORLD
-    try:
-        return told(lambda: run_words(words, comm), comm.Get_rank() == 0)
-    except BaseException as error:
-        refusal = refusal_of(error) if isinstance(error, Exception) else None
-        print(f"process {comm.Get_rank()}: {refusal or traceback.format_exc()}", file=sys.stderr, flush=True)
-        comm.Abort(FAULT)
-        return FAULT
+        if "--help" in words:
+            print(RUN.format_help() if os.environ.get("OMPI_COMM_WORLD_RANK", "0") == "0" else "", end="")
+        elif words[:1] == ["parts"]:
+            print_parts(words[1:])
+        else:
+            from mpi4py import MPI
+
+            comm = MPI.COMM_WORLD
+            run_words(words, comm)
+        return 0
+    except Exception as error:
+        return told(error, comm)
 
 
-def told(work: Callable[[], None], is_told: bool) -> int:
-    """The status of some work, whose refusal one process tells."""
-    try:
-        work()
-    except Refusal as refusal:
-        if is_told:
+def told(error: Exception, comm: Any) -> int:
+    """Tells why the work is not done: by one process, where all know it, else by this one, which ends the others. The status."""
+    refusal = refusal_of(error)
+    if comm is None and refusal is not None or isinstance(error, Refusal):
+        if comm is None or comm.Get_rank() == 0:
             print(refusal, file=sys.stderr, flush=True)
-        return refusal.status
-    return 0
+        return refusal.status if refusal else FAULT
+    traced = "".join(traceback.format_exception(type(error), error, error.__traceback__))
+    print(f"process {comm.Get_rank() if comm else 0}: {refusal or traced}", file=sys.stderr, flush=True)
+    return int(comm.Abort(FAULT) or FAULT) if comm else FAULT
 
 
 def run_words(words: List[str], comm: Any) -> None:
     """Makes the rounds that the words ask for, and prints what is to be shown."""
     asked = RUN.parse_args(words)
-    if asked.every is not None and asked.checkpoint is None:
-        raise usage("--every: it is how many rounds lie between two checkpoints, and there is no --checkpoint FOLDER")
-    if asked.count is not None and asked.sum is not None:
-        raise usage("--count, --sum: one of them at a time is shown")
+    if asked.every and asked.checkpoint is None or asked.count and asked.sum:
+        raise usage("--every stands with --checkpoint FOLDER alone, and one of --count and --sum at a time")
     watch_for_end(asked.checkpoint or asked.resume, comm.Get_rank() == 0)
     shown = [word.partition("=")[::2] for word in asked.npy]
     outcome = run(
@@ -112,7 +108,7 @@ def text_of(outcome: Outcome, asked: argparse.Namespace, counts: Any) -> str:
     if counts is not None:
         return "\n".join(["round,value,nodes", *(f"{outcome.round},{value},{count}" for value, count in counts.items())])
     if asked.sum is not None:
-        return "\n".join([f"round,{asked.sum}", *(f"{round},{line[0]}" for round, line in enumerate(outcome.sums, outcome.first))])
+        return "\n".join([f"round,{asked.sum}", *(f"{round},{line[0]}" for round, line in outcome.sums.items())])
     if outcome.reached is not None:
         return f"reached {outcome.reached}"
     if outcome.settled is not None:
@@ -132,7 +128,7 @@ def watch_for_end(folder: Optional[str], is_told: bool) -> None:
             pass
         if is_told:
             told = "no complete checkpoint is there, so the run has to begin anew; --checkpoint FOLDER writes some"
-            with contextlib.suppress(OSError, ValueError, KeyError, TypeError):
+            with contextlib.suppress(OSError, Refusal):
                 told = f"--resume {folder} goes on from round {checkpoints.complete(folder or '')['round']}"
             print(f"fault: run Ended\nanother process, or mpirun, ended: {told}", file=sys.stderr, flush=True)
         os._exit(FAULT)
@@ -149,5 +145,5 @@ def print_parts(words: List[str]) -> None:
     cut, by_number = parts.cut_ends(file, grown.owner), parts.cut_ends(file, parts.shares(file, count).owner)
     sizes = np.bincount(grown.parts, minlength=count)
     np.savetxt(sys.stdout, grown.parts, fmt="%d")
-    told = f"{cut} of {file.ends} neighbours are in another part, by number {by_number}; parts have {sizes.min()} to {sizes.max()} nodes"
-    print(told, file=sys.stderr)
+    shown = f"{cut} of {file.ends} neighbours are in another part, by number {by_number}"
+    print(f"{shown}; parts have {sizes.min()} to {sizes.max()} nodes", file=sys.stderr)
