@@ -90,7 +90,7 @@ _unison() {
     ;;
   image:*)
     words=""
-    options="--rounds --every --field --counts --grid --animate --frame-time --colours --from --const"
+    options="--rounds --every --field --counts --grid --links --animate --frame-time --frames --colours --from --const"
     ;;
   dot:*)
     words=""

@@ -30,7 +30,7 @@ pub use lines::{put_note, put_place, weight_told, words_told};
 pub use model_told::{ModelRefusal, refusal_of};
 pub use networks::file_at;
 pub use node_calls::{NodeCalls, list_path, listed_nodes};
-pub use output::{print_out, write_file, write_out};
+pub use output::{check_new, make_folder, print_out, write_file, write_new, write_out};
 pub use programs::{
     NamedProgram, check_constants, check_model, expanded_text, is_model, named_program_at,
     names_of_field, program_at, program_name, state_names,

@@ -3,8 +3,8 @@ ghost use Rattle.std.specs.Prelude.{◌≤◌, IfOk, IfSome};
 ghost use Rattle.rounds_plan.specs.Configs.{most_rounds};
 
 use crate::arguments::{
-    EVERY, FIELD, FIELD_ARGUMENT, FLAG, FROM, NAMES, NAMES_ARGUMENT, NETWORK, PROGRAM, PlanPaths,
-    ROUND, ROUNDS, WIDTH, span_in,
+    EVERY, FIELD, FIELD_ARGUMENT, FILE_OPTION, FLAG, FROM, NAMES, NAMES_ARGUMENT, NETWORK, PROGRAM,
+    PlanPaths, ROUND, ROUNDS, WIDTH, span_in,
 };
 use crate::colours::{COLOURS, colours_in};
 use crate::constants::CONSTANT;
@@ -18,12 +18,21 @@ const GRID: Argument = Argument {
     name: "grid",
     value: WIDTH,
     value_name: "WIDTH",
-    help: "Show one round as cells, or with --animate each in turn, so many across, node 0 first: 1 to 65536",
+    help: "Show the nodes of one round as cells, so many across, node 0 first: 1 to 65536",
     ..OPTION
 };
 
 /// `GRID`, as it is read.
 static GRID_ARGUMENT: Argument = GRID;
+
+const LINKS: Argument = Argument {
+    name: "links",
+    help: "Show the network of one round: its nodes as circles, which stand on a circle from node 0 at the top on, and its links as lines",
+    ..FLAG
+};
+
+/// `LINKS`, as it is read.
+static LINKS_ARGUMENT: Argument = LINKS;
 
 const COUNTS: Argument = Argument {
     name: "counts",
@@ -36,7 +45,7 @@ static COUNTS_ARGUMENT: Argument = COUNTS;
 
 const ANIMATE: Argument = Argument {
     name: "animate",
-    help: "With --grid, make a picture that moves: the rounds one after the other, over and over, 10000 at most",
+    help: "With --grid or --links, make a picture that moves: the rounds one after the other, over and over, 10000 at most",
     ..FLAG
 };
 
@@ -60,6 +69,16 @@ const SHOWN_FOR: Argument = Argument {
 /// `SHOWN_FOR`, as it is read.
 static SHOWN_FOR_ARGUMENT: Argument = SHOWN_FOR;
 
+const FRAMES: Argument = Argument {
+    name: "frames",
+    value_name: "FOLDER",
+    help: "With --grid or --links, write a picture of each round, 10000 at most, into this folder: round_000000.svg and so on; it is made where it is not there, and no file is written over",
+    ..FILE_OPTION
+};
+
+/// `FRAMES`, as it is read.
+static FRAMES_ARGUMENT: Argument = FRAMES;
+
 const DRAWN_ROUND: Argument = Argument {
     name: "rounds",
     kind: Kind::Required,
@@ -77,11 +96,11 @@ static IMAGE: Command = Command {
     name: "image",
     aliases: &[],
     called: "unison image",
-    about: "Make a picture of rounds, nodes across and rounds down, of one round as a grid, or of counts as curves",
-    notes: "Prints an SVG picture: nodes across and rounds down, with --grid the nodes of one round as cells, with --animate too those of each round in turn, or with --counts a curve for each value that occurs, of how many nodes have it. Where more than 64 values occur, the curves are refused; count prints the numbers.\nAn example: unison image examples/rule_110.rules examples/row.toml --rounds 0..30 > run.svg\nAnother one: unison image examples/life.rules examples/glider.toml --rounds 8..8 --grid 8 > frame.svg\nA third one: unison image examples/distance.rules examples/karate.toml --rounds 0..5 --counts > curves.svg\nOne that moves: unison image examples/life.rules examples/glider.toml --rounds 0..31 --grid 8 --animate --colours 1:teal > glider.svg\n",
+    about: "Make a picture of rounds, nodes across and rounds down, of one round as a grid or a network, or of counts as curves",
+    notes: "Prints an SVG picture: nodes across and rounds down, with --grid the nodes of one round as cells, with --links the network of one round, with --animate too that of each round in turn, or with --counts a curve for each value that occurs, of how many nodes have it. Where more than 64 values occur, the curves are refused; count prints the numbers. With --frames FOLDER the picture of each round goes into a file of its own, all in the same colours, and one line tells which were written.\nAn example: unison image examples/rule_110.rules examples/row.toml --rounds 0..30 > run.svg\nAnother one: unison image examples/life.rules examples/glider.toml --rounds 8..8 --grid 8 > frame.svg\nA third one: unison image examples/distance.rules examples/karate.toml --rounds 0..5 --counts > curves.svg\nOne that moves: unison image examples/life.rules examples/glider.toml --rounds 0..31 --grid 8 --animate --colours 1:teal > glider.svg\nA network that moves: unison image examples/distance.rules examples/karate.toml --rounds 0..5 --links --animate --frame-time 500 > karate.svg\nA file for each round: unison image examples/life.rules examples/glider.toml --rounds 0..31 --grid 8 --frames glider\n",
     arguments: &[
-        PROGRAM, NETWORK, ROUNDS, EVERY, FIELD, COUNTS, GRID, ANIMATE, SHOWN_FOR, COLOURS, FROM,
-        CONSTANT,
+        PROGRAM, NETWORK, ROUNDS, EVERY, FIELD, COUNTS, GRID, LINKS, ANIMATE, SHOWN_FOR, FRAMES,
+        COLOURS, FROM, CONSTANT,
     ],
     subcommands: &[],
 };
@@ -120,7 +139,8 @@ pub(crate) fn dot() -> &'static Command {
 #[derive(Drop)]
 pub struct ImageRequest {
     pub plan: PlanPaths,
-    /// The rounds of which the picture is made: one alone where there is a grid that does not move.
+    /// The rounds of which the picture is made: one alone where a grid or a network is drawn that does not move, and no files
+    /// are written.
     pub span: Span,
     /// The field that gives the colours, where it is named.
     pub field: Option<String>,
@@ -128,8 +148,12 @@ pub struct ImageRequest {
     pub counts: bool,
     /// How many cells a line of the grid has; 0 for none.
     pub grid: u32,
-    /// For how many milliseconds each round is shown, where the grid moves.
+    /// Whether the network is drawn, by nodes and links; there is no grid then.
+    pub links: bool,
+    /// For how many milliseconds each round is shown, where the grid or the network moves.
     pub frame_time: Option<u32>,
+    /// The folder into which a picture of each round goes, where each has a file of its own; nothing moves then.
+    pub frames: Option<String>,
     /// The values that have colours of their own, none twice.
     pub colours: Vec<ValueColour>,
 }
@@ -148,28 +172,75 @@ pub struct DotRequest {
     pub colours: Vec<ValueColour>,
 }
 
-/// Refuses curves beside a grid.
-fn check_manner(reading: &mut Reading, counts: bool, grid: u32) {
-    if counts && grid > 0 {
+/// How the picture shows rounds, of what words say of it.
+#[derive(Clone, Copy)]
+struct Manner {
+    counts: bool,
+    /// How many cells a line of the grid has; 0 for none.
+    grid: u32,
+    links: bool,
+    /// Whether each round has a file of its own.
+    in_files: bool,
+}
+
+impl Manner {
+    /// Whether the nodes of single rounds are drawn.
+    fn shows_single_rounds(self) -> bool {
+        self.grid > 0 || self.links
+    }
+}
+
+/// Refuses two kinds of pictures at once.
+fn check_kind(reading: &mut Reading, manner: Manner) {
+    if manner.counts && manner.grid > 0 {
         reading.refuse_words(
             "--counts draws curves over rounds, and --grid the cells of one round: one of them is wanted",
         );
     }
-}
-
-/// Refuses a grid of more than one round, where it does not move.
-fn check_frame(reading: &mut Reading, span: &Span, grid: u32, frame_time: Option<u32>) {
-    if grid > 0 && frame_time.is_none() && span.first() != span.last() {
+    if manner.counts && manner.links {
         reading.refuse_words(
-            "--grid: the frame of one round is shown, so the first and the last round are the same, as in --rounds 8..8; with --animate all rounds are shown in turn",
+            "--counts draws curves over rounds, and --links the network of one round: one of them is wanted",
+        );
+    }
+    if manner.grid > 0 && manner.links {
+        reading.refuse_words(
+            "--grid draws nodes as cells, and --links as circles with their links: one of them is wanted",
         );
     }
 }
 
-/// For how many milliseconds each round of a picture that moves is shown; a grid is wanted.
-fn moving_in(reading: &mut Reading, time: u32, grid: u32) -> Option<u32> {
-    if grid == 0 {
-        reading.refuse_words("--animate: the cells of a grid move, so --grid WIDTH is wanted");
+/// Refuses files of rounds that are not drawn one by one.
+fn check_files(reading: &mut Reading, manner: Manner, frame_time: Option<u32>) {
+    if manner.in_files && !manner.shows_single_rounds() {
+        reading.refuse_words(
+            "--frames: single rounds are drawn into files, so --grid WIDTH or --links is wanted",
+        );
+    }
+    if manner.in_files && frame_time.is_some() {
+        reading.refuse_words(
+            "--frames draws each round into a file of its own, and --animate all into one: one of them is wanted",
+        );
+    }
+}
+
+/// Refuses a picture of one round where there are more, and it neither moves nor goes into several files.
+fn check_round(reading: &mut Reading, span: &Span, manner: Manner, frame_time: Option<u32>) {
+    if manner.in_files || frame_time.is_some() || span.first() == span.last() {
+        return;
+    }
+    if manner.shows_single_rounds() {
+        reading.refuse_words(
+            "--grid and --links show one round, so the first and the last round are the same, as in --rounds 8..8; with --animate all rounds are shown in turn, and with --frames FOLDER each in a file of its own",
+        );
+    }
+}
+
+/// For how many milliseconds each round of a picture that moves is shown; a grid or a network is wanted.
+fn moving_in(reading: &mut Reading, time: u32, manner: Manner) -> Option<u32> {
+    if !manner.shows_single_rounds() {
+        reading.refuse_words(
+            "--animate: the nodes of single rounds are shown in turn, so --grid WIDTH or --links is wanted",
+        );
     }
     if time == 0 {
         return Some(FRAME_TIME);
@@ -178,15 +249,22 @@ fn moving_in(reading: &mut Reading, time: u32, grid: u32) -> Option<u32> {
 }
 
 /// For how many milliseconds each round is shown, where the picture moves.
-fn frame_time_in(reading: &mut Reading, grid: u32) -> Option<u32> {
+fn frame_time_in(reading: &mut Reading, manner: Manner) -> Option<u32> {
     let time = reading.number_or(&SHOWN_FOR_ARGUMENT, 0);
     if reading.has(&ANIMATE_ARGUMENT) {
-        return moving_in(reading, time, grid);
+        return moving_in(reading, time, manner);
     }
     if time > 0 {
         reading.refuse_words("--frame-time: a picture that moves is wanted, by --animate");
     }
     None
+}
+
+/// Refuses what does not go together.
+fn check_manner(reading: &mut Reading, span: &Span, manner: Manner, frame_time: Option<u32>) {
+    check_kind(reading, manner);
+    check_files(reading, manner, frame_time);
+    check_round(reading, span, manner, frame_time);
 }
 
 /// What plain words ask for, where they name rounds.
@@ -195,10 +273,17 @@ fn image_in(reading: &mut Reading) -> Option<ImageRequest>
 {
     let grid = reading.number_or(&GRID_ARGUMENT, 0);
     let counts = reading.has(&COUNTS_ARGUMENT);
+    let links = reading.has(&LINKS_ARGUMENT);
+    let frames = reading.text(&FRAMES_ARGUMENT);
+    let manner = Manner {
+        counts,
+        grid,
+        links,
+        in_files: frames.is_some(),
+    };
     let span = span_in(reading)?;
-    check_manner(reading, counts, grid);
-    let frame_time = frame_time_in(reading, grid);
-    check_frame(reading, &span, grid, frame_time);
+    let frame_time = frame_time_in(reading, manner);
+    check_manner(reading, &span, manner, frame_time);
     let colours = colours_in(reading);
     let field = reading.text(&FIELD_ARGUMENT);
     let plan = PlanPaths::of(reading);
@@ -208,7 +293,9 @@ fn image_in(reading: &mut Reading) -> Option<ImageRequest>
         field,
         counts,
         grid,
+        links,
         frame_time,
+        frames,
         colours,
     })
 }

@@ -6,8 +6,9 @@ use Rattle.std.proofs.lemmas.List.Concat.{flat_map-append}
 use Rattle.std.proofs.lemmas.List.Elements.{All-append, Contains-append_left, Contains-append_right}
 use Rattle.std.specs.List.{AllPairs, Contains, flat_map, range_with_len}
 use Rattle.link_net.specs.Neighbours.{IsNetwork, Neighbours, degree, neighbour, numbers_below, weight}
-use Rattle.run_picture.specs.Drawn.{link_line, link_lines, links_at, slot_line}
-use Rattle.run_picture.specs.DrawnLinks.{EachLinkIsDrawnOnce, HasLink, lines_of}
+use Rattle.run_picture.specs.Drawn.{link_line}
+use Rattle.run_picture.specs.DrawnLinks.{AreAllLinks, EachLinkIsDrawnOnce, HasLink}
+use Rattle.run_picture.specs.Nets.{EachLinkHasItsLine, link_stroke}
 
 -- ---- pairs of elements
 
@@ -71,16 +72,17 @@ pairs_if R false x = λ i j d less inside. absurd (omega (arith, inside))
 
 -- ---- the links
 
-lines_flat : (f : ℕ → List (ℕ × ℕ × ℕ)) (g : ℕ → List ℕ) (xs : List ℕ) → ((x : ℕ) → lines_of (f x) ≡ g x) → lines_of (flat_map f xs) ≡ flat_map g xs
-lines_flat f g [] each = refl
-lines_flat f g (x ∷ xs) each =
-    flat_map-append (λ (l : ℕ × ℕ × ℕ). link_line l.0 l.1 l.2) (f x) (flat_map f xs)
-    ∙ ap (λ (text : List ℕ). text ++ lines_of (flat_map f xs)) (each x)
-    ∙ ap (λ (text : List ℕ). g x ++ text) (lines_flat f g xs each)
+-- the texts of links, one behind the other
+texts_flat : (text : ℕ × ℕ × ℕ → List ℕ) (f : ℕ → List (ℕ × ℕ × ℕ)) (g : ℕ → List ℕ) (xs : List ℕ) → ((x : ℕ) → flat_map text (f x) ≡ g x) → flat_map text (flat_map f xs) ≡ flat_map g xs
+texts_flat text f g [] each = refl
+texts_flat text f g (x ∷ xs) each =
+    flat_map-append text (f x) (flat_map f xs)
+    ∙ ap (λ (t : List ℕ). t ++ flat_map text (flat_map f xs)) (each x)
+    ∙ ap (λ (t : List ℕ). g x ++ t) (texts_flat text f g xs each)
 
-line_if : (b : Bool) (l : ℕ × ℕ × ℕ) → lines_of (one_if b l) ≡ (if b then link_line l.0 l.1 l.2 else [])
-line_if true l = append-nil (link_line l.0 l.1 l.2)
-line_if false l = refl
+text_if : (text : ℕ × ℕ × ℕ → List ℕ) (b : Bool) (l : ℕ × ℕ × ℕ) → flat_map text (one_if b l) ≡ (if b then text l else [])
+text_if text true l = append-nil (text l)
+text_if text false l = refl
 
 inside_node : (network : Neighbours) (u j : ℕ) → j < degree network u → u < length network
 inside_node [] u j inside = absurd (omega (arith, inside))
@@ -100,10 +102,17 @@ module _ (network : Neighbours) where
   abbrev drawn_links : List (ℕ × ℕ × ℕ)
   drawn_links = flat_map node_links (numbers_below (length network))
 
-  text_is : lines_of drawn_links ≡ link_lines network
-  text_is =
-      lines_flat node_links (links_at network) (numbers_below (length network))
-      (λ u. lines_flat (slot_links u) (slot_line network u) (numbers_below (degree network u)) (λ j. line_if (nat_lt u (neighbour network u j)) (slot_link u j)))
+  -- the text of a slot, where the neighbour has the greater number, and that of a node
+  abbrev slot_text : (ℕ × ℕ × ℕ → List ℕ) → ℕ → ℕ → List ℕ
+  slot_text text u j = if nat_lt u (neighbour network u j) then text (slot_link u j) else []
+
+  abbrev node_text : (ℕ × ℕ × ℕ → List ℕ) → ℕ → List ℕ
+  node_text text u = flat_map (slot_text text u) (numbers_below (degree network u))
+
+  text_is : (text : ℕ × ℕ × ℕ → List ℕ) → flat_map text drawn_links ≡ flat_map (node_text text) (numbers_below (length network))
+  text_is text =
+      texts_flat text node_links (node_text text) (numbers_below (length network))
+      (λ u. texts_flat text (slot_links u) (slot_text text u) (numbers_below (degree network u)) (λ j. text_if text (nat_lt u (neighbour network u j)) (slot_link u j)))
 
   rises : (a b : ℕ) → nat_lt a b ≡ true → a < b
   rises a b is = grind (arith, nat_tests, is)
@@ -168,5 +177,11 @@ module _ (network : Neighbours) where
         let other : (slice_index_or (node_links v) b e).0 ≡ v = starts_at v b e within in
         omega (arith, one, other, start, less))
 
+  are_all : IsNetwork network → AreAllLinks network drawn_links
+  are_all is = record { only = only_links; all = has_all is; once = once_each is }
+
 pub each_link_is_drawn_once : EachLinkIsDrawnOnce
-each_link_is_drawn_once network is = (drawn_links network, sym (text_is network), record { only = only_links network; all = has_all network is; once = once_each network is })
+each_link_is_drawn_once network is = (drawn_links network, sym (text_is network (λ (l : ℕ × ℕ × ℕ). link_line l.0 l.1 l.2)), are_all network is)
+
+pub each_link_has_its_line : EachLinkHasItsLine
+each_link_has_its_line network is = (drawn_links network, sym (text_is network (λ (l : ℕ × ℕ × ℕ). link_stroke (length network) l.0 l.1)), are_all network is)

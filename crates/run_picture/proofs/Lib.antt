@@ -7,3 +7,4 @@ pub mod CellTexts
 pub mod EachPoint
 pub mod EachValue
 pub mod EachFrame
+pub mod RoundParts

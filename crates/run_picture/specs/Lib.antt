@@ -8,3 +8,6 @@ pub mod DrawnLinks
 pub mod Placed
 pub mod Curves
 pub mod Moving
+pub mod Standing
+pub mod Nets
+pub mod Series

@@ -13,7 +13,7 @@ use run_watch::{Progress, Span};
 use std::alloc::{AllocError, Global};
 use std::thread::Threads;
 
-/// The most frames of a moving picture.
+/// The most frames of a moving picture, and the most pictures of single rounds.
 pub const MOST_FRAMES: u64 = 10_000;
 
 /// Why there is no moving picture of the rounds of a span in rows of a width, whatever memory there is.

@@ -27,6 +27,9 @@ pub enum PictureFault {
     /// A moving picture would have more than 10,000 frames.
     #[error("TooManyFrames")]
     TooManyFrames,
+    /// Networks would be drawn with more than 1,000,000 lines of links in all.
+    #[error("TooManyLinks")]
+    TooManyLinks,
     /// There would be a single round, of which no curve is drawn.
     #[error("OneRound")]
     OneRound,

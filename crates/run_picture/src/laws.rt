@@ -2,6 +2,7 @@
 ghost use Rattle.run_picture.specs.Curves.{EachRoundHasItsPoint, EachValueHasItsCurve};
 ghost use Rattle.run_picture.specs.DrawnLinks.{EachLinkIsDrawnOnce, LinesTellLinks};
 ghost use Rattle.run_picture.specs.Moving.{EachFrameHasItsColours, EachFrameHasItsTime};
+ghost use Rattle.run_picture.specs.Nets.{EachLinkHasItsLine};
 ghost use Rattle.run_picture.specs.Placed.{EachCellHasItsPlace, TextTellsCells};
 ghost use Rattle.run_picture.specs.Shades.{SameClassSameValue};
 
@@ -15,6 +16,12 @@ pub fn same_class_same_value()
 pub fn each_link_is_drawn_once()
     ensures links { EachLinkIsDrawnOnce }
     ensures tell { LinesTellLinks }
+{}
+
+/// In the picture of a network each link has one line, from where one of its nodes stands to where the other does, and there
+/// is no line of another link.
+pub fn each_link_has_its_line()
+    ensures links { EachLinkHasItsLine }
 {}
 
 /// The cells of a picture stand in rows of its width, one for each value in order and with the value's colour, within

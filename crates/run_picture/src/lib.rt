@@ -1,13 +1,16 @@
-//! Pictures of the rounds of a plan, at rest and moving, and curves of their counts as SVG, and its network for Graphviz.
+//! Pictures of the rounds of a plan and of its network, at rest and moving, and curves of their counts as SVG, and the
+//! network for Graphviz.
 #![tactic(auto)]
 
 mod animation;
 mod axes;
 mod changes;
 mod chosen;
+mod circles;
 mod colour;
 mod curve_picture;
 mod curves;
+mod each_round;
 mod fault;
 mod graph;
 mod key;
@@ -15,20 +18,26 @@ mod laws;
 mod legend;
 mod links;
 mod moving;
+mod net_rounds;
+mod net_sheet;
 mod network;
 mod picture;
+mod places;
 mod sheet;
+mod strokes;
 mod styles;
 mod values;
 
 pub use animation::{MOST_FRAMES, moving_picture};
 pub use chosen::{Colour, ValueColour};
 pub use curve_picture::{MOST_CURVES, MOST_POINTS, count_picture};
+pub use each_round::{Layout, MOST_STROKES, round_pictures};
 pub use fault::PictureFault;
 pub use laws::{
-    each_cell_has_its_place, each_frame_has_its_colours, each_link_is_drawn_once,
-    each_round_has_its_point, same_class_same_value,
+    each_cell_has_its_place, each_frame_has_its_colours, each_link_has_its_line,
+    each_link_is_drawn_once, each_round_has_its_point, same_class_same_value,
 };
+pub use net_rounds::network_picture;
 pub use network::network_dot;
 pub use picture::{MOST_CELLS, grid_picture, time_picture};
 pub use styles::{MOST_COLOURS, StylesFault, ValueStyles};

@@ -41,7 +41,7 @@ fn put_slot(out: &mut String, network: &Network, node: u32, slot: u32) -> Result
 }
 
 /// How many neighbours a node has.
-fn degree_of(network: &Network, node: u32) -> u32
+pub(crate) fn degree_of(network: &Network, node: u32) -> u32
     ensures { result ≡ degree network.now node }
 {
     network.degree(node).unwrap_or(0)

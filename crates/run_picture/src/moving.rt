@@ -112,7 +112,7 @@ fn put_course(
 
 /// What a cell's colour goes through.
 #[tactic(auto, unfolding(crate::specs::Moving::animate_text))]
-fn put_animate(
+pub(crate) fn put_animate(
     out: &mut String,
     key: &Key<'_>,
     pace: Pace,

@@ -157,7 +157,32 @@ fn put_cells(out: &mut String, key: &Key<'_>, width: u32, cells: &[u32]) -> Resu
     out.push_str("</g>\n")
 }
 
-/// The picture of values in rows of a width.
+/// The picture of values in rows of a width, coloured by a key.
+pub(crate) fn sheet_of(
+    alloc: Global,
+    key: &Key<'_>,
+    width: u32,
+    values: &[u32],
+) -> Result<Vec<u8>, AllocError>
+    requires width { 1 ≤ width }
+    requires count { length values.now ≤ 1000000 }
+    ensures text { IfOk result (λ v. v.items ≡ sheet_text key.now width values.now) }
+{
+    let count = values.len() as u32;
+    let mut out = String::new(alloc);
+    put_opening(
+        &mut out,
+        sheet_width(key, width, count),
+        sheet_height(key, width, count),
+    )?;
+    put_style(&mut out, key)?;
+    put_cells(&mut out, key, width, values)?;
+    put_legend(&mut out, key, legend_top(width, count))?;
+    out.push_str("</svg>\n")?;
+    Ok(out.into_bytes())
+}
+
+/// The same, coloured by a key of its own.
 pub(crate) fn picture_of(
     alloc: Global,
     styles: &ValueStyles<'_>,
@@ -169,16 +194,5 @@ pub(crate) fn picture_of(
     ensures text { IfOk result (λ v. v.items ≡ picture_text styles.now width values.now) }
 {
     let key = key_of(alloc, styles, values)?;
-    let count = values.len() as u32;
-    let mut out = String::new(alloc);
-    put_opening(
-        &mut out,
-        sheet_width(&key, width, count),
-        sheet_height(&key, width, count),
-    )?;
-    put_style(&mut out, &key)?;
-    put_cells(&mut out, &key, width, values)?;
-    put_legend(&mut out, &key, legend_top(width, count))?;
-    out.push_str("</svg>\n")?;
-    Ok(out.into_bytes())
+    sheet_of(alloc, &key, width, values)
 }

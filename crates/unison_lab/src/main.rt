@@ -21,6 +21,7 @@ mod page;
 mod page_names;
 mod page_size;
 mod picture;
+mod picture_files;
 mod plan_texts;
 mod progress;
 mod refusals;

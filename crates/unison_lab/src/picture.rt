@@ -1,6 +1,7 @@
 //! `image PROGRAM NETWORK` and `dot PROGRAM NETWORK`: rounds as pictures, and networks for Graphviz.
 
 use crate::labels::labels_at;
+use crate::picture_files::RoundFiles;
 use crate::plan_texts::{NamedPlan, named_plan_at};
 use crate::progress::Telling;
 use crate::watch::no_rounds;
@@ -8,8 +9,9 @@ use app_files::{Ending, coloured_field, names_of_field, path_in, print_out, read
 use app_requests::{DotRequest, ImageRequest, PlanPaths};
 use rounds_plan::Plan;
 use run_picture::{
-    MOST_CELLS, MOST_CURVES, MOST_FRAMES, MOST_POINTS, PictureFault, StylesFault, ValueColour,
-    ValueStyles, count_picture, grid_picture, moving_picture, network_dot, time_picture,
+    Layout, MOST_CELLS, MOST_CURVES, MOST_FRAMES, MOST_POINTS, MOST_STROKES, PictureFault,
+    StylesFault, ValueColour, ValueStyles, count_picture, grid_picture, moving_picture,
+    network_dot, network_picture, round_pictures, time_picture,
 };
 use run_watch::{Format, WatchFault};
 use std::alloc::Global;
@@ -25,7 +27,14 @@ fn too_many_cells(alloc: Global) -> Ending {
 /// The ending where a picture that moves would have too many frames.
 fn too_many_frames(alloc: Global) -> Ending {
     Ending::refused(format!(in alloc;
-        "image TooManyFrames\na picture that moves has at most {MOST_FRAMES} frames, one for each round; --every K shows fewer rounds"
+        "image TooManyFrames\na picture that moves has at most {MOST_FRAMES} frames, one for each round, and --frames writes no more files; --every K shows fewer rounds"
+    ))
+}
+
+/// The ending where networks would be drawn with too many links in all.
+fn too_many_links(alloc: Global) -> Ending {
+    Ending::refused(format!(in alloc;
+        "image TooManyLinks\nthe files of --frames have at most {MOST_STROKES} lines of links in all, one for each link in each round; --every K draws fewer rounds"
     ))
 }
 
@@ -58,6 +67,7 @@ fn no_picture(alloc: Global, fault: PictureFault) -> Ending {
         PictureFault::RoundsBelowStart => no_rounds(WatchFault::RoundsBelowStart),
         PictureFault::TooManyCells => too_many_cells(alloc),
         PictureFault::TooManyFrames => too_many_frames(alloc),
+        PictureFault::TooManyLinks => too_many_links(alloc),
         PictureFault::OneRound => one_round(alloc),
         PictureFault::TooManyPoints => too_many_points(alloc),
         PictureFault::TooManyValues => too_many_values(alloc),
@@ -93,7 +103,7 @@ fn styles_for<'a>(
     }
 }
 
-/// The picture of rounds, coloured by a field, or the curves of its counts.
+/// The picture of rounds one below the other, coloured by a field, or the curves of its counts.
 fn drawn_rounds(
     rt: &HostRuntime,
     threads: &(impl Threads + Sync),
@@ -105,26 +115,68 @@ fn drawn_rounds(
     let alloc = rt.alloc();
     let span = &asked.span;
     let mut telling = Telling::new(rt, span, plan.network().nodes());
-    if let Some(time) = asked.frame_time {
-        return moving_picture(
-            threads,
-            alloc,
-            plan,
-            span,
-            field,
-            asked.grid,
-            time,
-            styles,
-            &mut telling,
-        );
-    }
     if asked.counts {
         return count_picture(threads, alloc, plan, span, field, styles, &mut telling);
     }
     time_picture(threads, alloc, plan, span, field, styles, &mut telling)
 }
 
-/// The picture of rounds, or of one of them as a grid, coloured by a field, or the curves of its counts.
+/// The network in one round, or in each of several in turn, coloured by a field.
+fn drawn_network(
+    rt: &HostRuntime,
+    threads: &(impl Threads + Sync),
+    plan: &Plan,
+    asked: &ImageRequest,
+    field: u32,
+    styles: &ValueStyles<'_>,
+) -> Result<Vec<u8>, PictureFault> {
+    let alloc = rt.alloc();
+    let span = &asked.span;
+    let time = asked.frame_time.unwrap_or(1);
+    let mut telling = Telling::new(rt, span, plan.network().nodes());
+    network_picture(
+        threads,
+        alloc,
+        plan,
+        span,
+        field,
+        time,
+        styles,
+        &mut telling,
+    )
+}
+
+/// The grid of one round, or of each of several in turn, coloured by a field.
+fn drawn_grid(
+    rt: &HostRuntime,
+    threads: &(impl Threads + Sync),
+    plan: &Plan,
+    asked: &ImageRequest,
+    field: u32,
+    styles: &ValueStyles<'_>,
+) -> Result<Vec<u8>, PictureFault> {
+    let alloc = rt.alloc();
+    let span = &asked.span;
+    let width = asked.grid;
+    let Some(time) = asked.frame_time else {
+        return grid_picture(threads, alloc, plan, span.first(), field, width, styles);
+    };
+    let mut telling = Telling::new(rt, span, plan.network().nodes());
+    moving_picture(
+        threads,
+        alloc,
+        plan,
+        span,
+        field,
+        width,
+        time,
+        styles,
+        &mut telling,
+    )
+}
+
+/// The picture of rounds, of one of them as a grid or a network, or of each in turn, coloured by a field, or the curves of its
+/// counts.
 fn drawn(
     rt: &HostRuntime,
     threads: &(impl Threads + Sync),
@@ -133,9 +185,11 @@ fn drawn(
     field: u32,
     styles: &ValueStyles<'_>,
 ) -> Result<Vec<u8>, PictureFault> {
-    if asked.grid > 0 && asked.frame_time.is_none() {
-        let round = asked.span.first();
-        return grid_picture(threads, rt.alloc(), plan, round, field, asked.grid, styles);
+    if asked.links {
+        return drawn_network(rt, threads, plan, asked, field, styles);
+    }
+    if asked.grid > 0 {
+        return drawn_grid(rt, threads, plan, asked, field, styles);
     }
     drawn_rounds(rt, threads, plan, asked, field, styles)
 }
@@ -188,18 +242,84 @@ fn check_paths(alloc: Global, plan: &PlanPaths, names: &str) -> Result<(), Endin
     read_once(alloc, &paths)
 }
 
-/// Prints the picture that is asked for. The status with which the program ends.
+/// How the nodes of single rounds are drawn.
+fn layout_of(asked: &ImageRequest) -> Layout {
+    if asked.links {
+        Layout::Network
+    } else {
+        Layout::Cells { width: asked.grid }
+    }
+}
+
+/// The pictures of all rounds, coloured by a field.
+fn round_texts(
+    rt: &HostRuntime,
+    threads: &(impl Threads + Sync),
+    named: &NamedPlan,
+    asked: &ImageRequest,
+    field: u32,
+) -> Result<Vec<Vec<u8>>, Ending> {
+    let alloc = rt.alloc();
+    let plan = &named.plan;
+    let span = &asked.span;
+    let styles = styles_for(alloc, names_of_field(&named.names, field), &asked.colours)?;
+    let mut telling = Telling::new(rt, span, plan.network().nodes());
+    match round_pictures(
+        threads,
+        alloc,
+        plan,
+        span,
+        field,
+        layout_of(asked),
+        &styles,
+        &mut telling,
+    ) {
+        Ok(texts) => Ok(texts),
+        Err(fault) => Err(no_picture(alloc, fault)),
+    }
+}
+
+/// The files of the rounds that are asked for, in a folder.
+fn files_in<'a>(
+    rt: &HostRuntime,
+    asked: &ImageRequest,
+    folder: &'a str,
+) -> Result<RoundFiles<'a>, Ending> {
+    if u64::from(asked.span.steps()) >= MOST_FRAMES {
+        return Err(too_many_frames(rt.alloc()));
+    }
+    RoundFiles::new(rt, folder, &asked.span)
+}
+
+/// Writes the picture of each round into a file of a folder. The status with which the program ends.
+fn put_files(
+    rt: &HostRuntime,
+    threads: &(impl Threads + Sync),
+    asked: &ImageRequest,
+    folder: &str,
+) -> Result<u8, Ending> {
+    let named = named_plan_at(rt, &asked.plan)?;
+    let field = coloured_field(rt.alloc(), named.plan.program(), &asked.field)?;
+    let files = files_in(rt, asked, folder)?;
+    let texts = round_texts(rt, threads, &named, asked, field)?;
+    files.write(rt, &texts)
+}
+
+/// Prints the picture that is asked for, or writes those of all rounds into files. The status with which the program ends.
 fn put_image(
     rt: &HostRuntime,
     threads: &(impl Threads + Sync),
     asked: &ImageRequest,
 ) -> Result<u8, Ending> {
     check_paths(rt.alloc(), &asked.plan, "")?;
+    if let Some(folder) = &asked.frames {
+        return put_files(rt, threads, asked, folder.as_str());
+    }
     let text = picture_for(rt, threads, asked)?;
     print_out(rt, &text)
 }
 
-/// Prints a picture of rounds. The status with which the program ends.
+/// Prints a picture of rounds, or writes one of each into a file. The status with which the program ends.
 pub(crate) fn make_image(
     rt: &HostRuntime,
     threads: &(impl Threads + Sync),

@@ -1,0 +1,41 @@
+-- The values of each round among those of all rounds.
+use Rattle.std.proofs.Common.{◌≡◌, ◌∙◌, ◌<◌, ◌≤◌, ◌+◌, ◌*◌, ℕ, zero, suc, List, [], ◌∷◌, ◌++◌, ap, arith, drop, get_or, length, map, refl, sym, take}
+use Rattle.std.proofs.Math.Seq.{drop-append-add, take-append_seam}
+use Rattle.std.proofs.lemmas.Grind.{common_steps}
+use Rattle.std.proofs.lemmas.List.FromFn.{get_or-map-range_with_len, length-map-range_with_len}
+use Rattle.std.specs.List.{flat_map, range_with_len}
+use Rattle.rounds_plan.specs.Plans.{PlanView}
+use Rattle.run_watch.specs.Spans.{SpanView, count_of, round_at, rounds_in}
+use Rattle.run_picture.specs.Frames.{values_after, values_in}
+use Rattle.run_picture.proofs.Counts.{values_count}
+
+-- of lists of one length, one behind the other, the r-th
+part : (nodes : ℕ) (f : ℕ → List ℕ) → ((t : ℕ) → length (f t) ≡ nodes) → (ts : List ℕ) (r : ℕ) → r < length ts → take nodes (drop (r * nodes) (flat_map f ts)) ≡ f (get_or ts r 0)
+part nodes f each [] r inside = absurd (omega (arith, inside))
+part nodes f each (t ∷ ts) zero inside =
+    let e : zero * nodes ≡ 0 = grind (arith, common_steps) in
+    ap (λ (k : ℕ). take nodes (drop k (f t ++ flat_map f ts))) e
+    ∙ ap (λ (k : ℕ). take k (f t ++ flat_map f ts)) (sym (each t))
+    ∙ take-append_seam (f t) (flat_map f ts)
+part nodes f each (t ∷ ts) (suc r) inside =
+    let count = each t in
+    let e : suc r * nodes ≡ length (f t) + r * nodes = grind (arith, common_steps, count) in
+    ap (λ (k : ℕ). take nodes (drop k (f t ++ flat_map f ts))) e
+    ∙ ap (take nodes) (drop-append-add (f t) (flat_map f ts) (r * nodes))
+    ∙ part nodes f each ts r (omega (arith, inside))
+
+-- the values after the round at a place of a span stand there
+pub part_at : (p : PlanView) (span : SpanView) (field r : ℕ) → r < count_of span
+    → take (length p.network) (drop (r * length p.network) (values_in p span field)) ≡ values_after p field (round_at span r)
+part_at p span field r inside =
+    let many = length-map-range_with_len (round_at span) 0 (count_of span) in
+    let e : 0 + r ≡ r = omega arith in
+    part (length p.network) (values_after p field) (values_count p field) (rounds_in span) r (omega (arith, inside, many))
+    ∙ ap (values_after p field) (get_or-map-range_with_len (round_at span) 0 (count_of span) r r 0 inside e)
+
+-- what is made of each number in order is made of each round
+pub made_of_each : (g h : ℕ → List ℕ) (f : ℕ → ℕ) (i n : ℕ) → ((r : ℕ) → i ≤ r → r < i + n → g r ≡ h (f r)) → map g (range_with_len i n) ≡ map h (map f (range_with_len i n))
+made_of_each g h f i zero each = refl
+made_of_each g h f i (suc n) each =
+    ap (λ (x : List ℕ). x ∷ map g (range_with_len (i + 1) n)) (each i (omega arith) (omega arith))
+    ∙ ap (λ (xs : List (List ℕ)). h (f i) ∷ xs) (made_of_each g h f (i + 1) n (λ r from below. each r (omega (arith, from)) (omega (arith, below))))

@@ -1,0 +1,9 @@
+use Rattle.std.proofs.Common.{◌+◌, ◌*◌, ℕ, ap, arith, length, slice_index}
+use Rattle.std.proofs.lemmas.List.FromFn.{length-map-range_with_len}
+use Rattle.run_picture.specs.Shades.{class_of}
+use Rattle.run_picture.proofs.circles.put_node.Goals as goal
+
+pub put_colours-requires-clause-few : goal.put_colours-requires-clause-few
+put_colours-requires-clause-few c =
+    let count = length-map-range_with_len (λ (r : ℕ). class_of c.args.key.now (slice_index c.args.values.now (r * c.args.nodes + c.args.node))) 0 c.args.pace.frames in
+    omega (arith, ap length c.deref.ensures.value, ap length c.in_ok-classes.ensures.classes, count, c.requires.few)

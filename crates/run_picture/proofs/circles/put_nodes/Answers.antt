@@ -1,0 +1,12 @@
+use Rattle.std.proofs.Common.{◌<◌, arith, append_assoc}
+use Rattle.std.proofs.lemmas.Grind.{common_steps}
+use Rattle.run_picture.specs.Nets.{circle_of}
+use Rattle.run_watch.proofs.Ranges.{flat_left}
+use Rattle.run_picture.proofs.circles.put_nodes.Goals as goal
+
+pub loop-node-preserved : goal.loop-node-preserved
+loop-node-preserved c =
+    let u = c.loop-node.node in
+    let inside : u < c.args.nodes = omega (arith, c.loop-node-test.true) in
+    let more = flat_left (circle_of c.args.key.now c.args.pace.frames c.args.pace.time c.args.nodes c.args.values.now) u c.args.nodes inside in
+    grind (arith, common_steps, more, append_assoc)
