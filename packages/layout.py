@@ -1,8 +1,8 @@
 """Where each file stands in a package: below a prefix, as /usr, in an archive or a Debian package; in a wheel below the package `unison`."""
 
-import gzip
 import stat
 
+import writers
 from parts import HOME, TOP, kit, lines, wheel_maker
 
 FILE, PROGRAM, LINK = stat.S_IFREG | 0o644, stat.S_IFREG | 0o755, stat.S_IFLNK | 0o777
@@ -34,8 +34,8 @@ def home(parts):
 
 
 def pages(parts):
-    """README, pages and examples, in which the commands of the pages can be given as they stand there."""
-    listed = parts.repository.files("README.md", "docs", "examples", "library/README.md", "library/call.c")
+    """README, pages and examples, in a folder in which the commands of the pages can be given; a license, where there is one."""
+    listed = parts.repository.files("README.md", "LICENSE*", "docs", "examples", "library/README.md", "library/call.c")
     return {f"{PAGES}/{path}": ((TOP / path).read_bytes(), FILE) for path in listed if not str(path).endswith(LEFT_OUT)}
 
 
@@ -47,7 +47,7 @@ def below_prefix(parts):
         "include/unison.h": ((TOP / "library" / "unison.h").read_bytes(), FILE),
         "lib/pkgconfig/unison.pc": (PKG_CONFIG.format(version=parts.version).encode(), FILE),
         **{f"lib/{it.name}": (it.content, FILE) for it in parts.libraries},
-        "share/man/man1/unison.1.gz": (gzip.compress((TOP / "docs" / "unison.1").read_bytes(), 9, mtime=0), FILE),
+        "share/man/man1/unison.1.gz": (writers.gz((TOP / "docs" / "unison.1").read_bytes(), 0), FILE),
         "share/bash-completion/completions/unison": (parts.completion(), FILE),
         **pages(parts),
     }

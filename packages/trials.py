@@ -1,5 +1,6 @@
 """What is tried of packages: each installed into a folder of its own, where no `rt` and nothing of this repository is on the PATH."""
 
+import gzip
 import hashlib
 import os
 import pathlib
@@ -187,8 +188,8 @@ def try_manual(tally, it, prefix):
     if man := shutil.which("man"):
         found = it.run(f"{man} -M {prefix}/share/man -w unison", PATH=os.environ["PATH"])[0].strip()
         tally.equal(f"{it.name}: man finds the page", found, str(page))
-    plain = it.run(f"gzip -dc {page}", PATH=os.environ["PATH"])[0]
-    tally.tell(f"{it.name}: the page of the manual", plain == (TOP / "docs" / "unison.1").read_text())
+    plain = gzip.decompress(page.read_bytes())
+    tally.tell(f"{it.name}: the page of the manual", plain == (TOP / "docs" / "unison.1").read_bytes())
 
 
 def try_completion(tally, it, prefix):

@@ -31,18 +31,25 @@ def add_file(archive, path, content, mode, time):
         archive.addfile(it, io.BytesIO(content))
 
 
-def tar_gz(files, time, before=""):
-    """A packed archive of files, by their paths with a text before each."""
+def gz(content, time):
+    """The content as gzip packs it, with no name in it."""
     packed = io.BytesIO()
     with gzip.GzipFile(filename="", mode="wb", compresslevel=PACKED, fileobj=packed, mtime=time) as stream:
-        with tarfile.open(fileobj=stream, mode="w", format=tarfile.GNU_FORMAT) as archive:
-            for folder in folders_of(f"{before}{path}" for path in files):
-                it = entry(folder, 0o755, time)
-                it.type = tarfile.DIRTYPE
-                archive.addfile(it)
-            for path, (content, mode) in sorted(files.items()):
-                add_file(archive, f"{before}{path}", content, mode, time)
+        stream.write(content)
     return packed.getvalue()
+
+
+def tar_gz(files, time, before=""):
+    """A packed archive of files, by their paths with a text before each."""
+    plain = io.BytesIO()
+    with tarfile.open(fileobj=plain, mode="w", format=tarfile.GNU_FORMAT) as archive:
+        for folder in folders_of(f"{before}{path}" for path in files):
+            it = entry(folder, 0o755, time)
+            it.type = tarfile.DIRTYPE
+            archive.addfile(it)
+        for path, (content, mode) in sorted(files.items()):
+            add_file(archive, f"{before}{path}", content, mode, time)
+    return gz(plain.getvalue(), time)
 
 
 def member(name, content, time):
