@@ -48,10 +48,10 @@ def test_a_call_gives_the_lock_back():
     counting = unison.Program("field s = 0; next s = ((s + id) + 1);")
     net, ended = grid().with_set({}), threading.Event()
     rounds = 200
-    while True:  # as many rounds as take half a second
-        began = time.perf_counter()
+    while True:  # as many rounds as take a processor half a second
+        began = time.process_time()
         unison.lockstep(counting, net, rounds)
-        if time.perf_counter() - began > 0.5 or rounds > 10_000_000:
+        if time.process_time() - began > 0.5 or rounds > 10_000_000:
             break
         rounds *= 2
     thread = threading.Thread(target=lambda: (unison.lockstep(counting, net, rounds), ended.set()))

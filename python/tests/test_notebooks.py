@@ -94,7 +94,7 @@ def test_the_notebook_of_a_million_edges():
 
 def test_the_notebook_of_an_epidemic():
     names, _ = found_by("epidemic_sweep")
-    frame = names["frame"]
+    frame = names["found"].to_pandas()
     assert list(frame.columns) == ["infection", "seed", "round", "susceptible", "infected", "recovered"] and len(frame) == 3 * 20 * 81
     assert (frame[["susceptible", "infected", "recovered"]].sum(axis=1) == 1000).all()
     first = frame[frame["round"] == 0]
