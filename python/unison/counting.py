@@ -160,7 +160,7 @@ class Counts:
         rows = [self._columns, *self._rows[:SHOWN]]
         lines = [row_of("th" if place == 0 else "td", row) for place, row in enumerate(rows)]
         if len(self._rows) > SHOWN:
-            lines.append(f"<tr><td colspan='{len(self._columns)}'>{LEFT_OUT} {len(self._rows)} rows</td></tr>")
+            lines.append(f"<tr><td colspan='{len(self._columns)}'>{LEFT_OUT} {len(self._rows)} rows</td></tr>\n")
         return f"<table>\n{''.join(lines)}</table>\n"
 
     def __repr__(self) -> str:
@@ -242,6 +242,8 @@ def count(
     if until is not None:
         words.append(until_word(rules, until))
     if _checks.flag("count", "mean", mean):
+        if constants is None or all(map(_checks.is_whole, constants.values())):
+            raise ValueError("count: mean is True, and no constant has several values, as constants={'seed': range(20)}, of which there are means")
         return Counts(*table_of(job.run(*words, "--mean").decode("utf-8")), named)
     table = table_of(job.run(*words).decode("utf-8"))
     asked = None if given or until is not None else Asked(rules, network, range_of("count", rounds), named, from_)
@@ -282,13 +284,14 @@ def constants_given(program: Program, constants: Optional[Mapping[str, Values]])
 
 
 def constant_text(name: str, value: Any) -> str:
-    """One value of a constant, or several with commas between them."""
+    """One value of a constant, or several with commas between them; a list of one value is a range, so that there are runs, too."""
     if _checks.is_whole(value):
         return str(constants_of("count", {name: value})[name])
     values = _checks.items("count", f"constants[{name!r}]", value, "a whole number, or a list of them,")
     if not values:
         raise ValueError(f"count: constants[{name!r}] has no value: a whole number, or a list of them, is wanted")
-    return ",".join(str(_checks.whole("count", f"constants[{name!r}][{place}]", one)) for place, one in enumerate(values))
+    numbers = [_checks.whole("count", f"constants[{name!r}][{place}]", one) for place, one in enumerate(values)]
+    return ",".join(map(str, numbers)) if len(numbers) > 1 else f"{numbers[0]}..{numbers[0]}"
 
 
 def column_words(program: Program, sum: Any, least: Any, most: Any) -> List[str]:

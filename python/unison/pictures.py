@@ -185,7 +185,7 @@ def page(
 
     >>> import unison
     >>> ring = unison.Network(3, [(0, 1), (1, 2), (2, 0)], set={"s": {0: 1}})
-    >>> unison.page(unison.Program("field s = 0; next s = (s max most n.s);"), ring, 2).html.startswith("<!DOCTYPE html>")
+    >>> unison.page(unison.Program("field s = 0; next s = (s max most n.s);"), ring, 2).html.startswith("<!doctype html>")
     True
     """
     job = _files.job_of("page", program, network, from_)
