@@ -123,7 +123,7 @@ def test_out_of_memory_is_a_memory_error():
         "pages = int(open('/proc/self/statm').read().split()[0]) * resource.getpagesize()\n"
         "for more in (0, 1, 2, 4, 8, 16, 32, 64, 128, 256, 512):\n"
         "    resource.setrlimit(resource.RLIMIT_AS, (pages + (more << 20), resource.RLIM_INFINITY))\n"
-        "    try:\n        unison._calls.lockstep(unison.jobs.texts_of(program, network), 1, 65536); print('done')\n"
+        "    try:\n        unison._calls.lockstep(unison.jobs.texts_of('test', program, network), 1, 65536); print('done')\n"
         "    except MemoryError as error:\n        print(str(error) or 'python')\n"
     )
     lines = printed.splitlines()

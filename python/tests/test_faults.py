@@ -62,7 +62,7 @@ CASES = [
     (55, network(f"nodes = 725\nlinks = {[[*ends] for ends in itertools.combinations(range(725), 2)]}\n"), None, "network"),
     (56, network(f"nodes = 4098\nlinks = {[[0, node] for node in range(1, 4098)]}\n"), None, "network"),
     (57, network("nodes = 2\nlinks = []\nphase = 3\n"), (3, 9), "network:3:9: network BadPhase: the phase is 3\n"),
-    (58, network("nodes = 2\nlinks = [[0, 1, -1]]\n"), (2, 11), "network:2:11: network BadWeight: link 0, [0, 1, -1], has no weight from 0 to 4294967295\n"),
+    (58, network("nodes = 2\nlinks = [[0, 1, -1]]\n"), (2, 10), "network:2:10: network BadWeight: link 0, [0, 1, -1], has no weight from 0 to 4294967295\n"),
     (64, lockstep(DISTANCE, PAIR + "[set]\ndits = [[0, 1]]\n"), (4, 1), "network:4:1: plan UnknownField: `dits` in `set` is no field of the program\n"),
     (65, network("nodes = 3\nlinks = []\n[set]\ndist = [[0, 1], [3, 1]]\n"), None, "network:"),
     (66, network("nodes = 3\nlinks = []\n[set]\ndist = [[0, -1]]\n"), None, "network:"),

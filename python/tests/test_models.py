@@ -48,7 +48,7 @@ def test_what_a_model_knows_of_itself():
     assert model.source == LIGHTS and not model.reads_round
     assert isinstance(model, unison.Program) and type(model.program) is unison.Program
     assert model.program == unison.Program(
-        "field lamp = 0; field n0 = 7; next lamp = if (count (n.lamp == 1) >= 2) then 1 else lamp; next n0 = n0;"
+        "field lamp = 0; field n0 = 7; next lamp = if (count (n.lamp == 1) >= 2) then 1 else lamp;"
     )
     assert repr(model) == "<Model with the fields lamp, n0>"
 
