@@ -13,7 +13,8 @@ HERE = Path(__file__).resolve().parent
 
 def launchers() -> List[Path]:
     """Where the script that chooses a program for each command is looked for, in this order: in the package, and at the top of a checkout."""
-    return [HERE / "programs" / "unison", HERE.parent.parent / "unison"]
+    top = HERE.parent.parent
+    return [HERE / "programs" / "unison", *([top / "unison"] if (top / "crates.txt").is_file() else [])]
 
 
 def main() -> None:
