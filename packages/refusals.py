@@ -1,5 +1,8 @@
-"""What ./release refuses: programs that are not there, not proved, of other sources, for another level, or by another kit."""
+"""What ./release refuses: programs that are not there, not proved, of other sources, for another level, or by another kit; and which
+verdicts are noted of what the gate proves, by which it is told."""
 
+import importlib.machinery
+import importlib.util
 import os
 import subprocess
 import sys
@@ -9,6 +12,21 @@ from parts import TOP, kit
 
 SOURCES, WAY_ON = "5" * 64, "what to do"
 VERDICT = "logic=proved functions=1"
+SAID = """== below
+logic=proved functions=2
+rt: below proved
+== program: its tests
+logic=proved tests=3 functions=3
+rt: program: its tests are proved
+== program
+fn program::main: proved
+logic=proved functions=1
+rt: program proved
+rt: other is kept: an earlier run on this machine proved the same files over the same libraries
+== wrong
+logic=not-proved functions=4
+rt: wrong NOT PROVED
+"""
 
 
 class Note:
@@ -35,7 +53,17 @@ def tell(tally, what, refused, reason):
     tally.tell(f"refused: {what}", well, f"{refused}")
 
 
+def try_noted(tally):
+    """The verdict of a crate is that of its own part of what `rt ci` said, not that of its tests."""
+    loader = importlib.machinery.SourceFileLoader("noted", str(TOP / "first_use" / "noted"))
+    noted = importlib.util.module_from_spec(importlib.util.spec_from_loader("noted", loader))
+    loader.exec_module(noted)
+    wanted = {"below": "logic=proved functions=2", "program": VERDICT, "other": SAID.splitlines()[10]}
+    tally.equal("the verdicts of the gate", noted.verdicts_of(SAID.splitlines()), wanted)
+
+
 def all_of(tally, work):
+    try_noted(tally)
     note = Note(work)
     tally.equal("a proved program is taken", note.refused(), None)
     tally.equal("a program is taken that the gate kept", note.refused(verdict="rt: program is kept: an earlier run proved the same files"), None)
