@@ -59,8 +59,8 @@ def library():
 
 def package():
     """The files of the package, by their names in the wheel."""
-    sources = [path for path in sorted((HERE / "unison").iterdir()) if path.suffix == ".py" or path.name == "py.typed"]
-    return {f"unison/{path.name}": path.read_bytes() for path in sources}
+    sources = [path for path in sorted((HERE / "unison").rglob("*")) if path.suffix == ".py" or path.name == "py.typed"]
+    return {path.relative_to(HERE).as_posix(): path.read_bytes() for path in sources}
 
 
 def wheel(tag, files):

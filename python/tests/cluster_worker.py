@@ -131,7 +131,7 @@ class Case:
         draws = self.draws = compare.Draws(seed * 1_000_003 + number)
         self.text, program = drawn_program(draws, interpreter, compare)
         self.rows, self.processes = drawn_rows(draws), draws.randrange(1, most + 1)
-        self.fields, self.rounds = list(program.fields), draws.choice([0, 1, 2, 5, 12, 40])
+        self.fields, self.rounds = list(program.fields), draws.choice([0, 1, 2, 3, 5, 8, 12, 30])
         self.settings, states = drawn_settings(draws, program, len(self.rows))
         self.until = (draws.choice(self.fields), draws.choice([0, 1, 7])) if self.fields and draws.random() < 0.4 else None
         self.parts = drawn_parts(draws, len(self.rows), self.processes)

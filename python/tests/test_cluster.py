@@ -3,6 +3,7 @@
 import json
 import random
 import re
+import shutil
 import struct
 
 from cluster_support import PACKAGE, WORKER, lines_of_code, mpirun, new_folder
@@ -50,8 +51,8 @@ def sums_after(rounds):
 
 def test_cluster_random_runs_beside_the_interpreter():
     wanted("tomllib")
-    done = mpirun(4, WORKER, "random", "--cases", 24, "--seed", 1)
-    assert done.stdout.endswith("24 agree, 0 differ\n"), done.stdout + done.stderr
+    done = mpirun(4, WORKER, "random", "--cases", 12, "--seed", 1)
+    assert done.stdout.endswith("12 agree, 0 differ\n"), done.stdout + done.stderr
 
 
 def commands(folder, processes, lines):
@@ -104,7 +105,8 @@ def test_cluster_refusals():
         ([*base, "--set", "s=0:0"], 2, "usage", "--set: the program has no field `s`; its fields are dist"),
         ([*base, "--count", "s"], 2, "usage", "--count: the program has no field `s`"),
         ([*base, "--npy", "s=s.npy"], 2, "usage", "--npy: the program has no field `s`"),
-        ([*base, "--until", "dist"], 2, "usage", "--until: expected FIELD=VALUE"),
+        ([*base, "--npy", "dist=nowhere/s.npy"], 2, "usage", "--npy: expected FIELD=FILE, with a file that can be written, found `dist=nowhere/s.npy`"),
+        ([*base, "--until", "dist"], 2, "usage", "--until FIELD=VALUE: dist: expected a whole number from 0 to 4294967295, found ``"),
         ([*base, "--every", "5"], 2, "usage", "--every stands with --checkpoint FOLDER alone"),
         ([*base, "--resume", "none", "--set", "dist=0:0"], 2, "usage", "--resume"),
         (["bad.rules", *base[1:]], 3, "program Syntax", "program:1:28"),
@@ -143,19 +145,16 @@ def test_cluster_checkpoints_that_are_no_longer_whole_are_named():
     made = commands(folder, 2, [["sums.rules", "torus.net", *base]])
     assert made[0][:2] == (0, "round 9\n"), made
     assert sorted(path.name for path in (folder / "saved").iterdir()) == ["complete", *(f"round-{round}.process-{p}" for round in (6, 9) for p in (0, 1))]
-    state = folder / "saved" / "round-9.process-1"
-    whole = state.read_bytes()
-    again = ["torus.net", "--rounds", "9", "--resume", "saved"]
-    other = commands(folder, 2, [["other.rules", *again]])[0]
-    assert other[0] == 3 and other[2].startswith("fault: checkpoint Other\nsaved/round-9.process-0: its program is another one"), other
-    for place in (3, len(whole) // 2, len(whole) - 1):
-        state.write_bytes(whole[:place] + bytes([whole[place] ^ 1]) + whole[place + 1 :])
-        status, _, told = commands(folder, 2, [["sums.rules", *again]])[0]
-        assert status == 3 and told.startswith("fault: checkpoint Damaged\nsaved/round-9.process-1: its checksum"), told
-    state.write_bytes(whole)
-    (folder / "saved" / "complete").write_text("{}")
-    status, _, told = commands(folder, 3, [["sums.rules", *again]])[0]
-    assert status == 3 and told.startswith("fault: checkpoint Damaged\nsaved/complete: "), told
+    state = (folder / "saved" / "round-9.process-1").read_bytes()
+    lines, expected = [["other.rules", "torus.net", "--rounds", "9", "--resume", "saved"]], ["Other\nsaved/round-9.process-0: its program is another one"]
+    damaged = [("round-9.process-1", state[:at] + bytes([state[at] ^ 1]) + state[at + 1 :]) for at in (3, len(state) // 2, len(state) - 1)]
+    for number, (name, data) in enumerate([*damaged, ("complete", b"{}")]):
+        shutil.copytree(folder / "saved", folder / f"saved{number}")
+        (folder / f"saved{number}" / name).write_bytes(data)
+        lines.append(["sums.rules", "torus.net", "--rounds", "9", "--resume", f"saved{number}"])
+        expected.append(f"Damaged\nsaved{number}/{name}: ")
+    for (status, shown, told), wanted_text in zip(commands(folder, 2, lines), expected):
+        assert (status, shown) == (3, "") and told.startswith(f"fault: checkpoint {wanted_text}"), (told, wanted_text)
 
 
 def test_cluster_files_are_refused_by_their_first_fault():

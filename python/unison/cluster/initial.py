@@ -1,7 +1,7 @@
 """The words that give nodes initial values, FIELD=NODE:VALUE, with * for all nodes and A..B for those from A to B; and other words."""
 
 import re
-from typing import Any, List, Mapping, NamedTuple, Sequence, Tuple
+from typing import Any, List, Mapping, Sequence, Tuple
 
 import numpy as np
 
@@ -10,15 +10,7 @@ from .network import Array
 
 MOST, MOST_ROUNDS = 4294967295, 1_000_000_000
 WORD = re.compile(r"(?P<field>[^=]+)=(?P<nodes>\*|[0-9]{1,12}|[0-9]{1,12}\.\.[0-9]{1,12}):(?P<value>[0-9]{1,12})")
-
-
-class Setting(NamedTuple):
-    """The nodes from first to last, both included, get this value."""
-
-    column: int
-    first: int
-    last: int
-    value: int
+Setting = Tuple[int, int, int, int]  # the nodes from the second to the third, both included, get the fourth in the column that is the first
 
 
 def number(option: str, word: Any, least: int, most: int = MOST_ROUNDS) -> int:
@@ -44,15 +36,13 @@ def setting_of(word: str, fields: Sequence[str], nodes: int) -> Setting:
     first, _, last = ("0", "..", str(nodes - 1)) if found["nodes"] == "*" else found["nodes"].partition("..")
     if not int(first) <= int(last or first) < nodes:
         raise usage(f"--set: {found['field']}: expected * or a node's number below {nodes}, or A..B, found `{found['nodes']}`")
-    return Setting(column, int(first), int(last or first), int(found["value"]))
+    return column, int(first), int(last or first), int(found["value"])
 
 
 def until_of(word: str, fields: Sequence[str]) -> Tuple[int, int]:
     """The column and the value of a word of --until."""
-    field, sign, value = word.partition("=")
-    if not sign:
-        raise usage(f"--until: expected FIELD=VALUE, found `{word}`")
-    return column_of("--until", field, fields), number(f"--until: {field}", value, 0, MOST)
+    field, _, value = word.partition("=")
+    return column_of("--until", field, fields), number(f"--until FIELD=VALUE: {field}", value, 0, MOST)
 
 
 def initial_words(numbers: Array, initial: Mapping[str, int], settings: List[Setting]) -> Array:

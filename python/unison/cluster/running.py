@@ -50,10 +50,11 @@ class Outcome:
     def write_npy(self, field: str, path: str) -> None:
         """Writes a field of all nodes as an array of NumPy (nodes,), by process 0, to which the others send. All processes call it together."""
         mine = (self.numbers, np.ascontiguousarray(self.values[:, self.fields.index(field)]))
-        if self.comm.Get_rank() != 0:
+        make: Any = np.lib.format.open_memmap
+        column = agreed(self.comm, lambda: None if self.comm.Get_rank() else make(path, mode="w+", dtype="<u4", shape=(self.nodes,)))
+        if column is None:
             self.comm.send(mine, 0)
             return
-        column: Array = np.lib.format.open_memmap(path, mode="w+", dtype="<u4", shape=(self.nodes,))  # type: ignore[no-untyped-call]
         for rank in range(self.comm.Get_size()):
             numbers, values = self.comm.recv(source=rank) if rank else mine
             column[numbers] = values

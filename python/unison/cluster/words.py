@@ -12,7 +12,7 @@ from typing import Any, Dict, List, NoReturn, Optional
 import numpy as np
 
 from . import checkpoints, parts
-from .faults import FAULT, Refusal, agreed, refusal_of, usage
+from .faults import FAULT, Refusal, refusal_of, usage
 from .initial import number
 from .network import PackedFile
 from .running import Outcome, run
@@ -90,6 +90,9 @@ def run_words(words: List[str], comm: Any) -> None:
         raise usage("--every stands with --checkpoint FOLDER alone, and one of --count and --sum at a time")
     watch_for_end(asked.checkpoint or asked.resume, comm.Get_rank() == 0)
     shown = [word.partition("=")[::2] for word in asked.npy]
+    for field, path in shown:
+        if not path or os.path.isdir(path) or not os.access(os.path.dirname(path) or ".", os.W_OK):
+            raise usage(f"--npy: expected FIELD=FILE, with a file that can be written, found `{field}={path}`")
     outcome = run(
         asked.program, asked.network, number("--rounds", asked.rounds, 0), comm=comm, set=asked.set, until=asked.until,
         sums=[] if asked.sum is None else [asked.sum], parts_file=asked.parts, checkpoint=asked.checkpoint,
@@ -97,7 +100,7 @@ def run_words(words: List[str], comm: Any) -> None:
         shown={"--npy": [field for field, _ in shown], "--count": [] if asked.count is None else [asked.count]},
     )  # fmt: skip
     for field, path in shown:
-        agreed(comm, lambda: outcome.write_npy(field, path))
+        outcome.write_npy(field, path)
     counts = None if asked.count is None else outcome.count(asked.count)
     if comm.Get_rank() == 0:
         print(text_of(outcome, asked, counts), flush=True)
