@@ -14,6 +14,7 @@ import signal
 import struct
 import sys
 import time
+import traceback
 from pathlib import Path
 
 from cluster_support import new_folder
@@ -60,14 +61,15 @@ def packed(rows):
 
 def drawn_rows(draws):
     """Rows of a network: links one way, several between two nodes, of a node with itself; hubs, components, nodes without links."""
-    nodes = draws.choice([1, 2, 3, 5, 9, 20, 45])
+    nodes = draws.choice([1, 2, 3, 5, 9, 20, 45, 100, 150])
     weight = lambda: draws.choice([1, 1, 1, 0, 5, MOST]) if is_weighted else 1
-    shape, is_weighted = draws.choice(["random", "directed", "ring", "hub", "components", "none"]), draws.random() < 0.5
+    shape, is_weighted = draws.choice(["random", "directed", "ring", "grid", "hub", "components", "none"]), draws.random() < 0.5
     rows = [[] for _ in range(nodes)]
     pairs = {
         "random": [(draws.randrange(nodes), draws.randrange(nodes)) for _ in range(2 * nodes)],
         "directed": [(draws.randrange(nodes), draws.randrange(nodes)) for _ in range(3 * nodes)],
         "ring": [(node, (node + 1) % nodes) for node in range(nodes)],
+        "grid": [(node, node + 1) for node in range(nodes - 1)] + [(node, node + 10) for node in range(nodes - 10)],
         "hub": [(0, node) for node in range(nodes)] + [(nodes - 1, node) for node in range(nodes)],
         "components": [(node, node + 1) for node in range(0, nodes - 1, 2)],
         "none": [],
@@ -79,11 +81,20 @@ def drawn_rows(draws):
     return rows
 
 
+#: Programs that settle, or that change few nodes in a round.
+QUIET = [
+    "field s = 9; next s = (s min least n.s);",
+    "field a = 0; field b = 7; next a = (a max most n.a);",
+    "field d = 4294967295; next d = (d min least (n.d + n.weight));",
+    "field a = 5; field b = 0; field c = 1; next a = (a min least (n.a + 1)); next c = (c max a);",
+    "field s = 0; next s = if (id == (round * 3)) then (1 + total n.s) else s;",
+]
+
+
 def drawn_program(draws, interpreter, compare):
-    """A sound program's text and what it is for the interpreter; now and then one that settles."""
+    """A sound program's text and what it is for the interpreter."""
     while True:
-        text = draws.choice([None, None, None, "field s = 9; next s = (s min least n.s);", "field a = 0; field b = 7; next a = (a max most n.a);"])
-        text = text or compare.program_text(draws, [])
+        text = draws.choice(QUIET) if draws.random() < 0.5 else compare.program_text(draws, [])
         try:
             return text, interpreter.check(interpreter.read_items(text.encode()))
         except interpreter.Fault:
@@ -105,11 +116,13 @@ def drawn_settings(draws, program, nodes):
 
 
 def drawn_parts(draws, nodes, processes):
-    """A part for each node, or None for those by number; now and then most parts are empty."""
+    """A part for each node, or None for those by number: by blocks, or each at random; now and then some parts are empty."""
     if draws.random() < 0.3:
         return None
     some = draws.sample(range(processes), draws.randrange(1, processes + 1))
-    return [draws.choice(some) for _ in range(nodes)]
+    block = draws.choice([1, 1, 7, 30])
+    drawn = [draws.choice(some) for _ in range(nodes // block + 1)]
+    return [drawn[node // block] for node in range(nodes)]
 
 
 def wanted_of(interpreter, program, rows, states, rounds, until):
@@ -239,4 +252,9 @@ def main(kind, *given):
 
 
 if __name__ == "__main__":
-    sys.exit(main(*sys.argv[1:]))
+    try:
+        status = main(*sys.argv[1:])
+    except Exception:
+        traceback.print_exc()
+        MPI.COMM_WORLD.Abort(1)
+    sys.exit(status)

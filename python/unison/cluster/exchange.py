@@ -20,8 +20,7 @@ class Exchange:
 
     def __init__(self, comm: Any, borders: List[Border], nodes: Array) -> None:
         self._comm, self._borders, self._nodes = comm, borders, nodes
-        width = nodes.shape[1]
-        self._room = [np.empty(2 + (border.last - border.first) * width, dtype=np.uint32) for border in borders]
+        self._room = [np.empty(2 + nodes[border.first : border.last].size, dtype=np.uint32) for border in borders]
         self._awaited: List[Any] = []
         self._sent: Dict[Tuple[int, int], Tuple[Any, Array]] = {}
         self.bytes = 0  # sent up to now

@@ -56,28 +56,32 @@ class Part(NamedTuple):
 
 def build(comm: Any, file: PackedFile, parts: Any) -> Part:
     """The part of this process. The offsets of the file have been looked at."""
-    rank = comm.Get_rank()
-    own = parts.own(rank)
+    rank, own = comm.Get_rank(), parts.own(comm.Get_rank())
     offsets, neighbours, weights = agreed(comm, lambda: file.rows_of(own))
     lengths, foreign = np.diff(offsets), ~parts.is_own(rank, neighbours)
     border, counts = border_of(neighbours[foreign], parts, comm.Get_size())
     asked, wanted = exchange_wishes(comm, border, counts)
     sent = parts.place(rank, wanted)
-    is_rim = np.zeros(own.size, dtype=bool)
-    is_rim[np.searchsorted(offsets, np.flatnonzero(foreign), side="right") - 1] = True
-    is_rim[sent] = True
+    is_rim = rim_of(own.size, offsets, foreign, sent)
     order = np.concatenate((np.flatnonzero(~is_rim), np.flatnonzero(is_rim)))
     place = np.empty(own.size, dtype=np.uint32)
     place[order] = np.arange(own.size, dtype=np.uint32)
-    ends = neighbours  # becomes places in [inner, rim, border]
     by_number = np.argsort(border)
-    ends[foreign] = by_number[np.searchsorted(border[by_number], neighbours[foreign])] + own.size
-    ends[~foreign] = place[parts.place(rank, neighbours[~foreign])]
+    neighbours[foreign] = by_number[np.searchsorted(border[by_number], neighbours[foreign])] + own.size
+    neighbours[~foreign] = place[parts.place(rank, neighbours[~foreign])]  # all are places in [inner, rim, border] now
     of_rim = np.repeat(is_rim, lengths)
-    inner = rows_for(own[order], lengths[~is_rim], ends[~of_rim], weights, ~of_rim)
-    near, rim_ends = near_of(ends[of_rim], inner.own, own.size)
+    inner = rows_for(own[order], lengths[~is_rim], neighbours[~of_rim], weights, ~of_rim)
+    near, rim_ends = near_of(neighbours[of_rim], inner.own, own.size)
     rim = rows_for(np.concatenate((own[is_rim], inner.ids[near], border)), lengths[is_rim], rim_ends, weights, of_rim)
     return Part(inner.ids, near, inner, rim, borders_of(asked, counts, place[sent].astype(np.int64) - inner.own))
+
+
+def rim_of(own: int, offsets: Array, foreign: Array, sent: Array) -> Array:
+    """Whether each of so many nodes is one of the rim: (own,) bool. `foreign`: (ends,) bool; `sent`: the places of nodes that others read."""
+    is_rim = np.zeros(own, dtype=bool)
+    is_rim[np.searchsorted(offsets, np.flatnonzero(foreign), side="right") - 1] = True
+    is_rim[sent] = True
+    return is_rim
 
 
 def border_of(numbers: Array, parts: Any, size: int) -> Tuple[Array, Array]:
