@@ -8,3 +8,5 @@ pub mod EachPoint
 pub mod EachValue
 pub mod EachFrame
 pub mod RoundParts
+pub mod Joined
+pub mod StrokeSlots

@@ -1,12 +1,19 @@
--- The values of each round among those of all rounds.
-use Rattle.std.proofs.Common.{◌≡◌, ◌∙◌, ◌<◌, ◌≤◌, ◌+◌, ◌*◌, ℕ, zero, suc, List, [], ◌∷◌, ◌++◌, ap, arith, drop, get_or, length, map, refl, sym, take}
+-- The values of each round among those of all rounds, and the pictures that are made of them.
+use Rattle.std.proofs.Common.{◌≡◌, ◌∙◌, ◌<◌, ◌≤◌, ◌+◌, ◌-◌, ◌*◌, ℕ, zero, suc, List, [], ◌∷◌, ◌++◌, ap, append_assoc, arith, drop, get_or, length, map, refl, sym, take}
 use Rattle.std.proofs.Math.Seq.{drop-append-add, take-append_seam}
 use Rattle.std.proofs.lemmas.Grind.{common_steps}
+use Rattle.std.proofs.lemmas.List.{map-append}
 use Rattle.std.proofs.lemmas.List.FromFn.{get_or-map-range_with_len, length-map-range_with_len}
 use Rattle.std.specs.List.{flat_map, range_with_len}
+use Rattle.link_net.specs.Neighbours.{Neighbours, numbers_below}
 use Rattle.rounds_plan.specs.Plans.{PlanView}
 use Rattle.run_watch.specs.Spans.{SpanView, count_of, round_at, rounds_in}
+use Rattle.run_watch.proofs.Ranges.{range_left}
+use Rattle.run_picture.specs.declared.each_round.Layout.{Layout}
+use Rattle.run_picture.specs.Chosen.{StylesView}
 use Rattle.run_picture.specs.Frames.{values_after, values_in}
+use Rattle.run_picture.specs.Series.{round_sheet, round_sheets}
+use Rattle.run_picture.specs.Shades.{KeyView, key_of}
 use Rattle.run_picture.proofs.Counts.{values_count}
 
 -- of lists of one length, one behind the other, the r-th
@@ -25,7 +32,7 @@ part nodes f each (t ∷ ts) (suc r) inside =
     ∙ part nodes f each ts r (omega (arith, inside))
 
 -- the values after the round at a place of a span stand there
-pub part_at : (p : PlanView) (span : SpanView) (field r : ℕ) → r < count_of span
+part_at : (p : PlanView) (span : SpanView) (field r : ℕ) → r < count_of span
     → take (length p.network) (drop (r * length p.network) (values_in p span field)) ≡ values_after p field (round_at span r)
 part_at p span field r inside =
     let many = length-map-range_with_len (round_at span) 0 (count_of span) in
@@ -34,8 +41,38 @@ part_at p span field r inside =
     ∙ ap (values_after p field) (get_or-map-range_with_len (round_at span) 0 (count_of span) r r 0 inside e)
 
 -- what is made of each number in order is made of each round
-pub made_of_each : (g h : ℕ → List ℕ) (f : ℕ → ℕ) (i n : ℕ) → ((r : ℕ) → i ≤ r → r < i + n → g r ≡ h (f r)) → map g (range_with_len i n) ≡ map h (map f (range_with_len i n))
+made_of_each : (g h : ℕ → List ℕ) (f : ℕ → ℕ) (i n : ℕ) → ((r : ℕ) → i ≤ r → r < i + n → g r ≡ h (f r)) → map g (range_with_len i n) ≡ map h (map f (range_with_len i n))
 made_of_each g h f i zero each = refl
 made_of_each g h f i (suc n) each =
     ap (λ (x : List ℕ). x ∷ map g (range_with_len (i + 1) n)) (each i (omega arith) (omega arith))
     ∙ ap (λ (xs : List (List ℕ)). h (f i) ∷ xs) (made_of_each g h f (i + 1) n (λ r from below. each r (omega (arith, from)) (omega (arith, below))))
+
+-- one more is made
+pub one_more : {A : Type 0} (items : A → List ℕ) (g : ℕ → List ℕ) (old new : List A) (made : A) (k n : ℕ) (whole : List (List ℕ)) → new ≡ old ++ (made ∷ []) → items made ≡ g k → k < n
+    → map items old ++ map g (range_with_len k (n - k)) ≡ whole → map items new ++ map g (range_with_len (k + 1) (n - (k + 1))) ≡ whole
+one_more {A} items g old new made k n whole grown is inside held =
+    let rest = map g (range_with_len (k + 1) (n - (k + 1))) in
+    ap (λ (xs : List A). map items xs ++ rest) grown
+    ∙ ap (λ (xs : List (List ℕ)). xs ++ rest) (map-append items old (made ∷ []))
+    ∙ append_assoc (map items old) (items made ∷ []) rest
+    ∙ ap (λ (x : List ℕ). map items old ++ (x ∷ rest)) is
+    ∙ ap (λ (xs : List (List ℕ)). map items old ++ xs) (sym (ap (map g) (range_left k n inside)))
+    ∙ held
+
+-- the pictures of so many parts of values, by a key
+abbrev pub sheets_by : Layout → Neighbours → KeyView → List ℕ → ℕ → List (List ℕ)
+sheets_by layout network key values rounds = map (λ (r : ℕ). round_sheet layout key network (take (length network) (drop (r * length network) values))) (numbers_below rounds)
+
+-- those of all rounds of a span are the pictures of these rounds
+pub sheets_are : (styles : StylesView) (p : PlanView) (span : SpanView) (field : ℕ) (layout : Layout) (network : Neighbours) (key : KeyView) (values : List ℕ) (rounds : ℕ)
+    → network ≡ p.network → key ≡ key_of styles (values_in p span field) → values ≡ values_in p span field → rounds ≡ count_of span
+    → sheets_by layout network key values rounds ≡ round_sheets styles p span field layout
+sheets_are styles p span field layout network key values rounds same_network same_key same_values same_count =
+    let own = key_of styles (values_in p span field) in
+    ap (λ (net : Neighbours). sheets_by layout net key values rounds) same_network
+    ∙ ap (λ (k : KeyView). sheets_by layout p.network k values rounds) same_key
+    ∙ ap (λ (vs : List ℕ). sheets_by layout p.network own vs rounds) same_values
+    ∙ ap (λ (n : ℕ). sheets_by layout p.network own (values_in p span field) n) same_count
+    ∙ made_of_each (λ (r : ℕ). round_sheet layout own p.network (take (length p.network) (drop (r * length p.network) (values_in p span field))))
+    (λ (t : ℕ). round_sheet layout own p.network (values_after p field t)) (round_at span) 0 (count_of span)
+    (λ r from below. ap (round_sheet layout own p.network) (part_at p span field r (omega (arith, below))))

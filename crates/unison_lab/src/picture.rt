@@ -280,11 +280,7 @@ fn round_texts(
 }
 
 /// The files of the rounds that are asked for, in a folder.
-fn files_in<'a>(
-    rt: &HostRuntime,
-    asked: &ImageRequest,
-    folder: &'a str,
-) -> Result<RoundFiles<'a>, Ending> {
+fn files_in(rt: &HostRuntime, asked: &ImageRequest, folder: &str) -> Result<RoundFiles, Ending> {
     if u64::from(asked.span.steps()) >= MOST_FRAMES {
         return Err(too_many_frames(rt.alloc()));
     }

@@ -27,22 +27,19 @@ fn paths_in(alloc: Global, folder: &str, span: &Span) -> Result<Vec<String>, All
 
 /// The files into which the pictures of rounds go, none of which was there before.
 #[derive(Drop)]
-pub(crate) struct RoundFiles<'a> {
-    folder: &'a str,
+pub(crate) struct RoundFiles {
+    folder: String,
     paths: Vec<String>,
 }
 
-impl<'a> RoundFiles<'a> {
+impl RoundFiles {
     /// The files of these rounds in a folder. `File` comes where one of them is there already.
-    pub(crate) fn new(
-        rt: &HostRuntime,
-        folder: &'a str,
-        span: &Span,
-    ) -> Result<RoundFiles<'a>, Ending> {
+    pub(crate) fn new(rt: &HostRuntime, folder: &str, span: &Span) -> Result<RoundFiles, Ending> {
         let paths = paths_in(rt.alloc(), folder, span)?;
         for path in &paths {
             check_new(rt, path.as_str())?;
         }
+        let folder = String::from_str(rt.alloc(), folder)?;
         Ok(RoundFiles { folder, paths })
     }
 
@@ -60,7 +57,7 @@ impl<'a> RoundFiles<'a> {
 
     /// Writes the pictures into the files, in order.
     fn put(&self, rt: &HostRuntime, texts: &[Vec<u8>]) -> Result<(), Ending> {
-        make_folder(rt, self.folder)?;
+        make_folder(rt, self.folder.as_str())?;
         for (path, text) in self.paths.iter().zip(texts) {
             write_new(rt, path.as_str(), text.as_slice())?;
         }

@@ -1,11 +1,7 @@
-use Rattle.std.proofs.Common.{◌≡◌, ◌∙◌, ◌++◌, ℕ, List, OnOk, ap, append_assoc, codes, string_bytes}
-use Rattle.std.specs.Prelude.{Result, Ok, Err}
+use Rattle.std.proofs.Common.{◌≡◌, ◌∙◌, ◌++◌, ℕ, List, ap, append_assoc, codes, string_bytes}
 use Rattle.run_picture.specs.Moving.{clock_text, last_text}
+use Rattle.run_picture.proofs.Joined.{then_ok}
 use Rattle.run_picture.proofs.moving.put_clock.Goals as goal
-
-then_ok : {T E P Q : Type 0} (r : Result T E) → (P → Q) → OnOk r P → OnOk r Q
-then_ok (Ok x) f p = f p
-then_ok (Err e) f p = p
 
 joined : (a b d t : List ℕ) → b ≡ a ++ codes "\" keyTimes=\"0" → d ≡ b ++ t → d ≡ a ++ (codes "\" keyTimes=\"0" ++ t)
 joined a b d t first then = then ∙ ap (λ (x : List ℕ). x ++ t) first ∙ append_assoc a (codes "\" keyTimes=\"0") t
