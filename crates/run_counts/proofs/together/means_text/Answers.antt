@@ -7,7 +7,7 @@ use Rattle.run_counts.proofs.Means.{all_fit, as_many}
 use Rattle.run_counts.proofs.together.means_text.Goals as goal
 
 pub runs_of-requires : goal.runs_of-requires
-runs_of-requires g c = (search rules, all_fit c.args.span.now c.args.counting.now c.args.ensemble.now.variants.now c.requires.fits)
+runs_of-requires g c = (search rules, (search rules, all_fit c.args.span.now c.args.counting.now c.args.ensemble.now.variants.now c.requires.fits))
 
 pub means_table-requires : goal.means_table-requires
 means_table-requires g c =
