@@ -2,4 +2,6 @@ mod LaidOut
 mod Moves
 mod PartMade
 mod Passing
+mod RoundFaults
 mod StateWords
+mod Watches

@@ -1,8 +1,9 @@
 -- A round of a part is made on the rows of its lists.
-use Rattle.std.proofs.Common.{◌≡◌, ◌∙◌, ◌<◌, ℕ, List, length, replicate, None, ap, sym, subst}
+use Rattle.std.proofs.Common.{◌≡◌, ◌∙◌, ◌-◌, ◌*◌, ◌<◌, ℕ, List, length, replicate, None, ap, sym, subst}
 use Rattle.rule_check.specs.Value.{Rules}
 use Rattle.link_net.specs.Layout.{rows_of}
 use Rattle.link_net.specs.Neighbours.{Neighbours}
+use Rattle.large_net.proofs.Parts.{rows_count}
 use Rattle.large_parts.specs.Parts.{changed_count, own_nodes, part_fault_of, part_states}
 use Rattle.large_parts.specs.States.{states_of, words_in}
 use Rattle.large_calls.specs.Lists.{given_weights}
@@ -25,3 +26,7 @@ rows_of_ones offsets ns ws ones rows none all are = are ∙ ap (rows_of offsets 
 -- the rows with the weights that are given
 pub rows_of_given : (offsets ns ws : List ℕ) (rows : Neighbours) → 0 < length ws → rows ≡ rows_of offsets ns ws → rows ≡ rows_of offsets ns (given_weights ns ws)
 rows_of_given offsets ns ws rows some are = are ∙ ap (rows_of offsets ns) (sym (some_weights ns ws some))
+
+-- there is one row fewer than offsets
+pub row_words : (offsets ns ws : List ℕ) (rows : Neighbours) (words fields : ℕ) → rows ≡ rows_of offsets ns ws → words ≡ (length offsets - 1) * fields → words ≡ length rows * fields
+row_words offsets ns ws rows words fields are count = count ∙ ap (λ (n : ℕ). n * fields) (sym (ap length are ∙ rows_count offsets ns ws))

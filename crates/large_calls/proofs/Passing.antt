@@ -10,6 +10,7 @@ use Rattle.link_net.specs.Layout.{rows_of}
 use Rattle.large_calls.specs.Lists.{given_weights, lists_fault}
 use Rattle.large_calls.specs.LargeAnswers.{IsNoMove, IsRefusedRounds}
 use Rattle.large_calls.specs.PartAnswers.{IsNoPart, IsRefusedPart}
+use Rattle.large_calls.specs.WatchAnswers.{AreUnwatched, IsRefusedWatch}
 
 pub refused_move : (program offsets ns ws : List ℕ) (start round room fields : ℕ) (items : List ItemTree) (f : LargeCallFault)
     → IsAccepted program items → lists_fault offsets ns ws ≡ None → IsNoMove (rules_of items) (length offsets - 1) start round room fields f
@@ -40,3 +41,19 @@ refused_part program ids offsets ns ws words room items (Call Memory) accepted n
 refused_part program ids offsets ns ws words room items (Lists f) accepted none h = absurd h
 refused_part program ids offsets ns ws words room items WordCount accepted none h = absurd h
 refused_part program ids offsets ns ws words room items (Part f) accepted none h = (items, accepted, none, h)
+
+pub refused_watch : (program offsets ns ws : List ℕ) (start : ℕ) (from rounds : List ℕ) (room fields : ℕ) (items : List ItemTree) (f : LargeCallFault)
+    → IsAccepted program items → lists_fault offsets ns ws ≡ None
+    → AreUnwatched (rules_of items) (rows_of offsets ns (given_weights ns ws)) start from rounds room (length offsets - 1) fields f
+    → IsRefusedWatch program offsets ns ws start from rounds room fields f
+refused_watch program offsets ns ws start from rounds room fields items (Call (Texts f)) accepted none h = absurd h
+refused_watch program offsets ns ws start from rounds room fields items (Call (Round f)) accepted none h = (items, accepted, none, h)
+refused_watch program offsets ns ws start from rounds room fields items (Call (Replay f)) accepted none h = absurd h
+refused_watch program offsets ns ws start from rounds room fields items (Call (Settle f)) accepted none h = absurd h
+refused_watch program offsets ns ws start from rounds room fields items (Call NotRising) accepted none h = (items, accepted, none, h)
+refused_watch program offsets ns ws start from rounds room fields items (Call NoJob) accepted none h = absurd h
+refused_watch program offsets ns ws start from rounds room fields items (Call Room) accepted none h = (items, accepted, none, h)
+refused_watch program offsets ns ws start from rounds room fields items (Call Memory) accepted none h = (items, accepted, none, h)
+refused_watch program offsets ns ws start from rounds room fields items (Lists f) accepted none h = absurd h
+refused_watch program offsets ns ws start from rounds room fields items WordCount accepted none h = (items, accepted, none, h)
+refused_watch program offsets ns ws start from rounds room fields items (Part f) accepted none h = absurd h

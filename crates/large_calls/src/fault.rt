@@ -41,6 +41,14 @@ impl From<ServeFault> for LargeCallFault {
     }
 }
 
+impl From<Fault> for LargeCallFault {
+    ghost from_gives = { λ fault e. e ≡ Call fault };
+
+    fn from(fault: Fault) -> LargeCallFault {
+        LargeCallFault::Call(fault)
+    }
+}
+
 impl From<RoundFault> for LargeCallFault {
     ghost from_gives = { λ fault e. e ≡ Call (call.Round fault) };
 

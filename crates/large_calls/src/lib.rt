@@ -7,8 +7,10 @@ mod lists;
 mod parts;
 mod rounds;
 mod states;
+mod watch;
 
 pub use fault::{LargeCallFault, ListsFault};
 pub use lists::check_lists;
 pub use parts::write_part_round;
 pub use rounds::write_large_rounds;
+pub use watch::write_large_watch;

@@ -22,7 +22,7 @@ use rule_check::{Program, State};
 use std::alloc::{AllocError, Global};
 
 /// Refuses a round that no plan with this start has.
-fn check_span(start: u32, round: u32) -> Result<(), RoundFault>
+pub(crate) fn check_span(start: u32, round: u32) -> Result<(), RoundFault>
     ensures within { OnOk result ((start ≤ round) × (round ≤ most_rounds)) }
     ensures refused { IfErr result (IsNoSpan start round) }
 {
@@ -33,6 +33,24 @@ fn check_span(start: u32, round: u32) -> Result<(), RoundFault>
         return Err(RoundFault::RoundsBelowStart);
     }
     Ok(())
+}
+
+/// The plan of a program on rows whose nodes have these states at the start.
+pub(crate) fn plan_on<'a>(
+    alloc: Global,
+    program: &'a Program,
+    rows: NetRows<'a>,
+    opening: &'a [State],
+    start: u32,
+) -> Result<LargePlan<'a>, AllocError>
+    requires plan { large_plan_of program.now rows opening.now start ≡ Ok (given_plan program.now rows opening.now start) }
+    ensures plan { IfOk result (λ plan. plan ≡ given_plan program.now rows.entry opening.now start) }
+{
+    match LargePlan::new(alloc, program, rows, opening, start) {
+        Ok(plan) => Ok(plan),
+        Err(LargePlanFault::Memory) => Err(AllocError),
+        Err(_) => unreachable!(),
+    }
 }
 
 /// The states after a round of the plan of a program on rows, made sequentially.
@@ -48,11 +66,7 @@ fn states_after(
     requires late { start ≤ round }
     ensures states { IfOk result (λ v. v.items ≡ lockstep_states (given_plan program.now rows.entry opening.now start) round (length rows.entry)) }
 {
-    let plan = match LargePlan::new(alloc, program, rows, opening, start) {
-        Ok(plan) => plan,
-        Err(LargePlanFault::Memory) => return Err(AllocError),
-        Err(_) => unreachable!(),
-    };
+    let plan = plan_on(alloc, program, rows, opening, start)?;
     let mut walk = plan.walk(alloc)?;
     walk.go_to(round);
     walk.states(alloc)

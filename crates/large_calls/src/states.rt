@@ -1,5 +1,5 @@
 //! States, and the words of their fields, node by node.
-ghost use Rattle.std.specs.Prelude.{◌≡◌, ◌+◌, ◌*◌, ◌++◌, ◌≤◌, length, take, drop, IfOk};
+ghost use Rattle.std.specs.Prelude.{◌≡◌, ◌+◌, ◌*◌, ◌++◌, ◌≤◌, length, take, drop, IfOk, OnOk};
 ghost use Rattle.app_calls.specs.Words.{words_in};
 ghost use Rattle.large_parts.specs.States.{state_of, states_of};
 
@@ -7,7 +7,7 @@ use rule_check::State;
 use std::alloc::{AllocError, Global};
 
 /// Puts words at a place.
-fn put_words(words: &mut [u32], first: usize, new: &[u32])
+pub(crate) fn put_words(words: &mut [u32], first: usize, new: &[u32])
     requires room { first + length new.now ≤ length words.old }
     ensures put { words.new ≡ take first words.old ++ new.now ++ drop (first + length new.now) words.old }
 {
@@ -66,4 +66,29 @@ pub(crate) fn put_states(states: &[State], fields: usize, words: &mut [u32])
         put_state(words, first, state, fields);
         first += fields;
     }
+}
+
+/// Appends the words of a state's fields.
+fn add_state(words: &mut Vec<u32>, state: &State, fields: usize) -> Result<(), AllocError>
+    requires few { fields ≤ 8 }
+    ensures added { OnOk result (words.new.items ≡ words.old.items ++ take fields state.now.words) }
+    ensures count { length (take fields state.now.words) ≡ fields }
+{
+    words.extend_from_slice(&state.words[..fields])
+}
+
+/// Appends the words of the fields of all states, state by state.
+pub(crate) fn add_states(
+    words: &mut Vec<u32>,
+    states: &[State],
+    fields: usize,
+) -> Result<(), AllocError>
+    requires few { fields ≤ 8 }
+    ensures added { OnOk result (words.new.items ≡ words.old.items ++ words_in fields states.now) }
+    ensures count { OnOk result (length (words_in fields states.now) ≡ length states.now * fields) }
+{
+    for state in states {
+        add_state(words, state, fields)?;
+    }
+    Ok(())
 }
