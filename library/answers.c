@@ -244,6 +244,47 @@ static void large_faults(void) {
     large_fault_is("large rounds, no words", "field a = 0; field b = 0; next a = b;", path_neighbours, 0, 2, 0, 149, 2);
 }
 
+static void large_watched(void) {
+    const char both[] = "field a = 0; field b = 0; next a = b; next b = total n.a;";
+    const uint32_t far[] = {0, FAR, FAR}, pairs[] = {1, 2, 3, 4, 5, 6}, five[] = {7, 3, 9}, weights[] = {3, 3, 4, 4};
+    uint32_t words[] = {9, 9, 9, 9, 9, 9, 9, 9, 9, 9, 9, 9, 9}, fields = 9, answer;
+    answer = unison_large_watch(TEXT(distance), PATH_LISTS, NO_WEIGHTS, 0, far, 3, (uint32_t[]){0, 1, 3}, 3, words, 10, &fields);
+    is("large watch", answer == 0 && fields == 1 && are(words, (uint32_t[]){0, FAR, FAR, 0, 1, FAR, 0, 1, 2, 9}, 10));
+    answer = unison_large_watch(TEXT(distance), PATH_LISTS, NO_WEIGHTS, 5, five, 3, (uint32_t[]){6}, 1, words, 3, &fields);
+    is("large watch from a later round", answer == 0 && are(words, (uint32_t[]){4, 3, 4, 0, 1}, 5));
+    answer = unison_large_watch(TEXT("field d = 0; next d = (d min least (n.d + n.weight));"), PATH_LISTS, weights, 4, 0, far, 3, (uint32_t[]){1, 2}, 2, words, 6, &fields);
+    is("large watch, with weights", answer == 0 && are(words, (uint32_t[]){0, 3, FAR, 0, 3, 7, 0}, 7));
+    answer = unison_large_watch(TEXT(both), PATH_LISTS, NO_WEIGHTS, 0, pairs, 6, (uint32_t[]){0, 1}, 2, words, 13, &fields);
+    is("large watch, two fields", answer == 0 && fields == 2 && are(words, (uint32_t[]){1, 2, 3, 4, 5, 6, 2, 3, 4, 6, 6, 3, 9}, 13));
+    answer = unison_large_watch(TEXT(distance), PATH_LISTS, NO_WEIGHTS, 2000000000, far, 3, far, 0, words, 0, &fields);
+    is("large watch, no rounds", answer == 0 && fields == 1 && are(words, (uint32_t[]){1, 2, 3}, 3));
+    is("large watch, the words to begin with stay", are(far, (uint32_t[]){0, FAR, FAR}, 3));
+}
+
+/* The answer to rounds on lists of four offsets and four neighbours, from so many words and with so much room; the number of fields; and that
+ * the words stay. */
+static void watch_fault_is(const char *what, const char *program, const uint32_t neighbours[4], const uint32_t rounds[2], size_t count, size_t room,
+                           uint32_t wanted, uint32_t wanted_fields) {
+    const uint32_t from[] = {0, FAR, FAR, 0};
+    uint32_t words[] = {9, 9, 9, 9, 9, 9}, fields = 9;
+    uint32_t answer = unison_large_watch(TEXT(program), path_offsets, 4, neighbours, 4, NO_WEIGHTS, 3, from, count, rounds, 2, words, room, &fields);
+    is(what, answer == wanted && fields == wanted_fields && are(words, (uint32_t[]){9, 9, 9, 9, 9, 9}, 6));
+}
+
+static void large_watch_faults(void) {
+    const uint32_t loose_neighbours[] = {1, 0, 3, 1}, rising[] = {3, 5}, twice[] = {4, 4}, falling[] = {5, 4}, below[] = {2, 1}, above[] = {3, 1000000001};
+    watch_fault_is("large watch, a program that breaks off", "field", loose_neighbours, twice, 2, 5, 18, 9);
+    watch_fault_is("large watch, a neighbour that is no node", distance, loose_neighbours, twice, 2, 5, 147, 9);
+    watch_fault_is("large watch, a round twice", distance, path_neighbours, twice, 2, 5, 4, 9);
+    watch_fault_is("large watch, rounds that fall", distance, path_neighbours, falling, 2, 5, 4, 9);
+    watch_fault_is("large watch, a round below the start", distance, path_neighbours, below, 2, 5, 81, 9);
+    watch_fault_is("large watch, a round that is too large", distance, path_neighbours, above, 2, 5, 80, 9);
+    watch_fault_is("large watch, a word too few", distance, path_neighbours, rising, 2, 5, 149, 1);
+    watch_fault_is("large watch, a word too many", distance, path_neighbours, rising, 4, 6, 149, 1);
+    watch_fault_is("large watch, too little room", distance, path_neighbours, rising, 3, 5, 2, 1);
+    watch_fault_is("large watch, no words and no room", "field a = 0; field b = 0; next a = b;", path_neighbours, rising, 0, 0, 149, 2);
+}
+
 /* Node 0 and node 1, and node 2 and node 3, of the path 0 - 1 - 2 - 3 as parts: each has the neighbour of its own nodes that is not its own behind them. */
 static const uint64_t left_offsets[] = {0, 1, 3, 3}, right_offsets[] = {0, 2, 3, 3};
 static const uint32_t left_ids[] = {0, 1, 2}, left_neighbours[] = {1, 0, 2}, right_ids[] = {2, 3, 1}, right_neighbours[] = {1, 2, 0};
@@ -302,6 +343,8 @@ int main(void) {
     lists();
     large_rounds();
     large_faults();
+    large_watched();
+    large_watch_faults();
     part_rounds();
     part_faults();
     printf("%d passed, %d failed\n", passed, failed);

@@ -7,6 +7,7 @@
  *     call replay PROGRAM NETWORK SCHEDULE STOP   the replay report, and a line for each node: its number, its count and its words
  *     call large PROGRAM PACKED ROUND [INITIAL]   a line for each node, as of lockstep, on the network of any size that `unison pack` made;
  *                                                 INITIAL is what `call watch` printed of one round, to go on from
+ *     call large_watch PROGRAM PACKED ROUND..     the same for each round, behind a line with its number, from what the program opens with
  *     call why JOB PROGRAM [NETWORK NUMBER [SCHEDULE]]
  *                                                 the number of the first fault, or 0, and what is told of it
  *
@@ -246,27 +247,73 @@ static int read_initial(const char *path, uint32_t *words, size_t nodes, uint32_
     return is_read;
 }
 
+/* The lists of a network of any size. */
+struct lists {
+    const uint64_t *offsets;
+    const uint32_t *neighbours, *weights;
+    size_t nodes, ends, weight_count;
+};
+
+#define LISTS(lists) lists.offsets, lists.nodes + 1, lists.neighbours, lists.ends, lists.weights, lists.weight_count
+
 /* The three lists lie in a packed network as they are (docs/formats.md): behind the header the offsets, the neighbours, the weights. */
-static int show_large(char **words) {
-    struct text program = read_file(words[0]), packed = read_file(words[1]);
+static int read_lists(const char *path, struct text packed, struct lists *lists) {
     uint64_t header[4] = {0};
-    if (packed.len < sizeof header || memcmp(packed.bytes, "UNISONW1", 8) != 0) return wrong(words[1], "no packed network: `unison pack` makes one");
+    if (packed.len < sizeof header || memcmp(packed.bytes, "UNISONW1", 8) != 0) return wrong(path, "no packed network: `unison pack` makes one");
     memcpy(header, packed.bytes, sizeof header);
     size_t nodes = header[1], ends = header[2], weights = header[3] ? ends : 0;
+    if (nodes > packed.len / 8 || ends > packed.len / 4 || packed.len != sizeof header + 8 * (nodes + 1) + 4 * (ends + weights))
+        return wrong(path, "the packed network has another length than its header says");
     const uint64_t *offsets = (const uint64_t *)(const void *)(packed.bytes + sizeof header);
     const uint32_t *neighbours = (const uint32_t *)(const void *)(offsets + nodes + 1);
-    if (nodes > packed.len / 8 || ends > packed.len / 4 || packed.len != sizeof header + 8 * (nodes + 1) + 4 * (ends + weights))
-        return wrong(words[1], "the packed network has another length than its header says");
-    uint32_t first[8], fields = 0, start = 0, answer = open_node(program, first, &fields);
-    if (answer) return fault(answer);
+    *lists = (struct lists){offsets, neighbours, neighbours + ends, nodes, ends, weights};
+    return 0;
+}
+
+/* The words that so many nodes open with. */
+static uint32_t *open_nodes(const uint32_t first[8], size_t nodes, uint32_t fields) {
     uint32_t *states = room_for(nodes * fields, sizeof *states);
     for (size_t at = 0; at < nodes * fields; at++) states[at] = first[at % fields];
-    if (words[3] && !read_initial(words[3], states, nodes, fields, &start)) return wrong(words[3], "no words of one round, as `call watch` prints them");
-    answer = unison_large_rounds(program.bytes, program.len, offsets, nodes + 1, neighbours, ends, neighbours + ends, weights, start,
-                                 number(words[2]), states, nodes * fields, &fields);
+    return states;
+}
+
+static int show_large(char **words) {
+    struct text program = read_file(words[0]), packed = read_file(words[1]);
+    struct lists lists;
+    int status = read_lists(words[1], packed, &lists);
+    if (status) return status;
+    uint32_t first[8], fields = 0, start = 0, answer = open_node(program, first, &fields);
     if (answer) return fault(answer);
-    print_words(states, (uint32_t)nodes, fields);
+    uint32_t *states = open_nodes(first, lists.nodes, fields);
+    if (words[3] && !read_initial(words[3], states, lists.nodes, fields, &start)) return wrong(words[3], "no words of one round, as `call watch` prints them");
+    answer = unison_large_rounds(program.bytes, program.len, LISTS(lists), start, number(words[2]), states, lists.nodes * fields, &fields);
+    if (answer) return fault(answer);
+    print_words(states, (uint32_t)lists.nodes, fields);
     free(states);
+    free(packed.bytes);
+    free(program.bytes);
+    return 0;
+}
+
+static int show_large_watch(char **words, size_t count) {
+    struct text program = read_file(words[0]), packed = read_file(words[1]);
+    struct lists lists;
+    int status = read_lists(words[1], packed, &lists);
+    if (status) return status;
+    uint32_t first[8], fields = 0, answer = open_node(program, first, &fields);
+    if (answer) return fault(answer);
+    size_t size = lists.nodes * fields;
+    uint32_t *from = open_nodes(first, lists.nodes, fields), *rounds = room_for(count, sizeof *rounds), *states = room_for(count * size, sizeof *states);
+    for (size_t i = 0; i < count; i++) rounds[i] = number(words[2 + i]);
+    answer = unison_large_watch(program.bytes, program.len, LISTS(lists), 0, from, size, rounds, count, states, count * size, &fields);
+    if (answer) return fault(answer);
+    for (size_t i = 0; i < count; i++) {
+        printf("round %u\n", (unsigned)rounds[i]);
+        print_words(states + i * size, (uint32_t)lists.nodes, fields);
+    }
+    free(states);
+    free(rounds);
+    free(from);
     free(packed.bytes);
     free(program.bytes);
     return 0;
@@ -280,7 +327,8 @@ int main(int count, char **words) {
     if (strcmp(call, "settle") == 0 && count == 5) return show_settle(words + 2);
     if (strcmp(call, "replay") == 0 && count == 6) return show_replay(words + 2);
     if (strcmp(call, "large") == 0 && (count == 5 || count == 6)) return show_large(words + 2);
+    if (strcmp(call, "large_watch") == 0 && count >= 4) return show_large_watch(words + 2, (size_t)count - 4);
     if (strcmp(call, "why") == 0 && count >= 4) return show_why(words + 2, (size_t)count - 2);
-    fputs("call: check, lockstep, watch, settle, replay, large or why, and its files and numbers (call.c tells them)\n", stderr);
+    fputs("call: check, lockstep, watch, settle, replay, large, large_watch or why, and its files and numbers (call.c tells them)\n", stderr);
     return 2;
 }

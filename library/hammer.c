@@ -416,7 +416,57 @@ static void hit_large(void) {
     drop_texts(&texts, "large_rounds");
 }
 
-enum { MOST_LARGE_WORDS = MOST_NODES * 8 };
+enum { MOST_LARGE_WORDS = MOST_NODES * 8, MOST_WATCHED = 4 };
+
+/* The words of a list of rounds in one pass are those of each of the rounds by a call of its own. */
+static void compare_watched(struct texts texts, struct lists lists, uint32_t start, const uint32_t *old, size_t size, const uint32_t *rounds,
+                            size_t count, const uint32_t *found) {
+    uint32_t each[MOST_LARGE_WORDS], fields = UNSET;
+    for (size_t i = 0; i < count; i++) {
+        memcpy(each, old, sizeof each);
+        if (unison_large_rounds(PROGRAM, LISTS, start, rounds[i], each, size, &fields)) fail("watched a round that is refused", "large_watch");
+        if (memcmp(found + i * size, each, sizeof *each * size) != 0) fail("other words than of the round alone", "large_watch");
+    }
+}
+
+/* What a call that watches rounds has to answer, in the order of its faults; the number of fields is that which it set. */
+static uint32_t watch_answer(struct texts texts, struct lists lists, uint32_t start, const uint32_t *rounds, size_t count, size_t words, size_t room) {
+    struct guarded none = guarded(0);
+    uint32_t fields = 0, answer = 0, *nothing = (uint32_t *)(void *)inside(none);
+    for (size_t i = 0; i < count && (!answer || answer == UNISON_LISTS_WORD_COUNT); i++) {
+        answer = unison_large_rounds(PROGRAM, LISTS, start, rounds[i], nothing, 0, &fields);
+        if ((!answer || answer == UNISON_LISTS_WORD_COUNT) && i && rounds[i] <= rounds[i - 1]) answer = UNISON_NOT_RISING;
+    }
+    if (!count) answer = unison_large_rounds(PROGRAM, LISTS, 0, 0, nothing, 0, &fields);
+    check_memory(none, 0, "the rounds of large_watch");
+    if (answer && answer != UNISON_LISTS_WORD_COUNT) return answer;
+    if (words != lists.nodes * fields) return UNISON_LISTS_WORD_COUNT;
+    return room < count * words ? UNISON_ROOM : 0;
+}
+
+/* A list of rounds on lists, most of it rising: the answer is what its parts have, and the words are those of each round. */
+static void hit_large_watch(void) {
+    struct texts texts = draw_texts();
+    struct lists lists = draw_lists(), before = lists;
+    uint32_t old[MOST_LARGE_WORDS], rounds[MOST_WATCHED + 1], fields = UNSET, start = (uint32_t)below(5);
+    size_t count = below(MOST_WATCHED + 1), size = lists.nodes * (chance(10) ? below(9) : 1);
+    for (size_t word = 0; word < MOST_LARGE_WORDS; word++) old[word] = chance(5) ? (uint32_t)draw() : (uint32_t)below(9);
+    for (size_t i = 0; i <= MOST_WATCHED; i++) rounds[i] = chance(20) ? some_round() : (i ? rounds[i - 1] + !chance(20) + (uint32_t)below(3) : start + (uint32_t)below(3));
+    uint32_t asked = unison_large_rounds(PROGRAM, LISTS, 0, 0, old, 0, &fields);
+    if (!chance(10) && (!asked || asked == UNISON_LISTS_WORD_COUNT)) size = lists.nodes * fields;
+    fields = UNSET;
+    struct guarded words = guarded(sizeof(uint32_t) * (chance(4) ? below(count * size + 2) : count * size + below(3)));
+    uint32_t *found = (uint32_t *)(void *)inside(words);
+    size_t room = words.len / sizeof(uint32_t);
+    uint32_t answer = unison_large_watch(PROGRAM, LISTS, start, old, size, rounds, count, found, room, &fields);
+    check_answer(answer, "large_watch");
+    if (answer != watch_answer(texts, lists, start, rounds, count, size, room)) fail("another answer than its parts have", "large_watch");
+    if ((!answer || answer == UNISON_LISTS_WORD_COUNT || answer == UNISON_ROOM) == (fields == UNSET)) fail("a number of fields", "large_watch");
+    if (!answer) compare_watched(texts, lists, start, old, size, rounds, count, found);
+    if (memcmp(&lists, &before, sizeof lists) != 0) fail("wrote into the lists", "large_watch");
+    check_memory(words, answer ? 0 : sizeof(uint32_t) * count * size, "large_watch");
+    drop_texts(&texts, "large_watch");
+}
 
 /* How many nodes have other words in the new list than in the old one. */
 static size_t count_changed(const uint32_t *old, const uint32_t *new, size_t nodes, size_t fields) {
@@ -463,7 +513,7 @@ static unsigned long resident(void) {
 }
 
 int main(int count, char **words) {
-    static void (*const hits[])(void) = {hit_check, hit_lockstep, hit_watch, hit_settle, hit_replay, hit_why, hit_large, hit_part};
+    static void (*const hits[])(void) = {hit_check, hit_lockstep, hit_watch, hit_settle, hit_replay, hit_why, hit_large, hit_large_watch, hit_part};
     if (count < 5) {
         fputs("hammer: SEED CALLS FILE..\n", stderr);
         return 2;

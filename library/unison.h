@@ -83,7 +83,7 @@ enum unison_fault {
     UNISON_LISTS_TOO_MANY_NEIGHBOURS = 146,
     UNISON_LISTS_NEIGHBOUR = 147,
     UNISON_LISTS_WEIGHT_COUNT = 148,
-    UNISON_LISTS_WORD_COUNT = 149,          /* unison_large_rounds, which sets *fields, and unison_part_round */
+    UNISON_LISTS_WORD_COUNT = 149,          /* unison_large_rounds and unison_large_watch, which set *fields, and unison_part_round */
     UNISON_LISTS_NUMBER_COUNT = 150,        /* unison_part_round alone, to 151 */
     UNISON_LISTS_ROOM_COUNT = 151
     /* (end of what is made) */
@@ -175,6 +175,19 @@ uint32_t unison_large_check(const uint64_t *offsets, size_t offsets_len, const u
 uint32_t unison_large_rounds(const uint8_t *program, size_t program_len, const uint64_t *offsets, size_t offsets_len,
                              const uint32_t *neighbours, size_t neighbours_len, const uint32_t *weights, size_t weights_len,
                              uint32_t start, uint32_t round, uint32_t *words, size_t words_len, uint32_t *fields);
+
+/* The words after each of these rounds, one round behind the other, at the front of words: rounds_len times from_len of them, all
+ * in one pass over the rounds. from has the words of all nodes after an earlier round, start, as unison_large_rounds lays them out;
+ * each round of the list is above the one before it, and the first may be the start. from_len is the number of nodes times that
+ * of fields; where it is not, the answer is UNISON_LISTS_WORD_COUNT, and where words_room is too little for the words of all rounds
+ * it is UNISON_ROOM; no round is computed then. *fields is set in both cases, and where the answer is 0. With rounds_len 0 no words
+ * are written. The first fault is that of the program, of the lists, of the rounds (the first bad one: above 1,000,000,000, below
+ * the start, or not above the one before it), of from_len, of words_room, in this order. While the call runs it has what
+ * unison_large_rounds has, and the words of all rounds once more, since it writes nothing where memory runs out. */
+uint32_t unison_large_watch(const uint8_t *program, size_t program_len, const uint64_t *offsets, size_t offsets_len,
+                            const uint32_t *neighbours, size_t neighbours_len, const uint32_t *weights, size_t weights_len,
+                            uint32_t start, const uint32_t *from, size_t from_len, const uint32_t *rounds, size_t rounds_len,
+                            uint32_t *words, size_t words_room, uint32_t *fields);
 
 /* The words of a part's own nodes after the step from a round, for engines that split a network and keep the states themselves:
  * the part has its own nodes and, behind them, those that are only neighbours of them. ids has the number of each of these nodes

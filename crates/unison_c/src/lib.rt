@@ -11,13 +11,14 @@ ghost use Rattle.app_calls.specs.Refusals.{AreNoRounds, IsNoReplay, IsNoRound, I
 ghost use Rattle.large_net.specs.Large.{AreLaidOut};
 ghost use Rattle.large_calls.specs.LargeAnswers.{HasLargeRounds, IsRefusedRounds};
 ghost use Rattle.large_calls.specs.PartAnswers.{HasPartRound, IsRefusedPart};
+ghost use Rattle.large_calls.specs.WatchAnswers.{HaveLargeRounds, IsRefusedWatch};
 ghost use Rattle.large_calls.specs.Lists.{given_weights, lists_fault};
 ghost use Rattle.large_calls.specs.ListNumbers.{IsLargeNumberOf, IsToldLists};
 
 use app_calls::{
     write_reason, write_replay, write_round, write_rounds, write_settling, write_spelling,
 };
-use large_calls::{check_lists, write_large_rounds, write_part_round};
+use large_calls::{check_lists, write_large_rounds, write_large_watch, write_part_round};
 use std::alloc::Global;
 
 /// The number of the fault of too little room.
@@ -235,6 +236,38 @@ pub extern "C" fn unison_large_rounds(
 {
     let done = write_large_rounds(
         alloc, program, offsets, neighbours, weights, start, round, words, fields,
+    );
+    match done {
+        Ok(()) => 0,
+        Err(fault) => fault.number(),
+    }
+}
+
+/// Writes the words after each of the rounds, of which each is above the one before it, one round behind the other, to the front
+/// of the words, on a network of any size whose nodes have the words `from` after the start, and how many fields there are; where
+/// there is not one word in `from` for each field of each node, or too little room, how many fields there are alone, and then no
+/// round is computed. All is done in one pass over the rounds.
+#[unsafe(no_mangle)]
+pub extern "C" fn unison_large_watch(
+    alloc: Global,
+    program: &[u8],
+    offsets: &[usize],
+    neighbours: &[u32],
+    weights: &[u32],
+    start: u32,
+    from: &[u32],
+    rounds: &[u32],
+    words: &mut [u32],
+    fields: &mut u32,
+) -> u32
+    ensures written { result ≡ 0 → HaveLargeRounds program.now offsets.now neighbours.now weights.now start from.now rounds.now words.old words.new fields.new }
+    ensures kept { result ≢ 0 → words.new ≡ words.old }
+    ensures sized { result ≢ 0 → result ≢ WORD_COUNT → result ≢ ROOM → fields.new ≡ fields.old }
+    ensures refused { result ≢ 0 → IsLargeNumberOf (IsRefusedWatch program.now offsets.now neighbours.now weights.now start from.now rounds.now (length words.old) fields.new) result }
+    ensures long { 65536 < length program.now → result ≡ 16 }
+{
+    let done = write_large_watch(
+        alloc, program, offsets, neighbours, weights, start, from, rounds, words, fields,
     );
     match done {
         Ok(()) => 0,
