@@ -6,6 +6,7 @@ from array import array
 from support import DISTANCE, SWAP, network, program, raised, wanted
 
 import unison
+from unison import _calls
 
 TOTALS = "field s = 3; field seen = 0; next s = (total (n.s + n.weight) % 1009); next seen = (seen max count n.s);"
 
@@ -45,6 +46,23 @@ def test_rounds_on_random_rows():
         for round in range(6):
             assert as_tuples(unison.lockstep(rule, given, round)) == states, (seed, round)
             states = totals(rows, states)
+
+
+def test_watched_words_on_random_rows():
+    rule = unison.Program(TOTALS)
+    for seed in range(25):
+        rows = random_rows(seed, 1 + seed % 9)
+        given = unison.Network.from_arrays(*lists_of(rows))
+        states, seen = [(3 + node, 0) for node in range(len(rows))], []
+        opening = array("I", [word for state in states for word in state])
+        for _ in range(6):
+            seen.append([word for state in states for word in state])
+            states = totals(rows, states)
+        found = _calls.large_watch(rule.text, given._lists(), 7, opening, len(opening), [7, 9, 12])
+        assert list(found) == seen[0] + seen[2] + seen[5], seed
+    assert len(_calls.large_watch(rule.text, given._lists(), 7, opening, len(opening), [])) == 0
+    refused = raised(unison.RunError, lambda: _calls.large_watch(rule.text, given._lists(), 7, opening, len(opening), [9, 9]))
+    assert refused.name == "NotRising"
 
 
 def test_large_and_small_networks_agree():

@@ -206,3 +206,19 @@ def large_rounds(program: bytes, lists: Tuple[int, ...], start: int, asked: int,
     call = _library.load().unison_large_rounds
     answer = call(program, len(program), *lists, start, asked, address(words), count, ctypes.byref(fields))
     refuse(answer, CHECK, Texts(program), 0)
+
+
+def large_watch(
+    program: bytes, lists: Tuple[int, ...], start: int, opening: "array[int]", count: int, rounds: Sequence[int]
+) -> "array[int]":
+    """The words of some rounds, one round behind the other, from so many words of the start."""
+    listed = array("I", rounds) if rounds else room_for(0)
+    room, fields = len(rounds) * count, ctypes.c_uint32(0)
+    words = room_for(room)
+    call = _library.load().unison_large_watch
+    answer = call(
+        program, len(program), *lists, start, address(opening), count,
+        address(listed), len(rounds), address(words), room, ctypes.byref(fields),
+    )  # fmt: skip
+    refuse(answer, CHECK, Texts(program), 0)
+    return cut(words, room)
