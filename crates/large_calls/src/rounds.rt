@@ -69,7 +69,8 @@ fn states_after(
     let plan = plan_on(alloc, program, rows, opening, start)?;
     let mut walk = plan.walk(alloc)?;
     walk.go_to(round);
-    walk.states(alloc)
+    let states = walk.states(alloc)?;
+    Ok(states)
 }
 
 /// Moves all nodes of rows from the round of their words on to a later one.
