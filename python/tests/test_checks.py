@@ -70,7 +70,7 @@ CASES = [
     (TypeError, f"count: program is 5, an int: {PROGRAM_WANTED}", lambda: unison.count(5, pair, 1)),
     (TypeError, f"lockstep: network is 'nodes = 1', a str: {NETWORK_WANTED}", lambda: unison.lockstep(swap, "nodes = 1", 1)),
     (TypeError, f"replay: network is <a graph>: {NETWORK_WANTED}", lambda: unison.replay(swap, Graph(), "")),
-    (TypeError, "settle: network is <LargeNetwork of 3 nodes and 6 neighbours>: a unison.Network of at most 65536 nodes is wanted here; large ones are taken by lockstep, watch and count", lambda: unison.settle(swap, ring)),
+    (TypeError, "settle: network is <LargeNetwork of 3 nodes and 6 neighbours>: a unison.Network of at most 65536 nodes is wanted here; large ones are taken by lockstep, watch, sweep and count", lambda: unison.settle(swap, ring)),
     (TypeError, "Program: text is 5, an int: a text, a str or bytes, is wanted", lambda: unison.Program(5)),
     (TypeError, "Model: text is None: a text, a str or bytes, is wanted", lambda: unison.Model(None)),
     (TypeError, "Program.from_file: path is 5, an int: the path of a file, a str or a pathlib.Path, is wanted", lambda: unison.Program.from_file(5)),

@@ -161,7 +161,7 @@ def network_wanted(value: Any) -> str:
     if type(value).__module__.startswith("scipy"):
         return "a unison.Network is wanted: unison.Network.from_scipy(matrix) makes a large one"
     if type(value).__name__ == "LargeNetwork":
-        return "a unison.Network of at most 65536 nodes is wanted here; large ones are taken by lockstep, watch and count"
+        return "a unison.Network of at most 65536 nodes is wanted here; large ones are taken by lockstep, watch, sweep and count"
     return "a unison.Network is wanted: unison.Network(nodes, links) makes one, unison.Network.from_text(text) that of a text"
 
 
