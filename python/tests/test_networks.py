@@ -71,6 +71,12 @@ def test_numbers_are_names_where_there_are_none():
         raised(unison.faults.Missing, lambda: net.number(number))
 
 
+def test_views_of_networkx_are_lists():
+    graph = wanted("networkx").path_graph(["x", "y", "z"])
+    net = unison.Network(graph.nodes, graph.edges)
+    assert net.names == ("x", "y", "z") and net.links == ((0, 1, 1), (1, 2, 1))
+
+
 def test_with_other_initial_values():
     net = CLUB.with_set({"dist": {"cid": 0}})
     assert unison.lockstep(unison.Program(DISTANCE), net, 2).by_name("dist") == {"ann": 2, "bob": 1, "cid": 0, "dan": 2}

@@ -37,7 +37,10 @@ def test_types_of_the_package_and_its_examples():
         head = ["import unison", "program = unison.Program('')", "network = unison.Network(1, [])"]
         uses.write_text("\n".join([*head, *(use for use, _ in USES)]) + "\n")
         lines = looked("unison", *map(str, examples), str(uses))
-    told = {int(found[1]): line for line in lines if (found := re.match(r".*uses\.py:([0-9]+): error: ", line))}
+    told = {}
+    for line in lines:
+        if found := re.match(r".*uses\.py:([0-9]+): error: ", line):
+            told[int(found[1])] = told.get(int(found[1]), "") + line
     others = [line for line in lines if "error: " in line and "uses.py" not in line and not line.startswith("Found ")]
     assert not others, "\n".join(others)
     for place, (use, wrong) in enumerate(USES, len(head) + 1):

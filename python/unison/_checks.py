@@ -128,7 +128,7 @@ def path(call: str, name: str, value: Any) -> Union[str, "os.PathLike[str]"]:
 
 def items(call: str, name: str, value: Any, wanted: str) -> List[Any]:
     """The items of a list, or of all else that is gone through, but for texts and dicts."""
-    if isinstance(value, (str, bytes, bytearray, Mapping)) or not isinstance(value, Iterable):
+    if isinstance(value, (str, bytes, bytearray, dict)) or not isinstance(value, Iterable):
         refuse(call, name, value, f"{wanted} is wanted")
     try:
         return list(value.tolist() if hasattr(value, "tolist") else value)
