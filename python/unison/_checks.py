@@ -91,8 +91,9 @@ def cell(call: str, name: str, value: Any, *places: Any, fault: int = BAD_VALUE)
 
 
 def round_of(call: str, name: str, value: Any, fault: int = TOO_MANY_ROUNDS, least: int = 0) -> int:
-    """A round, a stop or a limit, counted from round 0."""
-    return whole(call, name, value, least, LAST_ROUND, fault)
+    """A round, a stop or a limit, counted from round 0. One above the last round is a fault of the library, one below 0 is none."""
+    above = is_whole(value) and operator.index(value) > LAST_ROUND
+    return whole(call, name, value, least, LAST_ROUND, fault if above else 0)
 
 
 def flag(call: str, name: str, value: Any) -> bool:
@@ -161,7 +162,7 @@ def network_wanted(value: Any) -> str:
     if type(value).__module__.startswith("scipy"):
         return "a unison.Network is wanted: unison.Network.from_scipy(matrix) makes a large one"
     if type(value).__name__ == "LargeNetwork":
-        return "a unison.Network of at most 65536 nodes is wanted here; large ones are taken by lockstep, watch, sweep and count"
+        return "a unison.Network is wanted: a large network is taken by lockstep, watch, sweep and count alone"
     return "a unison.Network is wanted: unison.Network(nodes, links) makes one, unison.Network.from_text(text) that of a text"
 
 
