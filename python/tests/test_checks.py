@@ -1,5 +1,7 @@
 """Mistakes in arguments are told by the call, the argument, what was given and what is wanted, before any text is made."""
 
+import re
+
 from support import DISTANCE, SWAP, raised
 
 import unison
@@ -192,3 +194,95 @@ def test_a_graph_of_networkx_is_told_how_it_becomes_a_network():
     graph = wanted("networkx").path_graph(3)
     told = str(raised(TypeError, lambda: unison.lockstep(swap, graph, 1)))
     assert told == "lockstep: network is a Graph of networkx: a unison.Network is wanted: unison.Network.from_networkx(graph) makes one"
+
+
+#: What is given in place of each argument in turn: values of each kind, of which few are what is wanted.
+OTHERS = [
+    5, -1, 2.5, float("nan"), 2**80, True, None, "x", b"x", [], [1.5], [None], [[0]], [("a",)], (1, 2, 3), {"a": 1}, {1}, range(3),
+    object(), lambda *_: 0, swap, pair, ring, first,
+]  # fmt: skip
+#: What Python itself says where a value is of the wrong kind.
+WORDS_OF_PYTHON = re.compile(
+    "has no attribute|object is not|not supported between|unhashable|required positional|unexpected keyword|has no len|"
+    "cannot be interpreted|not subscriptable|must be|is not a mapping|invalid literal|out of range$|unpack"
+)
+named = unison.Network(["a", "b"], [("a", "b")])
+seen = unison.watch(swap, pair, [0, 1])
+
+#: Public calls, each with arguments that it takes, and those that may be left out.
+CALLS = [
+    (unison.lockstep, [swap, pair, 1], ["from_"]),
+    (unison.lockstep, [swap, ring, 1], ["from_"]),
+    (unison.watch, [swap, pair, [1]], ["from_"]),
+    (unison.settle, [swap, pair, 10], ["from_"]),
+    (unison.replay, [swap, pair, "", 5], ["from_"]),
+    (unison.why, [swap, pair], ["rounds", "schedule", "stop", "from_"]),
+    (unison.first_fault, [swap, pair], ["rounds", "schedule", "stop", "from_"]),
+    (unison.sweep, [swap, pair, {"s": [1]}, 1], ["count", "sum", "least", "most", "of", "from_"]),
+    (unison.Program, ["field s = 0;"], []),
+    (unison.Network, [2, [(0, 1)], None], ["set", "phase"]),
+    (unison.Network.from_text, [pair.text, None], []),
+    (unison.Network.from_arrays, [[0, 1, 2], [1, 0], None], ["set", "names"]),
+    (unison.Network.from_edges, [[0], [1], None], ["nodes", "directed", "set", "names"]),
+    (unison.Network.from_networkx, [None, "weight"], []),
+    (unison.Network.from_scipy, [None], ["weights"]),
+    (pair.with_set, [{"s": 1}], []),
+    (ring.with_set, [{"s": 1}], []),
+    (named.number, ["a"], []),
+    (named.neighbours, ["a"], []),
+    (named.degree, ["a"], []),
+    (named.slot, ["a", "b"], []),
+    (named.weight, ["a", "b"], []),
+    (ring.number, [1], []),
+    (ring.neighbours, [1], []),
+    (schedule.read, [pair, 0, 1], []),
+    (schedule.write, [pair, 0], []),
+    (schedule.turn, [pair, 0], []),
+    (schedule.sweep, [pair, 1], []),
+    (schedule.spell, [[schedule.Write(0)]], []),
+    (schedule.parse, ["write 0\n"], []),
+    (unison.States.from_values, [swap, [[1], [2]], 1], ["names"]),
+    (first.state, [0], []),
+    (first.by_name, ["s"], []),
+    (first.column, ["s"], []),
+    (first.difference, ["s", first], []),
+    (seen.at, [1], []),
+    (unison.count, [swap, pair, 1], []),
+    (unison.image, [swap, pair, 1], []),
+    (unison.cuts, [swap, pair, 1], []),
+]  # fmt: skip
+
+
+def tries(positional, optional):
+    """Arguments of which one is another value."""
+    for other in OTHERS:
+        for place in range(len(positional)):
+            yield [*positional[:place], other, *positional[place + 1 :]], {}
+        for name in optional:
+            yield positional, {name: other}
+
+
+def test_no_call_answers_in_words_of_python():
+    """Whatever is given, a call does what it is for, or says in words of its own what is wrong; programs are not run."""
+    from unison import _programs
+
+    def refuse(*_, **__):
+        raise unison.ProgramsMissing("none is run here")
+
+    ran, _programs.ran = _programs.ran, refuse
+    wrong, told = set(), 0
+    try:
+        for call, positional, optional in CALLS:
+            for given, more in tries(positional, optional):
+                try:
+                    call(*given, **more)
+                except (TypeError, ValueError, KeyError, IndexError, unison.ProgramsMissing) as error:
+                    told += 1
+                    if WORDS_OF_PYTHON.search(str(error)):
+                        wrong.add(f"{call.__qualname__}: {type(error).__name__}: {error}")
+                except Exception as error:
+                    wrong.add(f"{call.__qualname__}: {type(error).__name__}: {error}")
+    finally:
+        _programs.ran = ran
+    assert not wrong, "\n".join(sorted(wrong))
+    assert told > 1000

@@ -161,6 +161,13 @@ def rows_of_lists(nodes: int, ends: Tuple[Any, Any], weights: Any, directed: boo
     return offsets, neighbours, None if weights is None else array("I", (weights[place] for place in order))
 
 
+def row_of(row: Any, what: str) -> Tuple[Any, ...]:
+    """The values of a node."""
+    if isinstance(row, (str, bytes)) or not isinstance(row, Iterable):
+        raise TypeError(f"{what} are {row!r}: expected a list with a value for each field")
+    return tuple(row)
+
+
 def values_of(values: Any, fields: Sequence[str]) -> Tuple["array[int]", int]:
     """The words of values by node and field, and how many nodes there are."""
     what = f"the values by node and field ({', '.join(fields)})"
@@ -171,7 +178,9 @@ def values_of(values: Any, fields: Sequence[str]) -> Tuple["array[int]", int]:
         words = array("I")
         words.frombytes(of_numpy(given.reshape(-1), WORD, what).tobytes())
         return words, given.shape[0]
-    rows = [tuple(row) for row in values]
+    if isinstance(values, (str, bytes)) or not isinstance(values, Iterable):
+        raise TypeError(f"{what} are {values!r}: expected a list with a list for each node, or an array")
+    rows = [row_of(row, f"{what}: those of node {node}") for node, row in enumerate(values)]
     for node, row in enumerate(rows):
         if len(row) != len(fields):
             raise ValueError(f"{what}: node {node} has {len(row)}, expected {len(fields)}")

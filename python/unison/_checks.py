@@ -11,7 +11,6 @@ import os
 from typing import TYPE_CHECKING, Any, Dict, Iterable, List, Mapping, NoReturn, Optional, Sequence, Tuple, Type, Union
 
 from . import faults
-from .schedule import Read, Write, spell
 
 if TYPE_CHECKING:
     from .large import LargeNetwork
@@ -255,6 +254,8 @@ def states_fit(call: str, states: Any, program: "Program", network: "Union[Netwo
 
 def schedule(call: str, value: Any) -> bytes:
     """The text of a schedule, or that of its steps."""
+    from .schedule import Read, Write, spell
+
     if isinstance(value, (str, bytes, bytearray)):
         return text(call, "schedule", value)
     wanted = "the text of a schedule, or a list of steps, as unison.schedule makes them,"
@@ -289,16 +290,28 @@ def nodes(call: str, value: Any) -> Union[int, Tuple[Any, ...]]:
         return whole(call, "nodes", value)
     if isinstance(value, (set, frozenset)):
         refuse(call, "nodes", value, f"{wanted} is wanted")
-    names = items(call, "nodes", value, wanted)
+    return each_once(call, "nodes", items(call, "nodes", value, wanted))
+
+
+def each_once(call: str, what: str, names: Iterable[Any]) -> Tuple[Any, ...]:
+    """The names of nodes, of which no two are the same."""
     seen: Dict[Any, int] = {}
     for place, name in enumerate(names):
         try:
             first = seen.setdefault(name, place)
         except TypeError:
-            refuse(call, f"nodes[{place}]", name, "a name that can be the key of a dict is wanted")
+            refuse(call, f"{what}[{place}]", name, "a name that can be the key of a dict is wanted")
         if first != place:
-            refuse(call, f"nodes[{place}]", name, f"a name of its own is wanted, and nodes[{first}] has this one", ValueError)
-    return tuple(names)
+            refuse(call, f"{what}[{place}]", name, f"a name of its own is wanted, and {what}[{first}] has this one", ValueError)
+    return tuple(seen)
+
+
+def number_called(numbers: Mapping[Any, int], name: Any) -> Optional[int]:
+    """The number of the node of this name; None where none is called so, since it may be no name at all."""
+    try:
+        return numbers.get(name)
+    except TypeError:
+        return None
 
 
 def link(call: str, place: int, value: Any) -> None:
@@ -316,6 +329,6 @@ def graph(call: str, value: Any) -> None:
         refuse(call, "graph", value, "a graph of NetworkX is wanted")
 
 
-def names(call: str, value: Any) -> Optional[List[Any]]:
-    """What nodes are called, node 0 first; None where they have no names."""
-    return None if value is None else items(call, "names", value, "a list of names, node 0 first,")
+def names(call: str, value: Any) -> Optional[Tuple[Any, ...]]:
+    """What nodes are called, node 0 first, each once; None where they have no names."""
+    return None if value is None else each_once(call, "names", items(call, "names", value, "a list of names, node 0 first,"))

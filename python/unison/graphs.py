@@ -122,6 +122,8 @@ def to_networkx(network: Network, values: Optional[Table] = None) -> Any:
     graph.add_nodes_from(names)
     graph.add_weighted_edges_from((names[one], names[other], weight) for one, other, weight in network.links)
     if values is not None:
+        if not isinstance(values, Table):
+            _checks.refuse("to_networkx", "values", values, "the States of a round, or what replay answers, is wanted")
         if values.nodes != network.nodes:
             raise ValueError(f"the values are of {values.nodes} nodes, and the network has {network.nodes}")
         for field in values.fields:

@@ -53,11 +53,11 @@ class LargeNetwork:
         self._weights = numbers((), WORD, "weights") if weights is None else numbers(weights, WORD, "weights")
         if weights is not None and self._weights.count == 0 < self._neighbours.count:
             raise ValueError(f"there are no weights: expected one for each of the {self._neighbours.count} indices, or weights=None")
-        self._names = None if names is None else tuple(names)
+        self._names = _checks.names("LargeNetwork", names)
         self._look()
         self._numbers = None if self._names is None else {name: number for number, name in enumerate(self._names)}
-        if self._names is not None and not len(self._numbers or ()) == len(self._names) == self.nodes:
-            raise ValueError(f"expected {self.nodes} names, each once")
+        if self._names is not None and len(self._names) != self.nodes:
+            raise ValueError(f"LargeNetwork: names has {len(self._names)} names: one for each of the {self.nodes} nodes is wanted")
         self._set = {field: self._values(field, given) for field, given in _checks.initial_values("LargeNetwork", set).items()}
 
     def _look(self) -> None:
@@ -129,7 +129,8 @@ class LargeNetwork:
 
     def number(self, name: Any) -> int:
         """The number of the node of this name; where nodes have no names, the number itself."""
-        number = self._numbers.get(name) if self._numbers is not None else int(name) if is_number(name) else None
+        called = self._numbers
+        number = _checks.number_called(called, name) if called is not None else int(name) if is_number(name) else None
         if number is None or not 0 <= number < self.nodes:
             raise faults.Missing(f"there is no node {name!r}")
         return number
@@ -219,7 +220,7 @@ def start_of(program: Program, network: LargeNetwork, from_: Any) -> Start:
         return Start(network, 0, network._initial_words(program))
     if not isinstance(from_, States):
         raise TypeError(
-            f"a large network goes on from States, and not from {type(from_).__name__}: "
+            f"from_ is {_checks.shown(from_)}: a unison.States is wanted here: "
             "unison.States.from_values(program, values, round) makes them of an array"
         )
     if from_.fields != program.fields or from_.nodes != network.nodes:

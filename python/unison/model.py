@@ -46,7 +46,7 @@ class Model(Program):
     """
 
     def __init__(self, text: Union[str, bytes], constants: Optional[Mapping[str, int]] = None) -> None:
-        self._take(_checks.text("Model", "text", text), constants_of("Model", constants or {}), FILE)
+        self._take(_checks.text("Model", "text", text), constants_of("Model", constants), FILE)
 
     def _take(self, source: bytes, given: Dict[str, int], called: str) -> None:
         """Takes the program to which a model of this text, in a file that is called so, is expanded."""
@@ -62,7 +62,7 @@ class Model(Program):
         file = Path(_checks.path("Model.from_file", "path", path))
         model = cls.__new__(cls)
         called = file.name if file.suffix == ".model" else f"{file.name}.model"
-        model._take(file.read_bytes(), constants_of("Model.from_file", constants or {}), called)
+        model._take(file.read_bytes(), constants_of("Model.from_file", constants), called)
         return model
 
     def with_constants(self, constants: Optional[Mapping[str, int]] = None, **more: int) -> Model:
@@ -70,7 +70,7 @@ class Model(Program):
 
         Each model has the constant `seed`, 0 where its text has none, by which its random numbers are drawn.
         """
-        given = constants_of("Model.with_constants", {**(constants or {}), **more})
+        given = {**constants_of("Model.with_constants", constants), **constants_of("Model.with_constants", more)}
         other = type(self).__new__(type(self))
         other._take(self._source, {**self._given, **given}, self._called)
         return other
@@ -116,7 +116,9 @@ class Model(Program):
 
 
 def constants_of(call: str, given: Any) -> Dict[str, int]:
-    """Values for constants, by their names."""
+    """Values for constants, by their names; none for None."""
+    if given is None:
+        return {}
     if not isinstance(given, Mapping):
         _checks.refuse(call, "constants", given, "a dict from names of constants to whole numbers is wanted")
     for name in given:

@@ -127,11 +127,11 @@ class Network(Makers):
             if type(node) is int and 0 <= node < self.nodes:  # the usual case, for which no words are made
                 return node
             return _checks.whole(call, _checks.at(name, *places), node, 0, self.nodes - 1, fault)
-        try:
-            return self._numbers[node]
-        except (KeyError, TypeError):
+        number = _checks.number_called(self._numbers, node)
+        if number is None:
             where = _checks.at(name, *places)
-            raise faults.Missing(f"{call}: {where} is {_checks.shown(node)}: the name of a node is wanted, and none is called so") from None
+            raise faults.Missing(f"{call}: {where} is {_checks.shown(node)}: the name of a node is wanted, and none is called so")
+        return number
 
     def _sets(self, call: str, sets: Mapping[str, InitialValues]) -> Sets:
         return {field: self._pairs(call, field, given) for field, given in sets.items()}
@@ -163,8 +163,7 @@ class Network(Makers):
         network._document = None
         network._is_read = True
         network._rows = None
-        called = _checks.names("Network.from_text", names)
-        network._call_nodes(None if called is None else tuple(called))
+        network._call_nodes(_checks.names("Network.from_text", names))
         try:
             network._count = accept(network._text, {})
         except faults.PlanError:  # it is a network, with initial values for fields
@@ -303,7 +302,7 @@ class Network(Makers):
     def number(self, name: Name) -> int:
         """The number of the node of this name; where nodes have no names, the number itself."""
         if self._numbers is not None:
-            number = self._numbers.get(name)
+            number = _checks.number_called(self._numbers, name)
         else:
             number = operator.index(name) if is_number(name) else None  # type: ignore[arg-type]
         if number is None or not 0 <= number < self.nodes:

@@ -6,7 +6,7 @@ import importlib
 from array import array
 from typing import Any, Dict, Hashable, Iterator, List, NamedTuple, Optional, Sequence, Tuple, Union
 
-from . import _notebook
+from . import _checks, _notebook
 from ._calls import MOST
 from .faults import Missing
 
@@ -197,6 +197,8 @@ class Table(Columns):
 
     def state(self, number: int) -> Dict[str, int]:
         """The value of each field at the node of this number. Raises IndexError where there is none."""
+        if not _checks.is_whole(number):
+            _checks.refuse("state", "number", number, f"the number of a node, from 0 to {self._nodes - 1}, is wanted")
         if not 0 <= number < self._nodes:
             raise IndexError(f"there is no node {number}: nodes are numbered from 0 to {self._nodes - 1}")
         return dict(zip(self._fields, self._row(number)))
@@ -255,8 +257,10 @@ class States(Table):
         """
         from ._arrays import values_of
 
-        words, nodes = values_of(values, program.fields)
-        return cls(round, program.fields, nodes, words, names)
+        fields = _checks.program("States.from_values", program).fields
+        asked = _checks.round_of("States.from_values", "round", round)
+        words, nodes = values_of(values, fields)
+        return cls(asked, fields, nodes, words, _checks.names("States.from_values", names))
 
     @property
     def round(self) -> int:
@@ -320,8 +324,8 @@ class Rounds(Columns):
 
     def at(self, round: int) -> States:
         """The states after one of the rounds."""
-        if round not in self._rounds:
-            raise Missing(f"round {round} was not watched")
+        if _checks.round_of("at", "round", round) not in self._rounds:
+            raise Missing(f"round {round} was not watched: there is no such round among those that were asked for")
         return self._states(self._rounds.index(round))
 
     def __iter__(self) -> Iterator[States]:

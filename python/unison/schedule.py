@@ -20,7 +20,7 @@ from __future__ import annotations
 import re
 from typing import TYPE_CHECKING, Any, Hashable, Iterable, List, NamedTuple, Union
 
-from . import faults
+from . import _checks, faults
 
 if TYPE_CHECKING:
     from .network import Network
@@ -49,16 +49,19 @@ Step = Union[Read, Write]
 
 def read(network: Network, node: Name, neighbour: Name) -> Read:
     """A read by a node of a neighbour, both called by their names."""
+    _checks.network("schedule.read", network)
     return Read(network.number(node), network.slot(node, neighbour))
 
 
 def write(network: Network, node: Name) -> Write:
     """The write of a node, called by its name."""
+    _checks.network("schedule.write", network)
     return Write(network.number(node))
 
 
 def turn(network: Network, node: Name) -> List[Step]:
     """A node reads all its neighbours, by rising number, and moves."""
+    _checks.network("schedule.turn", network)
     number = network.number(node)
     return [*(Read(number, slot) for slot in range(network.degree(node))), Write(number)]
 
@@ -66,7 +69,9 @@ def turn(network: Network, node: Name) -> List[Step]:
 def sweep(network: Network, times: int = 1) -> List[Step]:
     """A turn of each node by rising number, so many times: 2 * links + nodes steps each time, after which each node has moved once
     more, if all were level before."""
-    return [step for name in network.names for step in turn(network, name)] * times
+    _checks.network("schedule.sweep", network)
+    count = _checks.whole("schedule.sweep", "times", times)
+    return [step for name in network.names for step in turn(network, name)] * count
 
 
 def spell(steps: Iterable[Step]) -> str:
@@ -74,20 +79,23 @@ def spell(steps: Iterable[Step]) -> str:
 
     A number is 0 to 4294967295; the replay of a step of no node, or at no slot, changes nothing.
     """
-    return "".join(line_of(step) for step in steps)
+    listed = _checks.items("schedule.spell", "steps", steps, "a list of steps, as schedule.read and write make them,")
+    return "".join(line_of(place, step) for place, step in enumerate(listed))
 
 
-def line_of(step: Any) -> str:
+def line_of(place: int, step: Any) -> str:
+    """The line of the step at this place."""
     if not isinstance(step, (Read, Write)):
-        raise TypeError(f"a step is a Read or a Write, and not {step!r}")
-    if not all(0 <= number <= GREATEST for number in step):
-        raise ValueError(f"a number of {step!r} is not from 0 to {GREATEST}")
+        _checks.refuse("schedule.spell", f"steps[{place}]", step, "a step, as schedule.read and write make them, is wanted")
+    if not all(type(number) is int and 0 <= number <= GREATEST for number in step):
+        for part, number in zip(step._fields, step):
+            _checks.whole("schedule.spell", f"steps[{place}].{part}", number)
     return f"read {step.node} {step.slot}\n" if isinstance(step, Read) else f"write {step.node}\n"
 
 
 def parse(text: Union[str, bytes]) -> List[Step]:
     """The steps of a schedule's text. Raises ScheduleError at the first line that is none."""
-    whole = text if isinstance(text, str) else text.decode("utf-8", "surrogateescape")
+    whole = _checks.text("schedule.parse", "text", text).decode("utf-8", "surrogateescape")
     return [step_of(number, line) for number, line in enumerate(re.findall(r"[^\n]*\n|[^\n]+", whole), 1)]
 
 
