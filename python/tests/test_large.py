@@ -219,7 +219,7 @@ def test_large_graphs_of_networkx():
 def test_jobs_of_small_networks_alone():
     rule, pair = unison.Program(SWAP), unison.Network.from_arrays([0, 1, 2], [1, 0])
     for call in (lambda: unison.settle(rule, pair), lambda: unison.replay(rule, pair, "")):
-        assert "large ones are taken by lockstep, watch, sweep and count" in str(raised(TypeError, call))
+        assert "a large network is taken by lockstep, watch, sweep and count alone" in str(raised(TypeError, call))
     assert "States" in str(raised(TypeError, lambda: unison.lockstep(rule, pair, 1, from_="round 0\n0 s=0\n1 s=0\n")))
     raised(TypeError, lambda: unison.lockstep(SWAP, pair, 1))
 
