@@ -48,7 +48,7 @@ def number(value: Any, what: str) -> int:
 
 def room_for(count: int) -> "array[int]":
     """Room for so many words; for none there is one, since no pointer may be null."""
-    return array("I", bytes(4 * max(count, 1)))
+    return array("I", [0]) * max(count, 1)
 
 
 def address(words: "array[int]") -> int:
