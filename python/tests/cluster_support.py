@@ -5,6 +5,7 @@ import atexit
 import io
 import os
 import shutil
+import struct
 import subprocess
 import sys
 import tempfile
@@ -23,6 +24,15 @@ def new_folder():
     folder = Path(tempfile.mkdtemp())
     atexit.register(shutil.rmtree, folder, ignore_errors=True)
     return folder
+
+
+def packed(rows):
+    """The binary file of rows of (neighbour, weight), by docs/formats.md."""
+    ends = [end for row in rows for end in row]
+    offsets = [sum(map(len, rows[:node])) for node in range(len(rows) + 1)]
+    flag = int(any(weight != 1 for _, weight in ends))
+    columns = [struct.pack(f"<{len(ends)}I", *(end[column] for end in ends)) for column in range(1 + flag)]
+    return b"".join([b"UNISONW1", struct.pack("<3Q", len(rows), len(ends), flag), struct.pack(f"<{len(offsets)}Q", *offsets), *columns])
 
 
 def needs_mpi():

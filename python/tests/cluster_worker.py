@@ -11,13 +11,12 @@ import json
 import os
 import random
 import signal
-import struct
 import sys
 import time
 import traceback
 from pathlib import Path
 
-from cluster_support import new_folder
+from cluster_support import new_folder, packed
 from support import reference
 
 import numpy as np  # noqa: E402
@@ -50,24 +49,16 @@ class Changed:
         return self.comm.Iallreduce(*given)
 
 
-def packed(rows):
-    """The binary file of rows of (neighbour, weight), by docs/formats.md."""
-    ends = [end for row in rows for end in row]
-    offsets = np.cumsum([0] + [len(row) for row in rows], dtype="<u8")
-    flag = int(any(weight != 1 for _, weight in ends))
-    columns = [np.array([end[column] for end in ends], dtype="<u4").tobytes() for column in range(1 + flag)]
-    return b"".join([b"UNISONW1", struct.pack("<3Q", len(rows), len(ends), flag), offsets.tobytes(), *columns])
-
-
 def drawn_rows(draws):
     """Rows of a network: links one way, several between two nodes, of a node with itself; hubs, components, nodes without links."""
     nodes = draws.choice([1, 2, 3, 5, 9, 20, 45, 100, 150])
     weight = lambda: draws.choice([1, 1, 1, 0, 5, MOST]) if is_weighted else 1
-    shape, is_weighted = draws.choice(["random", "directed", "ring", "grid", "hub", "components", "none"]), draws.random() < 0.5
+    shape, is_weighted = draws.choice(["random", "directed", "one way", "ring", "grid", "hub", "components", "none"]), draws.random() < 0.5
     rows = [[] for _ in range(nodes)]
     pairs = {
         "random": [(draws.randrange(nodes), draws.randrange(nodes)) for _ in range(2 * nodes)],
         "directed": [(draws.randrange(nodes), draws.randrange(nodes)) for _ in range(3 * nodes)],
+        "one way": [(node, (node + 1) % nodes) for node in range(nodes)],
         "ring": [(node, (node + 1) % nodes) for node in range(nodes)],
         "grid": [(node, node + 1) for node in range(nodes - 1)] + [(node, node + 10) for node in range(nodes - 10)],
         "hub": [(0, node) for node in range(nodes)] + [(nodes - 1, node) for node in range(nodes)],
@@ -76,7 +67,7 @@ def drawn_rows(draws):
     }[shape]
     for one, other in pairs:
         rows[one].append((other, weight()))
-        if shape != "directed":
+        if shape not in ("directed", "one way"):
             rows[other].append((one, weight()))
     return rows
 

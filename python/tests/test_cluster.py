@@ -5,8 +5,10 @@ import random
 import re
 import shutil
 import struct
+import threading
+from concurrent.futures import ThreadPoolExecutor
 
-from cluster_support import PACKAGE, WORKER, lines_of_code, mpirun, new_folder
+from cluster_support import PACKAGE, WORKER, lines_of_code, mpirun, new_folder, packed
 from support import DISTANCE, ROOT, raised, wanted
 
 import unison
@@ -20,10 +22,7 @@ def torus():
     wide, high = TORUS
     steps = ((1, 0), (-1, 0), (0, 1), (0, -1))
     rows = [sorted((column + x) % wide + (row + y) % high * wide for x, y in steps) for row in range(high) for column in range(wide)]
-    offsets = [4 * node for node in range(len(rows) + 1)]
-    flat = [node for row in rows for node in row]
-    head = b"UNISONW1" + struct.pack("<3Q", len(rows), len(flat), 0)
-    return rows, head + struct.pack(f"<{len(offsets)}Q", *offsets) + struct.pack(f"<{len(flat)}I", *flat)
+    return rows, packed([[(node, 1) for node in row] for row in rows])
 
 
 def folder_with(**programs):
@@ -210,6 +209,88 @@ def test_cluster_messages_bring_the_states():
         room[: message.size] = message
         put_message(room, received)
         assert room[0] == 7 and (received == after[sent]).all()
+
+
+class Threads:
+    """A communicator between threads, for what is done by all together."""
+
+    def __init__(self, rank, shared, barrier):
+        self.rank, self.shared, self.barrier = rank, shared, barrier
+
+    def Get_rank(self):
+        return self.rank
+
+    def Get_size(self):
+        return len(self.shared)
+
+    def allgather(self, value):
+        self.shared[self.rank] = value
+        self.barrier.wait()
+        found = list(self.shared)
+        self.barrier.wait()
+        return found
+
+    def Alltoall(self, mine, into):
+        into[:] = [numbers[self.rank] for numbers in self.allgather(mine.tolist())]
+
+    def Alltoallv(self, mine, into):
+        data, counts = (given.tolist() for given in mine)
+        pieces = [data[sum(counts[:to]) : sum(counts[: to + 1])] for to in range(len(counts))]
+        received = [piece[self.rank] for piece in self.allgather(pieces)]
+        assert [len(piece) for piece in received] == into[1].tolist()
+        into[0][:] = [number for piece in received for number in piece]
+
+
+def built_parts(path, owners, processes):
+    """The parts of all processes, built by a thread each."""
+    from unison.cluster import part, parts
+    from unison.cluster.network import PackedFile
+
+    shared, barrier = [None] * processes, threading.Barrier(processes, timeout=60)
+    file = PackedFile(str(path))
+    by = parts.shares(file, processes) if owners is None else parts.Listed(owners)
+    build = lambda rank: part.build(Threads(rank, shared, barrier), file, by)
+    with ThreadPoolExecutor(processes) as pool:
+        return list(pool.map(build, range(processes)))
+
+
+def rows_in(rows):
+    """The rows of a call's own nodes by the numbers of the whole network: for each node its number, and its neighbours with weights."""
+    weights = [1] * rows.neighbours.size if rows.weights is None else rows.weights.tolist()
+    ends = list(zip(rows.ids[rows.neighbours].tolist(), weights))
+    offsets = rows.offsets.tolist()
+    assert len(offsets) == rows.ids.size + 1 and set(offsets[rows.own :]) == {len(ends)}, "nodes behind have no rows"
+    return {int(rows.ids[node]): ends[offsets[node] : offsets[node + 1]] for node in range(rows.own)}
+
+
+def test_cluster_parts_have_the_rows_of_the_network():
+    numpy = wanted("numpy")
+    draws, path = random.Random(11), new_folder() / "n.net"
+    for _ in range(150):
+        nodes, processes = draws.choice([1, 2, 7, 30]), draws.randrange(1, 6)
+        weight = lambda: draws.choice([1, 1, 9]) if nodes % 2 else 1
+        rows = [[(draws.randrange(nodes), weight()) for _ in range(draws.choice([0, 0, 1, 3]))] for _ in range(nodes)]
+        rows[0] = draws.choice([rows[0], [(node, weight()) for node in range(nodes)]])
+        path.write_bytes(packed(rows))
+        owners = draws.choice([None, numpy.array([draws.randrange(processes) for _ in range(nodes)], dtype="uint8")])
+        built = built_parts(path, owners, processes)
+        found = {}
+        for part in built:
+            own = part.numbers.tolist()
+            assert part.inner.ids.tolist() == own and rows_in(part.inner).keys() | rows_in(part.rim).keys() == set(own)
+            near = part.numbers[part.near].tolist()
+            assert part.rim.ids.tolist()[: part.rim.own + len(near)] == own[part.inner.own :] + near, "what the rounds copy there"
+            found.update({**rows_in(part.inner), **rows_in(part.rim)})
+        assert sum(len(part.numbers) for part in built) == nodes and found == dict(enumerate(rows))
+        pairs = {(here, border.rank): border for here, part in enumerate(built) for border in part.borders}
+        for (here, there), border in pairs.items():
+            other = pairs[there, here]
+            sent = built[here].numbers[built[here].inner.own :][border.sent].tolist()
+            border_nodes = built[there].rim.ids[built[there].rim.own + built[there].near.size :]
+            assert sent == border_nodes[other.first : other.last].tolist() and sorted(sent) == sent, "what is sent is what is read"
+        for part in built:
+            read = part.rim.ids.size - part.rim.own - part.near.size
+            assert sum(border.last - border.first for border in part.borders) == read
 
 
 def test_cluster_parts_have_each_node_and_about_as_much():
