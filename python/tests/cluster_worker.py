@@ -49,11 +49,14 @@ class Changed:
         return self.comm.Iallreduce(*given)
 
 
+SHAPES = [*2 * ["random", "directed", "one way", "ring", "grid", "grid", "hub"], "components", "none"]
+
+
 def drawn_rows(draws):
     """Rows of a network: links one way, several between two nodes, of a node with itself; hubs, components, nodes without links."""
-    nodes = draws.choice([1, 2, 3, 5, 9, 20, 45, 100, 150])
+    nodes = draws.choice([1, 2, 5, 9, 20, 45, 45, 100, 150])
     weight = lambda: draws.choice([1, 1, 1, 0, 5, MOST]) if is_weighted else 1
-    shape, is_weighted = draws.choice(["random", "directed", "one way", "ring", "grid", "hub", "components", "none"]), draws.random() < 0.5
+    shape, is_weighted = draws.choice(SHAPES), draws.random() < 0.5
     rows = [[] for _ in range(nodes)]
     pairs = {
         "random": [(draws.randrange(nodes), draws.randrange(nodes)) for _ in range(2 * nodes)],
@@ -79,6 +82,8 @@ QUIET = [
     "field d = 4294967295; next d = (d min least (n.d + n.weight));",
     "field a = 5; field b = 0; field c = 1; next a = (a min least (n.a + 1)); next c = (c max a);",
     "field s = 0; next s = if (id == (round * 3)) then (1 + total n.s) else s;",
+    "field s = 3; field t = 2; next s = (s max most n.t); next t = (t max most n.s);",
+    "field s = 2; next s = ((s + total (n.s * n.weight)) % 1009);",
 ]
 
 
@@ -96,7 +101,7 @@ def drawn_settings(draws, program, nodes):
     """Words of --set, and the states that they ask for."""
     states, asked = [dict(program.fields) for _ in range(nodes)], []
     for name in program.fields:
-        for _ in range(draws.randrange(4)):
+        for _ in range(draws.randrange(1, 4)):
             first, value = draws.randrange(nodes), draws.choice([0, 1, draws.number()])
             last = draws.randrange(first, nodes)
             word, chosen = draws.choice([("*", range(nodes)), (f"{first}", [first]), (f"{first}..{last}", range(first, last + 1))])
@@ -110,8 +115,8 @@ def drawn_parts(draws, nodes, processes):
     """A part for each node, or None for those by number: by blocks, or each at random; now and then some parts are empty."""
     if draws.random() < 0.3:
         return None
-    some = draws.sample(range(processes), draws.randrange(1, processes + 1))
-    block = draws.choice([1, 1, 7, 30])
+    some = draws.sample(range(processes), draws.choice([processes, processes, draws.randrange(1, processes + 1)]))
+    block = draws.choice([1, nodes // 8 + 1, nodes // 4 + 1])
     drawn = [draws.choice(some) for _ in range(nodes // block + 1)]
     return [drawn[node // block] for node in range(nodes)]
 
@@ -134,10 +139,10 @@ class Case:
     def __init__(self, number, seed, most, interpreter, compare):
         draws = self.draws = compare.Draws(seed * 1_000_003 + number)
         self.text, program = drawn_program(draws, interpreter, compare)
-        self.rows, self.processes = drawn_rows(draws), draws.randrange(1, most + 1)
-        self.fields, self.rounds = list(program.fields), draws.choice([0, 1, 2, 3, 5, 8, 12, 30])
+        self.rows, self.processes = drawn_rows(draws), draws.choice([1, *2 * list(range(2, most + 1))])
+        self.fields, self.rounds = list(program.fields), draws.choice([0, 1, 2, 3, 5, 8, 8, 12, 12, 30])
         self.settings, states = drawn_settings(draws, program, len(self.rows))
-        self.until = (draws.choice(self.fields), draws.choice([0, 1, 7])) if self.fields and draws.random() < 0.4 else None
+        self.until = (draws.choice(self.fields), draws.choice([0, 0, 1, *program.fields.values()])) if self.fields and draws.random() < 0.5 else None
         self.parts = drawn_parts(draws, len(self.rows), self.processes)
         self.sums = draws.sample(self.fields, draws.randrange(len(self.fields) + 1))
         self.is_delayed = draws.random() < 0.5
