@@ -155,7 +155,8 @@ def test_counts_of_a_large_network():
     many = unison.Network.from_edges(range(69), range(1, 70))
     assert unison.count(unison.Program("field s = 0; next s = id;"), many, [1]).rows == [(1, node, 1) for node in range(70)]
     told = str(raised(TypeError, lambda: unison.count(model, large, 1, from_="round 0\n")))
-    assert told == "count: from_ is 'round 0\\n', a str: a unison.States is wanted: unison.States.from_values(program, values, round) makes one"
+    assert told.startswith("from_ is 'round 0\\n', a str: a unison.States is wanted")
+    assert raised(unison.PlanError, lambda: unison.count(model, large.with_set({"stat": 1}), 1)).name == "UnknownField"
 
 
 def test_the_curves_are_the_counts():

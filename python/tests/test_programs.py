@@ -151,6 +151,25 @@ def test_faults_go_to_other_processes():
         )  # fmt: skip
 
 
+#: What a program tells in words of a command line, and what a call tells.
+WORDS = [
+    ("fault: usage\n--animate: the cells of a grid move, so --grid WIDTH is wanted\n", "image: animate: the cells of a grid move, so grid WIDTH is wanted"),
+    ("fault: usage\n--frame-time: a picture that moves is wanted, by --animate\n", "image: frame_time: a picture that moves is wanted, by animate"),
+    ("fault: usage\n--const: `seed` is given a value twice\n", "image: constants: `seed` is given a value twice"),
+    ("fault: image TooManyCells\nat most; --every K shows fewer rounds\n", "image TooManyCells\nat most; a range by steps of K shows fewer rounds"),
+    ("fault: model Syntax\nx.model:1:1: found `--every`\n", "model Syntax\nx.model:1:1: found `--every`"),
+]
+
+
+def test_faults_are_told_in_words_of_the_call():
+    for told, message in WORDS:
+        error = faults.in_words_of_calls(faults.told_by_program(told), "image")
+        assert str(error) == message and type(error) is type(faults.told_by_program(told))
+    pair = unison.Network(2, [(0, 1)])
+    told = str(raised(unison.UsageError, lambda: unison.image(program("swap"), pair, 3, animate=True)))
+    assert told.startswith("image: animate: ") and "--" not in told
+
+
 def test_other_ends_are_told():
     with folder_of("unison_lab", script="echo 'fault: memory Memory' >&2; exit 1") as folder, named(folder):
         assert str(raised(MemoryError, lambda: _programs.run(["count"]))) == "unison: out of memory"

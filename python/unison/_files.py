@@ -16,6 +16,7 @@ LAST = _checks.LAST_ROUND
 class Job(NamedTuple):
     """A command's words on what it works on, and the files that they name."""
 
+    call: str
     options: List[str]
     positions: List[str]  # the program and the network, then what else the command reads
     files: Dict[str, bytes]
@@ -33,7 +34,8 @@ class Job(NamedTuple):
             raise self.told(error) from None
 
     def told(self, error: faults.UnisonError) -> faults.UnisonError:
-        """The fault of a plan, a report or a run as the library tells it: the program names the words of a command line."""
+        """The fault in words of the call; that of a plan, a report or a run as the library tells it."""
+        error = faults.in_words_of_calls(error, self.call)
         if self.texts is None or error.number == faults.NO_NUMBER or error.part not in ("plan", "report", "run"):
             return error
         in_texts = error.part != "run"
@@ -56,17 +58,18 @@ def job_of(call: str, program: Any, network: Any, from_: Any = None, constants: 
     """The job of a call, whose arguments are looked at. `constants` stand before those that the model was given."""
     rules, links = _checks.program(call, program), _checks.network(call, network)
     report = _checks.report(call, from_, rules, links)
-    job = program_job(rules, constants or {}).reading(NETWORK, links._bytes)
+    job = program_job(call, rules, constants or {}).reading(NETWORK, links._bytes)
     job = job._replace(texts=_calls.Texts(rules.text, links._bytes, report))
     return job.naming("--from", REPORT, report) if report else job
 
 
-def program_job(program: Program, constants: Mapping[str, str]) -> Job:
+def program_job(call: str, program: Program, constants: Mapping[str, str]) -> Job:
     """The part of a job that is the program, or the model with values for its constants. A model is called as its own file is."""
     if not isinstance(program, Model):
-        return Job([], [], {}).reading(PROGRAM, program.text)
+        return Job(call, [], [], {}).reading(PROGRAM, program.text)
     given = {**{name: str(value) for name, value in program._given.items()}, **constants}
-    return Job([f"--const={name}={value}" for name, value in given.items()], [], {}).reading(program._called, program._source)
+    options = [f"--const={name}={value}" for name, value in given.items()]
+    return Job(call, options, [], {}).reading(program._called, program._source)
 
 
 def span_words(call: str, rounds: Any, name: str = "rounds") -> List[str]:

@@ -77,6 +77,8 @@ MEANINGS = {
 
 PLACE = re.compile(r"[^:\n]*:([0-9]+):([0-9]+): ")
 TOLD = re.compile(r"fault: (\S+)(?: ([A-Z]\w*))?([^\n]*)\n?")
+OPTION = re.compile(r"--([a-z]+(?:-[a-z]+)*)")
+OPTIONS = {"const": "constants", "every": "a range by steps of"}  # how arguments are called that are not called as the option
 NO_NUMBER = 0  # of a fault that a program tells, and that no call of the library has
 
 
@@ -196,6 +198,16 @@ def error_of(number: int, diagnosis: str = "") -> UnisonError:
 def fault_of(number: int, diagnosis: str = "") -> Exception:
     """The exception for an answer of the library."""
     return MemoryError("unison: out of memory") if number == MEMORY else error_of(number, diagnosis)
+
+
+def in_words_of_calls(error: UnisonError, call: str) -> UnisonError:
+    """The fault of a program with the arguments of a call in place of the options of a command line."""
+    if not isinstance(error, (UsageError, PictureError)):
+        return error
+    told = OPTION.sub(lambda found: OPTIONS.get(found[1], found[1].replace("-", "_")), error.diagnosis)
+    if isinstance(error, UsageError):
+        told = f"{call}: {told}"
+    return type(error)(error.number, told, (error.part, error.name))
 
 
 def told_by_program(text: str) -> Exception:

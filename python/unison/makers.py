@@ -86,7 +86,7 @@ class Recipe:
         try:
             told = _programs.run(["pack" if large else "generate", *self.words])
         except faults.UsageError as error:
-            raise faults.UsageError(error.number, f"{self.call}: {error}", (error.part, error.name)) from None
+            raise faults.in_words_of_calls(error, self.call) from None
         if large:
             from . import _packed
 
