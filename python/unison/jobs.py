@@ -82,8 +82,6 @@ def lockstep(program: Program, network: AnyNetwork, rounds: int, from_: From = N
 def watch(program: Program, network: AnyNetwork, rounds: Iterable[int], from_: From = None) -> Rounds:
     """The states of all nodes after each of some rounds, in one pass: no round is computed twice.
 
-    On a `LargeNetwork` each of the rounds is gone on to by a call of its own, which takes the time of some rounds more.
-
     `rounds` are rising, each above the one before: `range(0, 100)`, `[1, 10, 100]`. The result has 4 bytes for each field of each node in
     each round.
 

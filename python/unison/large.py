@@ -250,11 +250,7 @@ def check_rising(rounds: Sequence[int]) -> None:
 
 
 def words_of_each(program: Program, start: Start, rounds: Sequence[int]) -> "array[int]":
-    """The words after each of some rounds, one round behind the other."""
+    """The words after each of some rounds, one round behind the other, all in one pass."""
     check_rising(rounds)
-    size, seen, before = start.lists.nodes * len(program.fields), array("I"), start.round
-    for round in rounds:
-        _calls.large_rounds(program.text, start.lists._lists(), before, round, start.words, size)
-        seen.extend(start.words[:size])
-        before = round
-    return seen
+    size = start.lists.nodes * len(program.fields)
+    return _calls.large_watch(program.text, start.lists._lists(), start.round, start.words, size, rounds)
