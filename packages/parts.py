@@ -59,7 +59,8 @@ class Proved:
 def levels(asked):
     """The levels that a package has, the highest first: each that there is, or the kit's default alone where UNISON_CPU says so."""
     if asked not in (None, "", kit.DEFAULT_LEVEL):
-        raise Refused(f"UNISON_CPU is {asked}: a package has programs for {kit.DEFAULT_LEVEL} alone where it is that, and for all levels where it is not set")
+        wanted = f"a package has programs for {kit.DEFAULT_LEVEL} alone where it is that, and for all levels where it is not set"
+        raise Refused(f"UNISON_CPU is {asked}: {wanted}")
     return [*([] if asked else kit.LEVELS), kit.DEFAULT_LEVEL]
 
 
@@ -90,7 +91,8 @@ def proved_program(crate, level):
     last = pathlib.Path(crate.folder, "out", crate.name)
     note = kit.read_note(last) if last.is_file() else None
     path = last if note and note["processor"] == level else kit.kept_for(last, level)
-    return proved(path if path.is_file() else last, level, kit.sum_of_sources(crate), f"UNISON_CPU={level} ./unison prove {crate.name.removeprefix('unison_')}")
+    way_on = f"UNISON_CPU={level} ./unison prove {crate.name.removeprefix('unison_')}"
+    return proved(path if path.is_file() else last, level, kit.sum_of_sources(crate), way_on)
 
 
 def proved_library(crate, name):

@@ -80,6 +80,7 @@ def all_of(tally, work):
     except parts.Refused as refusal:
         told = str(refusal)
     tell(tally, "a program that is not there", told, "is not there")
-    done = subprocess.run([sys.executable, TOP / "release", work / "none"], env={**os.environ, "UNISON_CPU": "x86-64-v3"}, capture_output=True, text=True)
+    words, environment = [sys.executable, TOP / "release", work / "none"], {**os.environ, "UNISON_CPU": "x86-64-v3"}
+    done = subprocess.run(words, env=environment, capture_output=True, text=True)
     refused = done.returncode == 1 and done.stderr.startswith("unison: UNISON_CPU is x86-64-v3: a package has") and not (work / "none").exists()
     tally.tell("refused: a package for one level above the default", refused, done.stderr)

@@ -96,8 +96,9 @@ def try_five(tally, it):
     tally.equal(f"{it.name}: replay", it.unison("replay", *replay), (replayed, "", 0))
     tally.equal(f"{it.name}: compare", it.unison("compare", *DISTANCE, "--workers", 2), ("same\n", "", 0))
     tally.equal(f"{it.name}: standard input", it.unison("check", "-", "<", DISTANCE[0]), (CANONICAL, "", 0))
-    large = f"unison pack network {DISTANCE[1]} > path.net && unison large lockstep {DISTANCE[0]} path.net --rounds 2 --set 'dist=*:4294967295' --set dist=0:0"
-    tally.equal(f"{it.name}: pack and large", it.run(large), (report, "", 0))
+    large = f"unison large lockstep {DISTANCE[0]} path.net --rounds 2 --set 'dist=*:4294967295' --set dist=0:0"
+    packed = f"unison pack network {DISTANCE[1]} > path.net && {large}"
+    tally.equal(f"{it.name}: pack and large", it.run(packed), (report, "", 0))
 
 
 def try_models(tally, it):
@@ -350,7 +351,8 @@ def try_choice(tally, work):
     environment = {"PATH": str(tools(work))}
     told = subprocess.run([folder / "unison", "watch"], env=environment, capture_output=True, text=True)
     without = {name: value for name, value in os.environ.items() if name != "UNISON_CPU"}
-    wanted = subprocess.run([sys.executable, "-c", "import kit; print(kit.level())"], cwd=TOP / "first_use", env=without, capture_output=True, text=True)
+    words = [sys.executable, "-c", "import kit; print(kit.level())"]
+    wanted = subprocess.run(words, cwd=TOP / "first_use", env=without, capture_output=True, text=True)
     tally.equal("the launcher chooses the level of this processor", (told.stdout, told.stderr), (wanted.stdout, ""))
 
 
@@ -361,7 +363,8 @@ def try_command(tally, work):
     alone = work / "alone" / "unison"
     alone.mkdir(parents=True)
     shutil.copy2(TOP / "python" / "unison" / "command.py", alone)
-    for what, folder, path in (("checkout", TOP / "python", os.environ["PATH"]), ("alone", alone.parent, os.environ["PATH"]), ("no bash", alone.parent, "/nowhere")):
+    usual = os.environ["PATH"]
+    for what, folder, path in (("checkout", TOP / "python", usual), ("alone", alone.parent, usual), ("no bash", alone.parent, "/nowhere")):
         environment = {**os.environ, "PYTHONPATH": str(folder), "PATH": path, "PYTHONDONTWRITEBYTECODE": "1"}
         done = subprocess.run(words, env=environment, cwd=work, capture_output=True, text=True)
         told[what] = (done.stdout, done.stderr, done.returncode)
