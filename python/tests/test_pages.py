@@ -6,6 +6,8 @@ import importlib
 import io
 import os
 import re
+import tempfile
+from pathlib import Path
 
 from support import PYTHON, ROOT, run_python, skip, wanted
 
@@ -101,8 +103,6 @@ def test_the_version_stands_once():
 
 
 def test_the_examples_of_the_package():
-    import tempfile
-
     wanted("networkx")
     told = run_python(f"import runpy, sys; sys.argv = ['threads.py', '--seconds', '0.2']; runpy.run_path({str(PYTHON / 'examples' / 'threads.py')!r}, run_name='__main__')")
     assert re.search(r"4 threads: .* times as much", told), told
@@ -110,3 +110,13 @@ def test_the_examples_of_the_package():
         path = str(PYTHON / "examples" / "draw_run.py")
         told = run_python(f"import runpy, sys; sys.argv = ['draw_run.py', {folder!r}]; runpy.run_path({path!r}, run_name='__main__')")
         assert "karate" in told and "rule 110" in told, told
+
+
+def test_the_example_of_an_epidemic():
+    """Of three seeds each begins with one infected node; the files are those that are named."""
+    with tempfile.TemporaryDirectory() as folder:
+        path = str(PYTHON / "examples" / "epidemic.py")
+        told = run_python(f"import runpy, sys; sys.argv = ['epidemic.py', {folder!r}, '--seeds', '3']; runpy.run_path({path!r}, run_name='__main__')")
+        assert [line.split()[0] for line in told.splitlines()] == ["round", "0", "10", "20", "30", "40", "written:"]
+        assert told.splitlines()[1].split() == ["0", "1.0", "0.0"]
+        assert {path.name for path in Path(folder).iterdir()} == {"curves.svg", "run.svg", "run.html"}

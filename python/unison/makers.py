@@ -5,15 +5,13 @@ from __future__ import annotations
 
 from fractions import Fraction
 from numbers import Rational, Real
-from typing import TYPE_CHECKING, Any, List, Mapping, Optional, Sequence, Tuple, Union
+from typing import TYPE_CHECKING, Any, Mapping, Optional, Tuple, cast
 
 from . import _checks, _programs, faults
 
 if TYPE_CHECKING:
-    from .large import LargeNetwork
     from .network import InitialValues, Network
 
-    Made = Union[Network, LargeNetwork]
     Sets = Optional[Mapping[str, InitialValues]]
 
 MOST_NODES, MOST_LINKS, MOST_NEIGHBOURS = 65536, 262144, 4096  # of a `Network`
@@ -80,8 +78,8 @@ class Recipe:
         beyond = nodes > MOST_NODES or self.links > MOST_LINKS
         return beyond and self.packs and not any(word.startswith("--weights") for word in self.words)
 
-    def made(self, kind: Any, set: Sets, nodes: Optional[int] = None) -> Made:
-        """The network, with these initial values."""
+    def made(self, kind: Any, set: Sets, nodes: Optional[int] = None) -> Network:
+        """The network, with these initial values: a `Network`, or a large one, which types do not tell apart."""
         large = self.is_large(self.sizes[0] if nodes is None else nodes)
         try:
             told = _programs.run(["pack" if large else "generate", *self.words])
@@ -90,7 +88,7 @@ class Recipe:
         if large:
             from . import _packed
 
-            return _packed.read(told, set)
+            return cast("Network", _packed.read(told, set))
         network: Network = kind.from_text(told)
         return network if set is None else network.with_set(set)
 
@@ -102,18 +100,18 @@ class Makers:
     from 0 to 4294967295: the same seed gives the same network on every machine. Nodes are numbered from 0.
 
     A path, ring, grid, torus, random, preferential or small-world network beyond 65,536 nodes or 262,144 links is a `LargeNetwork`, whose
-    weights are 1. Raises UsageError, with what is possible, for numbers of which no network can be made.
+    weights are 1, as `Network(nodes, links)` itself makes one. Raises UsageError, with what is possible, for numbers of which no network can be made.
     """
 
     @classmethod
-    def path(cls, n: int, *, weights: Weights = None, seed: Optional[int] = None, set: Sets = None) -> Made:
+    def path(cls, n: int, *, weights: Weights = None, seed: Optional[int] = None, set: Sets = None) -> Network:
         """Each of `n` nodes is linked with the next one."""
         recipe = Recipe("path", "path", {"n": n})
         recipe.weights(weights, seed)
         return recipe.made(cls, set)
 
     @classmethod
-    def ring(cls, n: int, *, weights: Weights = None, seed: Optional[int] = None, set: Sets = None) -> Made:
+    def ring(cls, n: int, *, weights: Weights = None, seed: Optional[int] = None, set: Sets = None) -> Network:
         """A path of `n` nodes, 3 or more, whose last node is linked with the first.
 
         >>> import unison
@@ -125,28 +123,28 @@ class Makers:
         return recipe.made(cls, set)
 
     @classmethod
-    def star(cls, n: int, *, weights: Weights = None, seed: Optional[int] = None, set: Sets = None) -> Made:
+    def star(cls, n: int, *, weights: Weights = None, seed: Optional[int] = None, set: Sets = None) -> Network:
         """Node 0 is linked with each other of `n` nodes, 4,097 at most."""
         recipe = Recipe("star", "star", {"n": n})
         recipe.weights(weights, seed)
         return recipe.made(cls, set)
 
     @classmethod
-    def complete(cls, n: int, *, weights: Weights = None, seed: Optional[int] = None, set: Sets = None) -> Made:
+    def complete(cls, n: int, *, weights: Weights = None, seed: Optional[int] = None, set: Sets = None) -> Network:
         """Each of `n` nodes, 724 at most, is linked with each other one."""
         recipe = Recipe("complete", "complete", {"n": n})
         recipe.weights(weights, seed)
         return recipe.made(cls, set)
 
     @classmethod
-    def bipartite(cls, a: int, b: int, *, weights: Weights = None, seed: Optional[int] = None, set: Sets = None) -> Made:
+    def bipartite(cls, a: int, b: int, *, weights: Weights = None, seed: Optional[int] = None, set: Sets = None) -> Network:
         """Each of the first `a` nodes is linked with each of the `b` others."""
         recipe = Recipe("bipartite", "bipartite", {"a": a, "b": b})
         recipe.weights(weights, seed)
         return recipe.made(cls, set)
 
     @classmethod
-    def tree(cls, n: int, arity: int, *, weights: Weights = None, seed: Optional[int] = None, set: Sets = None) -> Made:
+    def tree(cls, n: int, arity: int, *, weights: Weights = None, seed: Optional[int] = None, set: Sets = None) -> Network:
         """Each of `n` nodes has `arity` children, as far as there are nodes, numbered level by level: node 0 is the root."""
         recipe = Recipe("tree", "tree", {"n": n})
         recipe.number("arity", arity)
@@ -154,7 +152,7 @@ class Makers:
         return recipe.made(cls, set)
 
     @classmethod
-    def hypercube(cls, d: int, *, weights: Weights = None, seed: Optional[int] = None, set: Sets = None) -> Made:
+    def hypercube(cls, d: int, *, weights: Weights = None, seed: Optional[int] = None, set: Sets = None) -> Network:
         """Two to the power of `d` nodes, 15 at most, of which those are linked whose numbers differ in one binary digit."""
         recipe = Recipe("hypercube", "hypercube", {"d": d})
         recipe.weights(weights, seed)
@@ -163,7 +161,7 @@ class Makers:
     @classmethod
     def grid(
         cls, w: int, h: int, diagonals: bool = False, *, weights: Weights = None, seed: Optional[int] = None, set: Sets = None
-    ) -> Made:
+    ) -> Network:
         """`w` nodes in each of `h` rows, row by row, each linked with those beside it, above it and below it; with `diagonals` with the
         four beside its corners, too."""
         recipe = Recipe("grid", "grid", {"w": w, "h": h})
@@ -174,7 +172,7 @@ class Makers:
     @classmethod
     def torus(
         cls, w: int, h: int, diagonals: bool = False, *, weights: Weights = None, seed: Optional[int] = None, set: Sets = None
-    ) -> Made:
+    ) -> Network:
         """A grid of `w` nodes in each of `h` rows, 3 or more each, whose rows and columns are rings.
 
         >>> import unison
@@ -187,7 +185,7 @@ class Makers:
         return recipe.made(cls, set, recipe.sizes[0] * recipe.sizes[1])
 
     @classmethod
-    def hex(cls, w: int, h: int, *, weights: Weights = None, seed: Optional[int] = None, set: Sets = None) -> Made:
+    def hex(cls, w: int, h: int, *, weights: Weights = None, seed: Optional[int] = None, set: Sets = None) -> Network:
         """`w` hexagonal cells in each of `h` rows, of which each second one is shifted to the right by half a cell: up to six neighbours
         each."""
         recipe = Recipe("hex", "hex", {"w": w, "h": h})
@@ -195,7 +193,7 @@ class Makers:
         return recipe.made(cls, set)
 
     @classmethod
-    def random(cls, n: int, links: int, seed: int, *, weights: Weights = None, set: Sets = None) -> Made:
+    def random(cls, n: int, links: int, seed: int, *, weights: Weights = None, set: Sets = None) -> Network:
         """`links` links between `n` nodes, all sets of so many equally likely."""
         recipe = Recipe("random", "random", {"n": n})
         recipe.links = recipe.number("links", links)
@@ -203,7 +201,7 @@ class Makers:
         return recipe.made(cls, set)
 
     @classmethod
-    def gnp(cls, n: int, probability: float, seed: int, *, weights: Weights = None, set: Sets = None) -> Made:
+    def gnp(cls, n: int, probability: float, seed: int, *, weights: Weights = None, set: Sets = None) -> Network:
         """Each pair of `n` nodes is linked with the chance `probability`, 0 to 1, which is rounded to nine digits behind the point
         (Gilbert 1959)."""
         recipe = Recipe("gnp", "gnp", {"n": n})
@@ -212,14 +210,14 @@ class Makers:
         return recipe.made(cls, set)
 
     @classmethod
-    def random_tree(cls, n: int, seed: int, *, weights: Weights = None, set: Sets = None) -> Made:
+    def random_tree(cls, n: int, seed: int, *, weights: Weights = None, set: Sets = None) -> Network:
         """Each of `n` nodes but node 0 is linked with one before it, all of which are equally likely."""
         recipe = Recipe("random_tree", "random-tree", {"n": n})
         recipe.drawn(weights, seed)
         return recipe.made(cls, set)
 
     @classmethod
-    def preferential(cls, n: int, links_each: int, seed: int, *, weights: Weights = None, set: Sets = None) -> Made:
+    def preferential(cls, n: int, links_each: int, seed: int, *, weights: Weights = None, set: Sets = None) -> Network:
         """Each of `n` nodes is linked with `links_each` before it, or with all of them while they are fewer, each drawn with a chance in
         proportion to the links that it has (Barabási and Albert 1999)."""
         recipe = Recipe("preferential", "preferential", {"n": n})
@@ -229,7 +227,7 @@ class Makers:
         return recipe.made(cls, set)
 
     @classmethod
-    def regular(cls, n: int, degree: int, seed: int, *, weights: Weights = None, set: Sets = None) -> Made:
+    def regular(cls, n: int, degree: int, seed: int, *, weights: Weights = None, set: Sets = None) -> Network:
         """Each of `n` nodes is linked with `degree` others."""
         recipe = Recipe("regular", "regular", {"n": n})
         recipe.number("degree", degree)
@@ -237,7 +235,7 @@ class Makers:
         return recipe.made(cls, set)
 
     @classmethod
-    def small_world(cls, n: int, near: int, rewire: float, seed: int, *, weights: Weights = None, set: Sets = None) -> Made:
+    def small_world(cls, n: int, near: int, rewire: float, seed: int, *, weights: Weights = None, set: Sets = None) -> Network:
         """Each node of a ring of `n` is linked with the `near` that follow it; then each link is led to another node with a chance of
         `rewire` in 100, a percentage that is rounded to six digits behind the point (Watts and Strogatz 1998).
 

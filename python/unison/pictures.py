@@ -15,6 +15,8 @@ from .program import Program
 
 LONGEST_FRAME = 60_000  # milliseconds
 WIDEST = 65536
+#: Colours by values, or by states of a model.
+Colours = Union[Mapping[int, str], Mapping[str, str], Mapping[Union[int, str], str]]
 HEIGHT = 640  # of a page in a notebook
 
 
@@ -100,7 +102,7 @@ def image(
     animate: bool = False,
     frame_time: Optional[int] = None,
     counts: bool = False,
-    colours: Optional[Mapping[Union[int, str], str]] = None,
+    colours: Optional[Colours] = None,
     from_: Any = None,
 ) -> Image:
     """A picture of a run in SVG, made by the proved program: nodes across, rounds down, each cell in the colour of the field's value.
