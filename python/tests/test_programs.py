@@ -42,13 +42,13 @@ def package_in(folder, has):
     """The package stands in this folder, and the processor has these features."""
     before = _programs.HERE, _programs.features
     _programs.HERE, _programs.features = folder, lambda: frozenset(has)
-    named_before = os.environ.pop(_programs.VARIABLE, None)
+    set_before = {name: os.environ.pop(name) for name in (_programs.VARIABLE, _programs.LEVEL) if name in os.environ}
     try:
         yield
     finally:
         _programs.HERE, _programs.features = before
-        if named_before is not None:
-            os.environ[_programs.VARIABLE] = named_before
+        os.environ.pop(_programs.LEVEL, None)
+        os.environ.update(set_before)
 
 
 V3 = _programs.LEVELS["x86-64-v3"]
@@ -73,6 +73,14 @@ def test_the_best_level_that_the_processor_can_run_is_taken():
     ]:
         with folder_of(*both) as folder, package_in(folder, has):
             assert _programs.path_of(name) == folder / "programs" / level / name, (sorted(has), name)
+
+
+def test_a_level_that_is_named_is_taken():
+    with folder_of("programs/x86-64-v3/unison_lab", "programs/default/unison_lab") as folder, package_in(folder, V3):
+        os.environ[_programs.LEVEL] = "default"
+        assert _programs.path_of("unison_lab") == folder / "programs" / "default" / "unison_lab"
+        os.environ[_programs.LEVEL] = "x86-64-v2"
+        raised(unison.ProgramsMissing, lambda: _programs.path_of("unison_lab"))
 
 
 def test_what_cannot_be_run_is_passed_over():

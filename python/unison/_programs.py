@@ -17,6 +17,7 @@ from typing import Collection, Dict, FrozenSet, List, Mapping, NamedTuple, Optio
 from . import faults
 
 VARIABLE = "UNISON_PROGRAMS"
+LEVEL = "UNISON_CPU"  # names the one level that is looked at, where it is set
 LAUNCHER = "unison"
 VIEWER = "page.html"  # into which `unison page` puts a run
 HERE = Path(__file__).resolve().parent
@@ -51,11 +52,13 @@ def features() -> FrozenSet[str]:
 
 
 def folders() -> List[Path]:
-    """The folders in which programs are looked for; that of UNISON_PROGRAMS alone where it is set."""
+    """The folders in which programs are looked for; that of UNISON_PROGRAMS alone where it is set, of the level of UNISON_CPU where that is."""
     named = os.environ.get(VARIABLE)
     if named:
         return [Path(named)]
-    return [HERE / "programs" / level for level, needs in LEVELS.items() if needs <= features()]
+    asked = os.environ.get(LEVEL)
+    levels = [asked] if asked else [level for level, needs in LEVELS.items() if needs <= features()]
+    return [HERE / "programs" / level for level in levels]
 
 
 def launcher() -> Optional[Path]:
