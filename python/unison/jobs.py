@@ -83,7 +83,7 @@ def watch(program: Program, network: AnyNetwork, rounds: Iterable[int], from_: F
     """The states of all nodes after each of some rounds, in one pass: no round is computed twice.
 
     `rounds` are rising, each above the one before: `range(0, 100)`, `[1, 10, 100]`. The result has 4 bytes for each field of each node in
-    each round.
+    each round, and the call takes as much again while it runs.
 
     >>> import unison
     >>> program = unison.Program("field dist = 4294967295; next dist = (dist min least (n.dist + 1));")
