@@ -118,6 +118,14 @@ def sum_of_sources(crate):
     return said.hexdigest()
 
 
+def verdict_on(program):
+    """The verdict that the note on a program has. Where it has none the program is removed, so that it is compiled again and the verdict said."""
+    verdict = (read_note(program) or {}).get("verdict") if program.is_file() else None
+    if verdict is None:
+        program.unlink(missing_ok=True)
+    return verdict
+
+
 def is_newer(crate, program):
     """Whether a source of a program is newer than it."""
     made = program.stat().st_mtime
