@@ -1,5 +1,6 @@
 -- Rules with one more are as much as they were and as it is.
 use Rattle.std.proofs.Common.{◌≡◌, ◌≤◌, ◌<◌, ◌^◌, ◌-◌, ℕ, ◌+◌, length, List, [], ◌∷◌, ◌++◌, refl, sym, ap, ◌∙◌, subst, min, arith}
+use Rattle.std.specs.Prelude.{nat_lt, true, false, Some, None}
 use Rattle.std.proofs.lemmas.List.{length-append, map_push}
 use Rattle.rule_lang.specs.declared.tree.Item.{Item}
 use Rattle.rule_lang.specs.Tree.{ItemTree, FieldTree, NextTree}
@@ -10,7 +11,8 @@ use Rattle.rule_check.specs.Value.{parts}
 use Rattle.rule_check.specs.Items.{nexts_of}
 use Rattle.rule_check.specs.WellFormed.{all_parts}
 use Rattle.model_rules.specs.declared.expansion.Expansion.{Expansion}
-use Rattle.model_rules.specs.Bounds.{IsWithin}
+use Rattle.model_rules.specs.declared.fault.Cause.TheVariants as cause
+use Rattle.model_rules.specs.Bounds.{size_cause}
 use Rattle.model_rules.specs.Counts.{IsCounted}
 
 parts_more : (items : List ItemTree) (item : ItemTree) → length (all_parts (nexts_of (items ++ item ∷ []))) ≡ length (all_parts (nexts_of items)) + length (all_parts (nexts_of (item ∷ [])))
@@ -50,3 +52,54 @@ counted_more old new rule i a few b short h =
       bytes = d;
       within = record { few_aggregates = subst (λ k. k ≤ 16) c few; short = subst (λ k. k ≤ 65536) d short };
     }
+
+-- a sum that was cut is above a bound where the sum is
+past_sum : (a b new k m : ℕ) → new ≡ min (a + min b m) m → k < new → k < a + b
+past_sum a b new k m e l = omega arith
+
+is_less : (a b : ℕ) → a < b → nat_lt a b ≡ true
+is_less a b h = grind arith
+
+is_not_less : (a b : ℕ) → b ≤ a → nat_lt a b ≡ false
+is_not_less a b h = grind arith
+
+-- with one rule more there are more aggregates than a program may have, or more bytes, or neither
+pub too_many : (old : Expansion) (rule : Item) (new : ℕ) → new ≡ min (old.aggregates + min (length (all_parts (nexts_of (item_of rule ∷ [])))) M) M → 16 < new → IsCounted old
+    → size_cause (items_of old.rules.items ++ item_of rule ∷ []) ≡ Some cause.TooManyAggregates
+too_many old rule new a many h =
+    let own = length (all_parts (nexts_of (item_of rule ∷ []))) in
+    let p = parts_more (items_of old.rules.items) (item_of rule) in
+    let n : 16 < old.aggregates + own = past_sum old.aggregates own new 16 M a many in
+    let q = h.aggregates in
+    let l : nat_lt 16 (length (all_parts (nexts_of (items_of old.rules.items ++ item_of rule ∷ [])))) ≡ true = is_less 16 _ (omega arith) in
+    rw l refl
+
+pub too_long : (old : Expansion) (rule : Item) (new bytes : ℕ) → new ≡ min (old.aggregates + min (length (all_parts (nexts_of (item_of rule ∷ [])))) M) M → new ≤ 16 → bytes ≡ min (old.bytes + min (length (item_text (item_of rule))) (2 ^ 64 - 1)) (2 ^ 64 - 1) → 65536 < bytes → IsCounted old
+    → size_cause (items_of old.rules.items ++ item_of rule ∷ []) ≡ Some cause.TooLong
+too_long old rule new bytes a few b long h =
+    let own = length (all_parts (nexts_of (item_of rule ∷ []))) in
+    let text = length (item_text (item_of rule)) in
+    let p = parts_more (items_of old.rules.items) (item_of rule) in
+    let t = text_more (items_of old.rules.items) (item_of rule) in
+    let s : new ≡ old.aggregates + own = small_sum old.aggregates own new 16 M (omega arith) (omega arith) a few in
+    let n : 65536 < old.bytes + text = past_sum old.bytes text bytes 65536 (2 ^ 64 - 1) b long in
+    let q = h.aggregates in
+    let r = h.bytes in
+    let l : nat_lt 16 (length (all_parts (nexts_of (items_of old.rules.items ++ item_of rule ∷ [])))) ≡ false = is_not_less 16 _ (omega arith) in
+    let g : nat_lt 65536 (length (program_text (items_of old.rules.items ++ item_of rule ∷ []))) ≡ true = is_less 65536 _ (omega arith) in
+    rw (l, g) refl
+
+pub in_size : (old : Expansion) (rule : Item) (new bytes : ℕ) → new ≡ min (old.aggregates + min (length (all_parts (nexts_of (item_of rule ∷ [])))) M) M → new ≤ 16 → bytes ≡ min (old.bytes + min (length (item_text (item_of rule))) (2 ^ 64 - 1)) (2 ^ 64 - 1) → bytes ≤ 65536 → IsCounted old
+    → size_cause (items_of old.rules.items ++ item_of rule ∷ []) ≡ None
+in_size old rule new bytes a few b short h =
+    let own = length (all_parts (nexts_of (item_of rule ∷ []))) in
+    let text = length (item_text (item_of rule)) in
+    let p = parts_more (items_of old.rules.items) (item_of rule) in
+    let t = text_more (items_of old.rules.items) (item_of rule) in
+    let s : new ≡ old.aggregates + own = small_sum old.aggregates own new 16 M (omega arith) (omega arith) a few in
+    let n : bytes ≡ old.bytes + text = small_sum old.bytes text bytes 65536 (2 ^ 64 - 1) (omega arith) (omega arith) b short in
+    let q = h.aggregates in
+    let r = h.bytes in
+    let l : nat_lt 16 (length (all_parts (nexts_of (items_of old.rules.items ++ item_of rule ∷ [])))) ≡ false = is_not_less 16 _ (omega arith) in
+    let g : nat_lt 65536 (length (program_text (items_of old.rules.items ++ item_of rule ∷ []))) ≡ false = is_not_less 65536 _ (omega arith) in
+    rw (l, g) refl

@@ -5,6 +5,8 @@ pub mod Truths
 pub mod Meanings
 pub mod Expanded
 pub mod Refused
+pub mod Worth
+pub mod Called
 pub mod Sound
 pub mod Differing
 pub mod Accepted

@@ -19,13 +19,13 @@ use Rattle.model_text.specs.Tree.{Tree, NumberTree, NothingTree, NameTree, IdTre
 use Rattle.model_rules.specs.declared.operators.CallKind.TheVariants as kind
 use Rattle.model_rules.specs.declared.operators.Source.{Source}
 use Rattle.model_rules.specs.declared.operators.Source.TheVariants as source
-use Rattle.model_rules.specs.Terms.{TermTree, NumberTerm, OwnTerm, IdTerm, DegreeTerm, RoundTerm, ParameterTerm, NearTerm, NearIdTerm, NearWeightTerm, InfixTerm, NotTerm, OverTerm, ChoiceTerm, term_value, gathers, looks, knows_degree, filled, seen_near, parted}
+use Rattle.model_rules.specs.Terms.{TermTree, NumberTerm, OwnTerm, IdTerm, DegreeTerm, RoundTerm, ParameterTerm, NearTerm, NearIdTerm, NearWeightTerm, InfixTerm, NotTerm, OverTerm, ChoiceTerm, term_value, gathers, looks, knows_degree, filled, seen_near}
 use Rattle.model_rules.specs.Meaning.{Scene, meaning, meanings, joined, distance, combine, call_value, beside, chance, seed_name, draw_number, bounded}
-use Rattle.model_rules.specs.Draws.{drawn, drawn_on_link, scaled}
-use Rattle.model_rules.specs.DrawTerms.{node_draw_term, link_draw_term, scaled_term}
+use Rattle.model_rules.specs.Draws.{drawn, drawn_on_link}
+use Rattle.model_rules.specs.DrawTerms.{node_draw_term, link_draw_term}
 use Rattle.model_rules.specs.Frames.{KnownTree, Frame, IsWorth, IsIn, draw_value, MeansDrawn, MeansBelow, Means, MeansArms, MeansEach, MeansFirst, MeansJoined, MeansDistance, IsFilled, IsMoved}
 use Rattle.model_rules.specs.ScopeView.{IsLet, IsSeedLet}
-use Rattle.model_rules.specs.Operators.{combined, kind_of, is_end}
+use Rattle.model_rules.specs.Operators.{combined, kind_of}
 use Rattle.model_rules.proofs.DrawTermValues.{node_draw_value, link_draw_value}
 use Rattle.model_rules.proofs.Truths.{or_value, and_value}
 use Rattle.model_rules.proofs.Values.{neither, map_same, choice_same, steady, filled_flat, filled_steady, seen_value, Steady}
@@ -169,30 +169,9 @@ pub each_mean : (f : Frame) (e : Tree) (es : ArgumentTree) (t : TermTree) (ts : 
 each_mean f e es t ts h g =
     record { same = λ s m i. ap (λ v. v ∷ meanings s es m) (h.same s m i) ∙ ap (λ vs. term_value s.here s.arguments t m ∷ vs) (g.same s m i) }
 
-pub first_means : (f : Frame) (e : Tree) (es : ArgumentTree) (t : TermTree) → Means f e t → MeansFirst f (OneArgument e es) t
-first_means f e es t h = record { same = λ s m i. h.same s m i }
-
-pub last_joined : (f : Frame) (o : Op) (e : Tree) (es : ArgumentTree) (t : TermTree) → is_end es ≡ true → Means f e t → MeansJoined f o (OneArgument e es) t
-last_joined f o e NoArgument t q h = record { same = λ s m i. h.same s m i }
-last_joined f o e (OneArgument d ds) t q h = cc
-
-pub more_joined : (f : Frame) (o : Op) (e : Tree) (es : ArgumentTree) (t u : TermTree) → is_end es ≡ false → Means f e t → MeansJoined f o es u → MeansJoined f o (OneArgument e es) (InfixTerm o t u)
-more_joined f o e NoArgument t u q h g = cc
-more_joined f o e (OneArgument d ds) t u q h g =
-    record { same = λ s m i. ap (λ v. operate o v (joined o (meanings s (OneArgument d ds) m))) (h.same s m i) ∙ ap (operate o (term_value s.here s.arguments t m)) (g.same s m i) }
-
 -- one of two differences is 0
-parted_distance : (a b : ℕ) → (a - b) + (b - a) ≡ max (a - b) (b - a)
+pub parted_distance : (a b : ℕ) → (a - b) + (b - a) ≡ max (a - b) (b - a)
 parted_distance a b = omega arith
-
-pub distance_means : (f : Frame) (e : Tree) (es : ArgumentTree) (t u : TermTree) → Means f e t → MeansFirst f es u → MeansDistance f (OneArgument e es) (parted t u)
-distance_means f e es t u h g =
-    record {
-      same = λ s m i.
-          let a : ℕ = term_value s.here s.arguments t m in
-          let b : ℕ = term_value s.here s.arguments u m in
-          ap (λ v. distance v (slice_index (meanings s es m) 0)) (h.same s m i) ∙ (ap (distance a) (g.same s m i) ∙ parted_distance a b);
-    }
 
 -- an aggregate gathers its argument
 gather_call : (c : Function) (a : Agg) (s : Scene) (at : ℕ) (values : Near → List ℕ) (near : Near) → kind_of c ≡ kind.Gather a → call_value c s at values near ≡ gather a (map (λ m. slice_index (values m) 0) s.here.nears)
@@ -269,14 +248,6 @@ draw_call function.LinkRandom o s at values near k = let e : source.Link ≡ o =
 pub draw_means : (f : Frame) (c : Function) (at : ℕ) (o : Source) (es : ArgumentTree) (t : TermTree) → kind_of c ≡ kind.Draw o → MeansBelow f o at es t → Means f (CallTree c at es) t
 draw_means f c at o es t k h = record { same = λ s m i. draw_call c o s at (meanings s es) m k ∙ h.same s m i }
 
--- a draw without a bound, and with one
-pub unbounded_means : (f : Frame) (o : Source) (at : ℕ) (t : TermTree) → MeansDrawn f o at t → MeansBelow f o at NoArgument t
-unbounded_means f o at t h = record { same = λ s m i. h.same s m i }
-
-pub bounded_means : (f : Frame) (o : Source) (at : ℕ) (e : Tree) (es : ArgumentTree) (t u : TermTree) → MeansDrawn f o at t → Means f e u → MeansBelow f o at (OneArgument e es) (scaled_term t u)
-bounded_means f o at e es t u h g =
-    record { same = λ s m i. ap (λ v. scaled v (meaning s e m)) (h.same s m i) ∙ ap (scaled (term_value s.here s.arguments t m)) (g.same s m i) }
-
 -- a chance
 pub chance_means : (f : Frame) (at : ℕ) (p : Decimal) (v : ℕ) → v ≡ chance p.numerator p.places → Means f (ChanceTree at p) (NumberTerm v)
 chance_means f at p v e = record { same = λ s m i. sym e }
@@ -335,10 +306,3 @@ infix_means f o at a b t u h g =
           ap (λ v. combine o v (meaning s b m)) (h.same s m i)
           ∙ (ap (combine o (term_value s.here s.arguments t m)) (g.same s m i) ∙ sym (combined_value o s.here s.arguments t u m));
     }
-
--- the same for a term that is that one
-pub infix_by : (f : Frame) (o : Operator) (at : ℕ) (a b : Tree) (t u r : TermTree) → Means f a t → Means f b u → r ≡ combined o t u → Means f (InfixTree o at a b) r
-infix_by f o at a b t u r h g e = subst (λ (x : TermTree). Means f (InfixTree o at a b) x) (sym e) (infix_means f o at a b t u h g)
-
-pub over_by : (f : Frame) (c : Function) (at : ℕ) (a : Agg) (es : ArgumentTree) (t r : TermTree) → kind_of c ≡ kind.Gather a → MeansFirst f es t → r ≡ OverTerm a t → Means f (CallTree c at es) r
-over_by f c at a es t r k h e = subst (λ (x : TermTree). Means f (CallTree c at es) x) (sym e) (over_means f c at a es t k h)

@@ -8,13 +8,9 @@ use Rattle.rule_check.specs.Value.{place, alone, Here}
 use Rattle.model_text.specs.Tree.{Tree, NameAt, ItemTree, ConstTree, StatesTree, FieldTree, LetTree, NextTree}
 use Rattle.model_rules.specs.Terms.{TermTree, NumberTerm, lowered}
 use Rattle.model_rules.specs.Meaning.{Worths}
-use Rattle.model_rules.specs.Frames.{Frame, KnownTree, IsWorth, Means, IsAmount}
+use Rattle.model_rules.specs.Frames.{Frame, KnownTree, IsWorth, Means}
 use Rattle.model_rules.specs.Models.{GivenTree, Setting, names_it, told, told_by, worths_by, given_or, worth_at, bare, scene_of, given_value}
 use Rattle.model_rules.specs.Expansions.{Expands, Finds, IsLeftOut, Tells, AreStable, IsRuleOf}
-
--- an expression whose term is always worth a number is worth it
-pub amount_means : (f : Frame) (e : Tree) (t : TermTree) (v : ℕ) → Means f e t → IsAmount t v → Means f e (NumberTerm v)
-amount_means f e t v h a = record { same = λ s m i. h.same s m i ∙ a.same s.here s.arguments m }
 
 -- what a let is told to be worth
 pub let_tells : (fs : List (List ℕ)) (ls : List KnownTree) (given : Setting) (name : List ℕ) (n : NameAt) (ps : List NameAt) (body : Tree) (k : ℕ) (t : TermTree) → Means (record { draws = given.draws; fields = fs; lets = ls; parameters = bare ps }) body t → Tells fs ls given name (LetTree n ps body) (record { name = name; count = k; term = t })

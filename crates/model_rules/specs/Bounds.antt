@@ -1,10 +1,12 @@
 -- What a program has to be, so that it is read and accepted.
-use Rattle.std.specs.Prelude.{ℕ, ◌≡◌, ◌≤◌, false, List, length, Option, None}
+use Rattle.std.specs.Prelude.{ℕ, ◌≡◌, ◌≤◌, nat_lt, false, List, length, Option, Some, None, if◌then◌else◌}
 use Rattle.std.specs.List.{AllByRecursion}
 use Rattle.rule_lang.specs.Tree.{Tree, ItemTree, FieldTree, NextTree, depth}
 use Rattle.rule_lang.specs.Canonical.{program_text}
 use Rattle.rule_check.specs.Items.{rules_of, nexts_of}
 use Rattle.rule_check.specs.WellFormed.{names_unknown, looks_outside, nests, all_parts, first_fault}
+use Rattle.model_rules.specs.declared.fault.Cause.{Cause}
+use Rattle.model_rules.specs.declared.fault.Cause.TheVariants as cause
 
 -- an expression that a program with these fields may have: it has no other names, names no neighbour outside of an
 -- aggregate, and has no aggregate in an aggregate
@@ -34,3 +36,9 @@ pub record IsAccepted (items : List ItemTree) : Type 0 where
   pub faultless : first_fault (rules_of items) ≡ None
   pub shallow : AllByRecursion (λ n. depth n.body ≤ 64) (nexts_of items)
   pub short : length (program_text items) ≤ 65536
+
+-- why a program may not have these items, if it may not: there are more than 16 aggregates, or else more than 65,536 bytes
+abbrev pub size_cause : List ItemTree → Option Cause
+size_cause items =
+    if nat_lt 16 (length (all_parts (nexts_of items))) then Some cause.TooManyAggregates else
+    (if nat_lt 65536 (length (program_text items)) then Some cause.TooLong else None)

@@ -7,6 +7,9 @@ pub mod Frames
 pub mod ScopeView
 pub mod Operators
 pub mod Refusals
+pub mod TermFor
+pub mod FirstFaults
+pub mod Amounts
 pub mod Models
 pub mod Expansions
 pub mod Bounds

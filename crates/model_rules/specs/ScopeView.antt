@@ -30,6 +30,10 @@ frame_of scope =
       parameters = map string_bytes scope.parameters.items;
     }
 
+-- the names of all constants, states and lets
+abbrev pub later_of : Scope → List (List ℕ)
+later_of scope = map string_bytes scope.later.items
+
 -- a let is one of these
 abbrev pub IsLet : List KnownTree → KnownTree → Type 0
 IsLet lets known = (k : ℕ) × (slice_get lets k ≡ Some known)

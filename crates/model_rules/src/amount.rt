@@ -1,9 +1,12 @@
 //! The values of constants.
 
-ghost use Rattle.std.specs.Prelude.{◌≡◌, Some, IfOk};
+ghost use Rattle.std.specs.Prelude.{◌≡◌, Some, None, IfErr, IfOk, OnOk};
 ghost use Rattle.rule_check.specs.Table.{operate};
+ghost use Rattle.model_rules.specs.declared.fault.Cause.TheVariants.{OutOfRange};
+ghost use Rattle.model_rules.specs.declared.fault.ExpandFault.TheVariants.{At};
+ghost use Rattle.model_rules.specs.Amounts.{amount_in, operator_cause, amount_cause};
+ghost use Rattle.model_rules.specs.FirstFaults.{told_at};
 ghost use Rattle.model_rules.specs.TermView.{term_of};
-ghost use Rattle.model_rules.specs.Frames.{IsAmount};
 
 use crate::fault::{Cause, ExpandFault, wrong};
 use crate::term::Term;
@@ -12,6 +15,7 @@ use rule_lang::Op;
 /// The value, where it is a word.
 fn in_range(value: Option<u32>, at: u32) -> Result<u32, ExpandFault>
     ensures same { IfOk result (λ v. value ≡ Some v) }
+    ensures refused { IfErr result (λ fault. (value ≡ None) × (fault ≡ At OutOfRange at)) }
 {
     match value {
         Some(value) => Ok(value),
@@ -22,6 +26,8 @@ fn in_range(value: Option<u32>, at: u32) -> Result<u32, ExpandFault>
 /// A sum, a difference, a product, a quotient or a remainder, where it is a word without being cut.
 fn computed(op: Op, left: u32, right: u32, at: u32) -> Result<u32, ExpandFault>
     ensures exact { IfOk result (λ v. v ≡ operate op left right) }
+    ensures faultless { OnOk result (operator_cause op left right ≡ None) }
+    ensures refused { IfErr result (λ fault. told_at at (operator_cause op left right) ≡ Some fault) }
 {
     match op {
         Op::Plus => in_range(left.checked_add(right), at),
@@ -45,7 +51,9 @@ fn computed(op: Op, left: u32, right: u32, at: u32) -> Result<u32, ExpandFault>
 
 /// The value of a term that is made of numbers alone, at a place of the text.
 pub fn amount(term: &Term, at: u32) -> Result<u32, ExpandFault>
-    ensures exact { IfOk result (λ v. IsAmount (term_of term.now) v) }
+    ensures exact { IfOk result (λ v. v ≡ amount_in (term_of term.now)) }
+    ensures faultless { OnOk result (amount_cause (term_of term.now) ≡ None) }
+    ensures refused { IfErr result (λ fault. told_at at (amount_cause (term_of term.now)) ≡ Some fault) }
 {
     match term {
         Term::Number(value) => Ok(*value),

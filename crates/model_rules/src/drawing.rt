@@ -1,12 +1,17 @@
 //! Random numbers and chances of a model as terms.
 
-ghost use Rattle.std.specs.Prelude.{◌≡◌, ◌^◌, IfOk, IfSome};
-ghost use Rattle.model_rules.specs.Frames.{Means, MeansDrawn};
-ghost use Rattle.model_rules.specs.Meaning.{chance, draw_number};
-ghost use Rattle.model_rules.specs.ScopeView.{frame_of, knowns_of, IsSeedLet};
+ghost use Rattle.std.specs.Prelude.{◌≡◌, ◌≤◌, ◌<◌, ◌^◌, IfErr, IfOk, IfSome, IsNone, OnOk, Some, None};
+ghost use Rattle.std.specs.Option.{option_or};
+ghost use Rattle.model_rules.specs.declared.fault.Cause.TheVariants.{NotConstant, TooLong};
+ghost use Rattle.model_rules.specs.declared.fault.ExpandFault.TheVariants.{At};
+ghost use Rattle.rule_lang.specs.declared.tree.Op.TheVariants.{Less};
+ghost use Rattle.model_rules.specs.FirstFaults.{IsFirst, told_at, seed_cause, node_cause, draw_cause, below_cause, chance_cause};
+ghost use Rattle.model_rules.specs.Meaning.{chance, draw_number, seed_name};
+ghost use Rattle.model_rules.specs.Refusals.{let_for};
+ghost use Rattle.model_rules.specs.ScopeView.{frame_of, knowns_of};
+ghost use Rattle.model_rules.specs.TermFor.{draw_term, let_number, number_in};
 ghost use Rattle.model_rules.specs.TermView.{term_of};
-ghost use Rattle.model_rules.specs.Terms.{NumberTerm};
-ghost use Rattle.model_text.specs.Tree.{ChanceOfTree};
+ghost use Rattle.model_rules.specs.Terms.{NumberTerm, InfixTerm};
 
 use crate::draw::{at_node, on_link};
 use crate::fault::{Cause, ExpandFault, wrong};
@@ -33,6 +38,8 @@ fn number_for(draws: &[u32], at: u32) -> usize
 /// The number of the draw, as a word.
 fn numbered(draws: &[u32], at: u32) -> Result<u32, ExpandFault>
     ensures exact { IfOk result (λ number. number ≡ draw_number draws.now at) }
+    ensures few { OnOk result (draw_number draws.now at < 65536) }
+    ensures many { IfErr result (λ fault. (65536 ≤ draw_number draws.now at) × (fault ≡ At TooLong at)) }
 {
     let number = number_for(draws, at);
     if number < 65536 {
@@ -44,7 +51,8 @@ fn numbered(draws: &[u32], at: u32) -> Result<u32, ExpandFault>
 
 /// The number that a constant is.
 fn constant(known: &Known, at: u32) -> Result<u32, ExpandFault>
-    ensures exact { IfOk result (λ value. term_of known.now.term ≡ NumberTerm value) }
+    ensures exact { IfOk result (λ value. number_in (term_of known.now.term) ≡ Some value) }
+    ensures refused { IfErr result (λ fault. (number_in (term_of known.now.term) ≡ None) × (fault ≡ At NotConstant at)) }
 {
     match &known.term {
         Term::Number(value) => Ok(*value),
@@ -54,7 +62,9 @@ fn constant(known: &Known, at: u32) -> Result<u32, ExpandFault>
 
 /// The seed.
 fn seed_among(lets: &[Known], at: u32) -> Result<u32, ExpandFault>
-    ensures known { IfOk result (λ seed. IsSeedLet (knowns_of lets.now) seed) }
+    ensures exact { IfOk result (λ seed. let_number (let_for (knowns_of lets.now) seed_name) ≡ Some seed) }
+    ensures faultless { OnOk result (seed_cause (let_for (knowns_of lets.now) seed_name) ≡ None) }
+    ensures refused { IfErr result (λ fault. told_at at (seed_cause (let_for (knowns_of lets.now) seed_name)) ≡ Some fault) }
 {
     match let_of(lets, "seed") {
         Some(known) => constant(known, at),
@@ -63,9 +73,10 @@ fn seed_among(lets: &[Known], at: u32) -> Result<u32, ExpandFault>
 }
 
 /// What the draw at a place of the text gives at the node.
-#[tactic(auto, using(crate::proofs::Meanings::node_drawn))]
 fn drawn_at_node(scope: &Scope, at: u32, alloc: Global) -> Result<Term, ExpandFault>
-    ensures means { IfOk result (λ t. MeansDrawn (frame_of scope.now) Source.Node at (term_of t)) }
+    ensures exact { IfOk result (λ t. term_of t ≡ draw_term Source.Node (frame_of scope.now) at) }
+    ensures faultless { OnOk result (node_cause (frame_of scope.now) at ≡ None) }
+    ensures refused { IfErr result (IsFirst (told_at at (node_cause (frame_of scope.now) at))) }
 {
     let seed = seed_among(&scope.lets, at)?;
     let number = numbered(&scope.draws, at)?;
@@ -74,9 +85,10 @@ fn drawn_at_node(scope: &Scope, at: u32, alloc: Global) -> Result<Term, ExpandFa
 }
 
 /// What the draw at a place of the text gives for the link to the neighbour.
-#[tactic(auto, using(crate::proofs::Meanings::link_drawn))]
 fn drawn_on_link(scope: &Scope, at: u32, alloc: Global) -> Result<Term, ExpandFault>
-    ensures means { IfOk result (λ t. MeansDrawn (frame_of scope.now) Source.Link at (term_of t)) }
+    ensures exact { IfOk result (λ t. term_of t ≡ draw_term Source.Link (frame_of scope.now) at) }
+    ensures faultless { OnOk result (node_cause (frame_of scope.now) at ≡ None) }
+    ensures refused { IfErr result (IsFirst (told_at at (node_cause (frame_of scope.now) at))) }
 {
     let seed = seed_among(&scope.lets, at)?;
     let number = numbered(&scope.draws, at)?;
@@ -92,7 +104,9 @@ pub fn random_term(
     at: u32,
     alloc: Global,
 ) -> Result<Term, ExpandFault>
-    ensures means { IfOk result (λ t. MeansDrawn (frame_of scope.now) source at (term_of t)) }
+    ensures exact { IfOk result (λ t. term_of t ≡ draw_term source (frame_of scope.now) at) }
+    ensures faultless { OnOk result (draw_cause source (frame_of scope.now) inside at ≡ None) }
+    ensures refused { IfErr result (IsFirst (told_at at (draw_cause source (frame_of scope.now) inside at))) }
 {
     match source {
         Source::Node => drawn_at_node(scope, at, alloc),
@@ -104,7 +118,10 @@ pub fn random_term(
 }
 
 /// A number below which a draw is to be, if it is a constant, is from 1 to 65536.
-pub fn check_bound(bound: &Term, at: u32) -> Result<(), ExpandFault> {
+pub fn check_bound(bound: &Term, at: u32) -> Result<(), ExpandFault>
+    ensures faultless { OnOk result (below_cause (number_in (term_of bound.now)) ≡ None) }
+    ensures refused { IfErr result (λ fault. told_at at (below_cause (number_in (term_of bound.now))) ≡ Some fault) }
+{
     match bound {
         Term::Number(k) => {
             if *k == 0 || *k > 65536 {
@@ -118,7 +135,9 @@ pub fn check_bound(bound: &Term, at: u32) -> Result<(), ExpandFault> {
 
 /// Ten to a number of places, of 9 at most.
 fn unit(places: u32) -> Option<u64>
-    ensures exact { IfSome result (λ unit. unit ≡ 10 ^ places) }
+    ensures exact { IfSome result (λ unit. (places ≤ 9) × (unit ≡ 10 ^ places)) }
+    ensures small { IfSome result (λ unit. (1 ≤ unit) × (unit ≤ 1000000000)) }
+    ensures many { IsNone result → 9 < places }
 {
     match places {
         0 => Some(1),
@@ -138,13 +157,12 @@ fn unit(places: u32) -> Option<u64>
 /// The number nearest to 65,536 times a decimal from 0 to 1.
 pub fn chance_of(decimal: &Decimal, at: u32) -> Result<u32, ExpandFault>
     ensures exact { IfOk result (λ value. value ≡ chance decimal.now.numerator decimal.now.places) }
+    ensures faultless { OnOk result (chance_cause decimal.now ≡ None) }
+    ensures refused { IfErr result (λ fault. told_at at (chance_cause decimal.now) ≡ Some fault) }
 {
     let Some(unit) = unit(decimal.places) else {
         return Err(wrong(Cause::OutOfRange, at));
     };
-    if unit == 0 || unit > 1_000_000_000 {
-        return Err(wrong(Cause::OutOfRange, at));
-    }
     let value = (u64::from(decimal.numerator) * 131_072 + unit) / (2 * unit);
     if value > 65536 {
         return Err(wrong(Cause::OutOfRange, at));
@@ -159,7 +177,9 @@ pub fn chance_term(
     at: u32,
     alloc: Global,
 ) -> Result<Term, ExpandFault>
-    ensures means { IfOk result (λ t. Means (frame_of scope.now) (ChanceOfTree at decimal.now) (term_of t)) }
+    ensures exact { IfOk result (λ t. term_of t ≡ InfixTerm Less (draw_term Source.Node (frame_of scope.now) at) (NumberTerm (chance decimal.now.numerator decimal.now.places))) }
+    ensures faultless { OnOk result (option_or (chance_cause decimal.now) (node_cause (frame_of scope.now) at) ≡ None) }
+    ensures refused { IfErr result (IsFirst (told_at at (option_or (chance_cause decimal.now) (node_cause (frame_of scope.now) at)))) }
 {
     let value = chance_of(decimal, at)?;
     let draw = drawn_at_node(scope, at, alloc)?;

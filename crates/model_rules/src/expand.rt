@@ -1,28 +1,35 @@
 //! From expressions of a model to terms.
 
-ghost use Rattle.std.specs.Prelude.{◌≡◌, IfOk};
+ghost use Rattle.std.specs.Prelude.{◌≡◌, ◌||◌, if◌then◌else◌, IfErr, IfOk, OnOk, None, Some, true, length};
+ghost use Rattle.std.specs.List.{list_any};
+ghost use Rattle.std.specs.Option.{option_or};
+ghost use Rattle.model_rules.specs.declared.fault.Cause.TheVariants.{NestedAggregate};
+ghost use Rattle.model_rules.specs.declared.fault.ExpandFault.TheVariants.{At};
 ghost use Rattle.model_text.specs.View.{tree_of, arms_of, arguments_of};
+ghost use Rattle.model_rules.specs.FirstFaults.{IsRefusal, told_at, first_of, fault_in, arms_fault, faults_in, only_fault, some_fault, two_fault, few_fault, call_fault, draw_cause, bound_cause};
+ghost use Rattle.model_rules.specs.Operators.{kind_of};
+ghost use Rattle.model_rules.specs.Refusals.{item_at, let_for, apply_cause};
+ghost use Rattle.model_rules.specs.ScopeView.{frame_of, knowns_of, later_of};
+ghost use Rattle.model_rules.specs.TermFor.{term_for, arms_term, terms_for, let_term, first_term, second_term, joined_term, bounded_term, draw_term, call_term};
 ghost use Rattle.model_rules.specs.TermView.{term_of, terms_of};
-ghost use Rattle.model_rules.specs.Frames.{Means, MeansArms, MeansEach, MeansJoined, MeansFirst, MeansDistance, MeansBelow};
-ghost use Rattle.model_rules.specs.ScopeView.{frame_of};
+ghost use Rattle.model_rules.specs.Terms.{NotTerm, OverTerm, looks, parted};
 
 use crate::draw::scaled;
 use crate::drawing::{chance_of, chance_term, check_bound, random_term};
 use crate::fault::{Cause, ExpandFault, wrong};
 use crate::names::{applied, inside_only, name_term, near_term};
 use crate::operators::{
-    CallKind, Source, call_kind, choice, distance, ends, infix_term, over_term,
+    CallKind, Source, between, call_kind, choice, distance, ends, infix_term, over_term,
 };
 use crate::room::Room;
 use crate::scope::Scope;
 use crate::term::Term;
-use model_text::{Arguments, Arms, Expr};
-use rule_lang::Op;
+use model_text::{Arguments, Arms, Expr, Function};
+use rule_lang::{Agg, Op};
 use std::alloc::Global;
 
 /// The term of an expression, which stands inside of an aggregate or outside.
 #[cycle(expansion)]
-#[tactic(auto, using(crate::proofs::Meanings::draw_means))]
 pub fn expression(
     tree: &Expr,
     scope: &Scope,
@@ -30,7 +37,10 @@ pub fn expression(
     alloc: Global,
     room: &mut Room,
 ) -> Result<Term, ExpandFault>
-    ensures means { IfOk result (λ t. Means (frame_of scope.now) (tree_of tree.now) (term_of t)) }
+    ensures exact { IfOk result (λ t. term_of t ≡ term_for (frame_of scope.now) (tree_of tree.now)) }
+    ensures faultless { OnOk result (fault_in (frame_of scope.now) (later_of scope.now) inside (tree_of tree.now) ≡ None) }
+    ensures item { item_at room.new ≡ item_at room.old }
+    ensures refused { IfErr result (IsRefusal (fault_in (frame_of scope.now) (later_of scope.now) inside (tree_of tree.now)) (item_at room.old)) }
 {
     room.take()?;
     match tree {
@@ -59,10 +69,7 @@ pub fn expression(
             let right = expression(right, scope, inside, alloc, room)?;
             Ok(infix_term(*operator, left, right, alloc)?)
         }
-        Expr::Not { part, .. } => {
-            let part = expression(part, scope, inside, alloc, room)?;
-            Ok(Term::Not(Box::new(alloc, part)?))
-        }
+        Expr::Not { part, .. } => negation(part, scope, inside, alloc, room),
         Expr::Parens { part, .. } => expression(part, scope, inside, alloc, room),
         Expr::If { test, yes, no, .. } => {
             let test = expression(test, scope, inside, alloc, room)?;
@@ -75,27 +82,33 @@ pub fn expression(
             function,
             at,
             arguments,
-        } => match call_kind(*function) {
-            CallKind::Gather(_) if inside => Err(wrong(Cause::NestedAggregate, *at)),
-            CallKind::Gather(agg) => {
-                let part = single(arguments, *at, scope, true, alloc, room)?;
-                Ok(over_term(agg, part, alloc)?)
-            }
-            CallKind::Join(op) => joined(arguments, op, *at, scope, inside, alloc, room),
-            CallKind::Distance => difference(arguments, *at, scope, inside, alloc, room),
-            CallKind::Draw(source) => random(arguments, source, *at, scope, inside, alloc, room),
-        },
+        } => call(*function, arguments, *at, scope, inside, alloc, room),
         Expr::Apply {
             name,
             at,
             arguments,
-        } => {
-            let terms = each(arguments, scope, inside, alloc, room)?;
-            applied(name, *at, &terms, scope, inside, alloc, room)
-        }
+        } => application(name, arguments, *at, scope, inside, alloc, room),
         Expr::Chance { at, decimal } => Ok(Term::Number(chance_of(decimal, *at)?)),
         Expr::ChanceOf { at, decimal } => chance_term(decimal, scope, *at, alloc),
     }
+}
+
+/// The term of `not` before an expression.
+#[cycle(expansion)]
+fn negation(
+    part: &Expr,
+    scope: &Scope,
+    inside: bool,
+    alloc: Global,
+    room: &mut Room,
+) -> Result<Term, ExpandFault>
+    ensures exact { IfOk result (λ t. term_of t ≡ NotTerm (term_for (frame_of scope.now) (tree_of part.now))) }
+    ensures faultless { OnOk result (fault_in (frame_of scope.now) (later_of scope.now) inside (tree_of part.now) ≡ None) }
+    ensures item { item_at room.new ≡ item_at room.old }
+    ensures refused { IfErr result (IsRefusal (fault_in (frame_of scope.now) (later_of scope.now) inside (tree_of part.now)) (item_at room.old)) }
+{
+    let part = expression(part, scope, inside, alloc, room)?;
+    Ok(Term::Not(Box::new(alloc, part)?))
 }
 
 /// The term of the arms of `cases`.
@@ -107,7 +120,10 @@ fn cases(
     alloc: Global,
     room: &mut Room,
 ) -> Result<Term, ExpandFault>
-    ensures means { IfOk result (λ t. MeansArms (frame_of scope.now) (arms_of arms.now) (term_of t)) }
+    ensures exact { IfOk result (λ t. term_of t ≡ arms_term (frame_of scope.now) (arms_of arms.now)) }
+    ensures faultless { OnOk result (arms_fault (frame_of scope.now) (later_of scope.now) inside (arms_of arms.now) ≡ None) }
+    ensures item { item_at room.new ≡ item_at room.old }
+    ensures refused { IfErr result (IsRefusal (arms_fault (frame_of scope.now) (later_of scope.now) inside (arms_of arms.now)) (item_at room.old)) }
 {
     match arms {
         Arms::Arm { test, value, rest } => {
@@ -120,6 +136,73 @@ fn cases(
     }
 }
 
+/// The term of a function of the notation.
+#[cycle(expansion)]
+fn call(
+    function: Function,
+    arguments: &Arguments,
+    at: u32,
+    scope: &Scope,
+    inside: bool,
+    alloc: Global,
+    room: &mut Room,
+) -> Result<Term, ExpandFault>
+    ensures exact { IfOk result (λ t. term_of t ≡ call_term (kind_of function) (frame_of scope.now) at (terms_for (frame_of scope.now) (arguments_of arguments.now))) }
+    ensures faultless { OnOk result (call_fault (kind_of function) (frame_of scope.now) inside at (terms_for (frame_of scope.now) (arguments_of arguments.now)) (faults_in (frame_of scope.now) (later_of scope.now) inside (arguments_of arguments.now)) (faults_in (frame_of scope.now) (later_of scope.now) true (arguments_of arguments.now)) ≡ None) }
+    ensures item { item_at room.new ≡ item_at room.old }
+    ensures refused { IfErr result (IsRefusal (call_fault (kind_of function) (frame_of scope.now) inside at (terms_for (frame_of scope.now) (arguments_of arguments.now)) (faults_in (frame_of scope.now) (later_of scope.now) inside (arguments_of arguments.now)) (faults_in (frame_of scope.now) (later_of scope.now) true (arguments_of arguments.now))) (item_at room.old)) }
+{
+    match call_kind(function) {
+        CallKind::Gather(agg) => gathered(arguments, agg, at, scope, inside, alloc, room),
+        CallKind::Join(op) => joined(arguments, op, at, scope, inside, alloc, room),
+        CallKind::Distance => difference(arguments, at, scope, inside, alloc, room),
+        CallKind::Draw(source) => random(arguments, source, at, scope, inside, alloc, room),
+    }
+}
+
+/// The term of an aggregate.
+#[cycle(expansion)]
+fn gathered(
+    arguments: &Arguments,
+    agg: Agg,
+    at: u32,
+    scope: &Scope,
+    inside: bool,
+    alloc: Global,
+    room: &mut Room,
+) -> Result<Term, ExpandFault>
+    ensures exact { IfOk result (λ t. term_of t ≡ OverTerm agg (first_term (terms_for (frame_of scope.now) (arguments_of arguments.now)))) }
+    ensures faultless { OnOk result (if inside then Some (At NestedAggregate at) else only_fault at (faults_in (frame_of scope.now) (later_of scope.now) true (arguments_of arguments.now)) ≡ None) }
+    ensures item { item_at room.new ≡ item_at room.old }
+    ensures refused { IfErr result (IsRefusal (if inside then Some (At NestedAggregate at) else only_fault at (faults_in (frame_of scope.now) (later_of scope.now) true (arguments_of arguments.now))) (item_at room.old)) }
+{
+    if inside {
+        return Err(wrong(Cause::NestedAggregate, at));
+    }
+    let part = single(arguments, at, scope, true, alloc, room)?;
+    Ok(over_term(agg, part, alloc)?)
+}
+
+/// The term of a let with arguments.
+#[cycle(expansion)]
+fn application(
+    name: &str,
+    arguments: &Arguments,
+    at: u32,
+    scope: &Scope,
+    inside: bool,
+    alloc: Global,
+    room: &mut Room,
+) -> Result<Term, ExpandFault>
+    ensures exact { IfOk result (λ t. term_of t ≡ let_term (let_for (knowns_of scope.now.lets.items) name.now) (terms_for (frame_of scope.now) (arguments_of arguments.now))) }
+    ensures faultless { OnOk result (option_or (first_of (faults_in (frame_of scope.now) (later_of scope.now) inside (arguments_of arguments.now))) (told_at at (apply_cause (let_for (knowns_of scope.now.lets.items) name.now) (later_of scope.now) name.now (length (terms_for (frame_of scope.now) (arguments_of arguments.now))) (inside || list_any looks (terms_for (frame_of scope.now) (arguments_of arguments.now))))) ≡ None) }
+    ensures item { item_at room.new ≡ item_at room.old }
+    ensures refused { IfErr result (IsRefusal (option_or (first_of (faults_in (frame_of scope.now) (later_of scope.now) inside (arguments_of arguments.now))) (told_at at (apply_cause (let_for (knowns_of scope.now.lets.items) name.now) (later_of scope.now) name.now (length (terms_for (frame_of scope.now) (arguments_of arguments.now))) (inside || list_any looks (terms_for (frame_of scope.now) (arguments_of arguments.now)))))) (item_at room.old)) }
+{
+    let terms = each(arguments, scope, inside, alloc, room)?;
+    applied(name, at, &terms, scope, inside, alloc, room)
+}
+
 /// The terms of the arguments of a let, in order.
 #[cycle(expansion)]
 fn each(
@@ -129,7 +212,10 @@ fn each(
     alloc: Global,
     room: &mut Room,
 ) -> Result<Vec<Term>, ExpandFault>
-    ensures means { IfOk result (λ ts. MeansEach (frame_of scope.now) (arguments_of arguments.now) (terms_of ts.items)) }
+    ensures exact { IfOk result (λ ts. terms_of ts.items ≡ terms_for (frame_of scope.now) (arguments_of arguments.now)) }
+    ensures faultless { OnOk result (first_of (faults_in (frame_of scope.now) (later_of scope.now) inside (arguments_of arguments.now)) ≡ None) }
+    ensures item { item_at room.new ≡ item_at room.old }
+    ensures refused { IfErr result (IsRefusal (first_of (faults_in (frame_of scope.now) (later_of scope.now) inside (arguments_of arguments.now))) (item_at room.old)) }
 {
     match arguments {
         Arguments::End => Ok(Vec::new(alloc)),
@@ -144,6 +230,7 @@ fn each(
 
 /// The term of the only argument of a call.
 #[cycle(expansion)]
+#[tactic(auto, using(crate::proofs::Called::only_one, crate::proofs::Called::only_more))]
 fn single(
     arguments: &Arguments,
     at: u32,
@@ -152,7 +239,10 @@ fn single(
     alloc: Global,
     room: &mut Room,
 ) -> Result<Term, ExpandFault>
-    ensures means { IfOk result (λ t. MeansFirst (frame_of scope.now) (arguments_of arguments.now) (term_of t)) }
+    ensures exact { IfOk result (λ t. term_of t ≡ first_term (terms_for (frame_of scope.now) (arguments_of arguments.now))) }
+    ensures faultless { OnOk result (only_fault at (faults_in (frame_of scope.now) (later_of scope.now) inside (arguments_of arguments.now)) ≡ None) }
+    ensures item { item_at room.new ≡ item_at room.old }
+    ensures refused { IfErr result (IsRefusal (only_fault at (faults_in (frame_of scope.now) (later_of scope.now) inside (arguments_of arguments.now))) (item_at room.old)) }
 {
     match arguments {
         Arguments::End => Err(wrong(Cause::WrongArguments, at)),
@@ -160,14 +250,14 @@ fn single(
             if !ends(rest) {
                 return Err(wrong(Cause::WrongArguments, at));
             }
-            let term = expression(first, scope, inside, alloc, room)?;
-            Ok(term)
+            expression(first, scope, inside, alloc, room)
         }
     }
 }
 
 /// The term of all arguments of `min` or `max`.
 #[cycle(expansion)]
+#[tactic(auto, using(crate::proofs::Called::some_last, crate::proofs::Called::some_more, crate::proofs::Called::joined_last, crate::proofs::Called::joined_more))]
 fn joined(
     arguments: &Arguments,
     op: Op,
@@ -177,18 +267,20 @@ fn joined(
     alloc: Global,
     room: &mut Room,
 ) -> Result<Term, ExpandFault>
-    ensures means { IfOk result (λ t. MeansJoined (frame_of scope.now) op (arguments_of arguments.now) (term_of t)) }
+    ensures exact { IfOk result (λ t. term_of t ≡ joined_term op (terms_for (frame_of scope.now) (arguments_of arguments.now))) }
+    ensures faultless { OnOk result (some_fault at (faults_in (frame_of scope.now) (later_of scope.now) inside (arguments_of arguments.now)) ≡ None) }
+    ensures item { item_at room.new ≡ item_at room.old }
+    ensures refused { IfErr result (IsRefusal (some_fault at (faults_in (frame_of scope.now) (later_of scope.now) inside (arguments_of arguments.now))) (item_at room.old)) }
 {
     match arguments {
         Arguments::End => Err(wrong(Cause::WrongArguments, at)),
         Arguments::Argument { first, rest } => {
-            let first = expression(first, scope, inside, alloc, room)?;
             if ends(rest) {
-                return Ok(first);
+                return expression(first, scope, inside, alloc, room);
             }
+            let first = expression(first, scope, inside, alloc, room)?;
             let rest = joined(rest, op, at, scope, inside, alloc, room)?;
-            let first = Box::new(alloc, first)?;
-            Ok(Term::Infix(op, first, Box::new(alloc, rest)?))
+            Ok(between(op, first, rest, alloc)?)
         }
     }
 }
@@ -203,14 +295,17 @@ fn difference(
     alloc: Global,
     room: &mut Room,
 ) -> Result<Term, ExpandFault>
-    ensures means { IfOk result (λ t. MeansDistance (frame_of scope.now) (arguments_of arguments.now) (term_of t)) }
+    ensures exact { IfOk result (λ t. term_of t ≡ parted (first_term (terms_for (frame_of scope.now) (arguments_of arguments.now))) (second_term (terms_for (frame_of scope.now) (arguments_of arguments.now)))) }
+    ensures faultless { OnOk result (two_fault at (faults_in (frame_of scope.now) (later_of scope.now) inside (arguments_of arguments.now)) ≡ None) }
+    ensures item { item_at room.new ≡ item_at room.old }
+    ensures refused { IfErr result (IsRefusal (two_fault at (faults_in (frame_of scope.now) (later_of scope.now) inside (arguments_of arguments.now))) (item_at room.old)) }
 {
     match arguments {
         Arguments::End => Err(wrong(Cause::WrongArguments, at)),
         Arguments::Argument { first, rest } => {
             let first = expression(first, scope, inside, alloc, room)?;
             let second = single(rest, at, scope, inside, alloc, room)?;
-            Ok(distance(first, second, alloc, room)?)
+            distance(first, second, alloc, room)
         }
     }
 }
@@ -226,18 +321,38 @@ fn random(
     alloc: Global,
     room: &mut Room,
 ) -> Result<Term, ExpandFault>
-    ensures means { IfOk result (λ t. MeansBelow (frame_of scope.now) source at (arguments_of arguments.now) (term_of t)) }
+    ensures exact { IfOk result (λ t. term_of t ≡ bounded_term (draw_term source (frame_of scope.now) at) (terms_for (frame_of scope.now) (arguments_of arguments.now))) }
+    ensures faultless { OnOk result (option_or (told_at at (draw_cause source (frame_of scope.now) inside at)) (option_or (few_fault at (faults_in (frame_of scope.now) (later_of scope.now) inside (arguments_of arguments.now))) (told_at at (bound_cause (terms_for (frame_of scope.now) (arguments_of arguments.now))))) ≡ None) }
+    ensures item { item_at room.new ≡ item_at room.old }
+    ensures refused { IfErr result (IsRefusal (option_or (told_at at (draw_cause source (frame_of scope.now) inside at)) (option_or (few_fault at (faults_in (frame_of scope.now) (later_of scope.now) inside (arguments_of arguments.now))) (told_at at (bound_cause (terms_for (frame_of scope.now) (arguments_of arguments.now)))))) (item_at room.old)) }
 {
     let draw = random_term(source, scope, inside, at, alloc)?;
     match arguments {
         Arguments::End => Ok(draw),
-        Arguments::Argument { first, rest } => {
-            if !ends(rest) {
-                return Err(wrong(Cause::WrongArguments, at));
-            }
-            let bound = expression(first, scope, inside, alloc, room)?;
-            check_bound(&bound, at)?;
-            Ok(scaled(draw, bound, alloc)?)
+        Arguments::Argument { .. } => {
+            let limit = bound(arguments, at, scope, inside, alloc, room)?;
+            Ok(scaled(draw, limit, alloc)?)
         }
     }
+}
+
+/// The term of the number below which a draw is to be.
+#[cycle(expansion)]
+#[tactic(auto, using(crate::proofs::Called::bound_first))]
+fn bound(
+    arguments: &Arguments,
+    at: u32,
+    scope: &Scope,
+    inside: bool,
+    alloc: Global,
+    room: &mut Room,
+) -> Result<Term, ExpandFault>
+    ensures exact { IfOk result (λ t. term_of t ≡ first_term (terms_for (frame_of scope.now) (arguments_of arguments.now))) }
+    ensures faultless { OnOk result (option_or (only_fault at (faults_in (frame_of scope.now) (later_of scope.now) inside (arguments_of arguments.now))) (told_at at (bound_cause (terms_for (frame_of scope.now) (arguments_of arguments.now)))) ≡ None) }
+    ensures item { item_at room.new ≡ item_at room.old }
+    ensures refused { IfErr result (IsRefusal (option_or (only_fault at (faults_in (frame_of scope.now) (later_of scope.now) inside (arguments_of arguments.now))) (told_at at (bound_cause (terms_for (frame_of scope.now) (arguments_of arguments.now))))) (item_at room.old)) }
+{
+    let limit = single(arguments, at, scope, inside, alloc, room)?;
+    check_bound(&limit, at)?;
+    Ok(limit)
 }

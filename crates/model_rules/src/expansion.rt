@@ -1,11 +1,13 @@
 //! Rules that are within the bounds of the rule language.
 
-ghost use Rattle.std.specs.Prelude.{◌≡◌, ◌++◌, ◌∷◌, [], min, length, OnOk};
-ghost use Rattle.rule_lang.specs.View.{item_of};
+ghost use Rattle.std.specs.Prelude.{◌≡◌, ◌++◌, ◌∷◌, [], min, length, None, IfErr, OnOk};
+ghost use Rattle.rule_lang.specs.View.{item_of, items_of};
 ghost use Rattle.rule_check.specs.Table.{M};
 ghost use Rattle.rule_check.specs.Items.{nexts_of};
 ghost use Rattle.rule_check.specs.WellFormed.{all_parts};
+ghost use Rattle.model_rules.specs.Bounds.{size_cause};
 ghost use Rattle.model_rules.specs.Counts.{IsCounted};
+ghost use Rattle.model_rules.specs.FirstFaults.{IsFirst, told_at};
 
 use crate::fault::{Cause, ExpandFault, wrong};
 use crate::forms::aggregates_in;
@@ -54,6 +56,8 @@ impl Expansion {
     pub fn add(&mut self, rule: Item, at: u32, alloc: Global) -> Result<(), ExpandFault>
         ensures added { OnOk result (self.new.rules.items ≡ self.old.rules.items ++ rule ∷ []) }
         ensures counted { IsCounted self.old → OnOk result (IsCounted self.new) }
+        ensures faultless { IsCounted self.old → OnOk result (size_cause (items_of self.old.rules.items ++ item_of rule ∷ []) ≡ None) }
+        ensures refused { IsCounted self.old → IfErr result (IsFirst (told_at at (size_cause (items_of self.old.rules.items ++ item_of rule ∷ [])))) }
     {
         let aggregates = self.aggregates.saturating_add(aggregates_of(&rule));
         if aggregates > MOST_AGGREGATES {

@@ -1,12 +1,15 @@
 //! What constants, states and lets are worth.
 
-ghost use Rattle.std.specs.Prelude.{◌≡◌, ◌≤◌, [], IfOk, IfSome, List, ℕ, map, string_bytes};
+ghost use Rattle.std.specs.Prelude.{◌≡◌, ◌≤◌, [], IfErr, IfOk, IfSome, None, OnOk, List, ℕ, map, string_bytes};
 ghost use Rattle.model_text.specs.View.{item_of, name_of, tree_of};
 ghost use Rattle.model_text.specs.Tree.{NameAt, ConstTree, StatesTree, LetTree};
 ghost use Rattle.model_rules.specs.Models.{GivenTree, Setting, bare, given_value};
 ghost use Rattle.model_rules.specs.Frames.{KnownTree, Means};
 ghost use Rattle.model_rules.specs.Expansions.{Tells};
-ghost use Rattle.model_rules.specs.ScopeView.{frame_of, known_of, knowns_of, givens_of, setting_in};
+ghost use Rattle.model_rules.specs.ScopeView.{frame_of, known_of, knowns_of, givens_of, later_of, setting_in};
+ghost use Rattle.model_rules.specs.Amounts.{amount_in, value_fault, body_fault};
+ghost use Rattle.model_rules.specs.FirstFaults.{IsRefusal};
+ghost use Rattle.model_rules.specs.TermFor.{term_for};
 ghost use Rattle.rule_lang.specs.Tree.{depth};
 ghost use Rattle.model_rules.specs.TermView.{term_of};
 ghost use Rattle.model_rules.specs.Terms.{NumberTerm, lowered};
@@ -49,9 +52,12 @@ pub fn given_for(given: &[Given], name: &str) -> Option<u32>
 }
 
 /// The value of an expression that is made of numbers, constants and states alone.
-#[tactic(auto, using(crate::proofs::Sound::amount_means))]
+#[tactic(auto, using(crate::proofs::Worth::value_by))]
 pub fn value_of(body: &Expr, at: u32, scope: &Scope, alloc: Global) -> Result<u32, ExpandFault>
     ensures means { IfOk result (λ v. Means (frame_of scope.now) (tree_of body.now) (NumberTerm v)) }
+    ensures exact { IfOk result (λ v. v ≡ amount_in (term_for (frame_of scope.now) (tree_of body.now))) }
+    ensures faultless { OnOk result (value_fault (frame_of scope.now) (later_of scope.now) (tree_of body.now) at ≡ None) }
+    ensures refused { IfErr result (IsRefusal (value_fault (frame_of scope.now) (later_of scope.now) (tree_of body.now) at) at) }
 {
     let mut room = Room::new(at);
     let term = expression(body, scope, false, alloc, &mut room)?;
@@ -60,9 +66,13 @@ pub fn value_of(body: &Expr, at: u32, scope: &Scope, alloc: Global) -> Result<u3
 }
 
 /// The term of an expression outside of aggregates, which is not deeper than 64.
+#[tactic(auto, using(crate::proofs::Worth::means_by))]
 pub fn shallow_term(tree: &Expr, at: u32, scope: &Scope, alloc: Global) -> Result<Term, ExpandFault>
     ensures means { IfOk result (λ t. Means (frame_of scope.now) (tree_of tree.now) (term_of t)) }
     ensures shallow { IfOk result (λ t. depth (lowered (term_of t)) ≤ 64) }
+    ensures exact { IfOk result (λ t. term_of t ≡ term_for (frame_of scope.now) (tree_of tree.now)) }
+    ensures faultless { OnOk result (body_fault (frame_of scope.now) (later_of scope.now) (tree_of tree.now) at ≡ None) }
+    ensures refused { IfErr result (IsRefusal (body_fault (frame_of scope.now) (later_of scope.now) (tree_of tree.now) at) at) }
 {
     let mut room = Room::new(at);
     let term = expression(tree, scope, false, alloc, &mut room)?;

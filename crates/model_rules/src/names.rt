@@ -1,16 +1,16 @@
 //! Terms of names.
 
-ghost use Rattle.std.specs.Prelude.{◌≡◌, ◌&&◌, ◌||◌, IfErr, IfOk, OnOk, Some, None, Err, true, false, length, map, string_bytes};
+ghost use Rattle.std.specs.Prelude.{◌≡◌, ◌&&◌, ◌||◌, IfErr, IfOk, OnOk, Some, None, Err, true, false, length};
 ghost use Rattle.std.specs.List.{list_any};
-ghost use Rattle.model_text.specs.Tree.{NameTree, NearTree, ArgumentTree, ApplyTree};
 ghost use Rattle.model_rules.specs.TermView.{term_of, terms_of};
-ghost use Rattle.model_rules.specs.Terms.{looks, gathers};
-ghost use Rattle.model_rules.specs.Frames.{Means, MeansEach, IsFilled, IsMoved};
-ghost use Rattle.model_rules.specs.ScopeView.{frame_of, known_of, knowns_of};
+ghost use Rattle.model_rules.specs.Terms.{looks, gathers, filled, seen_near};
+ghost use Rattle.model_rules.specs.TermFor.{let_term, named_term, near_named_term};
+ghost use Rattle.model_rules.specs.ScopeView.{frame_of, known_of, knowns_of, later_of};
 ghost use Rattle.model_rules.specs.declared.fault.Cause.{Cause};
 ghost use Rattle.model_rules.specs.declared.fault.Cause.TheVariants.{NeighbourOutside};
 ghost use Rattle.model_rules.specs.declared.fault.ExpandFault.TheVariants.{At};
-ghost use Rattle.model_rules.specs.Refusals.{item_at, IsTooLong, let_for, unknown_cause, put_cause, seen_cause, apply_cause, name_cause, near_cause};
+ghost use Rattle.model_rules.specs.FirstFaults.{IsRefusal, told_at};
+ghost use Rattle.model_rules.specs.Refusals.{item_at, let_for, unknown_cause, put_cause, seen_cause, apply_cause, name_cause, near_cause};
 
 use crate::fault::{Cause, ExpandFault, wrong};
 use crate::fill::fill;
@@ -77,10 +77,11 @@ fn put_in(
     alloc: Global,
     room: &mut Room,
 ) -> Result<Term, ExpandFault>
-    ensures filled { IfOk result (λ t. IsFilled (term_of known.now.term) (terms_of arguments.now) (term_of t)) }
+    ensures exact { IfOk result (λ t. term_of t ≡ filled (terms_of arguments.now) (term_of known.now.term)) }
     ensures item { item_at room.new ≡ item_at room.old }
     ensures at_once { (cause : Cause) → put_cause (known_of known.now) (length arguments.now) (inside || list_any looks (terms_of arguments.now)) ≡ Some cause → result ≡ Err (At cause at) }
-    ensures refused { IfErr result (λ fault. put_cause (known_of known.now) (length arguments.now) (inside || list_any looks (terms_of arguments.now)) ≡ None → IsTooLong (item_at room.old) fault) }
+    ensures faultless { OnOk result (put_cause (known_of known.now) (length arguments.now) (inside || list_any looks (terms_of arguments.now)) ≡ None) }
+    ensures refused { IfErr result (IsRefusal (told_at at (put_cause (known_of known.now) (length arguments.now) (inside || list_any looks (terms_of arguments.now)))) (item_at room.old)) }
 {
     match put_in_cause(known, arguments, inside) {
         Some(cause) => Err(wrong(cause, at)),
@@ -90,7 +91,7 @@ fn put_in(
 
 /// What is wrong with a name that is not known: it is that of a later let, or of nothing.
 fn unknown(name: &str, at: u32, scope: &Scope, cause: Cause) -> ExpandFault
-    ensures exact { result ≡ At (unknown_cause (map string_bytes scope.now.later.items) name.now cause) at }
+    ensures exact { result ≡ At (unknown_cause (later_of scope.now) name.now cause) at }
 {
     match place_of(&scope.later, name) {
         Some(_) => wrong(Cause::Ring, at),
@@ -99,7 +100,7 @@ fn unknown(name: &str, at: u32, scope: &Scope, cause: Cause) -> ExpandFault
 }
 
 /// The term of a name.
-#[tactic(auto, using(crate::proofs::Refused::name_parameter, crate::proofs::Refused::name_field, crate::proofs::Refused::name_let))]
+#[tactic(auto, using(crate::proofs::Refused::name_parameter, crate::proofs::Refused::name_field, crate::proofs::Refused::name_let, crate::proofs::Refused::term_parameter, crate::proofs::Refused::term_field))]
 pub fn name_term(
     name: &str,
     at: u32,
@@ -108,10 +109,11 @@ pub fn name_term(
     alloc: Global,
     room: &mut Room,
 ) -> Result<Term, ExpandFault>
-    ensures means { IfOk result (λ t. Means (frame_of scope.now) (NameTree name.now at) (term_of t)) }
+    ensures exact { IfOk result (λ t. term_of t ≡ named_term (frame_of scope.now) name.now) }
     ensures item { item_at room.new ≡ item_at room.old }
-    ensures at_once { (cause : Cause) → name_cause (frame_of scope.now) (map string_bytes scope.now.later.items) name.now inside ≡ Some cause → result ≡ Err (At cause at) }
-    ensures refused { IfErr result (λ fault. name_cause (frame_of scope.now) (map string_bytes scope.now.later.items) name.now inside ≡ None → IsTooLong (item_at room.old) fault) }
+    ensures at_once { (cause : Cause) → name_cause (frame_of scope.now) (later_of scope.now) name.now inside ≡ Some cause → result ≡ Err (At cause at) }
+    ensures faultless { OnOk result (name_cause (frame_of scope.now) (later_of scope.now) name.now inside ≡ None) }
+    ensures refused { IfErr result (IsRefusal (told_at at (name_cause (frame_of scope.now) (later_of scope.now) name.now inside)) (item_at room.old)) }
 {
     if let Some(k) = place_of(&scope.parameters, name) {
         return Ok(Term::Parameter(k));
@@ -140,10 +142,11 @@ fn seen_let_cause(known: &Known) -> Option<Cause>
 
 /// The term of a let as seen from a neighbour.
 fn seen_let(known: &Known, at: u32, alloc: Global, room: &mut Room) -> Result<Term, ExpandFault>
-    ensures moved { IfOk result (λ t. IsMoved (term_of known.now.term) (term_of t)) }
+    ensures exact { IfOk result (λ t. term_of t ≡ seen_near (term_of known.now.term)) }
     ensures item { item_at room.new ≡ item_at room.old }
     ensures at_once { (cause : Cause) → seen_cause (known_of known.now) ≡ Some cause → result ≡ Err (At cause at) }
-    ensures refused { IfErr result (λ fault. seen_cause (known_of known.now) ≡ None → IsTooLong (item_at room.old) fault) }
+    ensures faultless { OnOk result (seen_cause (known_of known.now) ≡ None) }
+    ensures refused { IfErr result (IsRefusal (told_at at (seen_cause (known_of known.now))) (item_at room.old)) }
 {
     match seen_let_cause(known) {
         Some(cause) => Err(wrong(cause, at)),
@@ -152,7 +155,7 @@ fn seen_let(known: &Known, at: u32, alloc: Global, room: &mut Room) -> Result<Te
 }
 
 /// The term of a name behind `n.`.
-#[tactic(auto, using(crate::proofs::Refused::near_field, crate::proofs::Refused::near_let, crate::proofs::Refused::near_outside))]
+#[tactic(auto, using(crate::proofs::Refused::near_field, crate::proofs::Refused::near_let, crate::proofs::Refused::near_outside, crate::proofs::Refused::near_term_field))]
 pub fn near_term(
     name: &str,
     at: u32,
@@ -161,10 +164,11 @@ pub fn near_term(
     alloc: Global,
     room: &mut Room,
 ) -> Result<Term, ExpandFault>
-    ensures means { IfOk result (λ t. Means (frame_of scope.now) (NearTree name.now at) (term_of t)) }
+    ensures exact { IfOk result (λ t. term_of t ≡ near_named_term (frame_of scope.now) name.now) }
     ensures item { item_at room.new ≡ item_at room.old }
-    ensures at_once { (cause : Cause) → near_cause (frame_of scope.now) (map string_bytes scope.now.later.items) name.now inside ≡ Some cause → result ≡ Err (At cause at) }
-    ensures refused { IfErr result (λ fault. near_cause (frame_of scope.now) (map string_bytes scope.now.later.items) name.now inside ≡ None → IsTooLong (item_at room.old) fault) }
+    ensures at_once { (cause : Cause) → near_cause (frame_of scope.now) (later_of scope.now) name.now inside ≡ Some cause → result ≡ Err (At cause at) }
+    ensures faultless { OnOk result (near_cause (frame_of scope.now) (later_of scope.now) name.now inside ≡ None) }
+    ensures refused { IfErr result (IsRefusal (told_at at (near_cause (frame_of scope.now) (later_of scope.now) name.now inside)) (item_at room.old)) }
 {
     if !inside {
         return Err(wrong(Cause::NeighbourOutside, at));
@@ -188,11 +192,11 @@ pub fn applied(
     alloc: Global,
     room: &mut Room,
 ) -> Result<Term, ExpandFault>
-    ensures means { (trees : ArgumentTree) → MeansEach (frame_of scope.now) trees (terms_of arguments.now)
-        → IfOk result (λ t. Means (frame_of scope.now) (ApplyTree name.now at trees) (term_of t)) }
+    ensures exact { IfOk result (λ t. term_of t ≡ let_term (let_for (knowns_of scope.now.lets.items) name.now) (terms_of arguments.now)) }
     ensures item { item_at room.new ≡ item_at room.old }
-    ensures at_once { (cause : Cause) → apply_cause (let_for (knowns_of scope.now.lets.items) name.now) (map string_bytes scope.now.later.items) name.now (length arguments.now) (inside || list_any looks (terms_of arguments.now)) ≡ Some cause → result ≡ Err (At cause at) }
-    ensures refused { IfErr result (λ fault. apply_cause (let_for (knowns_of scope.now.lets.items) name.now) (map string_bytes scope.now.later.items) name.now (length arguments.now) (inside || list_any looks (terms_of arguments.now)) ≡ None → IsTooLong (item_at room.old) fault) }
+    ensures at_once { (cause : Cause) → apply_cause (let_for (knowns_of scope.now.lets.items) name.now) (later_of scope.now) name.now (length arguments.now) (inside || list_any looks (terms_of arguments.now)) ≡ Some cause → result ≡ Err (At cause at) }
+    ensures faultless { OnOk result (apply_cause (let_for (knowns_of scope.now.lets.items) name.now) (later_of scope.now) name.now (length arguments.now) (inside || list_any looks (terms_of arguments.now)) ≡ None) }
+    ensures refused { IfErr result (IsRefusal (told_at at (apply_cause (let_for (knowns_of scope.now.lets.items) name.now) (later_of scope.now) name.now (length arguments.now) (inside || list_any looks (terms_of arguments.now)))) (item_at room.old)) }
 {
     match let_of(&scope.lets, name) {
         Some(known) => put_in(known, arguments, at, inside, alloc, room),

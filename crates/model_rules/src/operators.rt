@@ -1,10 +1,7 @@
 //! Terms of operators and of functions that the notation has.
 
-ghost use Rattle.std.specs.Prelude.{◌≡◌, ℕ, IfErr, IfOk};
-ghost use Rattle.model_text.specs.declared.tree.Function.{Function};
-ghost use Rattle.model_text.specs.Tree.{Tree, ArgumentTree, InfixTree, CallTree};
+ghost use Rattle.std.specs.Prelude.{◌≡◌, IfErr, IfOk};
 ghost use Rattle.model_text.specs.View.{arguments_of};
-ghost use Rattle.model_rules.specs.Frames.{Frame, Means, MeansFirst};
 ghost use Rattle.model_rules.specs.TermView.{term_of};
 ghost use Rattle.model_rules.specs.Terms.{InfixTerm, OverTerm, ChoiceTerm, is_test, is_tested, tested, parted};
 ghost use Rattle.model_rules.specs.Refusals.{item_at, IsTooLong};
@@ -59,7 +56,12 @@ pub fn between(op: Op, left: Term, right: Term, alloc: Global) -> Result<Term, A
 }
 
 /// The term of two parts with an operator between them.
-fn infix(operator: Operator, left: Term, right: Term, alloc: Global) -> Result<Term, AllocError>
+pub fn infix_term(
+    operator: Operator,
+    left: Term,
+    right: Term,
+    alloc: Global,
+) -> Result<Term, AllocError>
     ensures exact { IfOk result (λ t. term_of t ≡ combined operator (term_of left) (term_of right)) }
 {
     match operator {
@@ -82,32 +84,11 @@ fn infix(operator: Operator, left: Term, right: Term, alloc: Global) -> Result<T
     }
 }
 
-/// An operator between what two expressions are worth.
-pub fn infix_term(
-    operator: Operator,
-    left: Term,
-    right: Term,
-    alloc: Global,
-) -> Result<Term, AllocError>
-    ensures means { (f : Frame) (a b : Tree) (at : ℕ) → Means f a (term_of left) → Means f b (term_of right)
-        → IfOk result (λ t. Means f (InfixTree operator at a b) (term_of t)) }
-{
-    infix(operator, left, right, alloc)
-}
-
 /// An aggregate of a term.
-fn over(agg: Agg, part: Term, alloc: Global) -> Result<Term, AllocError>
+pub fn over_term(agg: Agg, part: Term, alloc: Global) -> Result<Term, AllocError>
     ensures exact { IfOk result (λ t. term_of t ≡ OverTerm agg (term_of part)) }
 {
     Ok(Term::Over(agg, Box::new(alloc, part)?))
-}
-
-/// An aggregate of what the only argument of a call is worth.
-pub fn over_term(agg: Agg, part: Term, alloc: Global) -> Result<Term, AllocError>
-    ensures means { (f : Frame) (function : Function) (at : ℕ) (arguments : ArgumentTree) → kind_of function ≡ CallKind.Gather agg
-        → MeansFirst f arguments (term_of part) → IfOk result (λ t. Means f (CallTree function at arguments) (term_of t)) }
-{
-    over(agg, part, alloc)
 }
 
 /// The term of a choice.

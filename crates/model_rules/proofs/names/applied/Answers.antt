@@ -1,37 +1,33 @@
 use Rattle.std.proofs.Common.{◌≡◌, ◌∙◌, sym, ap, List, subst}
-use Rattle.std.specs.Prelude.{map, string_bytes, length, Option, Some, None, ◌||◌}
+use Rattle.std.specs.Prelude.{length, Option, Some, None, ◌||◌, IfErr, IfOk, OnOk}
 use Rattle.std.specs.List.{list_any}
-use Rattle.std.proofs.lemmas.Result.{IfOk-weaker, IfErr-weaker}
-use Rattle.model_text.specs.Tree.{ApplyTree}
-use Rattle.model_rules.specs.declared.term.Term.{Term}
+use Rattle.model_rules.specs.declared.fault.Cause.{Cause}
 use Rattle.model_rules.specs.declared.scope.Known.{Known}
 use Rattle.model_rules.specs.TermView.{term_of, terms_of}
-use Rattle.model_rules.specs.Terms.{looks}
-use Rattle.model_rules.specs.declared.fault.ExpandFault.{ExpandFault}
-use Rattle.model_rules.specs.Frames.{KnownTree, Means, IsFilled}
-use Rattle.model_rules.specs.ScopeView.{frame_of, known_of, knowns_of, IsLet}
-use Rattle.model_rules.specs.Refusals.{item_at, IsTooLong, let_for, put_cause, apply_cause}
-use Rattle.model_rules.proofs.Meanings.{applied_means}
+use Rattle.model_rules.specs.TermFor.{let_term}
+use Rattle.model_rules.specs.Terms.{TermTree, looks, filled}
+use Rattle.model_rules.specs.Frames.{KnownTree}
+use Rattle.model_rules.specs.ScopeView.{known_of, knowns_of, later_of}
+use Rattle.model_rules.specs.Refusals.{item_at, let_for, put_cause, apply_cause}
+use Rattle.model_rules.specs.FirstFaults.{IsRefusal, told_at}
 use Rattle.model_rules.proofs.names.applied.Goals as goal
 
 pub returns-in-Some : goal.returns-in-Some
 returns-in-Some c =
-    let among : IsLet (knowns_of c.args.scope.now.lets.items) (known_of c.in-Some.known.now) = subst (λ (ls : List Known). IsLet (knowns_of ls) (known_of c.in-Some.known.now)) c.deref.ensures.value c.in-Some.ensures.among in
-    let found : let_for (knowns_of c.args.scope.now.lets.items) c.args.name.now ≡ Some (known_of c.in-Some.known.now) = subst (λ (ls : List Known). let_for (knowns_of ls) c.args.name.now ≡ Some (known_of c.in-Some.known.now)) c.deref.ensures.value c.in-Some.ensures.found in
-    let same : apply_cause (let_for (knowns_of c.args.scope.now.lets.items) c.args.name.now) (map string_bytes c.args.scope.now.later.items) c.args.name.now (length c.args.arguments.now) (c.args.inside || list_any looks (terms_of c.args.arguments.now)) ≡ (put_cause (known_of c.in-Some.known.now) (length c.args.arguments.now) (c.args.inside || list_any looks (terms_of c.args.arguments.now))) = ap (λ (o : Option KnownTree). apply_cause o (map string_bytes c.args.scope.now.later.items) c.args.name.now (length c.args.arguments.now) (c.args.inside || list_any looks (terms_of c.args.arguments.now))) found in
+    let name = c.args.name.now in
+    let lets = knowns_of c.args.scope.now.lets.items in
+    let later = later_of c.args.scope.now in
+    let count = length c.args.arguments.now in
+    let terms = terms_of c.args.arguments.now in
+    let within = c.args.inside || list_any looks (terms_of c.args.arguments.now) in
+    let known = known_of c.in-Some.known.now in
+    let found : let_for lets name ≡ Some known = subst (λ (ls : List Known). let_for (knowns_of ls) name ≡ Some known) c.deref.ensures.value c.in-Some.ensures.found in
+    let same : apply_cause (let_for lets name) later name count within ≡ put_cause known count within = ap (λ (o : Option KnownTree). apply_cause o later name count within) found in
+    let term : let_term (let_for lets name) terms ≡ filled terms known.term = ap (λ (o : Option KnownTree). let_term o terms) found in
     record {
-      means = λ trees h.
-          IfOk-weaker c.put_in.result
-          (λ (t : Term). IsFilled (term_of c.in-Some.known.now.term) (terms_of c.args.arguments.now) (term_of t))
-          (λ (t : Term). Means (frame_of c.args.scope.now) (ApplyTree c.args.name.now c.args.at trees) (term_of t))
-          (λ t f. applied_means (frame_of c.args.scope.now) c.args.name.now c.args.at (known_of c.in-Some.known.now) trees (terms_of c.args.arguments.now) (term_of t) among c.in-Some.ensures.named f h)
-          c.put_in.ensures.filled;
+      exact = subst (λ (x : TermTree). IfOk c.put_in.result (λ t. term_of t ≡ x)) (sym term) c.put_in.ensures.exact;
       item = c.put_in.ensures.item;
       at_once = λ cause h. c.put_in.ensures.at_once cause (sym same ∙ h);
-      refused =
-          IfErr-weaker c.put_in.result
-          (λ (e : ExpandFault). (put_cause (known_of c.in-Some.known.now) (length c.args.arguments.now) (c.args.inside || list_any looks (terms_of c.args.arguments.now))) ≡ None → IsTooLong (item_at c.args.room.now) e)
-          (λ (e : ExpandFault). apply_cause (let_for (knowns_of c.args.scope.now.lets.items) c.args.name.now) (map string_bytes c.args.scope.now.later.items) c.args.name.now (length c.args.arguments.now) (c.args.inside || list_any looks (terms_of c.args.arguments.now)) ≡ None → IsTooLong (item_at c.args.room.now) e)
-          (λ e g h. g (sym same ∙ h))
-          c.put_in.ensures.refused;
+      faultless = subst (λ (o : Option Cause). OnOk c.put_in.result (o ≡ None)) (sym same) c.put_in.ensures.faultless;
+      refused = subst (λ (o : Option Cause). IfErr c.put_in.result (IsRefusal (told_at c.args.at o) (item_at c.args.room.now))) (sym same) c.put_in.ensures.refused;
     }
