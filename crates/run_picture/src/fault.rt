@@ -5,8 +5,9 @@ ghost use Rattle.run_picture.specs.declared.fault.PictureFault.TheVariants.{Memo
 use std::alloc::{AllocError, AllocFailed};
 use thiserror::Error;
 
-/// Why there is no picture. Where several hold, the first in this order; `Memory` comes only where no other holds, but for
-/// `TooManyValues`, which is known only after the rounds.
+/// Why there is no picture. Where several hold, the first in this order, but that of pictures for each round `NoWidth` comes
+/// behind `TooManyFrames`; `Memory` comes only where no other holds, but for `TooManyValues`, which is known only after the
+/// rounds.
 #[derive(Clone, Copy, Debug, PartialEq, Eq, Error)]
 pub enum PictureFault {
     /// The last round is above 1,000,000,000.
@@ -24,7 +25,7 @@ pub enum PictureFault {
     /// There would be more than 1,000,000 cells.
     #[error("TooManyCells")]
     TooManyCells,
-    /// A moving picture would have more than 10,000 frames.
+    /// A moving picture would have more than 10,000 frames, or more than 10,000 rounds a picture of their own.
     #[error("TooManyFrames")]
     TooManyFrames,
     /// Networks would be drawn with more than 1,000,000 lines of links in all.
