@@ -1,6 +1,8 @@
 """Networks by the proved makers: each shape by its definition, and what is promised of random ones."""
 
 import itertools
+import tempfile
+from pathlib import Path
 
 from support import raised
 
@@ -209,6 +211,34 @@ def test_a_large_network_is_written_as_pack_writes_it():
     weighted = unison.Network.from_edges([0, 1], [1, 2], [7, 9])
     again = _packed.read(_packed.write(weighted), {"s": 4})
     assert (list(again.indptr), list(again.indices), list(again.weights)) == ([0, 1, 3, 4], [1, 0, 2, 1], [7, 7, 9, 9])
+
+
+def test_files_of_large_networks():
+    """What `save` writes is read again; a file that is none is refused as `unison large` refuses it."""
+    with tempfile.TemporaryDirectory() as folder:
+        file, names = Path(folder, "x.net"), Path(folder, "x.names")
+        file.write_bytes(_programs.run(["pack", "path", "3"]))
+        names.write_text("ann\nbob\ncid\n")
+        net = Network.from_file(file, names)
+        assert type(net) is unison.LargeNetwork and net.neighbours("bob") == ["ann", "cid"] and net.weights is None
+        weighted = unison.Network.from_edges([0, 1], [1, 2], [7, 9], set={"s": 1})
+        again = Network.from_file(weighted.save(file))
+        assert list(again.weights) == [7, 7, 9, 9] and again.neighbours(1) == [0, 2]
+        whole = file.read_bytes()
+        for place, wrong, name in [
+            (8, whole[:20], "Header"),
+            (24, b"\2", "Header"),
+            (8, bytes(8), "NodeCount"),
+            (0, whole + b"x", "Length"),
+            (0, whole[:-1], "Length"),
+            (32, b"\1", "Offsets"),
+            (64, b"\3", "Neighbour"),
+        ]:
+            file.write_bytes(wrong if len(wrong) > 9 else whole[:place] + wrong + whole[place + len(wrong) :])
+            error = raised(unison.NetworkError, lambda: Network.from_file(file))
+            assert error.name == name, (name, error)
+        text = unison.Network.path(3).save(Path(folder, "x.toml"))
+        assert Network.from_file(text).text == unison.Network.path(3).text
 
 
 def test_a_network_that_is_too_large_becomes_a_large_one():

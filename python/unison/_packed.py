@@ -4,9 +4,10 @@ from __future__ import annotations
 
 import sys
 from array import array
-from typing import Any, Mapping, Optional
+from typing import Any, Iterable, Mapping, Optional, Tuple
 
 from . import _files, large
+from .faults import NO_NUMBER, NetworkError
 from ._arrays import LONG, WORD
 from .large import LargeNetwork
 from .program import Program
@@ -14,6 +15,7 @@ from .results import numpy
 
 MAGIC = b"UNISONW1"
 HEAD = 32  # bytes before the offsets
+MOST_NODES = 4294967295
 CODES = {WORD: "I", LONG: "Q"}
 NETWORK = "network.net"
 
@@ -29,14 +31,35 @@ def part_of(packed: bytes, place: int, count: int, size: int) -> Any:
     return words
 
 
-def read(packed: bytes, set: Optional[Mapping[str, Any]] = None) -> LargeNetwork:
-    """The network of a file's bytes, which a proved program has written."""
-    assert packed[:8] == MAGIC, packed[:8]
-    nodes, ends, flags = (int(word) for word in part_of(packed, 8, 3, LONG))
+def read(packed: bytes, set: Optional[Mapping[str, Any]] = None, names: Optional[Iterable[Any]] = None) -> LargeNetwork:
+    """The network of a file's bytes. Raises NetworkError where they are none."""
+    nodes, ends, flags = head_of(packed)
     offsets = part_of(packed, HEAD, nodes + 1, LONG)
     place = HEAD + LONG * (nodes + 1)
     weights = part_of(packed, place + WORD * ends, ends, WORD) if flags else None
-    return LargeNetwork(offsets, part_of(packed, place, ends, WORD), weights, set=set)
+    return LargeNetwork(offsets, part_of(packed, place, ends, WORD), weights, set=set, names=names)
+
+
+def head_of(packed: bytes) -> Tuple[int, int, int]:
+    """How many nodes there are, how many neighbours they have together, and whether weights follow: the file is as long as that asks for."""
+    if packed[:8] != MAGIC:
+        raise refused("Magic", f"a binary network file begins with {MAGIC!r}, and this one with {packed[:8]!r}")
+    if len(packed) < HEAD:
+        raise refused("Header", f"a binary network file has {HEAD} bytes or more, and this one {len(packed)}")
+    nodes, ends, flags = (int(word) for word in part_of(packed, 8, 3, LONG))
+    if flags not in (0, 1):
+        raise refused("Header", f"the flags are 0 or 1, and here {flags}")
+    if not 1 <= nodes <= MOST_NODES:
+        raise refused("NodeCount", f"there are 1 to {MOST_NODES} nodes, and here {nodes}")
+    length = HEAD + LONG * (nodes + 1) + WORD * ends * (1 + flags)
+    if len(packed) != length:
+        raise refused("Length", f"a file of {nodes} nodes and {ends} neighbours has {length} bytes, and this one {len(packed)}")
+    return nodes, ends, flags
+
+
+def refused(name: str, why: str) -> NetworkError:
+    """The fault of a file, called as `unison large` calls it."""
+    return NetworkError(NO_NUMBER, f"network {name}: {why}", ("network", name))
 
 
 def bytes_of(values: Any, size: int) -> bytes:

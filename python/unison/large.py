@@ -2,8 +2,10 @@
 
 from __future__ import annotations
 
+import os
 from array import array
-from typing import Any, Hashable, Iterable, List, Mapping, NamedTuple, Optional, Sequence, Tuple
+from pathlib import Path
+from typing import Any, Hashable, Iterable, List, Mapping, NamedTuple, Optional, Sequence, Tuple, Union
 
 from . import _calls, _checks, faults
 from ._arrays import LONG, WORD, Numbers, numbers, rows_of_edges, text_of_fault
@@ -82,6 +84,15 @@ class LargeNetwork:
         if listed.count != self.nodes:
             raise ValueError(f"{field} has {listed.count} initial values, and there are {self.nodes} nodes")
         return listed
+
+    def save(self, path: Union[str, "os.PathLike[str]"]) -> Path:
+        """Writes the links and weights as a binary network file, which `Network.from_file` and `unison large` read, and answers its path. It
+        has no names and no initial values."""
+        from . import _packed
+
+        file = Path(_checks.path("LargeNetwork.save", "path", path))
+        file.write_bytes(_packed.write(self))
+        return file
 
     def with_set(self, set: Mapping[str, InitialValues]) -> LargeNetwork:
         """The same nodes and links with these initial values, and no others."""

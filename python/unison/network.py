@@ -175,15 +175,24 @@ class Network(Makers):
 
     @classmethod
     def from_file(cls, path: Union[str, os.PathLike[str]], names: Union[None, str, os.PathLike[str]] = None) -> Network:
-        """The network in a file; `names` is a file with a name for each node, a line each, as `unison take` writes it.
+        """The network in a file; `names` is a file with a name for each node, a line each, as `unison import` writes it. A binary file, which
+        `unison pack` prints and `LargeNetwork.save` writes, is a `LargeNetwork`.
 
         `unison.Network.from_file("examples/karate.toml", names="examples/karate.names")`
         """
-        file = Path(_checks.path("Network.from_file", "path", path))
-        if names is None:
-            return cls.from_text(file.read_bytes())
-        lines = Path(_checks.path("Network.from_file", "names", names)).read_text(encoding="utf-8").split("\n")
-        return cls.from_text(file.read_bytes(), lines[:-1] if lines[-1] == "" else lines)
+        from . import _packed
+
+        content = Path(_checks.path("Network.from_file", "path", path)).read_bytes()
+        called = None if names is None else lines_of(Path(_checks.path("Network.from_file", "names", names)))
+        if content.startswith(_packed.MAGIC):
+            return _packed.read(content, names=called)  # type: ignore[return-value]
+        return cls.from_text(content, called)
+
+    def save(self, path: Union[str, os.PathLike[str]]) -> Path:
+        """Writes the network file, `text`, and answers its path. It has numbers, and no names."""
+        file = Path(_checks.path("Network.save", "path", path))
+        file.write_bytes(self._bytes)
+        return file
 
     @classmethod
     def from_networkx(cls, graph: Any, weight: Optional[str] = "weight", **how: Any) -> Union[Network, LargeNetwork]:
@@ -346,6 +355,12 @@ class Network(Makers):
 
     def __repr__(self) -> str:
         return f"<Network of {self.nodes} nodes and {len(self._read().links)} links>"
+
+
+def lines_of(path: Path) -> List[str]:
+    """The lines of a file of names."""
+    lines = path.read_text(encoding="utf-8").split("\n")
+    return lines[:-1] if lines[-1] == "" else lines
 
 
 def blank(kind: Type[Network]) -> Network:
