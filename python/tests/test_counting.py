@@ -1,5 +1,6 @@
 """Counts of values: beside what is counted in Python from the states of the rounds, and beside numbers that are reasoned."""
 
+import base64
 import csv
 import io
 import re
@@ -170,13 +171,15 @@ def test_the_curves_are_the_counts():
             assert [tuple(map(int, point.split(","))) for point in points.split()] == list(enumerate(column)), name
     assert unison.count(unison.Program(DISTANCE), path(2), [1])._repr_svg_() is None, "curves need two rounds"
     runs = unison.count(unison.Model(RISE), path(2), 1, constants={"start": [1, 2]})
-    assert runs._repr_svg_() is None
+    assert runs._repr_svg_() is None and runs._repr_html_().startswith("<table>")
     assert str(raised(ValueError, runs.image)) == "Counts.image: curves are drawn of the counts of one run, on a unison.Network"
 
 
 def test_tables_for_notebooks_and_others():
     counts = unison.count(unison.Program("field s = 0; next s = (s + 1);"), path(2), 20)
-    lines = counts._repr_html_().splitlines()
+    curves, *lines = counts._repr_html_().splitlines()
+    shown = re.fullmatch(r'<img src="data:image/svg\+xml;base64,([^"]*)" alt="curves">', curves)[1]
+    assert base64.b64decode(shown).decode() == counts.image().svg
     assert lines[1] == "<tr><th>round</th>" + "".join(f"<th>{value}</th>" for value in range(21)) + "</tr>"
     assert lines[2].startswith("<tr><td>0</td><td>2</td><td>0</td>") and lines[-2] == "<tr><td colspan='22'>&hellip; 21 rows</td></tr>"
     assert len(lines) == 1 + 1 + 12 + 1 + 1

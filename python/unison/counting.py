@@ -5,6 +5,7 @@ from __future__ import annotations
 import csv
 import html
 import io
+from base64 import b64encode
 from typing import Any, Dict, Iterator, List, Mapping, NamedTuple, Optional, Sequence, Tuple, Union
 
 from . import _checks, _files, _packed
@@ -22,6 +23,7 @@ CountTable = Tuple[List[str], List[List[Cell]]]
 MOST_COLUMNS = 64
 SHOWN = 12  # rows in a table of a notebook
 LEFT_OUT = "&hellip;"
+ADDRESS = "data:image/svg+xml;base64,"  # of a picture that stands in a page, apart from the page's own styles
 
 
 class Asked(NamedTuple):
@@ -156,6 +158,11 @@ class Counts:
             return None
 
     def _repr_html_(self) -> str:
+        """The curves, where there are any, and the first rows as a table."""
+        curves = self._repr_svg_()
+        return (f'<img src="{ADDRESS}{b64encode(curves.encode()).decode()}" alt="curves">\n' if curves else "") + self._table()
+
+    def _table(self) -> str:
         """The first rows as a table."""
         rows = [self._columns, *self._rows[:SHOWN]]
         lines = [row_of("th" if place == 0 else "td", row) for place, row in enumerate(rows)]
