@@ -81,7 +81,7 @@ def test_a_list_of_rounds_and_what_ends_them():
     assert ended.rows[-1] == (5, 0, 0, 5) and len(ended) == 6
     assert unison.count(model, row, 50, until={"state": 1}) == ended
     told = str(raised(Missing, lambda: unison.count(model, row, 50, until={"state": "sick"})))
-    assert told == "count: until['state'] is of 'sick': a value of the field state is wanted, and its states are well, ill, over"
+    assert told == "count: until['state'] is 'sick': a value of the field state is wanted, and its states are well, ill, over"
     start = unison.lockstep(model, row, 2)
     assert unison.count(model, row, [2, 3], from_=start).rows == unison.count(model, row, [2, 3], from_=start.report()).rows == [(2, 2, 1, 2), (3, 1, 1, 3)]
 

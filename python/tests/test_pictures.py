@@ -43,7 +43,7 @@ def test_colours_of_values_and_of_states():
     for given in ({"bright": "#123456"}, {1: "#123456"}):
         assert "#123456" in unison.image(model, net, [0], "lamp", colours=given).svg
     told = str(raised(unison.faults.Missing, lambda: unison.image(model, net, 1, "lamp", colours={"red": "red"})))
-    assert told == "image: colours['red'] is of 'red': a value of the field lamp is wanted, and its states are dark, bright"
+    assert told == "image: a key of colours is 'red': a value of the field lamp is wanted, and its states are dark, bright"
     raised(unison.UsageError, lambda: unison.image(model, net, 1, "lamp", colours={1: "nocolour"}))
 
 

@@ -3,7 +3,6 @@
 from __future__ import annotations
 
 import ctypes
-import operator
 from array import array
 from typing import Any, Callable, List, NamedTuple, Sequence, Tuple
 
@@ -33,17 +32,6 @@ class Table(NamedTuple):
     words: "array[int]"
     nodes: int
     fields: int
-
-
-def number(value: Any, what: str) -> int:
-    """A whole number for the library, which refuses what is too large by itself."""
-    try:
-        whole = operator.index(value)
-    except TypeError:
-        raise TypeError(f"{what} is no whole number: {value!r}") from None
-    if whole < 0:
-        raise ValueError(f"{what} is negative: {whole}")
-    return min(whole, MOST)
 
 
 def room_for(count: int) -> "array[int]":

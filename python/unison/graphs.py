@@ -30,8 +30,8 @@ def weight_of(data: Mapping[str, Any], weight: Optional[str], ends: str, scale: 
 
 def parallel_of(parallel: Optional[str], merge_doubles: Optional[str]) -> Optional[str]:
     """What is asked for of parallel edges, by either name."""
-    if parallel not in (None, *KEPT):
-        raise ValueError(f"parallel is 'min', 'max' or 'first', and not {parallel!r}")
+    if parallel is not None:
+        _checks.one_of("Network.from_networkx", "parallel", parallel, tuple(KEPT))
     if merge_doubles is None:
         return parallel
     if parallel is not None or merge_doubles not in OLD_WORDS:

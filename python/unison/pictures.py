@@ -145,7 +145,7 @@ def colours_text(program: Program, field: str, colours: Any) -> str:
     for value, colour in colours.items():
         if not isinstance(colour, str):
             _checks.refuse("image", f"colours[{value!r}]", colour, "the name of a colour, or #rrggbb, is wanted")
-        parts.append(f"{value_of('image', f'colours[{value!r}]', program, field, value)}:{colour}")
+        parts.append(f"{value_of('image', 'a key of colours', program, field, value)}:{colour}")
     return ",".join(parts)
 
 
@@ -156,7 +156,7 @@ def value_of(call: str, name: str, program: Program, field: str, value: Any) -> 
     states = program.states.get(field, ()) if isinstance(program, Model) else ()
     if value not in states:
         there = f"its states are {', '.join(states)}" if states else "it has no states, but numbers"
-        raise Missing(f"{call}: {name} is of {value!r}: a value of the field {field} is wanted, and {there}")
+        raise Missing(f"{call}: {name} is {value!r}: a value of the field {field} is wanted, and {there}")
     return states.index(value)
 
 
