@@ -114,7 +114,9 @@ def test_states_to_go_on_from():
     found = unison.sweep(STEP, unison.Network(2, []), {}, [10, 12], from_=start, sum="s")
     assert [list(row.values()) for row in found] == [[10, 300], [12, 314]]
     assert raised(unison.RunError, lambda: unison.sweep(STEP, unison.Network(2, []), {}, [9], from_=start)).name == "RoundsBelowStart"
-    raised(TypeError, lambda: unison.sweep(STEP, unison.Network(2, []), {}, [9], from_="round 0\n0 s=0 step=1\n1 s=0 step=1\n"))
+    text = "round 0\n0 s=0 step=1\n1 s=0 step=1\n"
+    assert "sweep: from_ is" in str(raised(TypeError, lambda: unison.sweep(STEP, unison.Network(2, []), {}, [9], from_=text)))
+    assert "sweep: from_ has 2 nodes" in str(raised(ValueError, lambda: unison.sweep(STEP, unison.Network(3, []), {}, [12], from_=start)))
 
 
 def test_runs_are_made_side_by_side():
@@ -178,6 +180,7 @@ def test_what_is_refused():
         (ValueError, (STEP, lone, {}, 1), {"workers": 0}, "workers is 0"),
         (unison.PlanError, (STEP, unison.Network(1, [], set={"t": 1}), {}, 1), {}, "plan UnknownField"),
         (ValueError, (unison.Program("field s = 0; next s = (s + 1);"), lone, {}, 300), {"count": "s"}, "301 values of s occur"),
+        (ValueError, (unison.Program("field s = 0; next s = id;"), unison.Network(257, []), {}, 1), {"count": "s"}, "257 values of s occur"),
     ]
     for kind, given, more, told in cases:
         error = raised(kind, lambda: unison.sweep(*given, **more))

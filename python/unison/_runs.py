@@ -16,6 +16,7 @@ from .results import NONE, Rounds, States, numpy
 Row = Dict[str, Any]
 
 BLOCK = 1 << 22  # words of rounds that a thread holds at once, if a round has no more
+MOST_VALUES = 256  # with a column each: as many as a model names states
 FEW = 8  # values below this are counted one by one
 DENSE = 1 << 16  # and values below this by a list of counts
 
@@ -99,6 +100,8 @@ def told_of(block: Rounds, asked: Asked) -> List[Found]:
     """What is found in each of some rounds."""
     columns = {field: block[field] for field in {field for _, field in asked.totals}}
     nodes_with = {field: counts_of_each(block[field]) for field in asked.counted}
+    for field, rounds in nodes_with.items():
+        check_few(field, max(map(len, rounds)))
     found = []
     for place, round in enumerate(block.rounds):
         counts = {(field, value): nodes for field in asked.counted for value, nodes in nodes_with[field][place].items()}
@@ -109,6 +112,15 @@ def told_of(block: Rounds, asked: Asked) -> List[Found]:
             numbers["states"] = block.at(round)
         found.append(Found(numbers, counts))
     return found
+
+
+def check_few(field: str, values: int) -> None:
+    """Refuses so many values of a field, of which each would have a column."""
+    if values > MOST_VALUES:
+        raise ValueError(
+            f"sweep: {values} values of {field} occur, and {MOST_VALUES} have columns at most: "
+            "a field of fewer values is wanted, or sum, least, most, or a function as `of`"
+        )
 
 
 def answer_of(of: Callable[[States], Any], states: States) -> Row:

@@ -7,16 +7,13 @@ import os
 from typing import Any, Callable, Dict, Iterable, Iterator, List, Mapping, Optional, Sequence, Tuple, Union
 
 from . import _checks, _notebook, faults, jobs
-from ._runs import Asked, Found, Plan, Row, in_threads, rounds_found
+from ._runs import Asked, Found, Plan, Row, check_few, in_threads, rounds_found
 from .jobs import AnyNetwork
 from .model import Model
 from .program import Program
 from .results import States, pandas_or_tell
 
 Fields = Union[None, str, Sequence[str]]
-
-MOST_VALUES = 256  # with a column each: as many as a model names states
-
 
 class Sweep:
     """What a sweep found: a row for each combination of constants and each round. `unison.sweep` answers it.
@@ -139,6 +136,7 @@ def sweep(
     asked = asked_of(rules, count, {"sum": sum, "least": least, "most": most}, of)
     listed = rounds_of(rounds)
     shown = listed[-1:] if asked.is_nothing() else listed
+    check_start(rules, links, from_)
     plan = Plan(rules, links, jobs.lists_for("sweep", rules, links), shown, from_, asked)
     runs = list(itertools.product(*values.values()))
     found = in_threads(lambda run: rounds_found(plan, dict(zip(values, run))), runs, workers_of(workers))
@@ -188,6 +186,14 @@ def rounds_of(rounds: Any) -> List[int]:
     return listed
 
 
+def check_start(program: Program, network: AnyNetwork, from_: Any) -> None:
+    """Looks at the states to go on from."""
+    if isinstance(from_, States):
+        _checks.states_fit("sweep", from_, program, network)
+    elif from_ is not None:
+        _checks.refuse("sweep", "from_", from_, "a unison.States, as lockstep answers, is wanted")
+
+
 def workers_of(workers: Any) -> int:
     """How many threads there are: as many as this process has processors, where it is not told."""
     if workers is None:
@@ -223,11 +229,7 @@ def columns_of_values(program: Program, asked: Asked, found: Sequence[Found], na
         names = states.get(field, ())
         names = () if set(names) & set(named) else names
         others = sorted(value for counted_field, value in occur if counted_field == field and value >= len(names))
-        if len(names) + len(others) > MOST_VALUES:
-            raise ValueError(
-                f"sweep: {len(others)} values of {field} occur, and {MOST_VALUES} have columns at most: "
-                "expected a field of fewer values, or sum, least, most, or a function as `of`"
-            )
+        check_few(field, len(names) + len(others))
         head = f"{field}=" if len(asked.counted) > 1 else ""
         columns.update({(field, state): f"{head}{name}" for state, name in enumerate(names)})
         columns.update({(field, value): f"{head}{value}" for value in others})
