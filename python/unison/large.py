@@ -139,7 +139,7 @@ class LargeNetwork:
         return range(self.nodes) if self._names is None else self._names
 
     def number(self, name: Any) -> int:
-        """The number of the node of this name; where nodes have no names, the number itself."""
+        """The number of the node of this name; where nodes have no names, the number itself. Raises KeyError where there is none."""
         called = self._numbers
         number = _checks.number_called(called, name) if called is not None else int(name) if is_number(name) else None
         if number is None or not 0 <= number < self.nodes:

@@ -191,7 +191,7 @@ class Table(Columns):
 
     def by_name(self, field: str, missing: bool = False) -> Dict[Name, Any]:
         """The value of a field at each node, by the node's name, or by its number where the network has no names. With `missing`, None stands
-        in place of `NONE`."""
+        in place of `NONE`. Raises KeyError for a field that is not there."""
         values = self._column(field).tolist()
         return dict(zip(self.names, with_missing(values) if missing else values))
 
@@ -209,7 +209,7 @@ class Table(Columns):
 
     def to_pandas(self, missing: bool = True) -> Any:
         """A frame with a row for each node, called by its name, and a column for each field, of type UInt32, in which `NONE` is missing
-        (`<NA>`). With `missing=False` all values are numbers, of type uint32. Needs pandas."""
+        (`<NA>`). With `missing=False` all values are numbers, of type uint32. Needs pandas, and raises ImportError where it is not there."""
         pandas = pandas_or_tell()
         return self._frame(pandas, pandas.Index(list(self.names), name="node", tupleize_cols=False), missing)
 
@@ -323,7 +323,7 @@ class Rounds(Columns):
         return states
 
     def at(self, round: int) -> States:
-        """The states after one of the rounds."""
+        """The states after one of the rounds. Raises KeyError for one that was not watched."""
         if _checks.round_of("at", "round", round) not in self._rounds:
             raise Missing(f"round {round} was not watched: there is no such round among those that were asked for")
         return self._states(self._rounds.index(round))
@@ -338,7 +338,8 @@ class Rounds(Columns):
 
     def to_pandas(self, missing: bool = True) -> Any:
         """A frame with a row for each node in each round, whose index is round and node, and a column for each field, of type UInt32, in which
-        `NONE` is missing (`<NA>`). With `missing=False` all values are numbers, of type uint32. Needs pandas."""
+        `NONE` is missing (`<NA>`). With `missing=False` all values are numbers, of type uint32. Needs pandas, and raises ImportError where it
+        is not there."""
         pandas = pandas_or_tell()
         numbers = [round for round in self._rounds for _ in range(self._nodes)]
         called = pandas.Index(list(self.names) * len(self._rounds), tupleize_cols=False)
