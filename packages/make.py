@@ -15,6 +15,9 @@ DESCRIPTION = """Synchronous programs on networks, proved
 
 
 def control(parts):
+
+
+    """The fields of the control file of the Debian package, but for its size."""
     return {
         "Package": DEBIAN_NAME,
         "Version": parts.version,
@@ -29,12 +32,18 @@ def control(parts):
 
 
 def archive(parts):
+
+
+    """The name and the bytes of the archive."""
     name, files = f"unison-{parts.version}-linux-x86_64", layout.below_prefix(parts)
     files["manifest.txt"] = manifest.text(parts, files, "sha256sum --check --quiet manifest.txt, in this folder"), layout.FILE
     return f"{name}.tar.gz", writers.tar_gz(files, parts.repository.time, f"{name}/")
 
 
 def debian(parts):
+
+
+    """The name and the bytes of the Debian package."""
     place = "usr/lib/unison/manifest.txt"
     files = {f"usr/{path}": it for path, it in layout.below_prefix(parts).items()}
     files[place] = manifest.text(parts, files, f"sha256sum --check --quiet {place}, in the folder /"), layout.FILE
@@ -42,6 +51,9 @@ def debian(parts):
 
 
 def wheel(parts):
+
+
+    """The name and the bytes of the wheel, of which the name says what C library it needs."""
     place, files = "unison/programs/manifest.txt", layout.in_wheel(parts)
     files[place] = manifest.text(parts, files, f"sha256sum --check --quiet {place}, in the folder that has the package"), layout.FILE
     major, minor = parts.glibc()

@@ -11,6 +11,9 @@ def verdicts(parts):
 
 
 def about(parts):
+
+
+    """What is said of a package: version, levels, commit, kit, verdicts."""
     return [
         f"unison {parts.version} for linux-x86_64, levels {' '.join(parts.levels)}",
         f"made of commit {parts.repository.commit}",

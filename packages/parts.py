@@ -83,6 +83,9 @@ def proved(path, level, sources, way_on):
 
 
 def named(path):
+
+
+    """A path as it stands below the top of the repository."""
     return path.relative_to(TOP) if TOP in path.parents else path
 
 
@@ -124,4 +127,7 @@ class Parts:
 
 
 def lines(texts):
+
+
+    """Texts as lines."""
     return "".join(f"{it}\n" for it in texts).encode()

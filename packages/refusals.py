@@ -49,6 +49,9 @@ class Note:
 
 
 def tell(tally, what, refused, reason):
+
+
+    """A refusal says the reason and what to do, in one line."""
     well = refused is not None and reason in refused and refused.endswith(f": {WAY_ON}") and "\n" not in refused
     tally.tell(f"refused: {what}", well, f"{refused}")
 
@@ -63,6 +66,9 @@ def try_noted(tally):
 
 
 def all_of(tally, work):
+
+
+    """Each reason for which a program is refused, and the one that is taken."""
     try_noted(tally)
     note = Note(work)
     tally.equal("a proved program is taken", note.refused(), None)

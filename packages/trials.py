@@ -80,6 +80,9 @@ def commands_of_readme():
 
 
 def try_readme(tally, it):
+
+
+    """The picture of README.md."""
     done = it.run(commands_of_readme())
     picture = it.folder / "rule_90.svg"
     same = picture.is_file() and picture.read_bytes() == (TOP / "docs" / "pictures" / "rule_90.svg").read_bytes()
@@ -87,6 +90,9 @@ def try_readme(tally, it):
 
 
 def try_five(tally, it):
+
+
+    """The five commands, and large ones, against the reports of the repository."""
     report = (REPORTS / "distance-path-2.txt").read_text()
     replayed = (REPORTS / "replay-swap-pair-ahead.txt").read_text()
     replay = ("examples/swap.rules", "examples/pair.toml", "examples/schedules/ahead.txt", "--stop", 10)
@@ -102,6 +108,9 @@ def try_five(tally, it):
 
 
 def try_models(tally, it):
+
+
+    """A model in the place of a program, with values for its constants."""
     model = "const wanted = 2;\nfield s = 0;\nnext s = s or count(n.s) >= wanted;\n"
     (it.folder / "threshold.model").write_text(model)
     for wanted, words in ((2, []), (1, ["--const", "wanted=1"]), (7, ["--const=wanted=7"])):
@@ -114,6 +123,9 @@ def try_models(tally, it):
 
 
 def try_words(tally, it, of):
+
+
+    """Help, version, and what is told of mistakes."""
     told, missing, status = it.unison("help")
     own = "By unison itself:" in told and "prove" not in told and "./unison" not in told and "lockstep" in told
     tally.tell(f"{it.name}: help", own and not missing and status == 0, told)
@@ -128,6 +140,9 @@ def try_words(tally, it, of):
 
 
 def try_page(tally, it):
+
+
+    """A page for a browser."""
     page, told, status = it.unison("page", *DISTANCE[:3], "0..2")
     viewer, behind = (TOP / "viewer" / "page.html").read_text().split("@RUN@")
     whole = page.startswith(viewer) and page.endswith(behind) and len(page) > len(viewer) + len(behind)
@@ -135,6 +150,9 @@ def try_page(tally, it):
 
 
 def try_levels(tally, it, of):
+
+
+    """Which programs are run."""
     for level in of.levels:
         tally.equal(f"{it.name}: UNISON_CPU={level}", it.unison("check", DISTANCE[0], UNISON_CPU=level), (CANONICAL, "", 0))
     told = it.unison("check", DISTANCE[0], UNISON_CPU="z80")
@@ -149,6 +167,9 @@ def try_levels(tally, it, of):
 
 
 def try_manifest(tally, it, of):
+
+
+    """The manifest of a package."""
     text = it.manifest.read_text()
     done = it.run(f"cd {it.root} && {shutil.which('sha256sum')} --check --quiet {it.manifest.relative_to(it.root)}")
     tally.equal(f"{it.name}: sha256sum finds the files of the manifest as they were", done, ("", "", 0))
@@ -185,6 +206,9 @@ def try_commands(tally, it, of):
 
 
 def try_manual(tally, it, prefix):
+
+
+    """The page of the manual."""
     page = prefix / "share" / "man" / "man1" / "unison.1.gz"
     if man := shutil.which("man"):
         found = it.run(f"{man} -M {prefix}/share/man -w unison", PATH=os.environ["PATH"])[0].strip()
@@ -230,6 +254,9 @@ def try_prefix(tally, it, of, prefix):
 
 
 def try_archive(tally, of, work, file):
+
+
+    """The archive, unpacked."""
     with tarfile.open(file) as archive:
         owners = {(it.uid, it.gid, it.uname, it.gname, it.mtime) for it in archive}
         archive.extractall(work / "archive")
@@ -239,6 +266,9 @@ def try_archive(tally, of, work, file):
 
 
 def try_debian(tally, of, work, file):
+
+
+    """The Debian package: unpacked, installed by dpkg, and in a root of its own."""
     if not shutil.which("dpkg-deb"):
         return tally.skip("debian", "there is no dpkg-deb")
     root = work / "debian"
@@ -308,6 +338,9 @@ def try_clean_root(tally, of, root):
 
 
 def try_wheel(tally, of, work, file):
+
+
+    """The wheel, in an environment of its own."""
     place = work / "wheel"
     made = subprocess.run([sys.executable, "-m", "venv", place], capture_output=True, text=True)
     if made.returncode:
@@ -384,6 +417,9 @@ def try_listed(tally, of, made):
 
 
 def all_of(tally, of, work, made):
+
+
+    """All trials of the packages in a folder."""
     refusals.all_of(tally, work)
     try_choice(tally, work)
     try_command(tally, work)

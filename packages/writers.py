@@ -16,12 +16,18 @@ def folders_of(paths):
 
 
 def entry(path, mode, time):
+
+
+    """A member of an archive, which belongs to nobody by name."""
     it = tarfile.TarInfo(path)
     it.mode, it.mtime = stat.S_IMODE(mode), time
     return it
 
 
 def add_file(archive, path, content, mode, time):
+
+
+    """Adds a file or a link, of which the content is where it leads."""
     it = entry(path, mode, time)
     if stat.S_ISLNK(mode):
         it.type, it.linkname = tarfile.SYMTYPE, content.decode()
