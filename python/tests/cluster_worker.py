@@ -54,7 +54,7 @@ SHAPES = [*2 * ["random", "directed", "one way", "ring", "grid", "grid", "hub"],
 
 def drawn_rows(draws):
     """Rows of a network: links one way, several between two nodes, of a node with itself; hubs, components, nodes without links."""
-    nodes = draws.choice([1, 2, 5, 9, 20, 45, 45, 100, 150])
+    nodes = draws.choice([1, 2, 9, 20, 45, 45, 100, 150, 150])
     weight = lambda: draws.choice([1, 1, 1, 0, 5, MOST]) if is_weighted else 1
     shape, is_weighted = draws.choice(SHAPES), draws.random() < 0.5
     rows = [[] for _ in range(nodes)]
@@ -90,7 +90,7 @@ QUIET = [
 def drawn_program(draws, interpreter, compare):
     """A sound program's text and what it is for the interpreter."""
     while True:
-        text = draws.choice(QUIET) if draws.random() < 0.5 else compare.program_text(draws, [])
+        text = draws.choice(QUIET) if draws.random() < 0.65 else compare.program_text(draws, [])
         try:
             return text, interpreter.check(interpreter.read_items(text.encode()))
         except interpreter.Fault:
@@ -140,7 +140,7 @@ class Case:
         draws = self.draws = compare.Draws(seed * 1_000_003 + number)
         self.text, program = drawn_program(draws, interpreter, compare)
         self.rows, self.processes = drawn_rows(draws), draws.choice([1, *2 * list(range(2, most + 1))])
-        self.fields, self.rounds = list(program.fields), draws.choice([0, 1, 2, 3, 5, 8, 8, 12, 12, 30])
+        self.fields, self.rounds = list(program.fields), draws.choice([0, 1, 2, 3, 5, 8, 8, 12, 12, 20])
         self.settings, states = drawn_settings(draws, program, len(self.rows))
         self.until = (draws.choice(self.fields), draws.choice([0, 0, 1, *program.fields.values()])) if self.fields and draws.random() < 0.5 else None
         self.parts = drawn_parts(draws, len(self.rows), self.processes)
