@@ -202,6 +202,6 @@ def test_what_needs_a_text_still_goes_by_it():
         (lambda: unison.lockstep(rule, pair, 1_000_000_001), unison.RunError, "TooManyRounds"),
         (lambda: unison.watch(rule, pair, [1, 1]), unison.RunError, "NotRising"),
         (lambda: unison.lockstep(rule, pair, 1, from_=unison.lockstep(rule, pair, 2)), unison.RunError, "RoundsBelowStart"),
-        (lambda: unison.lockstep(rule, pair, 9, from_=unison.States.from_values(rule, [[1], [2]], 1_000_000_001)), unison.ReportError, "TooManyRounds"),
+        (lambda: unison.lockstep(rule, pair, 9, from_="round 1000000001\n0 s=1\n1 s=2\n"), unison.ReportError, "TooManyRounds"),
     ):
         assert raised(kind, call).name == name
