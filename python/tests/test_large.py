@@ -54,14 +54,14 @@ def test_watched_words_on_random_rows():
         rows = random_rows(seed, 1 + seed % 9)
         given = unison.Network.from_arrays(*lists_of(rows))
         states, seen = [(3 + node, 0) for node in range(len(rows))], []
-        opening = array("I", [word for state in states for word in state])
+        initial = array("I", [word for state in states for word in state])
         for _ in range(6):
             seen.append([word for state in states for word in state])
             states = totals(rows, states)
-        found = _calls.large_watch(rule.text, given._lists(), 7, opening, len(opening), [7, 9, 12])
+        found = _calls.large_watch(rule.text, given._lists(), 7, initial, len(initial), [7, 9, 12])
         assert list(found) == seen[0] + seen[2] + seen[5], seed
-    assert len(_calls.large_watch(rule.text, given._lists(), 7, opening, len(opening), [])) == 0
-    refused = raised(unison.RunError, lambda: _calls.large_watch(rule.text, given._lists(), 7, opening, len(opening), [9, 9]))
+    assert len(_calls.large_watch(rule.text, given._lists(), 7, initial, len(initial), [])) == 0
+    refused = raised(unison.RunError, lambda: _calls.large_watch(rule.text, given._lists(), 7, initial, len(initial), [9, 9]))
     assert refused.name == "NotRising"
 
 

@@ -197,7 +197,7 @@ def large_rounds(program: bytes, lists: Tuple[int, ...], start: int, asked: int,
 
 
 def large_watch(
-    program: bytes, lists: Tuple[int, ...], start: int, opening: "array[int]", count: int, rounds: Sequence[int]
+    program: bytes, lists: Tuple[int, ...], start: int, initial: "array[int]", count: int, rounds: Sequence[int]
 ) -> "array[int]":
     """The words of some rounds, one round behind the other, from so many words of the start."""
     listed = array("I", rounds) if rounds else room_for(0)
@@ -205,7 +205,7 @@ def large_watch(
     words = room_for(room)
     call = _library.load().unison_large_watch
     answer = call(
-        program, len(program), *lists, start, address(opening), count,
+        program, len(program), *lists, start, address(initial), count,
         address(listed), len(rounds), address(words), room, ctypes.byref(fields),
     )  # fmt: skip
     refuse(answer, CHECK, Texts(program), 0)
