@@ -99,7 +99,9 @@ def test_the_page_of_all_calls_is_that_of_the_docstrings():
 
 
 def test_the_version_stands_once():
-    assert f'version = "{unison.__version__}"' in (PYTHON / "pyproject.toml").read_text()
+    project = (PYTHON / "pyproject.toml").read_text()
+    assert 'dynamic = ["version"]' in project and not re.search(r"(?m)^version\b", project)
+    assert re.fullmatch(r"[0-9]+[.][0-9]+[.][0-9]+", unison.__version__)
 
 
 def test_the_examples_of_the_package():

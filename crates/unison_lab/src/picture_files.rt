@@ -18,7 +18,7 @@ fn path_of(alloc: Global, folder: &str, last: u32, round: u32) -> Result<String,
 /// The paths of the files of these rounds, in order.
 fn paths_in(alloc: Global, folder: &str, span: &Span) -> Result<Vec<String>, AllocError> {
     let mut paths = Vec::new(alloc);
-    for place in 0..span.steps() + 1 {
+    for place in 0..=span.steps() {
         let path = path_of(alloc, folder, span.last(), span.round_at(place))?;
         paths.push(path)?;
     }
