@@ -241,6 +241,37 @@ class Threads:
         into[0][:] = [number for piece in received for number in piece]
 
 
+class Alone(Threads):
+    """A communicator for one of two processes; `others` are what the other one adds to each sum, in order."""
+
+    def __init__(self, others):
+        super().__init__(0, [None, None], threading.Barrier(1))
+        self.others = others
+
+    def bcast(self, value):
+        return value
+
+    def Iallreduce(self, mine, whole):
+        whole[:] = mine + mine.dtype.type(self.others.pop(0))
+        return self
+
+    def Test(self):
+        return True
+
+
+def test_cluster_checkpoint_that_not_all_have_written_is_not_named():
+    numpy = wanted("numpy")
+    from unison.cluster.checkpoints import Checkpoints
+
+    folder, words = new_folder(), numpy.zeros((3, 1), dtype="uint32")
+    writer = Checkpoints(Alone([1, 0]), str(folder), 2, {"process": 0}, None)
+    for round, own in ((1, words), (2, words), (3, words), (4, words)):
+        writer.reach(round, own)
+    writer.finish()
+    assert json.loads((folder / "complete").read_text())["round"] == 2
+    assert {path.name for path in folder.iterdir()} == {"complete", "round-2.process-0", "round-4.process-0"}
+
+
 def built_parts(path, owners, processes):
     """The parts of all processes, built by a thread each."""
     from unison.cluster import part, parts
