@@ -1,7 +1,8 @@
 """What mpirun starts for the tests of `unison.cluster` (test_cluster.py, checks/cluster): random runs beside the interpreter in `reference`, and the
 command with a process that is slow or that is killed.
 
-    mpirun -n N python cluster_worker.py random --cases K --seed S      a line for each difference, and `K agree, D differ` last
+    mpirun -n N python cluster_worker.py random --cases K --seed S [--keep FOLDER]
+                                                                        a line for each difference, and `K agree, D differ` last; each run is kept
     mpirun -n N python cluster_worker.py commands FILE                  commands, of which FILE has a list of words each; behind each `== STATUS`
     mpirun -n N python cluster_worker.py slow SECONDS PROCESS WORDS..   the command, with a process that sleeps before each message
     mpirun -n N python cluster_worker.py kill MESSAGES PROCESS WORDS..  the command, with a process that is killed at its so many-th message
@@ -169,7 +170,15 @@ class Case:
         whole = np.full((len(self.rows), len(self.fields)), 99, dtype=np.uint32)
         for numbers, values in comm.allgather((outcome.numbers, outcome.values)):
             whole[numbers] = values
+        self.whole, self.round = whole, outcome.round
         return "" if comm.Get_rank() else self.difference(outcome, whole, counts)
+
+    def keep(self, folder):
+        """Writes the run's texts, its words and the states that the processes left, for a comparison with `unison large lockstep`."""
+        folder.mkdir(parents=True)
+        self.write(folder)
+        (folder / "words.json").write_text(json.dumps(["--rounds", str(self.round), *(part for it in self.settings for part in ("--set", it))]))
+        np.save(folder / "states.npy", self.whole)
 
     def difference(self, outcome, whole, counts):
         after = self.seen[-1]
@@ -188,8 +197,8 @@ class Case:
         return "\n".join([*wrong, self.text, repr((self.rows, self.processes, self.parts, self.settings, self.until, self.rounds))]) if wrong else ""
 
 
-def random_runs(cases, seed):
-    """Runs random cases; how many differ."""
+def random_runs(cases, seed, kept=None):
+    """Runs random cases, each of which is kept in a folder where one is given; how many differ."""
     interpreter, compare = reference()
     world = MPI.COMM_WORLD
     differ = 0
@@ -204,6 +213,8 @@ def random_runs(cases, seed):
         differ += bool(wrong)
         if wrong:
             print(f"case {number} of seed {seed}: {wrong}", flush=True)
+        if kept and world.Get_rank() == 0:
+            case.keep(Path(kept) / str(number))
         world.Barrier()
     if world.Get_rank() == 0:
         print(f"{cases - differ} agree, {differ} differ", flush=True)
@@ -241,7 +252,7 @@ def main(kind, *given):
         run_commands(given[0])
         return 0
     if kind == "random":
-        random_runs(int(given[1]), int(given[3]))
+        random_runs(int(given[1]), int(given[3]), given[5] if len(given) > 5 else None)
         return 0
     before = killer(int(given[0])) if kind == "kill" else lambda: time.sleep(float(given[0]))
     return with_process(int(given[1]), before, list(given[2:]))
