@@ -47,8 +47,8 @@ fn told_difference(rt: HostRuntime) -> Result<(), Fail> {
     Ok(())
 }
 
-/// The line of a difference at node 1 of the pair.
-fn line_of_pair(rt: &impl Abort, alloc: Global) -> Result<Vec<u8>, ServeFault> {
+/// Asserts the line of a difference at node 1 of the pair.
+fn assert_line_of_pair(rt: &impl Abort, alloc: Global) -> Result<(), ServeFault> {
     let plan = plan_of(alloc, SWAP, PAIR)?;
     assert_eq!(rt; plan.network().nodes(), 2);
     assert_eq!(rt; plan.program().field_count(), 1);
@@ -58,19 +58,21 @@ fn line_of_pair(rt: &impl Abort, alloc: Global) -> Result<Vec<u8>, ServeFault> {
         left: 5,
         right: 7,
     };
-    Ok(difference_line(alloc, &plan, &difference)?)
+    let line = difference_line(alloc, &plan, &difference)?;
+    assert_eq!(rt;
+        line.as_slice(),
+        b"node 1 field s lockstep 5 run 7\n".as_slice()
+    );
+    Ok(())
 }
 
 #[test]
 fn difference_line_where_memory_is_refused(rt: HostRuntime) -> Result<(), Fail> {
-    match line_of_pair(&rt, rt.alloc()) {
-        Ok(line) => {
-            let want = b"node 1 field s lockstep 5 run 7\n";
-            assert_eq!(rt; line.as_slice(), want.as_slice());
-            println!(rt; "answer")?
-        }
-        Err(fault) if fault.part_and_name() == ("memory", "Memory") => println!(rt; "memory")?,
-        Err(fault) => return Err(Fail::new(format_args!("{fault:?}"))),
-    }
+    let said = match assert_line_of_pair(&rt, rt.alloc()) {
+        Ok(()) => "answer",
+        Err(fault) if fault.part_and_name() == ("memory", "Memory") => "memory",
+        Err(fault) => return Err(Fail::from(fault)),
+    };
+    println!(rt; "{said}")?;
     Ok(())
 }

@@ -47,7 +47,7 @@ pub(crate) fn assert_nodes(rt: &impl Abort, world: &World, wanted: &[(u32, u32)]
 }
 
 /// Asserts what a world answers to a step, asked and made.
-fn assert_step(rt: &impl Abort, world: &mut World, step: Step, want: Answer) {
+pub(crate) fn assert_step(rt: &impl Abort, world: &mut World, step: Step, want: Answer) {
     assert_eq!(rt; world.ask(step), want, "asked {step:?}");
     assert_eq!(rt; world.step(step), want, "{step:?}");
 }
@@ -71,9 +71,18 @@ fn assert_phases(rt: &impl Abort, world: &World, number: u8) {
     assert_eq!(rt; world.phase(1), Phase::from_number(number));
 }
 
-/// The computed next state of a node that is ready.
-fn done_of(world: &World, node: u32) -> Result<Done, Fail> {
-    Ok(world.work(node)?.ok_or("the node is not ready")?.compute())
+/// Computes the next state of a node that is ready, and keeps it.
+fn keep_done(world: &World, held: &mut Vec<Done>, node: u32) -> Result<(), Fail> {
+    let work = world.work(node)?.ok_or("the node is not ready")?;
+    held.push(work.compute())?;
+    Ok(())
+}
+
+/// Asserts that there is nothing to compute for a node.
+fn assert_no_work(rt: &impl Abort, world: &World, node: u32) -> Result<(), Fail> {
+    let work = world.work(node)?;
+    assert!(rt; work.is_none(), "work of {node}");
+    Ok(())
 }
 
 /// Lets one thing happen, and asserts the answer.
@@ -89,8 +98,8 @@ fn assert_event(
         Event::Turn(node, want) => assert_eq!(rt; world.turn(*node), *want, "turn of {node}"),
         Event::Sweep(moved) => assert_eq!(rt; world.sweep(), *moved),
         Event::Sweeps(steps) => assert_eq!(rt; world.run_sweeps(), *steps),
-        Event::Compute(node) => held.push(done_of(world, *node)?)?,
-        Event::NoWork(node) => assert!(rt; world.work(*node)?.is_none(), "work of {node}"),
+        Event::Compute(node) => keep_done(world, held, *node)?,
+        Event::NoWork(node) => assert_no_work(rt, world, *node)?,
         Event::Put(want) => assert_put(rt, world, held, *want)?,
         Event::Nodes(wanted) => assert_nodes(rt, world, wanted),
         Event::Phases(number) => assert_phases(rt, world, *number),

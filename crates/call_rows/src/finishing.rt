@@ -2,7 +2,8 @@
 
 use call_fixtures::networks::{PAIR, PAIR_AT_TWO, UNSET_PAIR};
 use call_fixtures::programs::{LEAST, SWAP};
-use call_fixtures::{plan_of, world_of};
+use call_fixtures::{Refusal, plan_of, world_of};
+use lockstep::Plan;
 use std::alloc::Global;
 use std::test::Fail;
 use unison_world::FinishFault;
@@ -13,7 +14,7 @@ fn finish_fault(
     program: &str,
     network: &str,
     stop: u32,
-) -> Result<Option<FinishFault>, Fail> {
+) -> Result<Option<FinishFault>, Refusal> {
     let world = world_of(alloc, SWAP, PAIR, 10)?;
     let plan = plan_of(alloc, program, network)?;
     Ok(world.finish(alloc, &plan, stop).err())
@@ -48,22 +49,37 @@ fn finish_of_a_new_world(rt: HostRuntime) -> Result<(), Fail> {
     Ok(())
 }
 
+/// What a world of the pair answers to `finish` at its plan and its stop after turns of two nodes.
+fn fault_after(
+    alloc: Global,
+    plan: &Plan,
+    stop: u32,
+    turns: &[u32],
+) -> Result<Option<FinishFault>, Refusal> {
+    let mut world = world_of(alloc, SWAP, PAIR, stop)?;
+    for turn in turns {
+        let _answer = world.turn(*turn);
+    }
+    Ok(world.finish(alloc, plan, stop).err())
+}
+
+/// A stop and the turns of two nodes, and the node that has not moved often enough, with its moves.
+const TURNS: [(u32, [u32; 2], u32, u32); 4] = [
+    (1, [0, 0], 1, 0),
+    (1, [1, 1], 0, 0),
+    (10, [0, 1], 0, 1),
+    (10, [1, 0], 0, 1),
+];
+
 #[test]
 fn finish_before_the_stop(rt: HostRuntime) -> Result<(), Fail> {
-    let alloc = rt.alloc();
-    let plan = plan_of(alloc, SWAP, PAIR)?;
-    for (stop, turns, node, moves) in [
-        (1, [0, 0], 1, 0),
-        (1, [1, 1], 0, 0),
-        (10, [0, 1], 0, 1),
-        (10, [1, 0], 0, 1),
-    ] {
-        let mut world = world_of(alloc, SWAP, PAIR, stop)?;
-        for turn in turns {
-            let _answer = world.turn(turn);
-        }
-        let fault = world.finish(alloc, &plan, stop).err();
-        let want = FinishFault::Unfinished { node, moves };
+    let plan = plan_of(rt.alloc(), SWAP, PAIR)?;
+    for (stop, turns, node, moves) in &TURNS {
+        let fault = fault_after(rt.alloc(), &plan, *stop, turns)?;
+        let want = FinishFault::Unfinished {
+            node: *node,
+            moves: *moves,
+        };
         assert_eq!(rt; fault, Some(want), "stop {stop}, turns {turns:?}");
     }
     Ok(())

@@ -42,9 +42,18 @@ struct Scene {
     events: &'static [Event],
 }
 
-/// The computed next state of a node that is ready.
-fn done_of(logged: &Logged, node: u32) -> Result<Done, Fail> {
-    Ok(logged.work(node)?.ok_or("the node is not ready")?.compute())
+/// Computes the next state of a node that is ready, and keeps it.
+fn keep_done(logged: &Logged, held: &mut Vec<Done>, node: u32) -> Result<(), Fail> {
+    let work = logged.work(node)?.ok_or("the node is not ready")?;
+    held.push(work.compute())?;
+    Ok(())
+}
+
+/// Asserts that there is nothing to compute for a node.
+fn assert_no_work(rt: &impl Abort, logged: &Logged, node: u32) -> Result<(), Fail> {
+    let work = logged.work(node)?;
+    assert!(rt; work.is_none(), "work of {node}");
+    Ok(())
 }
 
 /// Asserts what a logged world answers to a step.
@@ -78,8 +87,8 @@ fn assert_event(
             let full = LogFault::TraceFull { limit: *limit };
             assert_step(rt, logged, write(*node), Err(full))
         }
-        Event::Compute(node) => held.push(done_of(logged, *node)?)?,
-        Event::NoWork(node) => assert!(rt; logged.work(*node)?.is_none(), "work of {node}"),
+        Event::Compute(node) => keep_done(logged, held, *node)?,
+        Event::NoWork(node) => assert_no_work(rt, logged, *node)?,
         Event::Put(want) => assert_put(rt, logged, held, Ok(*want))?,
         Event::FullPut(limit) => {
             let full = LogFault::TraceFull { limit: *limit };

@@ -5,102 +5,33 @@
 //! where a call answered running out of memory. Anything else fails the test; so does `memory` where nothing was
 //! refused.
 
+use crate::events::{assert_nodes, assert_step};
 use call_fixtures::networks::{PAIR, PAIR_AT_TWO};
 use call_fixtures::programs::SWAP;
-use call_fixtures::{NoProgram, NoWorld, Refusal, first_stray, read, shared_plan, write};
-use link_net::NetFault;
-use lockstep::{Config, Plan, PlanFault, RoundFault};
+use call_fixtures::{Refusal, read, shared_plan, write};
+use lockstep::{Config, Plan};
 use phase_register::Phase;
-use rule_check::CheckFault;
-use rule_lang::LangFault;
-use std::alloc::{AllocError, AllocFailed, Global};
+use std::alloc::Global;
 use std::process::Abort;
 use std::sync::Arc;
 use std::test::Fail;
-use unison_world::{Answer, FinishFault, OpenFault, Step, TurnAnswer, World};
-
-/// Why there is no answer: the fault of the first call that refused.
-#[derive(Clone, Copy, Debug, PartialEq, Eq)]
-enum Stopped {
-    World(NoWorld),
-    Finish(FinishFault),
-    Memory,
-}
-
-impl From<NoWorld> for Stopped {
-    fn from(refusal: NoWorld) -> Stopped {
-        Stopped::World(refusal)
-    }
-}
-
-impl From<OpenFault> for Stopped {
-    fn from(fault: OpenFault) -> Stopped {
-        Stopped::World(NoWorld::Open(fault))
-    }
-}
-
-impl From<FinishFault> for Stopped {
-    fn from(fault: FinishFault) -> Stopped {
-        Stopped::Finish(fault)
-    }
-}
-
-impl From<AllocError> for Stopped {
-    fn from(_error: AllocError) -> Stopped {
-        Stopped::Memory
-    }
-}
-
-impl<T: Drop> From<AllocFailed<T>> for Stopped {
-    fn from(_error: AllocFailed<T>) -> Stopped {
-        Stopped::Memory
-    }
-}
-
-/// Whether the call wanted memory.
-fn is_memory(stopped: Stopped) -> bool {
-    match stopped {
-        Stopped::World(NoWorld::Plan(refusal)) => is_memory_of_texts(refusal),
-        Stopped::World(NoWorld::Open(fault)) => fault == OpenFault::Memory,
-        Stopped::World(NoWorld::Memory) => true,
-        Stopped::Finish(fault) => fault == FinishFault::Memory,
-        Stopped::Memory => true,
-    }
-}
-
-/// Whether a call between the texts and a plan wanted memory.
-fn is_memory_of_texts(refusal: Refusal) -> bool {
-    match refusal {
-        Refusal::Program(NoProgram::Text(fault)) => fault == LangFault::Memory,
-        Refusal::Program(NoProgram::Check(fault)) => fault == CheckFault::Memory,
-        Refusal::Net(fault) => fault == NetFault::Memory,
-        Refusal::Opening(fault) => fault == PlanFault::Memory,
-        Refusal::Round(fault) => fault == RoundFault::Memory,
-        Refusal::Shape => false,
-        Refusal::Memory => true,
-    }
-}
+use unison_world::{Answer, Step, TurnAnswer, World};
 
 /// Prints what was found: the answer, which is compared, or running out of memory. Any other fault fails the test.
-fn tell(rt: &impl Print, found: Result<(), Stopped>) -> Result<(), Fail> {
-    match found {
-        Ok(()) => println!(rt; "answer")?,
-        Err(stopped) if is_memory(stopped) => println!(rt; "memory")?,
-        Err(stopped) => return Err(Fail::new(format_args!("{stopped:?}"))),
-    }
+fn tell(rt: &impl Print, found: Result<(), Refusal>) -> Result<(), Fail> {
+    let said = match found {
+        Ok(()) => "answer",
+        Err(refusal) if refusal.is_memory() => "memory",
+        Err(refusal) => return Err(Fail::from(refusal)),
+    };
+    println!(rt; "{said}")?;
     Ok(())
-}
-
-/// Asserts where the nodes of a world stand.
-fn assert_nodes(rt: &impl Abort, world: &World, wanted: &[(u32, u32)]) {
-    assert_eq!(rt; first_stray(world, wanted), None, "{wanted:?}");
 }
 
 /// Asserts what a world answers to these steps, in their order.
 fn assert_steps(rt: &impl Abort, world: &mut World, steps: &[(Step, Answer)]) {
     for (step, want) in steps {
-        assert_eq!(rt; world.ask(*step), *want, "asked {step:?}");
-        assert_eq!(rt; world.step(*step), *want, "{step:?}");
+        assert_step(rt, world, *step, *want);
     }
 }
 
@@ -112,7 +43,7 @@ fn assert_turns(rt: &impl Abort, world: &mut World, turns: &[(u32, TurnAnswer)])
 }
 
 /// A world of the program, and its plan.
-fn opened(alloc: Global, network: &str, stop: u32) -> Result<(World, Arc<Plan>), Stopped> {
+fn opened(alloc: Global, network: &str, stop: u32) -> Result<(World, Arc<Plan>), Refusal> {
     let plan = shared_plan(alloc, SWAP, network)?;
     let world = World::new(alloc, Arc::try_clone(&plan)?, stop)?;
     Ok((world, plan))
@@ -146,7 +77,7 @@ fn assert_stop(rt: &impl Abort, config: &Config) {
 }
 
 /// Turns to the stop, and the configuration there.
-fn turns_and_finish(rt: &impl Abort, alloc: Global) -> Result<(), Stopped> {
+fn turns_and_finish(rt: &impl Abort, alloc: Global) -> Result<(), Refusal> {
     let (mut world, plan) = opened(alloc, PAIR, 3)?;
     turns_to_the_stop(rt, &mut world);
     let config = world.finish(alloc, &plan, 3)?;
@@ -185,6 +116,6 @@ fn open_world_where_memory_is_refused(rt: HostRuntime) -> Result<(), Fail> {
             three_rounds(&rt, &mut world);
             tell(&rt, Ok(()))
         }
-        Err(stopped) => tell(&rt, Err(stopped)),
+        Err(refusal) => tell(&rt, Err(refusal)),
     }
 }

@@ -100,13 +100,24 @@ fn network_of(alloc: Global, text: &[u8]) -> Result<Network, NetFault> {
     Ok(read_network(alloc, text)?.into_network())
 }
 
+/// Asserts whether the network of a text is the same.
+fn assert_same(
+    rt: &impl Abort,
+    alloc: Global,
+    one: &Network,
+    text: &[u8],
+    same: bool,
+) -> Result<(), NetFault> {
+    let other = network_of(alloc, text)?;
+    assert_eq!(rt; one.same(&other), same, "{text:?}");
+    Ok(())
+}
+
 #[test]
 fn same_networks(rt: HostRuntime) -> Result<(), Fail> {
-    let alloc = rt.alloc();
-    let one = network_of(alloc, b"nodes = 3\nlinks = [[0, 1], [2, 1, 2]]")?;
+    let one = network_of(rt.alloc(), b"nodes = 3\nlinks = [[0, 1], [2, 1, 2]]")?;
     for (text, same) in &OTHERS {
-        let other = network_of(alloc, text)?;
-        assert_eq!(rt; one.same(&other), *same, "{text:?}");
+        assert_same(&rt, rt.alloc(), &one, text, *same)?;
     }
     Ok(())
 }

@@ -1,38 +1,57 @@
 //! Programs: the texts of their faults, whether two are the same, and steps by one neighbour after the other.
 
-use call_fixtures::program_of;
+use call_fixtures::{Refusal, program_of};
 use rule_check::{CheckFault, Near, Program, State, Sums};
 use rule_lang::LangFault;
+use std::alloc::{AllocError, Global};
+use std::fmt::Display;
+use std::process::Abort;
 use std::test::Fail;
+
+/// Asserts the text of a fault.
+fn assert_text(
+    rt: &impl Abort,
+    alloc: Global,
+    fault: &impl Display,
+    want: &str,
+) -> Result<(), AllocError> {
+    let text = fault.to_string(alloc)?;
+    assert_eq!(rt; text.as_str(), want);
+    Ok(())
+}
+
+/// Faults of texts, and their own texts.
+const LANGUAGE_FAULTS: [(LangFault, &str); 4] = [
+    (LangFault::TooLong, "TooLong"),
+    (LangFault::Lex { at: 3 }, "Lex"),
+    (LangFault::Syntax { at: 3 }, "Syntax"),
+    (LangFault::Memory, "Memory"),
+];
 
 #[test]
 fn texts_of_language_faults(rt: HostRuntime) -> Result<(), Fail> {
-    let alloc = rt.alloc();
-    for (fault, text) in [
-        (LangFault::TooLong, "TooLong"),
-        (LangFault::Lex { at: 3 }, "Lex"),
-        (LangFault::Syntax { at: 3 }, "Syntax"),
-        (LangFault::Memory, "Memory"),
-    ] {
-        assert_eq!(rt; format!(in alloc; "{fault}")?.as_str(), text);
+    for (fault, text) in &LANGUAGE_FAULTS {
+        assert_text(&rt, rt.alloc(), fault, text)?;
     }
     Ok(())
 }
 
+/// Faults of programs, and their texts.
+const PROGRAM_FAULTS: [(CheckFault, &str); 8] = [
+    (CheckFault::TooManyFields, "TooManyFields"),
+    (CheckFault::FieldTwice, "FieldTwice"),
+    (CheckFault::NextTwice, "NextTwice"),
+    (CheckFault::UnknownName, "UnknownName"),
+    (CheckFault::NeighbourOutside, "NeighbourOutside"),
+    (CheckFault::NestedAggregate, "NestedAggregate"),
+    (CheckFault::TooManyAggregates, "TooManyAggregates"),
+    (CheckFault::Memory, "Memory"),
+];
+
 #[test]
 fn texts_of_program_faults(rt: HostRuntime) -> Result<(), Fail> {
-    let alloc = rt.alloc();
-    for (fault, text) in [
-        (CheckFault::TooManyFields, "TooManyFields"),
-        (CheckFault::FieldTwice, "FieldTwice"),
-        (CheckFault::NextTwice, "NextTwice"),
-        (CheckFault::UnknownName, "UnknownName"),
-        (CheckFault::NeighbourOutside, "NeighbourOutside"),
-        (CheckFault::NestedAggregate, "NestedAggregate"),
-        (CheckFault::TooManyAggregates, "TooManyAggregates"),
-        (CheckFault::Memory, "Memory"),
-    ] {
-        assert_eq!(rt; format!(in alloc; "{fault}")?.as_str(), text);
+    for (fault, text) in &PROGRAM_FAULTS {
+        assert_text(&rt, rt.alloc(), fault, text)?;
     }
     Ok(())
 }
@@ -94,14 +113,25 @@ const OTHERS: [(&str, bool); 10] = [
     ("", false),
 ];
 
+/// Asserts whether the program of a text is the same, from both sides.
+fn assert_same(
+    rt: &impl Abort,
+    alloc: Global,
+    one: &Program,
+    text: &str,
+    same: bool,
+) -> Result<(), Refusal> {
+    let other = program_of(alloc, text.as_bytes())?;
+    assert_eq!(rt; one.same(&other), same, "{text:?}");
+    assert_eq!(rt; other.same(one), same, "{text:?}");
+    Ok(())
+}
+
 #[test]
 fn same_programs(rt: HostRuntime) -> Result<(), Fail> {
-    let alloc = rt.alloc();
-    let one = program_of(alloc, TWO_RULES)?;
+    let one = program_of(rt.alloc(), TWO_RULES)?;
     for (text, same) in &OTHERS {
-        let other = program_of(alloc, text.as_bytes())?;
-        assert_eq!(rt; one.same(&other), *same, "{text:?}");
-        assert_eq!(rt; other.same(&one), *same, "{text:?}");
+        assert_same(&rt, rt.alloc(), &one, text, *same)?;
     }
     Ok(())
 }
@@ -115,11 +145,8 @@ fn step_by_step(program: &Program, own: State, nears: &[Near; 3]) -> State {
     program.finish(4, 3, own, 2, &sums)
 }
 
-#[test]
-fn neighbours_in_any_order(rt: HostRuntime) -> Result<(), Fail> {
-    let text =
-        "field s = 0; field t = 0; next s = ((total (n.s * n.weight) + least n.id) + (degree * round)); next t = (s + (most n.t + count (n.s == s)));";
-    let program = program_of(rt.alloc(), text.as_bytes())?;
+/// Asserts the state after a step, whose neighbours are taken in each of these orders.
+fn assert_orders(rt: &impl Abort, program: &Program) {
     let one = near(3, 2, 10, 1);
     let two = near(5, 0, 7, 6);
     let three = near(9, 1, 10, 2);
@@ -132,8 +159,15 @@ fn neighbours_in_any_order(rt: HostRuntime) -> Result<(), Fail> {
         [two, three, one],
         [three, two, one],
     ];
-    for nears in orders {
-        assert_eq!(rt; step_by_step(&program, own, &nears), want);
+    for nears in &orders {
+        assert_eq!(rt; step_by_step(program, own, nears), want);
     }
+}
+
+#[test]
+fn neighbours_in_any_order(rt: HostRuntime) -> Result<(), Fail> {
+    let text =
+        b"field s = 0; field t = 0; next s = ((total (n.s * n.weight) + least n.id) + (degree * round)); next t = (s + (most n.t + count (n.s == s)));";
+    assert_orders(&rt, &program_of(rt.alloc(), text)?);
     Ok(())
 }

@@ -1,71 +1,54 @@
 //! Replays whose reader fails.
 
-use call_fixtures::devices::{Narrow, Source, writer};
+use call_fixtures::devices::{Source, writer};
 use call_fixtures::networks::PAIR;
-use call_fixtures::plan_of;
 use call_fixtures::programs::SWAP;
-use lockstep::{Plan, Tally};
+use call_fixtures::{Refusal, shared_plan};
+use lockstep::Tally;
 use std::alloc::Global;
 use std::io::ErrorKind;
-use std::sync::Arc;
+use std::process::Abort;
 use std::test::Fail;
 use unison_trace::{ReplayFault, replay_over};
 
 /// Each of two linked nodes reads the other and writes.
 const ROUND: &[u8] = b"read 0 0\nwrite 0\nread 1 0\nwrite 1\n";
 
-/// What came of a replay: its answer, whether the reader and the writer are marked, and how often the writer was called.
-#[derive(Drop)]
-struct Outcome {
-    answer: Result<(), ReplayFault>,
-    is_reader_marked: bool,
-    is_writer_marked: bool,
-    writes: u64,
-}
-
-/// The replay of a schedule's bytes from a reader to a writer.
-fn replay(
+/// Asserts what comes of a schedule whose reader fails with an error of this kind behind these bytes.
+fn assert_failure(
+    rt: &impl Abort,
     alloc: Global,
-    plan: Plan,
-    stop: u32,
-    source: Source<'_>,
-    paper: Narrow,
-) -> Result<Outcome, Fail> {
-    let plan = Arc::new(alloc, plan)?;
-    let mut schedule = Tally::new(source);
-    let mut out = Tally::new(paper);
-    let answer = replay_over(alloc, plan, stop, &mut schedule, &mut out);
-    Ok(Outcome {
-        answer,
-        is_reader_marked: schedule.failed(),
-        is_writer_marked: out.failed(),
-        writes: out.calls(),
-    })
+    kind: ErrorKind,
+    bytes: &[u8],
+) -> Result<(), Refusal> {
+    let plan = shared_plan(alloc, SWAP, PAIR)?;
+    let mut schedule = Tally::new(Source {
+        rest: bytes,
+        most: 1,
+        end: Some(kind),
+    });
+    let mut out = Tally::new(writer(alloc, 1_000, 1_000, ErrorKind::BrokenPipe));
+    let answer = replay_over(alloc, plan, 10, &mut schedule, &mut out);
+    let len = bytes.len();
+    assert_eq!(rt; answer, Err(ReplayFault::Read), "{len} bytes");
+    assert_eq!(rt; out.calls(), 0);
+    assert!(rt; schedule.failed() && !out.failed());
+    Ok(())
 }
 
-/// A writer that takes whatever it is given.
-fn paper(alloc: Global) -> Narrow {
-    writer(alloc, 1_000, 1_000, ErrorKind::BrokenPipe)
+/// Asserts what comes of a schedule whose reader fails behind each number of its bytes.
+fn assert_failures(rt: &impl Abort, alloc: Global, kind: ErrorKind) -> Result<(), Refusal> {
+    for len in 0..=ROUND.len() {
+        assert_failure(rt, alloc, kind, &ROUND[..len])?;
+    }
+    Ok(())
 }
 
 /// Where the reader fails, nothing is written, and the reader alone is marked. A fault that can be tried again is
 /// a fault.
 #[test]
 fn reader_fails_after_each_number_of_bytes(rt: HostRuntime) -> Result<(), Fail> {
-    let alloc = rt.alloc();
-    for kind in [ErrorKind::Interrupted, ErrorKind::BrokenPipe] {
-        for len in 0..=ROUND.len() {
-            let source = Source {
-                rest: &ROUND[..len],
-                most: 1,
-                end: Some(kind),
-            };
-            let plan = plan_of(alloc, SWAP, PAIR)?;
-            let outcome = replay(alloc, plan, 10, source, paper(alloc))?;
-            assert_eq!(rt; outcome.answer, Err(ReplayFault::Read), "{len} bytes");
-            assert_eq!(rt; outcome.writes, 0);
-            assert!(rt; outcome.is_reader_marked && !outcome.is_writer_marked);
-        }
-    }
+    assert_failures(&rt, rt.alloc(), ErrorKind::Interrupted)?;
+    assert_failures(&rt, rt.alloc(), ErrorKind::BrokenPipe)?;
     Ok(())
 }

@@ -3,7 +3,8 @@
 use call_fixtures::networks::{ALONE, APART, PAIR, PATH, RING};
 use call_fixtures::programs::{COUNTER, DISTANCE, MAJORITY, SWAP};
 use call_fixtures::reports::{PATH_AFTER_ONE, RING_AFTER_FOUR};
-use call_fixtures::{report_of, shared_plan};
+use call_fixtures::{Refusal, report_of, shared_plan};
+use lockstep::Plan;
 use std::alloc::Global;
 use std::process::Abort;
 use std::sync::Wait;
@@ -18,36 +19,33 @@ use unison_world::Step;
 const MOST_TURNS: u32 = 50_000_000;
 
 /// What a run is asked.
-#[derive(Clone, Copy, Debug)]
+#[derive(Clone, Copy)]
 struct Asked {
     stop: u32,
     workers: u32,
     trace: Option<u32>,
 }
 
-/// What a run of the texts of a program and a network gives: its report and its trace.
-fn run_of<R: Threads + Wait + Sync, G: Gate + Sync>(
-    rt: &R,
+/// Asserts the report of a finished run and the number of its stored steps.
+fn assert_finished(
+    rt: &impl Abort,
     alloc: Global,
-    program: &str,
-    network: &str,
-    asked: Asked,
-    gate: &G,
-) -> Result<(Vec<u8>, Option<Vec<Step>>), Fail> {
-    let plan = shared_plan(alloc, program, network)?;
-    let Finished { config, trace } = run(
-        rt,
-        alloc,
-        &plan,
-        asked.stop,
-        asked.workers,
-        asked.trace,
-        gate,
-    )?;
-    Ok((report_of(alloc, &plan, &config)?, trace))
+    plan: &Plan,
+    finished: &Finished,
+    want: (&str, Option<usize>),
+) -> Result<(), Refusal> {
+    let (text, steps) = want;
+    let report = report_of(alloc, plan, &finished.config)?;
+    assert_eq!(rt; report.as_slice(), text.as_bytes());
+    assert_eq!(rt;
+        finished.trace.as_ref().map(|trace| trace.len()),
+        steps,
+        "{text:?}"
+    );
+    Ok(())
 }
 
-/// Asserts the report of a run and the number of its stored steps.
+/// Asserts the report of a run of the texts of a program and a network, and the number of its stored steps.
 fn assert_run<R: Threads + Wait + Abort + Sync, G: Gate + Sync>(
     rt: &R,
     alloc: Global,
@@ -57,32 +55,18 @@ fn assert_run<R: Threads + Wait + Abort + Sync, G: Gate + Sync>(
     gate: &G,
     want: (&str, Option<usize>),
 ) -> Result<(), Fail> {
-    let (report, trace) = run_of(rt, alloc, program, network, asked, gate)?;
-    let (text, steps) = want;
-    assert_eq!(rt; report.as_slice(), text.as_bytes(), "{asked:?}");
-    assert_eq!(rt; trace.map(|steps| steps.len()), steps, "{asked:?}");
-    Ok(())
-}
-
-/// The fault of a run of the texts of a program and a network.
-fn fault_of<R: Threads + Wait + Sync>(
-    rt: &R,
-    alloc: Global,
-    program: &str,
-    network: &str,
-    asked: Asked,
-) -> Result<Option<RunFault>, Fail> {
     let plan = shared_plan(alloc, program, network)?;
-    let answer = run(
+    let finished = run(
         rt,
         alloc,
         &plan,
         asked.stop,
         asked.workers,
         asked.trace,
-        &OpenGate,
-    );
-    Ok(answer.err())
+        gate,
+    )?;
+    assert_finished(rt, alloc, &plan, &finished, want)?;
+    Ok(())
 }
 
 /// Of a limit above 1,000,000 no more than 1,000,000 steps are stored.
@@ -95,11 +79,8 @@ fn largest_trace(rt: HostRuntime) -> Result<(), Fail> {
     };
     let want = ("round 1000000\n0 s=1000000\n", Some(1_000_000));
     assert_run(&rt, rt.alloc(), COUNTER, ALONE, asked, &OpenGate, want)?;
-    let further = Asked {
-        stop: 1_000_001,
-        ..asked
-    };
-    let fault = fault_of(&rt, rt.alloc(), COUNTER, ALONE, further)?;
+    let plan = shared_plan(rt.alloc(), COUNTER, ALONE)?;
+    let fault = run(&rt, rt.alloc(), &plan, 1_000_001, 1, asked.trace, &OpenGate).err();
     assert_eq!(rt; fault, Some(RunFault::TraceFull { limit: 1_000_000 }));
     Ok(())
 }
@@ -188,16 +169,12 @@ fn trace_follows_workers(rt: HostRuntime) -> Result<(), Fail> {
         of_second: AtomicU32::new(0),
         seen: AtomicU32::new(0),
     };
-    let asked = Asked {
-        stop: 3,
-        workers: 2,
-        trace: Some(6),
-    };
-    let (report, trace) = run_of(&rt, rt.alloc(), COUNTER, APART, asked, &gate)?;
-    assert_eq!(rt; report.as_slice(), "round 3\n0 s=3\n1 s=3\n".as_bytes());
+    let plan = shared_plan(rt.alloc(), COUNTER, APART)?;
+    let finished = run(&rt, rt.alloc(), &plan, 3, 2, Some(6), &gate)?;
+    let want = ("round 3\n0 s=3\n1 s=3\n", Some(6));
+    assert_finished(&rt, rt.alloc(), &plan, &finished, want)?;
     assert_eq!(rt; gate.seen.load(Ordering::SeqCst), 1);
-    let trace = trace.ok_or("no trace")?;
-    assert_eq!(rt; trace.len(), 6);
+    let trace = finished.trace.as_deref().unwrap_or(&[]);
     for at in 0..2 {
         assert_eq!(rt; trace.get(at).copied(), Some(Step::Write { node: 1 }));
     }
@@ -220,22 +197,30 @@ impl Gate for Slow {
     }
 }
 
+/// Asserts the report and the trace of a run whose first worker is slow.
+fn assert_slow<R: Threads + Wait + Abort + Sync>(
+    rt: &R,
+    alloc: Global,
+    workers: u32,
+) -> Result<(), Fail> {
+    let gate = Slow {
+        turns: AtomicU32::new(0),
+    };
+    let asked = Asked {
+        stop: 4,
+        workers,
+        trace: Some(72),
+    };
+    let want = (RING_AFTER_FOUR, Some(72));
+    assert_run(rt, alloc, MAJORITY, RING, asked, &gate, want)?;
+    assert!(rt; gate.turns.load(Ordering::SeqCst) > 0);
+    Ok(())
+}
+
 #[test]
 fn slow_worker(rt: HostRuntime) -> Result<(), Fail> {
-    for workers in [2, 64] {
-        let gate = Slow {
-            turns: AtomicU32::new(0),
-        };
-        let asked = Asked {
-            stop: 4,
-            workers,
-            trace: Some(72),
-        };
-        let want = (RING_AFTER_FOUR, Some(72));
-        assert_run(&rt, rt.alloc(), MAJORITY, RING, asked, &gate, want)?;
-        assert!(rt; gate.turns.load(Ordering::SeqCst) > 0);
-    }
-    Ok(())
+    assert_slow(&rt, rt.alloc(), 2)?;
+    assert_slow(&rt, rt.alloc(), 64)
 }
 
 /// Counts the calls of a run, and those for a node that is not the worker's.
@@ -255,24 +240,41 @@ impl Gate for Watch {
     }
 }
 
+/// Asserts the calls of a run of so many workers.
+fn assert_calls<R: Threads + Wait + Abort + Sync>(
+    rt: &R,
+    alloc: Global,
+    workers: u32,
+) -> Result<(), Fail> {
+    let gate = Watch {
+        workers,
+        calls: AtomicU32::new(0),
+        strays: AtomicU32::new(0),
+    };
+    let asked = Asked {
+        stop: 4,
+        workers,
+        trace: None,
+    };
+    assert_run(
+        rt,
+        alloc,
+        MAJORITY,
+        RING,
+        asked,
+        &gate,
+        (RING_AFTER_FOUR, None),
+    )?;
+    assert_eq!(rt; gate.strays.load(Ordering::SeqCst), 0, "{workers} workers");
+    assert_eq!(rt; gate.calls.load(Ordering::SeqCst), 24, "{workers} workers");
+    Ok(())
+}
+
 /// Each worker computes for the nodes whose number leaves its own modulo the number of workers, and once for each round.
 #[test]
 fn workers_compute_for_their_nodes(rt: HostRuntime) -> Result<(), Fail> {
-    for workers in [1, 2, 4, 64] {
-        let gate = Watch {
-            workers,
-            calls: AtomicU32::new(0),
-            strays: AtomicU32::new(0),
-        };
-        let asked = Asked {
-            stop: 4,
-            workers,
-            trace: None,
-        };
-        let want = (RING_AFTER_FOUR, None);
-        assert_run(&rt, rt.alloc(), MAJORITY, RING, asked, &gate, want)?;
-        assert_eq!(rt; gate.strays.load(Ordering::SeqCst), 0, "{workers} workers");
-        assert_eq!(rt; gate.calls.load(Ordering::SeqCst), 24, "{workers} workers");
+    for workers in &[1, 2, 4, 64] {
+        assert_calls(&rt, rt.alloc(), *workers)?;
     }
     Ok(())
 }

@@ -1,9 +1,9 @@
 //! Long walks of turns and results: at each of many times, every node has the lockstep state of its moves.
 
 use call_fixtures::draws::below;
-use call_fixtures::{read, shared_plan};
+use call_fixtures::{Refusal, read, shared_plan};
 use lockstep::{Config, Plan, lockstep};
-use std::alloc::{AllocError, Global};
+use std::alloc::Global;
 use std::process::Abort;
 use std::sync::Arc;
 use std::test::Fail;
@@ -33,34 +33,42 @@ impl Draws {
     }
 }
 
-/// Adds a link to the list of links in the text of a network.
-fn put_link(alloc: Global, text: &mut String, u: u32, w: u32) -> Result<(), AllocError> {
-    text.push_str(format!(in alloc; "[{u}, {w}],")?.as_str())
-}
+/// A ring of 30 nodes, where the link from node n to the next weighs n times n; from each third node a chord leads to
+/// the seventh behind it.
+const RING_WITH_CHORDS: &str =
+    "nodes = 30\nphase = 1\nlinks = [[0,1,0],[0,7],[1,2,1],[2,3,4],[3,4,9],[3,10],[4,5,16],[5,6,25],[6,7,36],[6,13],[7,8,49],[8,9,64],[9,10,81],[9,16],[10,11,100],[11,12,121],[12,13,144],[12,19],[13,14,169],[14,15,196],[15,16,225],[15,22],[16,17,256],[17,18,289],[18,19,324],[18,25],[19,20,361],[20,21,400],[21,22,441],[21,28],[22,23,484],[23,24,529],[24,25,576],[24,1],[25,26,625],[26,27,676],[27,28,729],[27,4],[28,29,784],[29,0,841],]\n[set]\ns = [[0, 5], [7, 11], [29, 65520]]\n";
 
-/// The text of a ring of 30 nodes, with a chord at every third of them.
-fn ring_with_chords(alloc: Global) -> Result<String, Fail> {
-    let mut text = format!(in alloc; "nodes = 30\nphase = 1\nlinks = [")?;
-    for node in 0..30u32 {
-        let next = (node + 1) % 30;
-        let weight = node * node;
-        text.push_str(format!(in alloc; "[{node}, {next}, {weight}],")?.as_str())?;
-        if node % 3 == 0 {
-            let across = (node + 7) % 30;
-            put_link(alloc, &mut text, node, across)?;
-        }
-    }
-    text.push_str("]\n[set]\ns = [[0, 5], [7, 11], [29, 65520]]\n")?;
-    Ok(text)
+/// A world on its way: its plan, the lockstep configurations from round 0 to the stop, and the results that are kept.
+#[derive(Drop)]
+struct Walk {
+    plan: Arc<Plan>,
+    rounds: Vec<Config>,
+    world: World,
+    held: Vec<Done>,
+    draws: Draws,
 }
 
 /// The lockstep configurations from round 0 to the stop.
-fn rounds_of(alloc: Global, plan: &Plan) -> Result<Vec<Config>, Fail> {
+fn rounds_of(alloc: Global, plan: &Plan) -> Result<Vec<Config>, Refusal> {
     let mut rounds = Vec::new(alloc);
     for round in 0..=STOP {
         rounds.push(lockstep(alloc, plan, round)?)?;
     }
     Ok(rounds)
+}
+
+/// A walk before its first event, with draws from this seed.
+fn begun(alloc: Global, seed: u32) -> Result<Walk, Refusal> {
+    let plan = shared_plan(alloc, MIX, RING_WITH_CHORDS)?;
+    let rounds = rounds_of(alloc, &plan)?;
+    let world = World::new(alloc, Arc::try_clone(&plan)?, STOP)?;
+    Ok(Walk {
+        plan,
+        rounds,
+        world,
+        held: Vec::new(alloc),
+        draws: Draws { seed },
+    })
 }
 
 /// Asserts that no neighbour of a node has moved more than once more often, or more than once less often.
@@ -75,15 +83,16 @@ fn assert_near(rt: &impl Abort, world: &World, plan: &Plan, node: u32, moves: u3
 }
 
 /// Asserts that every node has the lockstep state of its moves.
-fn assert_in_step(rt: &impl Abort, world: &World, plan: &Plan, rounds: &[Config]) {
+fn assert_in_step(rt: &impl Abort, walk: &Walk) {
     for node in 0..30 {
-        let moves = world.moves(node).unwrap_or(4_294_967_295);
-        let want = rounds
+        let moves = walk.world.moves(node).unwrap_or(4_294_967_295);
+        let want = walk
+            .rounds
             .get(moves as usize)
             .and_then(|config| config.state(node));
         assert!(rt; want.is_some(), "node {node} after {moves}");
-        assert_eq!(rt; world.state(node), want, "node {node} after {moves}");
-        assert_near(rt, world, plan, node, moves);
+        assert_eq!(rt; walk.world.state(node), want, "node {node} after {moves}");
+        assert_near(rt, &walk.world, &walk.plan, node, moves);
     }
 }
 
@@ -96,71 +105,76 @@ fn least_moves(world: &World) -> u32 {
     least
 }
 
-#[test]
-fn walk_of_turns(rt: HostRuntime) -> Result<(), Fail> {
-    let alloc = rt.alloc();
-    let plan = shared_plan(alloc, MIX, ring_with_chords(alloc)?.as_str())?;
-    let rounds = rounds_of(alloc, &plan)?;
-    let mut world = World::new(alloc, Arc::try_clone(&plan)?, STOP)?;
-    let mut draws = Draws { seed: 2 };
+/// Lets nodes have their turns.
+fn assert_turns(rt: &impl Abort, walk: &mut Walk) {
     for count in 0..5_000u32 {
-        let _answer = world.turn(draws.below(31));
+        let node = walk.draws.below(31);
+        let _answer = walk.world.turn(node);
         if count % 100 == 0 {
-            assert_in_step(&rt, &world, &plan, &rounds);
+            assert_in_step(rt, walk);
         }
     }
-    assert_in_step(&rt, &world, &plan, &rounds);
-    assert!(rt; least_moves(&world) >= 20);
+    assert_in_step(rt, walk);
+    assert!(rt; least_moves(&walk.world) >= 20);
+}
+
+#[test]
+fn walk_of_turns(rt: HostRuntime) -> Result<(), Fail> {
+    assert_turns(&rt, &mut begun(rt.alloc(), 2)?);
     Ok(())
 }
 
+/// Computes the result of a node that is ready, and keeps it.
+fn keep_result(walk: &mut Walk, node: u32) -> Result<(), Refusal> {
+    if let Some(work) = walk.world.work(node)? {
+        walk.held.push(work.compute())?;
+    }
+    Ok(())
+}
+
+/// Puts the result that was kept so many results ago, where there is one.
+fn put_back(rt: &impl Abort, walk: &mut Walk, back: usize) -> Option<WriteAnswer> {
+    let at = walk.held.len().checked_sub(back)?;
+    let done = walk.held.get(at)?;
+    let asked = walk.world.ask_put(done);
+    let answer = walk.world.put(done);
+    assert_eq!(rt; answer, asked);
+    Some(answer)
+}
+
 /// Reads, computes a result and keeps it, or puts one of the last twenty kept results.
-fn one_event(
-    rt: &impl Abort,
-    world: &mut World,
-    held: &mut Vec<Done>,
-    draws: &mut Draws,
-) -> Result<Option<WriteAnswer>, Fail> {
-    let node = draws.below(31);
-    match draws.below(8) {
-        0 => {
-            if let Some(work) = world.work(node)? {
-                held.push(work.compute())?;
-            }
-        }
+fn one_event(rt: &impl Abort, walk: &mut Walk) -> Result<Option<WriteAnswer>, Refusal> {
+    let node = walk.draws.below(31);
+    match walk.draws.below(8) {
+        0 => keep_result(walk, node)?,
         1 => {
-            let back = draws.below(20) as usize + 1;
-            if let Some(done) = held.len().checked_sub(back).and_then(|at| held.get(at)) {
-                let asked = world.ask_put(done);
-                let answer = world.put(done);
-                assert_eq!(rt; answer, asked);
-                return Ok(Some(answer));
-            }
+            let back = walk.draws.below(20) as usize + 1;
+            return Ok(put_back(rt, walk, back));
         }
         slot => {
-            let _answer = world.step(read(node, slot - 2));
+            let _answer = walk.world.step(read(node, slot - 2));
         }
     }
     Ok(None)
 }
 
-#[test]
-fn walk_of_results(rt: HostRuntime) -> Result<(), Fail> {
-    let alloc = rt.alloc();
-    let plan = shared_plan(alloc, MIX, ring_with_chords(alloc)?.as_str())?;
-    let rounds = rounds_of(alloc, &plan)?;
-    let mut world = World::new(alloc, Arc::try_clone(&plan)?, STOP)?;
-    let mut draws = Draws { seed: 3 };
-    let mut held = Vec::new(alloc);
+/// Lets results come back late; some of them are stale.
+fn assert_results(rt: &impl Abort, walk: &mut Walk) -> Result<(), Refusal> {
     let mut stale = false;
     for count in 0..40_000u32 {
-        let answer = one_event(&rt, &mut world, &mut held, &mut draws)?;
+        let answer = one_event(rt, walk)?;
         stale = stale || answer == Some(WriteAnswer::Stale);
         if count % 100 == 0 {
-            assert_in_step(&rt, &world, &plan, &rounds);
+            assert_in_step(rt, walk);
         }
     }
-    assert_in_step(&rt, &world, &plan, &rounds);
-    assert!(rt; stale && least_moves(&world) >= 20);
+    assert_in_step(rt, walk);
+    assert!(rt; stale && least_moves(&walk.world) >= 20);
+    Ok(())
+}
+
+#[test]
+fn walk_of_results(rt: HostRuntime) -> Result<(), Fail> {
+    assert_results(&rt, &mut begun(rt.alloc(), 3)?)?;
     Ok(())
 }
