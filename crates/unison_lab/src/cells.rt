@@ -1,43 +1,64 @@
 //! `init .. --cells FIELD=FILE@X,Y --width W`: patterns of cells as initial values.
 
+use crate::endings::told_text;
 use crate::init::put_same;
-use app_files::{Ending, bytes_at, name_at};
+use app_files::{Ending, Told, bytes_at, name_at};
 use app_requests::{CellsWord, InitRequest};
 use net_initial::{Chosen, Opening};
 use net_patterns::{
     Cell, Corner, Grid, PatternFault, PlaceFault, cells_of_state, placed, read_pattern,
 };
-use std::alloc::{AllocError, Global};
+use std::alloc::Global;
 
 /// Where a text is no pattern, and why.
-fn pattern_text(alloc: Global, name: &str, fault: PatternFault) -> Result<String, AllocError> {
+fn pattern_told(fault: PatternFault) -> Told {
     match fault {
-        PatternFault::NoPattern => format!(in alloc;
-            "pattern NoPattern\n{name}: expected runs, which begin with a line as `x = 3, y = 3`, or rows of . and O; found neither"
+        PatternFault::NoPattern => (
+            None,
+            "NoPattern",
+            "expected runs, which begin with a line as `x = 3, y = 3`, or rows of . and O; found neither",
         ),
-        PatternFault::BadCell { line } => format!(in alloc;
-            "pattern BadCell {line}\n{name}:{line}: expected in runs b, o, $, ! or a state's letters from A to yO, with a number before it or without, and in rows . or O"
+        PatternFault::BadCell { line } => (
+            Some(line),
+            "BadCell",
+            "expected in runs b, o, $, ! or a state's letters from A to yO, with a number before it or without, and in rows . or O",
         ),
-        PatternFault::BadCount { line } => format!(in alloc;
-            "pattern BadCount {line}\n{name}:{line}: a number in runs is from 1 to 999999999, and a cell or $ stands right behind it"
+        PatternFault::BadCount { line } => (
+            Some(line),
+            "BadCount",
+            "a number in runs is from 1 to 999999999, and a cell or $ stands right behind it",
         ),
-        PatternFault::NoEnd => format!(in alloc;
-            "pattern NoEnd\n{name}: runs end with !, and here they go on to the end of the text"
+        PatternFault::NoEnd => (
+            None,
+            "NoEnd",
+            "runs end with !, and here they go on to the end of the text",
         ),
-        PatternFault::TooLarge { line } => format!(in alloc;
-            "pattern TooLarge {line}\n{name}:{line}: a live cell stands beyond column or row 65535, or is more than the 65536th"
+        PatternFault::TooLarge { line } => (
+            Some(line),
+            "TooLarge",
+            "a live cell stands beyond column or row 65535, or is more than the 65536th",
         ),
-        PatternFault::Memory => Err(AllocError),
+        PatternFault::Memory => (None, "Memory", ""),
+    }
+}
+
+/// The ending where the text of this name is no pattern.
+fn no_pattern(alloc: Global, name: &str, fault: PatternFault) -> Ending {
+    Ending::refused(told_text(alloc, "pattern", name, pattern_told(fault)))
+}
+
+/// The live cells of the pattern of this text, which has this name.
+fn cells_of(alloc: Global, name: &str, text: &[u8]) -> Result<Vec<Cell>, Ending> {
+    match read_pattern(alloc, text) {
+        Ok(cells) => Ok(cells),
+        Err(fault) => Err(no_pattern(alloc, name, fault)),
     }
 }
 
 /// The live cells of the pattern at a path.
 fn cells_at(rt: &HostRuntime, path: &str) -> Result<Vec<Cell>, Ending> {
     let bytes = bytes_at(rt, path)?;
-    match read_pattern(rt.alloc(), &bytes) {
-        Ok(cells) => Ok(cells),
-        Err(fault) => Err(Ending::refused(pattern_text(rt.alloc(), name_at(path), fault))),
-    }
+    cells_of(rt.alloc(), name_at(path), &bytes)
 }
 
 /// The ending where a pattern has no place on the grid.
@@ -80,6 +101,36 @@ fn grid_of(alloc: Global, nodes: u32, width: u32) -> Result<Grid, Ending> {
     Ok(Grid { width, nodes })
 }
 
+/// Puts the opening that these cells of a state ask for.
+fn put_alike(
+    openings: &mut Vec<Opening>,
+    alloc: Global,
+    grid: &Grid,
+    word: &CellsWord,
+    cells: &[Cell],
+    state: u8,
+) -> Result<(), Ending> {
+    let nodes = nodes_under(alloc, grid, word, cells)?;
+    let (field, value) = (word.field.as_str(), u32::from(state));
+    put_same(openings, alloc, field, Chosen::These(nodes), value)
+}
+
+/// Puts the opening that the cells of a state ask for, where there are some, or are to be none.
+fn put_some(
+    openings: &mut Vec<Opening>,
+    alloc: Global,
+    grid: &Grid,
+    word: &CellsWord,
+    cells: &[Cell],
+    state: u8,
+    may_be_none: bool,
+) -> Result<(), Ending> {
+    if cells.is_empty() && !may_be_none {
+        return Ok(());
+    }
+    put_alike(openings, alloc, grid, word, cells, state)
+}
+
 /// Puts the opening that the cells of a state ask for, where there are some, or no cells at all.
 fn put_state(
     openings: &mut Vec<Opening>,
@@ -90,18 +141,7 @@ fn put_state(
     state: u8,
 ) -> Result<(), Ending> {
     let alike = cells_of_state(alloc, cells, state)?;
-    if alike.is_empty() && !cells.is_empty() {
-        return Ok(());
-    }
-    let nodes = nodes_under(alloc, grid, word, &alike)?;
-    let value = u32::from(state);
-    put_same(
-        openings,
-        alloc,
-        word.field.as_str(),
-        Chosen::These(nodes),
-        value,
-    )
+    put_some(openings, alloc, grid, word, &alike, state, cells.is_empty())
 }
 
 /// The greatest state of cells; 0 where there are none.
@@ -113,6 +153,35 @@ fn greatest_state(cells: &[Cell]) -> u8 {
     greatest
 }
 
+/// Refuses cells one of which has no place, put where a word of `--cells` says.
+fn check_places(
+    alloc: Global,
+    grid: &Grid,
+    word: &CellsWord,
+    cells: &[Cell],
+) -> Result<(), Ending> {
+    match nodes_under(alloc, grid, word, cells) {
+        Ok(_nodes) => Ok(()),
+        Err(ending) => Err(ending),
+    }
+}
+
+/// Puts the openings that these cells of a word of `--cells` ask for, one for each state, and where there are none one of no
+/// node.
+fn put_states(
+    openings: &mut Vec<Opening>,
+    alloc: Global,
+    grid: &Grid,
+    word: &CellsWord,
+    cells: &[Cell],
+) -> Result<(), Ending> {
+    check_places(alloc, grid, word, cells)?;
+    for state in 1..=greatest_state(cells).max(1) {
+        put_state(openings, alloc, grid, word, cells, state)?;
+    }
+    Ok(())
+}
+
 /// Puts the openings that a word of `--cells` asks for, one for each state of its pattern, and where it has no live cell one of
 /// no node.
 fn put_word(
@@ -122,11 +191,7 @@ fn put_word(
     word: &CellsWord,
 ) -> Result<(), Ending> {
     let cells = cells_at(rt, word.path.as_str())?;
-    let _all = nodes_under(rt.alloc(), grid, word, &cells)?;
-    for state in 1..=greatest_state(&cells).max(1) {
-        put_state(openings, rt.alloc(), grid, word, &cells, state)?;
-    }
-    Ok(())
+    put_states(openings, rt.alloc(), grid, word, &cells)
 }
 
 /// Puts the openings that the words of `--cells` ask for.

@@ -3,12 +3,10 @@ ghost use Rattle.std.specs.Prelude.{IfSome};
 ghost use Rattle.app_requests.specs.Requests.{HasRuns};
 
 use crate::count_runs::runs_text;
-use crate::plan_texts::named_plan_at;
+use crate::plan_texts::{NamedPlan, named_plan_at, read_plan_once};
 use crate::progress::Telling;
 use crate::watch::no_rounds;
-use app_files::{
-    Ending, coloured_field, field_place, names_of_field, path_in, print_out, read_once, value_named,
-};
+use app_files::{Ending, coloured_field, field_place, names_of_field, print_out, value_named};
 use app_requests::{CountRequest, FigureWord, UntilWord, ValueWord};
 use rounds_plan::Plan;
 use rule_check::Program;
@@ -65,6 +63,18 @@ fn until_value(alloc: Global, names: &[String], word: &UntilWord) -> Result<u32,
     }
 }
 
+/// When the rounds end by a word of `--until`; the values of fields have these names.
+fn until_of(
+    alloc: Global,
+    program: &Program,
+    names: &[Vec<String>],
+    word: &UntilWord,
+) -> Result<Option<Until>, Ending> {
+    let field = field_place(alloc, program, "--until", word.field.as_str())?;
+    let value = until_value(alloc, names_of_field(names, field), word)?;
+    Ok(Some(Until { field, value }))
+}
+
 /// When the rounds end early, where they may; the values of fields have these names.
 fn until_for(
     alloc: Global,
@@ -72,12 +82,10 @@ fn until_for(
     names: &[Vec<String>],
     word: &Option<UntilWord>,
 ) -> Result<Option<Until>, Ending> {
-    let Some(word) = word else {
-        return Ok(None);
-    };
-    let field = field_place(alloc, program, "--until", word.field.as_str())?;
-    let value = until_value(alloc, names_of_field(names, field), word)?;
-    Ok(Some(Until { field, value }))
+    match word {
+        Some(word) => until_of(alloc, program, names, word),
+        None => Ok(None),
+    }
 }
 
 /// What is counted, where fields have their places.
@@ -133,20 +141,23 @@ fn counted_text(
     asked: &CountRequest,
     counting: &Counting<'_>,
 ) -> Result<Vec<u8>, Ending> {
-    let mut telling = Telling::new(rt, &asked.span, plan.network().nodes());
-    let text = counted(
-        threads,
-        rt.alloc(),
-        plan,
-        &asked.span,
-        counting,
-        &mut telling,
-    );
+    let (alloc, span) = (rt.alloc(), &asked.span);
+    let mut telling = Telling::new(rt, span, plan.network().nodes());
+    let text = counted(threads, alloc, plan, span, counting, &mut telling).map_err(no_rounds);
     telling.end();
-    match text {
-        Ok(text) => Ok(text),
-        Err(fault) => Err(no_rounds(fault)),
-    }
+    text
+}
+
+/// The text of the rounds of this plan.
+fn plan_text(
+    rt: &HostRuntime,
+    threads: &(impl Threads + Sync),
+    named: &NamedPlan,
+    asked: &CountRequest,
+) -> Result<Vec<u8>, Ending> {
+    let found = Counted::of(rt.alloc(), named.plan.program(), &named.names, asked)?;
+    let counting = found.counting(found.names_among(&named.names));
+    counted_text(rt, threads, &named.plan, asked, &counting)
 }
 
 /// The text of the rounds of one run.
@@ -156,9 +167,7 @@ fn run_text(
     asked: &CountRequest,
 ) -> Result<Vec<u8>, Ending> {
     let named = named_plan_at(rt, &asked.runs.plan)?;
-    let found = Counted::of(rt.alloc(), named.plan.program(), &named.names, asked)?;
-    let counting = found.counting(found.names_among(&named.names));
-    counted_text(rt, threads, &named.plan, asked, &counting)
+    plan_text(rt, threads, &named, asked)
 }
 
 /// The text of the rounds that are asked for.
@@ -175,17 +184,6 @@ fn text_for<R: Threads + Sync>(
     }
 }
 
-/// Refuses standard input for more than one of the texts.
-fn check_paths(alloc: Global, asked: &CountRequest) -> Result<(), Ending> {
-    let plan = &asked.runs.plan;
-    let paths = [
-        plan.program.as_str(),
-        plan.network.as_str(),
-        path_in(&plan.from),
-    ];
-    read_once(alloc, &paths)
-}
-
 /// Prints the counts that are asked for. The status with which the program ends.
 fn put_counts<R: Threads + Sync>(
     rt: &HostRuntime,
@@ -194,7 +192,7 @@ fn put_counts<R: Threads + Sync>(
 ) -> Result<u8, Ending>
     requires runs { IfSome asked.now.runs.varied HasRuns }
 {
-    check_paths(rt.alloc(), asked)?;
+    read_plan_once(rt.alloc(), &asked.runs.plan, "", "", "")?;
     let text = text_for(rt, threads, asked)?;
     print_out(rt, &text)
 }

@@ -31,15 +31,22 @@ struct Run {
     plan: Plan,
 }
 
+/// Reads the texts at these paths beside that of the program.
+fn read_rest(rt: &HostRuntime, paths: &PlanPaths, texts: &mut Texts) -> Result<(), Ending> {
+    texts.network = bytes_at(rt, paths.network.as_str())?;
+    texts.report = bytes_where(rt, &paths.from)?;
+    Ok(())
+}
+
 /// The texts at these paths, of which that of the program is this.
 fn texts_with(rt: &HostRuntime, paths: &PlanPaths, model: Vec<u8>) -> Result<Texts, Ending> {
-    let network = bytes_at(rt, paths.network.as_str())?;
-    let report = bytes_where(rt, &paths.from)?;
-    Ok(Texts {
+    let mut texts = Texts {
         model,
-        network,
-        report,
-    })
+        network: Vec::new(rt.alloc()),
+        report: None,
+    };
+    read_rest(rt, paths, &mut texts)?;
+    Ok(texts)
 }
 
 /// The texts at these paths; the program is to be a model.
@@ -81,6 +88,18 @@ fn constants_with(
     Ok(constants)
 }
 
+/// The program of the run in which the constant of this name has this value.
+fn program_for(
+    alloc: Global,
+    paths: &PlanPaths,
+    model: &[u8],
+    name: &str,
+    value: u32,
+) -> Result<Vec<u8>, Ending> {
+    let constants = constants_with(alloc, &paths.constants, name, value)?;
+    expanded_text(alloc, paths.program.as_str(), model, &constants)
+}
+
 /// The plan of the run in which the constant of this name has this value.
 fn plan_for(
     alloc: Global,
@@ -89,8 +108,7 @@ fn plan_for(
     name: &str,
     value: u32,
 ) -> Result<Plan, Ending> {
-    let constants = constants_with(alloc, &paths.constants, name, value)?;
-    let program = expanded_text(alloc, paths.program.as_str(), &texts.model, &constants)?;
+    let program = program_for(alloc, paths, &texts.model, name, value)?;
     plan_of(alloc, &program, &texts.network, &texts.report)
 }
 
@@ -144,10 +162,7 @@ fn ensemble_text<R: Threads + Sync>(
         counted_runs(threads, alloc, ensemble, span, counting, &telling)
     };
     telling.end();
-    match text {
-        Ok(text) => Ok(text),
-        Err(fault) => Err(no_rounds(fault)),
-    }
+    text.map_err(no_rounds)
 }
 
 /// Whether one of the names is this one.
@@ -169,6 +184,26 @@ fn column_names<'a>(names: &'a [String], constant: &str) -> &'a [String] {
     names
 }
 
+/// The text of these runs, counted so.
+fn variants_text<R: Threads + Sync>(
+    rt: &HostRuntime,
+    threads: &R,
+    asked: &CountRequest,
+    name: &str,
+    counting: &Counting<'_>,
+    runs: &[Run],
+) -> Result<Vec<u8>, Ending>
+    requires some { 1 ≤ length runs.now }
+    requires few { length runs.now ≤ most_runs }
+{
+    let variants = variants_of(rt.alloc(), runs)?;
+    let ensemble = Ensemble {
+        name,
+        variants: &variants,
+    };
+    ensemble_text(rt, threads, asked, counting, &ensemble)
+}
+
 /// The text of these runs, of which the first says which fields there are; their values have these names.
 fn text_of<R: Threads + Sync>(
     rt: &HostRuntime,
@@ -182,13 +217,8 @@ fn text_of<R: Threads + Sync>(
     requires few { length runs.now ≤ most_runs }
 {
     let found = Counted::of(rt.alloc(), runs[0].plan.program(), names, asked)?;
-    let variants = variants_of(rt.alloc(), runs)?;
-    let ensemble = Ensemble {
-        name,
-        variants: &variants,
-    };
     let counting = found.counting(column_names(found.names_among(names), name));
-    ensemble_text(rt, threads, asked, &counting, &ensemble)
+    variants_text(rt, threads, asked, name, &counting, runs)
 }
 
 /// The text of these runs of the model of this text.
@@ -207,6 +237,21 @@ fn model_text<R: Threads + Sync>(
     text_of(rt, threads, asked, name, &names, runs)
 }
 
+/// The text of the runs of these texts, one for each value of a constant.
+fn texts_text<R: Threads + Sync>(
+    rt: &HostRuntime,
+    threads: &R,
+    asked: &CountRequest,
+    varied: &Varied,
+    texts: &Texts,
+) -> Result<Vec<u8>, Ending>
+    requires runs { HasRuns varied.now }
+{
+    let runs = runs_of(rt.alloc(), &asked.runs.plan, texts, varied)?;
+    let name = varied.name.as_str();
+    model_text(rt, threads, asked, name, &texts.model, &runs)
+}
+
 /// The text of the runs that are asked for, one for each value of a constant.
 pub(crate) fn runs_text<R: Threads + Sync>(
     rt: &HostRuntime,
@@ -216,15 +261,6 @@ pub(crate) fn runs_text<R: Threads + Sync>(
 ) -> Result<Vec<u8>, Ending>
     requires runs { HasRuns varied.now }
 {
-    let paths = &asked.runs.plan;
-    let texts = texts_at(rt, paths)?;
-    let runs = runs_of(rt.alloc(), paths, &texts, varied)?;
-    model_text(
-        rt,
-        threads,
-        asked,
-        varied.name.as_str(),
-        &texts.model,
-        &runs,
-    )
+    let texts = texts_at(rt, &asked.runs.plan)?;
+    texts_text(rt, threads, asked, varied, &texts)
 }

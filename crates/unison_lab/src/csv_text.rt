@@ -1,7 +1,8 @@
 //! `csv REPORT --names FILE`: a report as CSV, with names in place of numbers.
 
+use crate::endings::{asked_by, told_text};
 use crate::names::names_from;
-use app_files::{Ending, bytes_at, name_at, print_out, read_once};
+use app_files::{Ending, Told, bytes_at, name_at, print_out, read_once};
 use app_requests::CsvRequest;
 use net_names::NodeNames;
 use report_csv::{CsvFault, names_csv};
@@ -9,23 +10,32 @@ use report_table::{Table, TableFault, read_table};
 use std::alloc::{AllocError, Global};
 
 /// What is told of a text that is no report.
-fn table_text(alloc: Global, name: &str, fault: TableFault) -> Result<String, AllocError> {
+fn table_told(fault: TableFault) -> Told {
     match fault {
-        TableFault::BadLine { line } => format!(in alloc;
-            "report BadLine {line}\n{name}:{line}: no line of a report stands here, as lockstep, run and replay print them"
+        TableFault::BadLine { line } => (
+            Some(line),
+            "BadLine",
+            "no line of a report stands here, as lockstep, run and replay print them",
         ),
-        TableFault::TooManyNodes { line } => format!(in alloc;
-            "report TooManyNodes {line}\n{name}:{line}: a report has at most 65536 nodes"
+        TableFault::TooManyNodes { line } => (
+            Some(line),
+            "TooManyNodes",
+            "a report has at most 65536 nodes",
         ),
-        TableFault::Memory => Err(AllocError),
+        TableFault::Memory => (None, "Memory", ""),
     }
+}
+
+/// The ending where the text of this name is no report.
+fn no_table(alloc: Global, name: &str, fault: TableFault) -> Ending {
+    Ending::refused(told_text(alloc, "report", name, table_told(fault)))
 }
 
 /// The table of a report's text.
 pub(crate) fn table_of<'a>(alloc: Global, name: &str, text: &'a [u8]) -> Result<Table<'a>, Ending> {
     match read_table(alloc, text) {
         Ok(table) => Ok(table),
-        Err(fault) => Err(Ending::refused(table_text(alloc, name, fault))),
+        Err(fault) => Err(no_table(alloc, name, fault)),
     }
 }
 
@@ -70,6 +80,11 @@ fn csv_fault_text(
     }
 }
 
+/// The ending where a table is not printed with names.
+fn no_csv(alloc: Global, table: &Table<'_>, asked: &CsvRequest, fault: CsvFault) -> Ending {
+    Ending::usage(csv_fault_text(alloc, table, asked, fault))
+}
+
 /// The CSV of a table with names.
 fn csv_of(
     alloc: Global,
@@ -79,7 +94,7 @@ fn csv_of(
 ) -> Result<Vec<u8>, Ending> {
     match names_csv(alloc, table, names, asked.node_fields.as_slice()) {
         Ok(text) => Ok(text),
-        Err(fault) => Err(Ending::usage(csv_fault_text(alloc, table, asked, fault))),
+        Err(fault) => Err(no_csv(alloc, table, asked, fault)),
     }
 }
 
@@ -110,6 +125,6 @@ fn put_csv(rt: &HostRuntime, asked: &CsvRequest) -> Result<u8, Ending> {
 
 /// Prints a report as CSV. The status with which the program ends.
 pub(crate) fn print_csv(rt: &HostRuntime, words: &[String]) -> Result<u8, Ending> {
-    let asked = CsvRequest::parse(rt.alloc(), words)?;
+    let asked = asked_by(CsvRequest::parse(rt.alloc(), words))?;
     put_csv(rt, &asked)
 }

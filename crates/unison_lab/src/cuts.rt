@@ -1,8 +1,9 @@
 //! `cuts PROGRAM NETWORK --rounds T`: where values were cut.
 
+use crate::endings::asked_by;
 use crate::labels::labels_at;
-use crate::plan_texts::plan_with;
-use app_files::{Ending, path_in, print_out, program_at, program_name, read_once};
+use crate::plan_texts::{plan_with, read_plan_once};
+use app_files::{Ending, path_in, print_out, program_at, program_name};
 use app_jobs::{ServeFault, program_of};
 use app_requests::{CutsFormat, CutsRequest};
 use app_why::place_at;
@@ -11,18 +12,28 @@ use run_cuts::{Cut, Site, Telling, cuts, operator_places, put_json, put_text};
 use run_watch::Format;
 use std::alloc::{AllocError, Global};
 
+/// The site that is at this place of a program's text.
+fn site_at(program: &[u8], at: usize) -> Site {
+    let place = place_at(program, at);
+    Site {
+        line: place.line,
+        column: place.column,
+    }
+}
+
+/// The sites that are at these places of a program's text.
+fn sites_at(alloc: Global, program: &[u8], places: &[usize]) -> Result<Vec<Site>, AllocError> {
+    let mut sites = Vec::new(alloc);
+    for at in places {
+        sites.push(site_at(program, *at))?;
+    }
+    Ok(sites)
+}
+
 /// Where the operators of a program's text stand.
 fn sites_of(alloc: Global, program: &[u8]) -> Result<Vec<Site>, AllocError> {
     let places = operator_places(alloc, program)?;
-    let mut sites = Vec::new(alloc);
-    for at in &places {
-        let place = place_at(program, *at);
-        sites.push(Site {
-            line: place.line,
-            column: place.column,
-        })?;
-    }
-    Ok(sites)
+    sites_at(alloc, program, &places)
 }
 
 /// The form of what stands for nodes.
@@ -48,13 +59,11 @@ fn cuts_in(
     plan: &Plan,
     asked: &CutsRequest,
 ) -> Result<Vec<Cut>, Ending> {
-    let source = match program_of(alloc, program) {
-        Ok((source, _program)) => source,
-        Err(fault) => return Err(Ending::Served(fault)),
-    };
-    match cuts(alloc, &source, plan, asked.rounds, asked.below) {
-        Ok(found) => Ok(found),
-        Err(fault) => Err(no_round(fault)),
+    match program_of(alloc, program) {
+        Ok((source, _program)) => {
+            cuts(alloc, &source, plan, asked.rounds, asked.below).map_err(no_round)
+        }
+        Err(fault) => Err(Ending::Served(fault)),
     }
 }
 
@@ -71,6 +80,18 @@ fn told_of(
         CutsFormat::Json => put_json(&mut text, telling, found)?,
     }
     Ok(text.into_bytes())
+}
+
+/// What is told of the cuts of a plan of the program with this text.
+fn cuts_text(
+    alloc: Global,
+    program: &[u8],
+    plan: &Plan,
+    asked: &CutsRequest,
+    telling: &Telling<'_>,
+) -> Result<Vec<u8>, Ending> {
+    let found = cuts_in(alloc, program, plan, asked)?;
+    told_of(alloc, asked.format, telling, &found).map_err(Ending::from)
 }
 
 /// What is told of a plan of the program with this text, by these operators' sites and these labels of nodes.
@@ -90,12 +111,23 @@ fn text_by(
         rounds: asked.rounds,
         below: asked.below,
     };
-    let found = cuts_in(alloc, program, plan, asked)?;
-    Ok(told_of(alloc, asked.format, &telling, &found)?)
+    cuts_text(alloc, program, plan, asked, &telling)
+}
+
+/// What is told of a plan of the program with this text, by these labels of nodes.
+fn labelled(
+    alloc: Global,
+    program: &[u8],
+    plan: &Plan,
+    asked: &CutsRequest,
+    labels: &[String],
+) -> Result<Vec<u8>, Ending> {
+    let sites = sites_of(alloc, program)?;
+    text_by(alloc, program, plan, asked, &sites, labels)
 }
 
 /// What is told of a plan of the program with this text.
-fn text_with(
+fn text_on(
     rt: &HostRuntime,
     program: &[u8],
     plan: &Plan,
@@ -103,37 +135,30 @@ fn text_with(
 ) -> Result<Vec<u8>, Ending> {
     let nodes = plan.network().nodes();
     let labels = labels_at(rt, labels_form(asked.format), &asked.names, nodes)?;
-    let sites = sites_of(rt.alloc(), program)?;
-    text_by(rt.alloc(), program, plan, asked, &sites, &labels)
+    labelled(rt.alloc(), program, plan, asked, &labels)
+}
+
+/// What is told of the program with this text, on the network that is named.
+fn text_with(rt: &HostRuntime, program: &[u8], asked: &CutsRequest) -> Result<Vec<u8>, Ending> {
+    let plan = plan_with(rt, &asked.plan, program)?;
+    text_on(rt, program, &plan, asked)
 }
 
 /// What is told of the texts that are named.
 fn text_for(rt: &HostRuntime, asked: &CutsRequest) -> Result<Vec<u8>, Ending> {
     let program = program_at(rt, asked.plan.program.as_str(), &asked.plan.constants)?;
-    let plan = plan_with(rt, &asked.plan, &program)?;
-    text_with(rt, &program, &plan, asked)
-}
-
-/// Refuses standard input for more than one of the texts.
-fn check_paths(alloc: Global, asked: &CutsRequest) -> Result<(), Ending> {
-    let paths = [
-        asked.plan.program.as_str(),
-        asked.plan.network.as_str(),
-        path_in(&asked.plan.from),
-        path_in(&asked.names),
-    ];
-    read_once(alloc, &paths)
+    text_with(rt, &program, asked)
 }
 
 /// Prints what is told of the texts that are named. The status with which the program ends.
 fn put_told(rt: &HostRuntime, asked: &CutsRequest) -> Result<u8, Ending> {
-    check_paths(rt.alloc(), asked)?;
+    read_plan_once(rt.alloc(), &asked.plan, path_in(&asked.names), "", "")?;
     let text = text_for(rt, asked)?;
     print_out(rt, &text)
 }
 
 /// Tells where values were cut. The status with which the program ends.
 pub(crate) fn tell_cuts(rt: &HostRuntime, words: &[String]) -> Result<u8, Ending> {
-    let asked = CutsRequest::parse(rt.alloc(), words)?;
+    let asked = asked_by(CutsRequest::parse(rt.alloc(), words))?;
     put_told(rt, &asked)
 }

@@ -1,8 +1,9 @@
 //! `explain PROGRAM NETWORK SCHEDULE`: what each step of a schedule does.
 
+use crate::endings::asked_by;
 use crate::labels::names_for;
-use crate::plan_texts::shared_plan;
-use app_files::{Ending, bytes_at, path_in, print_out, read_once};
+use crate::plan_texts::{read_plan_once, shared_plan};
+use app_files::{Ending, bytes_at, path_in, print_out};
 use app_jobs::ServeFault;
 use app_requests::ExplainRequest;
 use net_names::NodeNames;
@@ -24,10 +25,7 @@ fn no_schedule(fault: ScheduleFault) -> Ending {
 /// The steps of the schedule at a path.
 pub(crate) fn steps_at(rt: &HostRuntime, path: &str) -> Result<Vec<Step>, Ending> {
     let schedule = bytes_at(rt, path)?;
-    match read_schedule(rt.alloc(), &schedule) {
-        Ok(steps) => Ok(steps),
-        Err(fault) => Err(no_schedule(fault)),
-    }
+    read_schedule(rt.alloc(), &schedule).map_err(no_schedule)
 }
 
 /// The ending where the plan has no world.
@@ -41,7 +39,7 @@ pub(crate) fn no_world(fault: OpenFault) -> Ending {
 /// The steps on a plan, told.
 fn told_on(
     alloc: Global,
-    plan: Arc<Plan>,
+    plan: &Arc<Plan>,
     steps: &[Step],
     names: Option<&NodeNames>,
     asked: &ExplainRequest,
@@ -50,46 +48,43 @@ fn told_on(
         slots: asked.slots,
         counts: asked.counts,
     };
-    match told(alloc, plan, asked.stop, steps, names, show) {
-        Ok(text) => Ok(text),
-        Err(fault) => Err(no_world(fault)),
-    }
+    let shared = Arc::try_clone(plan)?;
+    told(alloc, shared, asked.stop, steps, names, show).map_err(no_world)
+}
+
+/// What is told on a plan of the schedule that is asked for, where nodes have these names.
+fn text_with(
+    rt: &HostRuntime,
+    plan: &Arc<Plan>,
+    names: Option<&NodeNames>,
+    asked: &ExplainRequest,
+) -> Result<Vec<u8>, Ending> {
+    let steps = steps_at(rt, asked.schedule.as_str())?;
+    told_on(rt.alloc(), plan, &steps, names, asked)
 }
 
 /// What is told on a plan of the schedule that is asked for.
-fn text_on(rt: &HostRuntime, plan: Arc<Plan>, asked: &ExplainRequest) -> Result<Vec<u8>, Ending> {
+fn text_on(rt: &HostRuntime, plan: &Arc<Plan>, asked: &ExplainRequest) -> Result<Vec<u8>, Ending> {
     let names = names_for(rt, &asked.names, plan.network().nodes())?;
-    let steps = steps_at(rt, asked.schedule.as_str())?;
-    told_on(rt.alloc(), plan, &steps, names.as_ref(), asked)
+    text_with(rt, plan, names.as_ref(), asked)
 }
 
 /// What is told of the schedule that is asked for.
 fn text_for(rt: &HostRuntime, asked: &ExplainRequest) -> Result<Vec<u8>, Ending> {
     let plan = shared_plan(rt, &asked.plan)?;
-    text_on(rt, plan, asked)
-}
-
-/// Refuses standard input for more than one of the texts.
-fn check_paths(alloc: Global, asked: &ExplainRequest) -> Result<(), Ending> {
-    let paths = [
-        asked.plan.program.as_str(),
-        asked.plan.network.as_str(),
-        path_in(&asked.plan.from),
-        path_in(&asked.names),
-        asked.schedule.as_str(),
-    ];
-    read_once(alloc, &paths)
+    text_on(rt, &plan, asked)
 }
 
 /// Prints what is told of the schedule that is asked for. The status with which the program ends.
 fn put_told(rt: &HostRuntime, asked: &ExplainRequest) -> Result<u8, Ending> {
-    check_paths(rt.alloc(), asked)?;
+    let (names, schedule) = (path_in(&asked.names), asked.schedule.as_str());
+    read_plan_once(rt.alloc(), &asked.plan, names, schedule, "")?;
     let text = text_for(rt, asked)?;
     print_out(rt, &text)
 }
 
 /// Tells what each step of a schedule does. The status with which the program ends.
 pub(crate) fn explain_schedule(rt: &HostRuntime, words: &[String]) -> Result<u8, Ending> {
-    let asked = ExplainRequest::parse(rt.alloc(), words)?;
+    let asked = asked_by(ExplainRequest::parse(rt.alloc(), words))?;
     put_told(rt, &asked)
 }

@@ -1,5 +1,6 @@
 //! `generate SHAPE NUMBERS..`: the network file of a shape, or of a random network.
 
+use crate::endings::asked_by;
 use app_files::{Ending, print_out};
 use app_requests::{GenerateRequest, Topology, Weights};
 use net_random::{
@@ -178,7 +179,7 @@ fn text_for(alloc: Global, asked: &GenerateRequest) -> Result<Vec<u8>, Ending> {
 
 /// Prints the network file of a shape or a random network. The status with which the program ends.
 pub(crate) fn generate_network(rt: &HostRuntime, words: &[String]) -> Result<u8, Ending> {
-    let asked = GenerateRequest::parse(rt.alloc(), words)?;
+    let asked = asked_by(GenerateRequest::parse(rt.alloc(), words))?;
     let text = text_for(rt.alloc(), &asked)?;
     print_out(rt, &text)
 }

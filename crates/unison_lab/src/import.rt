@@ -1,5 +1,6 @@
 //! `import FORMAT FILE`: a network from another format, and the names of its nodes.
 
+use crate::endings::asked_by;
 use crate::json_refusals::json_refusal;
 use crate::refusals::refusal;
 use app_files::{Ending, bytes_at, name_at, put_note, write_file, write_out};
@@ -121,13 +122,23 @@ fn refusal_text(
     }
 }
 
+/// The ending where a text has no network.
+fn no_network(alloc: Global, asked: &ImportRequest, text: &[u8], fault: TakeFault) -> Ending {
+    Ending::refused(refusal_text(alloc, asked, text, fault))
+}
+
+/// The network of this text, or what is told where it has none.
+fn taken_from(alloc: Global, asked: &ImportRequest, text: &[u8]) -> Result<Taken, Ending> {
+    match take_text(alloc, text, asked) {
+        Ok(taken) => Ok(taken),
+        Err(fault) => Err(no_network(alloc, asked, text, fault)),
+    }
+}
+
 /// The network of the text that is asked for, or what is told where it has none.
 fn taken_for(rt: &HostRuntime, asked: &ImportRequest) -> Result<Taken, Ending> {
     let text = bytes_at(rt, asked.path.as_str())?;
-    match take_text(rt.alloc(), &text, asked) {
-        Ok(taken) => Ok(taken),
-        Err(fault) => Err(Ending::refused(refusal_text(rt.alloc(), asked, &text, fault))),
-    }
+    taken_from(rt.alloc(), asked, &text)
 }
 
 /// Writes the names of the nodes, and prints the network.
@@ -136,13 +147,23 @@ fn put_texts(rt: &HostRuntime, asked: &ImportRequest, taken: &Taken) -> Result<(
     write_out(rt, taken.network.as_slice())
 }
 
+/// Writes the names of the nodes, prints the network, and tells these notes. The status with which the program ends.
+fn put_noted(
+    rt: &HostRuntime,
+    asked: &ImportRequest,
+    taken: &Taken,
+    notes: &str,
+) -> Result<u8, Ending> {
+    put_texts(rt, asked, taken)?;
+    let _ = tell_notes(rt, notes);
+    Ok(0)
+}
+
 /// Writes the names of the nodes, prints the network, and tells what was done to make it. The status with which the program
 /// ends.
 fn put_taken(rt: &HostRuntime, asked: &ImportRequest, taken: &Taken) -> Result<u8, Ending> {
     let notes = notes_text(rt.alloc(), taken)?;
-    put_texts(rt, asked, taken)?;
-    let _ = tell_notes(rt, notes.as_str());
-    Ok(0)
+    put_noted(rt, asked, taken, notes.as_str())
 }
 
 /// Does what is asked for. The status with which the program ends.
@@ -154,6 +175,6 @@ fn import(rt: &HostRuntime, asked: &ImportRequest) -> Result<u8, Ending> {
 /// Prints the network of a text in another format, and writes the names of its nodes before. The status with which the
 /// program ends.
 pub(crate) fn import_network(rt: &HostRuntime, words: &[String]) -> Result<u8, Ending> {
-    let asked = ImportRequest::parse(rt.alloc(), words)?;
+    let asked = asked_by(ImportRequest::parse(rt.alloc(), words))?;
     import(rt, &asked)
 }

@@ -1,6 +1,7 @@
 //! `init NETWORK --set FIELD=NODE:VALUE ..`: the network with other initial values.
 
 use crate::cells::put_cells;
+use crate::endings::asked_by;
 use crate::names::names_at;
 use app_files::{
     Ending, NodeCalls, drawn_parts, file_at, list_path, listed_nodes, next_draw, path_in,
@@ -22,6 +23,12 @@ fn name_of(alloc: Global, field: &str) -> Result<Name, AllocError> {
     Ok(Name::new(text))
 }
 
+/// Puts the opening of the field of this name behind the others.
+fn put_named(openings: &mut Vec<Opening>, field: Name, values: Values) -> Result<(), AllocError> {
+    openings.push(Opening { field, values })?;
+    Ok(())
+}
+
 /// Puts the opening of a field behind the others.
 fn put_opening(
     openings: &mut Vec<Opening>,
@@ -30,8 +37,7 @@ fn put_opening(
     values: Values,
 ) -> Result<(), Ending> {
     let field = name_of(alloc, field)?;
-    openings.push(Opening { field, values })?;
-    Ok(())
+    put_named(openings, field, values).map_err(Ending::from)
 }
 
 /// Puts the opening that gives a field the same value at some nodes behind the others.
@@ -77,6 +83,14 @@ fn nodes_in(names: &Option<NodeNames>, word: &str) -> Option<Chosen> {
     Some(Chosen::One(node))
 }
 
+/// The nodes that a word of `--set` that lists none names.
+fn named_nodes(alloc: Global, names: &Option<NodeNames>, word: &SetWord) -> Result<Chosen, Ending> {
+    match nodes_in(names, word.node.as_str()) {
+        Some(chosen) => Ok(chosen),
+        None => Err(no_node(alloc, word, kind_of(names))),
+    }
+}
+
 /// The nodes that a word of `--set` names.
 fn nodes_for(
     rt: &HostRuntime,
@@ -88,10 +102,9 @@ fn nodes_for(
         nodes,
         names: names.as_ref(),
     };
-    let listed = listed_nodes(rt, &calls, word.field.as_str(), word.node.as_str())?;
-    match listed.or_else(|| nodes_in(names, word.node.as_str())) {
+    match listed_nodes(rt, &calls, word.field.as_str(), word.node.as_str())? {
         Some(chosen) => Ok(chosen),
-        None => Err(no_node(rt.alloc(), word, kind_of(names))),
+        None => named_nodes(rt.alloc(), names, word),
     }
 }
 
@@ -186,11 +199,18 @@ fn put_ranges(
     Ok(())
 }
 
+/// Puts the name of a field behind the others.
+fn put_name(names: &mut Vec<Name>, alloc: Global, field: &str) -> Result<(), AllocError> {
+    let name = name_of(alloc, field)?;
+    names.push(name)?;
+    Ok(())
+}
+
 /// The fields whose values in the file are left aside.
 fn cleared_by(alloc: Global, asked: &InitRequest) -> Result<Vec<Name>, AllocError> {
     let mut cleared = Vec::with_capacity(alloc, asked.cleared.len())?;
     for field in &asked.cleared {
-        cleared.push(name_of(alloc, field.as_str())?)?;
+        put_name(&mut cleared, alloc, field.as_str())?;
     }
     Ok(cleared)
 }
@@ -229,10 +249,16 @@ fn put_list_paths<'a>(paths: &mut Vec<&'a str>, words: &'a [SetWord]) -> Result<
     Ok(())
 }
 
-/// Refuses standard input for more than one of the texts.
-fn check_paths(alloc: Global, asked: &InitRequest) -> Result<(), Ending> {
+/// The paths of the files that the words name.
+fn paths_of<'a>(alloc: Global, asked: &'a InitRequest) -> Result<Vec<&'a str>, AllocError> {
     let mut paths = Vec::new(alloc);
     put_paths(&mut paths, asked)?;
+    Ok(paths)
+}
+
+/// Refuses standard input for more than one of the texts.
+fn check_paths(alloc: Global, asked: &InitRequest) -> Result<(), Ending> {
+    let paths = paths_of(alloc, asked)?;
     read_once(alloc, &paths)
 }
 
@@ -250,12 +276,22 @@ fn put_openings(
     put_set(openings, rt, nodes, names, asked.sets.as_slice())
 }
 
+/// The openings that the words ask for of a network of so many nodes that have these names.
+fn openings_with(
+    rt: &HostRuntime,
+    asked: &InitRequest,
+    nodes: u32,
+    names: &Option<NodeNames>,
+) -> Result<Vec<Opening>, Ending> {
+    let mut openings = Vec::new(rt.alloc());
+    put_openings(&mut openings, rt, asked, nodes, names)?;
+    Ok(openings)
+}
+
 /// The openings that the words ask for of a network of so many nodes, in the order in which they count.
 fn openings_for(rt: &HostRuntime, asked: &InitRequest, nodes: u32) -> Result<Vec<Opening>, Ending> {
     let names = names_at(rt, &asked.names)?;
-    let mut openings = Vec::new(rt.alloc());
-    put_openings(&mut openings, rt, asked, nodes, &names)?;
-    Ok(openings)
+    openings_with(rt, asked, nodes, &names)
 }
 
 /// The network file with these openings, over the file's values but for those of the fields that are cleared.
@@ -272,11 +308,21 @@ fn opened(
     }
 }
 
+/// The network file with these openings, over the file's values but for those that the words leave aside.
+fn opened_by(
+    alloc: Global,
+    asked: &InitRequest,
+    file: &NetFile,
+    openings: &[Opening],
+) -> Result<Vec<u8>, Ending> {
+    let cleared = cleared_by(alloc, asked)?;
+    opened(alloc, file, &cleared, openings, asked.phase)
+}
+
 /// The network file with the openings that the words ask for.
 fn opened_for(rt: &HostRuntime, asked: &InitRequest, file: &NetFile) -> Result<Vec<u8>, Ending> {
     let openings = openings_for(rt, asked, file.network().nodes())?;
-    let cleared = cleared_by(rt.alloc(), asked)?;
-    opened(rt.alloc(), file, &cleared, &openings, asked.phase)
+    opened_by(rt.alloc(), asked, file, &openings)
 }
 
 /// The network file that the words ask for.
@@ -294,6 +340,6 @@ fn put_network(rt: &HostRuntime, asked: &InitRequest) -> Result<u8, Ending> {
 
 /// Prints the network with other initial values. The status with which the program ends.
 pub(crate) fn init_network(rt: &HostRuntime, words: &[String]) -> Result<u8, Ending> {
-    let asked = InitRequest::parse(rt.alloc(), words)?;
+    let asked = asked_by(InitRequest::parse(rt.alloc(), words))?;
     put_network(rt, &asked)
 }

@@ -90,13 +90,18 @@ fn value_of(alloc: Global, text: &[u8]) -> Result<Value, AllocError> {
     }
 }
 
+/// The list that has the links of this graph.
+fn list_of(graph: &Value) -> LinkList {
+    match graph.get("links") {
+        Some(Value::Array(_)) => LinkList::Links,
+        _ => LinkList::Edges,
+    }
+}
+
 /// The list that has the links of a graph.
 fn list_in(alloc: Global, text: &[u8]) -> Result<LinkList, AllocError> {
     let graph = value_of(alloc, text)?;
-    match graph.get("links") {
-        Some(Value::Array(_)) => Ok(LinkList::Links),
-        _ => Ok(LinkList::Edges),
-    }
+    Ok(list_of(&graph))
 }
 
 /// Adds the place of an item of a list: `links[3]`.
@@ -178,6 +183,29 @@ fn put_json_place(
     put_member(alloc, draft, text, fault)
 }
 
+/// The id that stands at an end of a link, where one stands there.
+fn id_at<'v>(graph: &'v Value, list: LinkList, place: u64, end: LinkEnd) -> Option<&'v Value> {
+    let links = graph.get(list.key())?;
+    let link = links.get(place as usize)?;
+    link.get(end.key())
+}
+
+/// Adds an id.
+fn put_found_id(alloc: Global, draft: &mut Draft, id: &Value) -> Result<(), AllocError> {
+    let id = id.to_string(alloc)?;
+    draft.put(" ");
+    draft.put(id.as_str());
+    Ok(())
+}
+
+/// Adds an id, where there is one.
+fn put_any_id(alloc: Global, draft: &mut Draft, id: Option<&Value>) -> Result<(), AllocError> {
+    match id {
+        Some(id) => put_found_id(alloc, draft, id),
+        None => Ok(()),
+    }
+}
+
 /// Adds the id that stands at an end of a link.
 fn put_id(
     alloc: Global,
@@ -188,19 +216,7 @@ fn put_id(
     end: LinkEnd,
 ) -> Result<(), AllocError> {
     let graph = value_of(alloc, text)?;
-    let Some(links) = graph.get(list.key()) else {
-        return Ok(());
-    };
-    let Some(link) = links.get(place as usize) else {
-        return Ok(());
-    };
-    let Some(id) = link.get(end.key()) else {
-        return Ok(());
-    };
-    let id = id.to_string(alloc)?;
-    draft.put(" ");
-    draft.put(id.as_str());
-    Ok(())
+    put_any_id(alloc, draft, id_at(&graph, list, place, end))
 }
 
 /// Adds where the earlier of two links stands.
@@ -244,6 +260,29 @@ fn put_json_detail(
     }
 }
 
+/// Adds the line that names the fault.
+fn put_head(draft: &mut Draft, kind: &str) {
+    draft.put(Format::Json.name());
+    draft.put(" ");
+    draft.put(kind);
+    draft.put("\n");
+}
+
+/// Adds where something is wrong, why, and what is told beside.
+fn put_told(
+    alloc: Global,
+    draft: &mut Draft,
+    name: &str,
+    text: &[u8],
+    why: &str,
+    fault: TakeFault,
+) -> Result<(), AllocError> {
+    put_json_place(alloc, draft, name, text, fault)?;
+    draft.put(": ");
+    draft.put(why);
+    put_json_detail(alloc, draft, text, fault)
+}
+
 /// What is told where a text of node-link JSON has no network.
 pub(crate) fn json_refusal(
     alloc: Global,
@@ -256,13 +295,7 @@ pub(crate) fn json_refusal(
         return Err(AllocError);
     }
     let mut draft = Draft::new(alloc);
-    draft.put(Format::Json.name());
-    draft.put(" ");
-    draft.put(kind);
-    draft.put("\n");
-    put_json_place(alloc, &mut draft, name, text, fault)?;
-    draft.put(": ");
-    draft.put(why);
-    put_json_detail(alloc, &mut draft, text, fault)?;
+    put_head(&mut draft, kind);
+    put_told(alloc, &mut draft, name, text, why, fault)?;
     draft.end()
 }

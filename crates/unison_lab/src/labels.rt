@@ -14,25 +14,47 @@ fn json_label(alloc: Global, name: &str) -> Result<String, AllocError> {
     value.to_string(alloc)
 }
 
-/// The bytes of a record of one cell, with the end of its line.
-fn record_of(alloc: Global, name: &str) -> Result<Vec<u8>, AllocError> {
+/// A record of one cell.
+fn record_of(alloc: Global, name: &str) -> Result<ByteRecord, AllocError> {
     let mut record = ByteRecord::new(alloc);
     record.push_field(name.as_bytes())?;
+    Ok(record)
+}
+
+/// What writes a record, which it has written.
+fn writer_of(alloc: Global, record: &ByteRecord) -> Result<Writer<Vec<u8>>, AllocError> {
     let mut writer = Writer::from_writer(Vec::new(alloc));
-    if writer.write_byte_record(&record).is_err() {
-        return Err(AllocError);
+    match writer.write_byte_record(record) {
+        Ok(()) => Ok(writer),
+        Err(_) => Err(AllocError),
     }
+}
+
+/// The bytes of a record, with the end of its line.
+fn bytes_of(alloc: Global, record: &ByteRecord) -> Result<Vec<u8>, AllocError> {
+    let writer = writer_of(alloc, record)?;
     match writer.into_inner() {
         Ok(bytes) => Ok(bytes),
         Err(_) => Err(AllocError),
     }
 }
 
+/// The bytes of a record of one cell, with the end of its line.
+fn cell_of(alloc: Global, name: &str) -> Result<Vec<u8>, AllocError> {
+    let record = record_of(alloc, name)?;
+    bytes_of(alloc, &record)
+}
+
+/// The text of a record, without the end of its line.
+fn text_in<'a>(record: &'a [u8], name: &'a str) -> &'a str {
+    let text = str::from_utf8(record).unwrap_or(name);
+    text.strip_suffix("\n").unwrap_or(text)
+}
+
 /// A name as a cell of CSV.
 fn csv_label(alloc: Global, name: &str) -> Result<String, AllocError> {
-    let record = record_of(alloc, name)?;
-    let text = str::from_utf8(&record).unwrap_or(name);
-    String::from_str(alloc, text.strip_suffix("\n").unwrap_or(text))
+    let record = cell_of(alloc, name)?;
+    String::from_str(alloc, text_in(&record, name))
 }
 
 /// What stands for a node of this name.

@@ -6,6 +6,7 @@ mod count;
 mod count_runs;
 mod csv_text;
 mod cuts;
+mod endings;
 mod expand;
 mod explain;
 mod generate;
@@ -115,25 +116,52 @@ fn no_task(rt: &HostRuntime, word: &str) -> Result<u8, Ending> {
     }
 }
 
+/// The ending where there is no word.
+fn no_word(rt: &HostRuntime) -> Result<u8, Ending> {
+    Err(Ending::Usage(help_text(rt.alloc())?))
+}
+
+/// Does what these words ask for, the name of a command first. The status with which the program ends.
+fn run_words(
+    rt: &HostRuntime,
+    threads: &(impl Threads + Sync),
+    words: &[String],
+) -> Result<u8, Ending> {
+    let Some(command) = words.first() else {
+        return no_word(rt);
+    };
+    match Task::named(command.as_str()) {
+        Some(task) => run_task(rt, threads, task, words),
+        None => no_task(rt, command.as_str()),
+    }
+}
+
+/// The words behind the first one.
+fn behind_first(words: &[String]) -> &[String] {
+    if words.is_empty() { words } else { &words[1..] }
+}
+
 /// Does what the command line asks for. The status with which the program ends.
 fn run(rt: &HostRuntime, threads: &(impl Threads + Sync)) -> Result<u8, Ending> {
     let words = words_of(rt)?;
-    let Some(command) = words.get(1) else {
-        return Err(Ending::Usage(help_text(rt.alloc())?));
-    };
-    match Task::named(command.as_str()) {
-        Some(task) => run_task(rt, threads, task, &words[1..]),
-        None => no_task(rt, command.as_str()),
+    run_words(rt, threads, behind_first(&words))
+}
+
+/// Prints why the program ends so. The status with which it ends.
+fn told(rt: &HostRuntime, ending: &Ending) -> u8 {
+    let _ = print_ending(rt, ending);
+    ending.status()
+}
+
+/// Does what the command line asks for. The status with which the program ends, which is told where it is an ending.
+fn status_of(rt: &HostRuntime, threads: &(impl Threads + Sync)) -> u8 {
+    match run(rt, threads) {
+        Ok(status) => status,
+        Err(ending) => told(rt, &ending),
     }
 }
 
 /// Does what the command line asks for, and ends with its status.
 fn main(rt: HostRuntime) -> ExitCode {
-    match run(&rt, &rt) {
-        Ok(status) => ExitCode::from(status),
-        Err(ending) => {
-            let _ = print_ending(&rt, &ending);
-            ExitCode::from(ending.status())
-        }
-    }
+    ExitCode::from(status_of(&rt, &rt))
 }

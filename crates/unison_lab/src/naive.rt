@@ -1,42 +1,34 @@
 //! `naive PROGRAM NETWORK SCHEDULE --stop T`: what the steps of a schedule come to where no node waits.
 
+use crate::endings::asked_by;
 use crate::explain::{no_world, steps_at};
-use crate::plan_texts::plan_at;
-use app_files::{Ending, path_in, print_out, read_once};
+use crate::plan_texts::{plan_at, read_plan_once};
+use app_files::{Ending, print_out};
 use app_requests::NaiveRequest;
+use rounds_plan::Plan;
 use run_naive::told;
-use std::alloc::Global;
+
+/// What is told on a plan of the schedule that is asked for.
+fn text_on(rt: &HostRuntime, plan: &Plan, asked: &NaiveRequest) -> Result<Vec<u8>, Ending> {
+    let steps = steps_at(rt, asked.schedule.as_str())?;
+    told(rt.alloc(), plan, asked.stop, &steps).map_err(no_world)
+}
 
 /// What is told of the schedule that is asked for.
 fn text_for(rt: &HostRuntime, asked: &NaiveRequest) -> Result<Vec<u8>, Ending> {
     let plan = plan_at(rt, &asked.plan)?;
-    let steps = steps_at(rt, asked.schedule.as_str())?;
-    match told(rt.alloc(), &plan, asked.stop, &steps) {
-        Ok(text) => Ok(text),
-        Err(fault) => Err(no_world(fault)),
-    }
-}
-
-/// Refuses standard input for more than one of the texts.
-fn check_paths(alloc: Global, asked: &NaiveRequest) -> Result<(), Ending> {
-    let paths = [
-        asked.plan.program.as_str(),
-        asked.plan.network.as_str(),
-        path_in(&asked.plan.from),
-        asked.schedule.as_str(),
-    ];
-    read_once(alloc, &paths)
+    text_on(rt, &plan, asked)
 }
 
 /// Prints what is told of the schedule that is asked for. The status with which the program ends.
 fn put_told(rt: &HostRuntime, asked: &NaiveRequest) -> Result<u8, Ending> {
-    check_paths(rt.alloc(), asked)?;
+    read_plan_once(rt.alloc(), &asked.plan, asked.schedule.as_str(), "", "")?;
     let text = text_for(rt, asked)?;
     print_out(rt, &text)
 }
 
 /// Tells what the steps of a schedule come to by nodes that do not wait. The status with which the program ends.
 pub(crate) fn tell_naive(rt: &HostRuntime, words: &[String]) -> Result<u8, Ending> {
-    let asked = NaiveRequest::parse(rt.alloc(), words)?;
+    let asked = asked_by(NaiveRequest::parse(rt.alloc(), words))?;
     put_told(rt, &asked)
 }

@@ -12,13 +12,18 @@ fn no_names(alloc: Global, name: &str, fault: NamesFileFault) -> Ending {
     Ending::refused(format!(in alloc; "names\n{name}: {fault}"))
 }
 
+/// The names that this text, which has this name, has.
+fn names_of(alloc: Global, name: &str, text: &[u8]) -> Result<NodeNames, Ending> {
+    match read_names(alloc, text) {
+        Ok(names) => Ok(names),
+        Err(fault) => Err(no_names(alloc, name, fault)),
+    }
+}
+
 /// The names that the file at a path has.
 pub(crate) fn names_from(rt: &HostRuntime, path: &str) -> Result<NodeNames, Ending> {
     let bytes = bytes_at(rt, path)?;
-    match read_names(rt.alloc(), &bytes) {
-        Ok(names) => Ok(names),
-        Err(fault) => Err(no_names(rt.alloc(), name_at(path), fault)),
-    }
+    names_of(rt.alloc(), name_at(path), &bytes)
 }
 
 /// The names by which nodes are called, where they are.

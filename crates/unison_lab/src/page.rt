@@ -1,13 +1,14 @@
 //! `page PROGRAM NETWORK`: an HTML page on which a run is stepped through.
 
+use crate::endings::asked_by;
 use crate::explain::steps_at;
 use crate::labels::labels_at;
 use crate::page_names::value_names;
 use crate::page_size::{check_size, steps_too_many};
-use crate::plan_texts::{NamedPlan, named_plan_at};
+use crate::plan_texts::{NamedPlan, named_plan_at, read_plan_once};
 use crate::progress::Telling;
 use crate::watch::no_rounds;
-use app_files::{Ending, bytes_at, name_at, path_in, print_out, read_once, shown_fields};
+use app_files::{Ending, bytes_at, name_at, path_in, print_out, shown_fields};
 use app_jobs::ServeFault;
 use app_requests::{PageRequest, PageRun};
 use rounds_plan::Plan;
@@ -84,7 +85,7 @@ fn rounds_text(
 }
 
 /// The data of steps on a plan, naively with those of nodes that do not wait.
-fn steps_on(
+fn steps_made(
     alloc: Global,
     threads: &(impl Threads + Sync),
     plan: Arc<Plan>,
@@ -92,13 +93,26 @@ fn steps_on(
     stop: u32,
     naive: bool,
     look: &Look<'_>,
-) -> Result<Vec<u8>, Ending> {
-    let made = if naive {
+) -> Result<Vec<u8>, PageFault> {
+    if naive {
         naive_data(threads, alloc, plan, stop, steps, look)
     } else {
         steps_data(threads, alloc, plan, stop, steps, look)
-    };
-    match made {
+    }
+}
+
+/// The same, or the ending where there is none.
+fn steps_on(
+    alloc: Global,
+    threads: &(impl Threads + Sync),
+    plan: &Arc<Plan>,
+    steps: &[Step],
+    stop: u32,
+    naive: bool,
+    look: &Look<'_>,
+) -> Result<Vec<u8>, Ending> {
+    let shared = Arc::try_clone(plan)?;
+    match steps_made(alloc, threads, shared, steps, stop, naive, look) {
         Ok(data) => Ok(data),
         Err(fault) => Err(no_data(alloc, fault)),
     }
@@ -108,13 +122,12 @@ fn steps_on(
 fn steps_text(
     rt: &HostRuntime,
     threads: &(impl Threads + Sync),
-    plan: Plan,
+    plan: &Arc<Plan>,
     schedule: &str,
     stop: u32,
     naive: bool,
     look: &Look<'_>,
 ) -> Result<Vec<u8>, Ending> {
-    let plan = Arc::new(rt.alloc(), plan)?;
     let steps = steps_at(rt, schedule)?;
     steps_on(rt.alloc(), threads, plan, &steps, stop, naive, look)
 }
@@ -123,12 +136,12 @@ fn steps_text(
 fn run_text(
     rt: &HostRuntime,
     threads: &(impl Threads + Sync),
-    plan: Plan,
+    plan: &Arc<Plan>,
     run: &PageRun,
     look: &Look<'_>,
 ) -> Result<Vec<u8>, Ending> {
     match run {
-        PageRun::Rounds { span } => rounds_text(rt, threads, &plan, span, look),
+        PageRun::Rounds { span } => rounds_text(rt, threads, plan, span, look),
         PageRun::Steps {
             schedule,
             stop,
@@ -146,7 +159,7 @@ fn grid_of(width: u32) -> Option<u32> {
 fn data_with(
     rt: &HostRuntime,
     threads: &(impl Threads + Sync),
-    plan: Plan,
+    plan: &Arc<Plan>,
     asked: &PageRequest,
     fields: &[u32],
     labels: &[String],
@@ -163,18 +176,42 @@ fn data_with(
     run_text(rt, threads, plan, &asked.run, &look)
 }
 
-/// The data of what is asked for, these fields being shown.
+/// The data of what is asked for, these fields being shown, where the values of each field have these names.
+fn labelled(
+    rt: &HostRuntime,
+    threads: &(impl Threads + Sync),
+    plan: &Arc<Plan>,
+    asked: &PageRequest,
+    fields: &[u32],
+    states: &[Vec<String>],
+) -> Result<Vec<u8>, Ending> {
+    let nodes = plan.network().nodes();
+    let labels = labels_at(rt, Format::Report, &asked.view.names, nodes)?;
+    data_with(rt, threads, plan, asked, fields, &labels, states)
+}
+
+/// The data of what is asked for, where the values of each field have these names.
 fn data_of(
+    rt: &HostRuntime,
+    threads: &(impl Threads + Sync),
+    plan: &Arc<Plan>,
+    asked: &PageRequest,
+    states: &[Vec<String>],
+) -> Result<Vec<u8>, Ending> {
+    let fields = shown_fields(rt.alloc(), plan.program(), &asked.view.only)?;
+    labelled(rt, threads, plan, asked, &fields, states)
+}
+
+/// The data of what is asked for, on this plan.
+fn data_on(
     rt: &HostRuntime,
     threads: &(impl Threads + Sync),
     named: NamedPlan,
     asked: &PageRequest,
-    fields: &[u32],
 ) -> Result<Vec<u8>, Ending> {
     let NamedPlan { plan, names } = named;
-    let nodes = plan.network().nodes();
-    let labels = labels_at(rt, Format::Report, &asked.view.names, nodes)?;
-    data_with(rt, threads, plan, asked, fields, &labels, &names)
+    let plan = Arc::new(rt.alloc(), plan)?;
+    data_of(rt, threads, &plan, asked, &names)
 }
 
 /// The data of what is asked for.
@@ -184,8 +221,7 @@ fn data_for(
     asked: &PageRequest,
 ) -> Result<Vec<u8>, Ending> {
     let named = named_plan_at(rt, &asked.plan)?;
-    let fields = shown_fields(rt.alloc(), named.plan.program(), &asked.view.only)?;
-    data_of(rt, threads, named, asked, &fields)
+    data_on(rt, threads, named, asked)
 }
 
 /// The ending where a text is no viewer.
@@ -217,15 +253,13 @@ fn schedule_path(run: &PageRun) -> &str {
 
 /// Refuses standard input for more than one of the texts.
 fn check_paths(alloc: Global, asked: &PageRequest) -> Result<(), Ending> {
-    let paths = [
-        asked.plan.program.as_str(),
-        asked.plan.network.as_str(),
-        path_in(&asked.plan.from),
+    read_plan_once(
+        alloc,
+        &asked.plan,
         path_in(&asked.view.names),
         schedule_path(&asked.run),
         asked.viewer.as_str(),
-    ];
-    read_once(alloc, &paths)
+    )
 }
 
 /// The page that is asked for.
@@ -255,6 +289,6 @@ pub(crate) fn make_page(
     threads: &(impl Threads + Sync),
     words: &[String],
 ) -> Result<u8, Ending> {
-    let asked = PageRequest::parse(rt.alloc(), words)?;
+    let asked = asked_by(PageRequest::parse(rt.alloc(), words))?;
     put_page(rt, threads, &asked)
 }

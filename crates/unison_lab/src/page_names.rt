@@ -25,12 +25,18 @@ fn places_of(alloc: Global, program: &Program, words: &[String]) -> Result<Vec<u
     Ok(places)
 }
 
+/// Puts a copy of a name behind the others.
+fn put_copy(copy: &mut Vec<String>, alloc: Global, name: &str) -> Result<(), AllocError> {
+    let text = String::from_str(alloc, name)?;
+    copy.push(text)?;
+    Ok(())
+}
+
 /// A copy of names.
 fn copied(alloc: Global, names: &[String]) -> Result<Vec<String>, AllocError> {
     let mut copy = Vec::with_capacity(alloc, names.len())?;
     for name in names {
-        let text = String::from_str(alloc, name.as_str())?;
-        copy.push(text)?;
+        put_copy(&mut copy, alloc, name.as_str())?;
     }
     Ok(copy)
 }
@@ -43,6 +49,31 @@ fn states_at(states: &[Vec<String>], place: u32) -> &[String] {
     }
 }
 
+/// The names of the values of the field at a place: of those at these places the names of the nodes, of others those of their states.
+fn names_at<'a>(
+    place: u32,
+    states: &'a [Vec<String>],
+    places: &[u32],
+    labels: &'a [String],
+) -> &'a [String] {
+    if places.contains(&place) {
+        labels
+    } else {
+        states_at(states, place)
+    }
+}
+
+/// Puts a copy of names behind the others.
+fn put_names(
+    all: &mut Vec<Vec<String>>,
+    alloc: Global,
+    names: &[String],
+) -> Result<(), AllocError> {
+    let copy = copied(alloc, names)?;
+    all.push(copy)?;
+    Ok(())
+}
+
 /// The names of the values of each field of so many: of those at these places the names of the nodes, of others those of their states.
 fn names_with(
     alloc: Global,
@@ -53,13 +84,7 @@ fn names_with(
 ) -> Result<Vec<Vec<String>>, AllocError> {
     let mut all = Vec::new(alloc);
     for place in 0..fields {
-        let names = if places.contains(&place) {
-            labels
-        } else {
-            states_at(states, place)
-        };
-        let copy = copied(alloc, names)?;
-        all.push(copy)?;
+        put_names(&mut all, alloc, names_at(place, states, places, labels))?;
     }
     Ok(all)
 }
@@ -74,6 +99,5 @@ pub(crate) fn value_names(
     labels: &[String],
 ) -> Result<Vec<Vec<String>>, Ending> {
     let places = places_of(alloc, program, node_fields)?;
-    let names = names_with(alloc, program.field_count(), states, &places, labels)?;
-    Ok(names)
+    names_with(alloc, program.field_count(), states, &places, labels).map_err(Ending::from)
 }

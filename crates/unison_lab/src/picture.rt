@@ -1,12 +1,13 @@
 //! `image PROGRAM NETWORK` and `dot PROGRAM NETWORK`: rounds as pictures, and networks for Graphviz.
 
+use crate::endings::asked_by;
 use crate::labels::labels_at;
 use crate::picture_files::RoundFiles;
-use crate::plan_texts::{NamedPlan, named_plan_at};
+use crate::plan_texts::{NamedPlan, named_plan_at, read_plan_once};
 use crate::progress::Telling;
 use crate::watch::no_rounds;
-use app_files::{Ending, coloured_field, names_of_field, path_in, print_out, read_once};
-use app_requests::{DotRequest, ImageRequest, PlanPaths};
+use app_files::{Ending, coloured_field, names_of_field, path_in, print_out};
+use app_requests::{DotRequest, ImageRequest};
 use rounds_plan::Plan;
 use run_picture::{
     Layout, MOST_CELLS, MOST_CURVES, MOST_FRAMES, MOST_POINTS, MOST_STROKES, PictureFault,
@@ -103,6 +104,23 @@ fn styles_for<'a>(
     }
 }
 
+/// The picture of rounds one below the other, coloured by a field, or the curves of its counts, with what tells how far it is.
+fn rounds_or_curves(
+    alloc: Global,
+    threads: &(impl Threads + Sync),
+    plan: &Plan,
+    asked: &ImageRequest,
+    field: u32,
+    styles: &ValueStyles<'_>,
+    telling: &mut Telling<'_>,
+) -> Result<Vec<u8>, PictureFault> {
+    let span = &asked.span;
+    if asked.counts {
+        return count_picture(threads, alloc, plan, span, field, styles, telling);
+    }
+    time_picture(threads, alloc, plan, span, field, styles, telling)
+}
+
 /// The picture of rounds one below the other, coloured by a field, or the curves of its counts.
 fn drawn_rounds(
     rt: &HostRuntime,
@@ -112,13 +130,17 @@ fn drawn_rounds(
     field: u32,
     styles: &ValueStyles<'_>,
 ) -> Result<Vec<u8>, PictureFault> {
-    let alloc = rt.alloc();
     let span = &asked.span;
     let mut telling = Telling::new(rt, span, plan.network().nodes());
-    if asked.counts {
-        return count_picture(threads, alloc, plan, span, field, styles, &mut telling);
-    }
-    time_picture(threads, alloc, plan, span, field, styles, &mut telling)
+    rounds_or_curves(
+        rt.alloc(),
+        threads,
+        plan,
+        asked,
+        field,
+        styles,
+        &mut telling,
+    )
 }
 
 /// The network in one round, or in each of several in turn, coloured by a field.
@@ -146,21 +168,19 @@ fn drawn_network(
     )
 }
 
-/// The grid of one round, or of each of several in turn, coloured by a field.
-fn drawn_grid(
+/// The grid of each of several rounds in turn, each shown for so long, coloured by a field.
+fn drawn_grids(
     rt: &HostRuntime,
     threads: &(impl Threads + Sync),
     plan: &Plan,
     asked: &ImageRequest,
     field: u32,
+    time: u32,
     styles: &ValueStyles<'_>,
 ) -> Result<Vec<u8>, PictureFault> {
     let alloc = rt.alloc();
     let span = &asked.span;
     let width = asked.grid;
-    let Some(time) = asked.frame_time else {
-        return grid_picture(threads, alloc, plan, span.first(), field, width, styles);
-    };
     let mut telling = Telling::new(rt, span, plan.network().nodes());
     moving_picture(
         threads,
@@ -173,6 +193,22 @@ fn drawn_grid(
         styles,
         &mut telling,
     )
+}
+
+/// The grid of one round, or of each of several in turn, coloured by a field.
+fn drawn_grid(
+    rt: &HostRuntime,
+    threads: &(impl Threads + Sync),
+    plan: &Plan,
+    asked: &ImageRequest,
+    field: u32,
+    styles: &ValueStyles<'_>,
+) -> Result<Vec<u8>, PictureFault> {
+    let (round, width) = (asked.span.first(), asked.grid);
+    match asked.frame_time {
+        Some(time) => drawn_grids(rt, threads, plan, asked, field, time, styles),
+        None => grid_picture(threads, rt.alloc(), plan, round, field, width, styles),
+    }
 }
 
 /// The picture of rounds, of one of them as a grid or a network, or of each in turn, coloured by a field, or the curves of its
@@ -194,6 +230,21 @@ fn drawn(
     drawn_rounds(rt, threads, plan, asked, field, styles)
 }
 
+/// The picture of a plan, coloured so by a field.
+fn drawn_in_style(
+    rt: &HostRuntime,
+    threads: &(impl Threads + Sync),
+    plan: &Plan,
+    asked: &ImageRequest,
+    field: u32,
+    styles: &ValueStyles<'_>,
+) -> Result<Vec<u8>, Ending> {
+    match drawn(rt, threads, plan, asked, field, styles) {
+        Ok(text) => Ok(text),
+        Err(fault) => Err(no_picture(rt.alloc(), fault)),
+    }
+}
+
 /// The picture of a plan, coloured by a field.
 fn styled_picture(
     rt: &HostRuntime,
@@ -204,10 +255,7 @@ fn styled_picture(
 ) -> Result<Vec<u8>, Ending> {
     let names = names_of_field(&named.names, field);
     let styles = styles_for(rt.alloc(), names, &asked.colours)?;
-    match drawn(rt, threads, &named.plan, asked, field, &styles) {
-        Ok(text) => Ok(text),
-        Err(fault) => Err(no_picture(rt.alloc(), fault)),
-    }
+    drawn_in_style(rt, threads, &named.plan, asked, field, &styles)
 }
 
 /// The picture of a plan.
@@ -231,23 +279,39 @@ fn picture_for(
     picture_of(rt, threads, &named, asked)
 }
 
-/// Refuses standard input for more than one of the texts.
-fn check_paths(alloc: Global, plan: &PlanPaths, names: &str) -> Result<(), Ending> {
-    let paths = [
-        plan.program.as_str(),
-        plan.network.as_str(),
-        path_in(&plan.from),
-        names,
-    ];
-    read_once(alloc, &paths)
-}
-
 /// How the nodes of single rounds are drawn.
 fn layout_of(asked: &ImageRequest) -> Layout {
     if asked.links {
         Layout::Network
     } else {
         Layout::Cells { width: asked.grid }
+    }
+}
+
+/// The pictures of all rounds, coloured so by a field.
+fn rounds_in_style(
+    rt: &HostRuntime,
+    threads: &(impl Threads + Sync),
+    plan: &Plan,
+    asked: &ImageRequest,
+    field: u32,
+    styles: &ValueStyles<'_>,
+) -> Result<Vec<Vec<u8>>, Ending> {
+    let alloc = rt.alloc();
+    let span = &asked.span;
+    let mut telling = Telling::new(rt, span, plan.network().nodes());
+    match round_pictures(
+        threads,
+        alloc,
+        plan,
+        span,
+        field,
+        layout_of(asked),
+        styles,
+        &mut telling,
+    ) {
+        Ok(texts) => Ok(texts),
+        Err(fault) => Err(no_picture(alloc, fault)),
     }
 }
 
@@ -259,24 +323,9 @@ fn round_texts(
     asked: &ImageRequest,
     field: u32,
 ) -> Result<Vec<Vec<u8>>, Ending> {
-    let alloc = rt.alloc();
-    let plan = &named.plan;
-    let span = &asked.span;
-    let styles = styles_for(alloc, names_of_field(&named.names, field), &asked.colours)?;
-    let mut telling = Telling::new(rt, span, plan.network().nodes());
-    match round_pictures(
-        threads,
-        alloc,
-        plan,
-        span,
-        field,
-        layout_of(asked),
-        &styles,
-        &mut telling,
-    ) {
-        Ok(texts) => Ok(texts),
-        Err(fault) => Err(no_picture(alloc, fault)),
-    }
+    let names = names_of_field(&named.names, field);
+    let styles = styles_for(rt.alloc(), names, &asked.colours)?;
+    rounds_in_style(rt, threads, &named.plan, asked, field, &styles)
 }
 
 /// The files of the rounds that are asked for, in a folder.
@@ -287,6 +336,45 @@ fn files_in(rt: &HostRuntime, asked: &ImageRequest, folder: &str) -> Result<Roun
     RoundFiles::new(rt, folder, &asked.span)
 }
 
+/// Writes the picture of each round of a plan, coloured by a field, into its file. The status with which the program ends.
+fn put_rounds(
+    rt: &HostRuntime,
+    threads: &(impl Threads + Sync),
+    named: &NamedPlan,
+    asked: &ImageRequest,
+    field: u32,
+    files: &RoundFiles,
+) -> Result<u8, Ending> {
+    let texts = round_texts(rt, threads, named, asked, field)?;
+    files.write(rt, &texts)
+}
+
+/// Writes the picture of each round of a plan, coloured by a field, into a file of a folder. The status with which the program
+/// ends.
+fn put_coloured(
+    rt: &HostRuntime,
+    threads: &(impl Threads + Sync),
+    named: &NamedPlan,
+    asked: &ImageRequest,
+    field: u32,
+    folder: &str,
+) -> Result<u8, Ending> {
+    let files = files_in(rt, asked, folder)?;
+    put_rounds(rt, threads, named, asked, field, &files)
+}
+
+/// Writes the picture of each round of a plan into a file of a folder. The status with which the program ends.
+fn put_files_of(
+    rt: &HostRuntime,
+    threads: &(impl Threads + Sync),
+    named: &NamedPlan,
+    asked: &ImageRequest,
+    folder: &str,
+) -> Result<u8, Ending> {
+    let field = coloured_field(rt.alloc(), named.plan.program(), &asked.field)?;
+    put_coloured(rt, threads, named, asked, field, folder)
+}
+
 /// Writes the picture of each round into a file of a folder. The status with which the program ends.
 fn put_files(
     rt: &HostRuntime,
@@ -295,10 +383,17 @@ fn put_files(
     folder: &str,
 ) -> Result<u8, Ending> {
     let named = named_plan_at(rt, &asked.plan)?;
-    let field = coloured_field(rt.alloc(), named.plan.program(), &asked.field)?;
-    let files = files_in(rt, asked, folder)?;
-    let texts = round_texts(rt, threads, &named, asked, field)?;
-    files.write(rt, &texts)
+    put_files_of(rt, threads, &named, asked, folder)
+}
+
+/// Prints the picture that is asked for. The status with which the program ends.
+fn put_picture(
+    rt: &HostRuntime,
+    threads: &(impl Threads + Sync),
+    asked: &ImageRequest,
+) -> Result<u8, Ending> {
+    let text = picture_for(rt, threads, asked)?;
+    print_out(rt, &text)
 }
 
 /// Prints the picture that is asked for, or writes those of all rounds into files. The status with which the program ends.
@@ -307,12 +402,11 @@ fn put_image(
     threads: &(impl Threads + Sync),
     asked: &ImageRequest,
 ) -> Result<u8, Ending> {
-    check_paths(rt.alloc(), &asked.plan, "")?;
-    if let Some(folder) = &asked.frames {
-        return put_files(rt, threads, asked, folder.as_str());
+    read_plan_once(rt.alloc(), &asked.plan, "", "", "")?;
+    match &asked.frames {
+        Some(folder) => put_files(rt, threads, asked, folder.as_str()),
+        None => put_picture(rt, threads, asked),
     }
-    let text = picture_for(rt, threads, asked)?;
-    print_out(rt, &text)
 }
 
 /// Prints a picture of rounds, or writes one of each into a file. The status with which the program ends.
@@ -321,8 +415,24 @@ pub(crate) fn make_image(
     threads: &(impl Threads + Sync),
     words: &[String],
 ) -> Result<u8, Ending> {
-    let asked = ImageRequest::parse(rt.alloc(), words)?;
+    let asked = asked_by(ImageRequest::parse(rt.alloc(), words))?;
     put_image(rt, threads, &asked)
+}
+
+/// The network of a plan in a round, for Graphviz, each node with its label, coloured so by a field.
+fn dot_in_style(
+    alloc: Global,
+    threads: &(impl Threads + Sync),
+    plan: &Plan,
+    round: u32,
+    field: u32,
+    labels: &[String],
+    styles: &ValueStyles<'_>,
+) -> Result<Vec<u8>, Ending> {
+    match network_dot(threads, alloc, plan, round, field, labels, styles) {
+        Ok(text) => Ok(text),
+        Err(fault) => Err(no_picture(alloc, fault)),
+    }
 }
 
 /// The network of a plan in a round, for Graphviz, each node with its label.
@@ -336,18 +446,8 @@ fn labelled(
 ) -> Result<Vec<u8>, Ending> {
     let names = names_of_field(&named.names, field);
     let styles = styles_for(rt.alloc(), names, &asked.colours)?;
-    match network_dot(
-        threads,
-        rt.alloc(),
-        &named.plan,
-        asked.round,
-        field,
-        labels,
-        &styles,
-    ) {
-        Ok(text) => Ok(text),
-        Err(fault) => Err(no_picture(rt.alloc(), fault)),
-    }
+    let (plan, round) = (&named.plan, asked.round);
+    dot_in_style(rt.alloc(), threads, plan, round, field, labels, &styles)
 }
 
 /// The network of a plan in a round, for Graphviz.
@@ -379,7 +479,7 @@ fn put_dot(
     threads: &(impl Threads + Sync),
     asked: &DotRequest,
 ) -> Result<u8, Ending> {
-    check_paths(rt.alloc(), &asked.plan, path_in(&asked.names))?;
+    read_plan_once(rt.alloc(), &asked.plan, path_in(&asked.names), "", "")?;
     let text = network_for(rt, threads, asked)?;
     print_out(rt, &text)
 }
@@ -390,6 +490,6 @@ pub(crate) fn make_dot(
     threads: &(impl Threads + Sync),
     words: &[String],
 ) -> Result<u8, Ending> {
-    let asked = DotRequest::parse(rt.alloc(), words)?;
+    let asked = asked_by(DotRequest::parse(rt.alloc(), words))?;
     put_dot(rt, threads, &asked)
 }

@@ -15,13 +15,40 @@ fn path_of(alloc: Global, folder: &str, last: u32, round: u32) -> Result<String,
     format!(in alloc; "{folder}/round_{round:06}.svg")
 }
 
+/// Puts the path of the file of a round behind the others.
+fn put_path(
+    paths: &mut Vec<String>,
+    alloc: Global,
+    folder: &str,
+    last: u32,
+    round: u32,
+) -> Result<(), AllocError> {
+    let path = path_of(alloc, folder, last, round)?;
+    paths.push(path)?;
+    Ok(())
+}
+
 /// The paths of the files of these rounds, in order.
 fn paths_in(alloc: Global, folder: &str, span: &Span) -> Result<Vec<String>, AllocError> {
     let mut paths = Vec::new(alloc);
     for place in 0..=span.steps() {
-        let path = path_of(alloc, folder, span.last(), span.round_at(place))?;
-        paths.push(path)?;
+        put_path(&mut paths, alloc, folder, span.last(), span.round_at(place))?;
     }
+    Ok(paths)
+}
+
+/// Refuses paths at one of which is a file already.
+fn check_all_new(rt: &HostRuntime, paths: &[String]) -> Result<(), Ending> {
+    for path in paths {
+        check_new(rt, path.as_str())?;
+    }
+    Ok(())
+}
+
+/// The same paths, at none of which is a file.
+fn new_paths(rt: &HostRuntime, folder: &str, span: &Span) -> Result<Vec<String>, Ending> {
+    let paths = paths_in(rt.alloc(), folder, span)?;
+    check_all_new(rt, &paths)?;
     Ok(paths)
 }
 
@@ -35,10 +62,7 @@ pub(crate) struct RoundFiles {
 impl RoundFiles {
     /// The files of these rounds in a folder. `File` comes where one of them is there already.
     pub(crate) fn new(rt: &HostRuntime, folder: &str, span: &Span) -> Result<RoundFiles, Ending> {
-        let paths = paths_in(rt.alloc(), folder, span)?;
-        for path in &paths {
-            check_new(rt, path.as_str())?;
-        }
+        let paths = new_paths(rt, folder, span)?;
         let folder = String::from_str(rt.alloc(), folder)?;
         Ok(RoundFiles { folder, paths })
     }
@@ -64,11 +88,16 @@ impl RoundFiles {
         Ok(())
     }
 
+    /// Writes the pictures into the files, in order, and prints a line. The status with which the program ends.
+    fn put_and_tell(&self, rt: &HostRuntime, texts: &[Vec<u8>], line: &str) -> Result<u8, Ending> {
+        self.put(rt, texts)?;
+        print_out(rt, line.as_bytes())
+    }
+
     /// Makes the folder where it is not there, writes the pictures into the files, in order, and tells which. All that is
     /// written is made before. The status with which the program ends.
     pub(crate) fn write(&self, rt: &HostRuntime, texts: &[Vec<u8>]) -> Result<u8, Ending> {
         let line = self.line(rt.alloc())?;
-        self.put(rt, texts)?;
-        print_out(rt, line.as_bytes())
+        self.put_and_tell(rt, texts, line.as_str())
     }
 }

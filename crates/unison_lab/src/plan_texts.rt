@@ -1,11 +1,32 @@
 //! Plans of the texts that the words name.
 
-use app_files::{Ending, NamedProgram, bytes_at, bytes_where, named_program_at, program_at};
+use app_files::{
+    Ending, NamedProgram, bytes_at, bytes_where, named_program_at, path_in, program_at, read_once,
+};
 use app_jobs::plan_from;
 use app_requests::PlanPaths;
 use rounds_plan::Plan;
 use std::alloc::Global;
 use std::sync::Arc;
+
+/// Refuses standard input for more than one of the texts: those of a plan, and three others, each of which may be none, "".
+pub(crate) fn read_plan_once(
+    alloc: Global,
+    plan: &PlanPaths,
+    first: &str,
+    second: &str,
+    third: &str,
+) -> Result<(), Ending> {
+    let paths = [
+        plan.program.as_str(),
+        plan.network.as_str(),
+        path_in(&plan.from),
+        first,
+        second,
+        third,
+    ];
+    read_once(alloc, &paths)
+}
 
 /// The plan of these texts.
 pub(crate) fn plan_of(
@@ -49,12 +70,21 @@ pub(crate) struct NamedPlan {
     pub(crate) names: Vec<Vec<String>>,
 }
 
-/// The plan of the texts at these paths, with the names of the values of its program's fields.
-pub(crate) fn named_plan_at(rt: &HostRuntime, paths: &PlanPaths) -> Result<NamedPlan, Ending> {
-    let program = named_program_at(rt, paths.program.as_str(), &paths.constants)?;
+/// The plan of this program and of the network and the report at these paths, with the names of the values of its fields.
+fn named_plan_with(
+    rt: &HostRuntime,
+    paths: &PlanPaths,
+    program: NamedProgram,
+) -> Result<NamedPlan, Ending> {
     let plan = plan_with(rt, paths, &program.text)?;
     let NamedProgram { names, .. } = program;
     Ok(NamedPlan { plan, names })
+}
+
+/// The plan of the texts at these paths, with the names of the values of its program's fields.
+pub(crate) fn named_plan_at(rt: &HostRuntime, paths: &PlanPaths) -> Result<NamedPlan, Ending> {
+    let program = named_program_at(rt, paths.program.as_str(), &paths.constants)?;
+    named_plan_with(rt, paths, program)
 }
 
 /// The plan of the texts at these paths, to be shared.

@@ -1,6 +1,7 @@
 //! `cells REPORT --width W`: the states of a report as a pattern of cells.
 
 use crate::csv_text::table_of;
+use crate::endings::asked_by;
 use app_files::{Ending, bytes_at, name_at, print_out};
 use app_requests::{CellsFormat, CellsRequest};
 use app_table::Draft;
@@ -73,8 +74,7 @@ fn asked_values(
     word: &Option<String>,
 ) -> Result<Vec<u32>, Ending> {
     let place = field_place(alloc, table, word)?;
-    let values = column_values(alloc, table, place)?;
-    Ok(values)
+    column_values(alloc, table, place).map_err(Ending::from)
 }
 
 /// What is told where a node's value is no state.
@@ -123,22 +123,36 @@ fn pattern_of(alloc: Global, values: &[u32], asked: &CellsRequest) -> Result<Vec
     }
 }
 
+/// The pattern of a table.
+fn table_pattern(
+    alloc: Global,
+    table: &Table<'_>,
+    asked: &CellsRequest,
+) -> Result<Vec<u8>, Ending> {
+    let values = asked_values(alloc, table, &asked.field)?;
+    pattern_of(alloc, &values, asked)
+}
+
 /// The pattern of a report.
-fn pattern_for(rt: &HostRuntime, asked: &CellsRequest, report: &[u8]) -> Result<Vec<u8>, Ending> {
-    let table = table_of(rt.alloc(), name_at(asked.report.as_str()), report)?;
-    let values = asked_values(rt.alloc(), &table, &asked.field)?;
-    pattern_of(rt.alloc(), &values, asked)
+fn report_pattern(alloc: Global, asked: &CellsRequest, report: &[u8]) -> Result<Vec<u8>, Ending> {
+    let table = table_of(alloc, name_at(asked.report.as_str()), report)?;
+    table_pattern(alloc, &table, asked)
+}
+
+/// The pattern that is asked for.
+fn pattern_for(rt: &HostRuntime, asked: &CellsRequest) -> Result<Vec<u8>, Ending> {
+    let report = bytes_at(rt, asked.report.as_str())?;
+    report_pattern(rt.alloc(), asked, &report)
 }
 
 /// Prints the pattern that is asked for. The status with which the program ends.
 fn put_pattern(rt: &HostRuntime, asked: &CellsRequest) -> Result<u8, Ending> {
-    let report = bytes_at(rt, asked.report.as_str())?;
-    let text = pattern_for(rt, asked, &report)?;
+    let text = pattern_for(rt, asked)?;
     print_out(rt, &text)
 }
 
 /// Prints the states of a report as a pattern of cells. The status with which the program ends.
 pub(crate) fn print_cells(rt: &HostRuntime, words: &[String]) -> Result<u8, Ending> {
-    let asked = CellsRequest::parse(rt.alloc(), words)?;
+    let asked = asked_by(CellsRequest::parse(rt.alloc(), words))?;
     put_pattern(rt, &asked)
 }

@@ -1,11 +1,12 @@
 //! `schedule MANNER PROGRAM NETWORK`: schedules, made in a manner or from a script.
 
+use crate::endings::asked_by;
 use crate::labels::names_for;
-use crate::plan_texts::plan_at;
+use crate::plan_texts::{plan_at, read_plan_once, shared_plan};
 use crate::text_lines::line_at;
-use app_files::{Ending, bytes_at, name_at, path_in, print_out, read_once};
+use app_files::{Ending, bytes_at, name_at, path_in, print_out};
 use app_jobs::ServeFault;
-use app_requests::{Limits, Listing, PlanPaths, ScheduleRequest, StepsManner, Writing};
+use app_requests::{Limits, Listing, ScheduleRequest, StepsManner, Writing};
 use app_table::number;
 use link_net::{MOST_NODES, Network};
 use net_names::NodeNames;
@@ -143,49 +144,53 @@ fn plain_steps(
     manner: Manner,
     limits: Limits,
 ) -> Result<Vec<Step>, Ending> {
-    match listed(alloc, plan, limits.stop, manner, Some(limits.count)) {
-        Ok(steps) => Ok(steps),
-        Err(fault) => Err(no_list(fault)),
-    }
+    listed(alloc, plan, limits.stop, manner, Some(limits.count)).map_err(no_list)
 }
 
 /// The steps with refused ones mixed in.
 fn mixed_steps(
     alloc: Global,
-    plan: Arc<Plan>,
+    plan: &Arc<Plan>,
     steps: &[Step],
     limits: Limits,
 ) -> Result<Vec<Step>, Ending> {
     let seed = limits.seed as u64;
-    let count = Some(limits.count);
-    match with_refused(alloc, plan, limits.stop, steps, seed, limits.refused, count) {
-        Ok(steps) => Ok(steps),
-        Err(fault) => Err(no_list(fault)),
-    }
+    let (refused, count) = (limits.refused, Some(limits.count));
+    let shared = Arc::try_clone(plan)?;
+    with_refused(alloc, shared, limits.stop, steps, seed, refused, count).map_err(no_list)
+}
+
+/// The steps of a manner on a plan, none of them refused.
+fn steps_on_plan(
+    alloc: Global,
+    plan: &Arc<Plan>,
+    manner: Manner,
+    limits: Limits,
+) -> Result<Vec<Step>, Ending> {
+    let shared = Arc::try_clone(plan)?;
+    plain_steps(alloc, shared, manner, limits)
 }
 
 /// The steps of a manner, with refused ones mixed in.
 fn steps_with_refused(
     alloc: Global,
-    plan: Arc<Plan>,
+    plan: &Arc<Plan>,
     manner: Manner,
     limits: Limits,
 ) -> Result<Vec<Step>, Ending> {
-    let shared = Arc::try_clone(&plan)?;
-    let steps = plain_steps(alloc, shared, manner, limits)?;
+    let steps = steps_on_plan(alloc, plan, manner, limits)?;
     mixed_steps(alloc, plan, &steps, limits)
 }
 
 /// The steps of a manner on a plan, with refused ones mixed in where they are asked for.
 fn steps_by(
     alloc: Global,
-    plan: Plan,
+    plan: &Arc<Plan>,
     manner: Manner,
     limits: Limits,
 ) -> Result<Vec<Step>, Ending> {
-    let plan = Arc::new(alloc, plan)?;
     if limits.refused == 0 {
-        plain_steps(alloc, plan, manner, limits)
+        steps_on_plan(alloc, plan, manner, limits)
     } else {
         steps_with_refused(alloc, plan, manner, limits)
     }
@@ -197,11 +202,20 @@ fn manner_for(rt: &HostRuntime, asked: &Listing, network: &Network) -> Result<Ma
     manner_of(rt.alloc(), &names, asked, network)
 }
 
-/// The steps that are asked for in a manner.
-fn steps_in_manner(rt: &HostRuntime, asked: &Listing) -> Result<Vec<Step>, Ending> {
-    let plan = plan_at(rt, &asked.plan)?;
+/// The steps that are asked for in a manner, on a plan.
+fn steps_in_manner_on(
+    rt: &HostRuntime,
+    plan: &Arc<Plan>,
+    asked: &Listing,
+) -> Result<Vec<Step>, Ending> {
     let manner = manner_for(rt, asked, plan.network())?;
     steps_by(rt.alloc(), plan, manner, asked.limits)
+}
+
+/// The steps that are asked for in a manner.
+fn steps_in_manner(rt: &HostRuntime, asked: &Listing) -> Result<Vec<Step>, Ending> {
+    let plan = shared_plan(rt, &asked.plan)?;
+    steps_in_manner_on(rt, &plan, asked)
 }
 
 /// The line of which a fault tells.
@@ -236,6 +250,25 @@ fn steps_fault_text(
     format!(in alloc; "steps\n{name}: {fault}, found `{found}`")
 }
 
+/// The ending where lines say no steps.
+fn no_steps(alloc: Global, name: &str, text: &[u8], fault: StepTextFault) -> Ending {
+    Ending::refused(steps_fault_text(alloc, name, text, fault))
+}
+
+/// The steps that these lines, which have this name, say on a network.
+fn steps_of(
+    alloc: Global,
+    network: &Network,
+    names: Option<&NodeNames>,
+    name: &str,
+    lines: &[u8],
+) -> Result<Vec<Step>, Ending> {
+    match written(alloc, network, names, lines) {
+        Ok(steps) => Ok(steps),
+        Err(fault) => Err(no_steps(alloc, name, lines, fault)),
+    }
+}
+
 /// The steps that the lines at a path say on a network.
 fn steps_said(
     rt: &HostRuntime,
@@ -244,12 +277,7 @@ fn steps_said(
     path: &str,
 ) -> Result<Vec<Step>, Ending> {
     let lines = bytes_at(rt, path)?;
-    match written(rt.alloc(), network, names.as_ref(), &lines) {
-        Ok(steps) => Ok(steps),
-        Err(fault) => {
-            Err(Ending::refused(steps_fault_text(rt.alloc(), name_at(path), &lines, fault)))
-        }
-    }
+    steps_of(rt.alloc(), network, names.as_ref(), name_at(path), &lines)
 }
 
 /// The steps that the lines say on a network.
@@ -264,23 +292,6 @@ fn steps_of_lines(rt: &HostRuntime, asked: &Writing) -> Result<Vec<Step>, Ending
     steps_on(rt, asked, plan.network())
 }
 
-/// Refuses standard input for more than one of the texts.
-fn check_paths(
-    alloc: Global,
-    plan: &PlanPaths,
-    names: &Option<String>,
-    lines: &str,
-) -> Result<(), Ending> {
-    let paths = [
-        plan.program.as_str(),
-        plan.network.as_str(),
-        path_in(&plan.from),
-        path_in(names),
-        lines,
-    ];
-    read_once(alloc, &paths)
-}
-
 /// Prints steps as a schedule. The status with which the program ends.
 fn put_steps(rt: &HostRuntime, steps: &[Step]) -> Result<u8, Ending> {
     let text = write_schedule(rt.alloc(), steps)?;
@@ -289,13 +300,14 @@ fn put_steps(rt: &HostRuntime, steps: &[Step]) -> Result<u8, Ending> {
 
 /// The steps that are asked for in a manner, standard input being one of the texts at most.
 fn listed_for(rt: &HostRuntime, asked: &Listing) -> Result<Vec<Step>, Ending> {
-    check_paths(rt.alloc(), &asked.plan, &asked.names, "")?;
+    read_plan_once(rt.alloc(), &asked.plan, path_in(&asked.names), "", "")?;
     steps_in_manner(rt, asked)
 }
 
 /// The steps that the lines say, standard input being one of the texts at most.
 fn written_for(rt: &HostRuntime, asked: &Writing) -> Result<Vec<Step>, Ending> {
-    check_paths(rt.alloc(), &asked.plan, &asked.names, asked.lines.as_str())?;
+    let (names, lines) = (path_in(&asked.names), asked.lines.as_str());
+    read_plan_once(rt.alloc(), &asked.plan, names, lines, "")?;
     steps_of_lines(rt, asked)
 }
 
@@ -307,9 +319,14 @@ fn steps_for(rt: &HostRuntime, asked: &ScheduleRequest) -> Result<Vec<Step>, End
     }
 }
 
+/// Prints the schedule that is asked for. The status with which the program ends.
+fn put_schedule(rt: &HostRuntime, asked: &ScheduleRequest) -> Result<u8, Ending> {
+    let steps = steps_for(rt, asked)?;
+    put_steps(rt, &steps)
+}
+
 /// Prints a schedule. The status with which the program ends.
 pub(crate) fn make_schedule(rt: &HostRuntime, words: &[String]) -> Result<u8, Ending> {
-    let asked = ScheduleRequest::parse(rt.alloc(), words)?;
-    let steps = steps_for(rt, &asked)?;
-    put_steps(rt, &steps)
+    let asked = asked_by(ScheduleRequest::parse(rt.alloc(), words))?;
+    put_schedule(rt, &asked)
 }

@@ -1,11 +1,10 @@
 //! `settle PROGRAM NETWORK`: from which round on nothing changes, or all states come again.
 
-use crate::plan_texts::plan_at;
+use crate::endings::asked_by;
+use crate::plan_texts::{plan_at, read_plan_once};
 use crate::progress::Silent;
 use crate::watch::no_rounds;
-use app_files::{
-    Ending, all_fields, not_settled, path_in, print_out, read_once, settled_round, settling_line,
-};
+use app_files::{Ending, all_fields, not_settled, print_out, settled_round, settling_line};
 use app_requests::SettleRequest;
 use rounds_plan::Plan;
 use run_settle::{Settling, settle};
@@ -28,10 +27,18 @@ fn report_with(
         names: &[],
         changes: false,
     };
-    match watched(threads, alloc, plan, span, &show, &mut Silent) {
-        Ok(text) => Ok(text),
-        Err(fault) => Err(no_rounds(fault)),
-    }
+    watched(threads, alloc, plan, span, &show, &mut Silent).map_err(no_rounds)
+}
+
+/// The report of rounds.
+fn report_in(
+    alloc: Global,
+    threads: &(impl Threads + Sync),
+    plan: &Plan,
+    span: &Span,
+) -> Result<Vec<u8>, Ending> {
+    let fields = all_fields(alloc, plan.program())?;
+    report_with(alloc, threads, plan, span, &fields)
 }
 
 /// The report of a round: what is watched where it is the first and the last one.
@@ -41,11 +48,10 @@ fn report_of(
     plan: &Plan,
     round: u32,
 ) -> Result<Vec<u8>, Ending> {
-    let Some(span) = Span::new(round, round, 1) else {
-        return Ok(Vec::new(alloc));
-    };
-    let fields = all_fields(alloc, plan.program())?;
-    report_with(alloc, threads, plan, &span, &fields)
+    match Span::new(round, round, 1) {
+        Some(span) => report_in(alloc, threads, plan, &span),
+        None => Ok(Vec::new(alloc)),
+    }
 }
 
 /// The report of the round that was found, where it is asked for.
@@ -78,8 +84,7 @@ fn text_of(
     found: Settling,
 ) -> Result<Vec<u8>, Ending> {
     let report = found_report(alloc, threads, plan, asked, found)?;
-    let text = text_with(alloc, found, &report)?;
-    Ok(text)
+    text_with(alloc, found, &report).map_err(Ending::from)
 }
 
 /// What becomes of the rounds of the plan that is asked for.
@@ -111,23 +116,13 @@ fn text_for(
     told_of(rt.alloc(), threads, &plan, asked)
 }
 
-/// Refuses standard input for more than one of the texts.
-fn check_paths(alloc: Global, asked: &SettleRequest) -> Result<(), Ending> {
-    let paths = [
-        asked.plan.program.as_str(),
-        asked.plan.network.as_str(),
-        path_in(&asked.plan.from),
-    ];
-    read_once(alloc, &paths)
-}
-
 /// Prints what is told of the plan that is asked for. The status with which the program ends.
 fn put_told(
     rt: &HostRuntime,
     threads: &(impl Threads + Sync),
     asked: &SettleRequest,
 ) -> Result<u8, Ending> {
-    check_paths(rt.alloc(), asked)?;
+    read_plan_once(rt.alloc(), &asked.plan, "", "", "")?;
     let text = text_for(rt, threads, asked)?;
     print_out(rt, &text)
 }
@@ -138,6 +133,6 @@ pub(crate) fn settle_rounds(
     threads: &(impl Threads + Sync),
     words: &[String],
 ) -> Result<u8, Ending> {
-    let asked = SettleRequest::parse(rt.alloc(), words)?;
+    let asked = asked_by(SettleRequest::parse(rt.alloc(), words))?;
     put_told(rt, threads, &asked)
 }

@@ -1,9 +1,10 @@
 //! `verify PROGRAM NETWORK TRACE`: a trace of an asynchronous run that was made elsewhere, checked.
 
+use crate::endings::asked_by;
 use crate::labels::names_for;
-use crate::plan_texts::shared_plan;
+use crate::plan_texts::{read_plan_once, shared_plan};
 use crate::text_lines::line_at;
-use app_files::{Ending, bytes_at, name_at, path_in, read_once, write_out};
+use app_files::{Ending, bytes_at, name_at, path_in, write_out};
 use app_requests::VerifyRequest;
 use net_names::NodeNames;
 use rounds_plan::Plan;
@@ -94,6 +95,39 @@ fn put_counts(
     Ok(())
 }
 
+/// Puts how many steps hold, and how many of them have values.
+fn put_steps(out: &mut String, found: &Verified) -> Result<(), AllocError> {
+    let (s, hold) = if found.lines == 1 {
+        ("", "holds")
+    } else {
+        ("s", "hold")
+    };
+    write!(
+        out,
+        "{} step{s} {hold}, {} with values\n",
+        found.lines, found.valued
+    )
+}
+
+/// Puts the count of each node, a line each, where they are few.
+fn put_few(out: &mut String, names: Option<&NodeNames>, counts: &[u32]) -> Result<(), AllocError> {
+    if counts.len() <= MOST_TOLD {
+        return put_counts(out, names, counts);
+    }
+    Ok(())
+}
+
+/// Puts what is told of a trace that holds.
+fn put_held_text(
+    out: &mut String,
+    names: Option<&NodeNames>,
+    found: &Verified,
+) -> Result<(), AllocError> {
+    put_steps(out, found)?;
+    put_extremes(out, names, &found.counts)?;
+    put_few(out, names, &found.counts)
+}
+
 /// What is told of a trace that holds.
 fn held_text(
     alloc: Global,
@@ -101,17 +135,7 @@ fn held_text(
     found: &Verified,
 ) -> Result<String, AllocError> {
     let mut out = String::new(alloc);
-    let s = if found.lines == 1 { "" } else { "s" };
-    let hold = if found.lines == 1 { "holds" } else { "hold" };
-    write!(
-        &mut out,
-        "{} step{s} {hold}, {} with values\n",
-        found.lines, found.valued
-    )?;
-    put_extremes(&mut out, names, &found.counts)?;
-    if found.counts.len() <= MOST_TOLD {
-        put_counts(&mut out, names, &found.counts)?;
-    }
+    put_held_text(&mut out, names, found)?;
     Ok(out)
 }
 
@@ -304,6 +328,20 @@ impl Telling<'_> {
     }
 }
 
+/// Puts what is told of the first line that does not hold. Whether it says a step at all.
+fn put_unheld_text(
+    out: &mut String,
+    telling: Telling<'_>,
+    name: &str,
+    text: &[u8],
+    fault: VerifyFault,
+) -> Result<bool, AllocError> {
+    let line = line_in(fault);
+    let said = line_at(text, line).trim_end();
+    write!(out, "{name}:{line}: `{said}` does not hold\n")?;
+    telling.put_reason(out, fault)
+}
+
 /// What is told of the first line that does not hold, where it says a step.
 fn unheld_text(
     alloc: Global,
@@ -312,14 +350,9 @@ fn unheld_text(
     text: &[u8],
     fault: VerifyFault,
 ) -> Result<Option<String>, AllocError> {
-    let line = line_in(fault);
-    let said = line_at(text, line).trim_end();
-    let mut out = format!(in alloc; "{name}:{line}: `{said}` does not hold\n")?;
-    if telling.put_reason(&mut out, fault)? {
-        Ok(Some(out))
-    } else {
-        Ok(None)
-    }
+    let mut out = String::new(alloc);
+    let is_step = put_unheld_text(&mut out, telling, name, text, fault)?;
+    Ok(if is_step { Some(out) } else { None })
 }
 
 /// The ending where a line says no step.
@@ -331,6 +364,12 @@ fn no_step(alloc: Global, name: &str, text: &[u8], fault: VerifyFault) -> Ending
     Ending::refused(format!(in alloc; "trace\n{name}: {fault}, found `{found}`"))
 }
 
+/// Prints a text. The status, this one, with which the program ends.
+fn put_with(rt: &HostRuntime, told: &str, status: u8) -> Result<u8, Ending> {
+    write_out(rt, told.as_bytes())?;
+    Ok(status)
+}
+
 /// Prints what is told of a trace that does not hold. The status with which the program ends.
 fn put_unheld(
     rt: &HostRuntime,
@@ -339,18 +378,16 @@ fn put_unheld(
     text: &[u8],
     fault: VerifyFault,
 ) -> Result<u8, Ending> {
-    let Some(told) = unheld_text(rt.alloc(), telling, name, text, fault)? else {
-        return Err(no_step(rt.alloc(), name, text, fault));
-    };
-    write_out(rt, told.as_bytes())?;
-    Ok(UNHELD)
+    match unheld_text(rt.alloc(), telling, name, text, fault)? {
+        Some(told) => put_with(rt, told.as_str(), UNHELD),
+        None => Err(no_step(rt.alloc(), name, text, fault)),
+    }
 }
 
 /// Prints what is told of a trace that holds. The status with which the program ends.
 fn put_held(rt: &HostRuntime, names: Option<&NodeNames>, found: &Verified) -> Result<u8, Ending> {
     let told = held_text(rt.alloc(), names, found)?;
-    write_out(rt, told.as_bytes())?;
-    Ok(0)
+    put_with(rt, told.as_str(), 0)
 }
 
 /// Prints what is told of the trace that the text is. The status with which the program ends.
@@ -368,30 +405,33 @@ fn put_verdict(
     }
 }
 
+/// Prints what is told of the trace at a path, on a plan. The status with which the program ends.
+fn put_trace(
+    rt: &HostRuntime,
+    plan: &Arc<Plan>,
+    names: Option<&NodeNames>,
+    path: &str,
+) -> Result<u8, Ending> {
+    let text = bytes_at(rt, path)?;
+    put_verdict(rt, plan, names, name_at(path), &text)
+}
+
 /// Prints what is told of a trace on a plan. The status with which the program ends.
 fn put_told(rt: &HostRuntime, plan: &Arc<Plan>, asked: &VerifyRequest) -> Result<u8, Ending> {
     let names = names_for(rt, &asked.names, plan.network().nodes())?;
-    let path = asked.trace.as_str();
-    let text = bytes_at(rt, path)?;
-    put_verdict(rt, plan, names.as_ref(), name_at(path), &text)
+    put_trace(rt, plan, names.as_ref(), asked.trace.as_str())
 }
 
-/// Refuses standard input for more than one of the texts.
-fn check_paths(alloc: Global, asked: &VerifyRequest) -> Result<(), Ending> {
-    let paths = [
-        asked.plan.program.as_str(),
-        asked.plan.network.as_str(),
-        path_in(&asked.plan.from),
-        path_in(&asked.names),
-        asked.trace.as_str(),
-    ];
-    read_once(alloc, &paths)
+/// Prints what is told of the trace on the plan that is asked for. The status with which the program ends.
+fn put_asked(rt: &HostRuntime, asked: &VerifyRequest) -> Result<u8, Ending> {
+    let (names, trace) = (path_in(&asked.names), asked.trace.as_str());
+    read_plan_once(rt.alloc(), &asked.plan, names, trace, "")?;
+    let plan = shared_plan(rt, &asked.plan)?;
+    put_told(rt, &plan, asked)
 }
 
 /// Checks the trace that the words name. The status with which the program ends.
 pub(crate) fn verify_trace(rt: &HostRuntime, words: &[String]) -> Result<u8, Ending> {
-    let asked = VerifyRequest::parse(rt.alloc(), words)?;
-    check_paths(rt.alloc(), &asked)?;
-    let plan = shared_plan(rt, &asked.plan)?;
-    put_told(rt, &plan, &asked)
+    let asked = asked_by(VerifyRequest::parse(rt.alloc(), words))?;
+    put_asked(rt, &asked)
 }

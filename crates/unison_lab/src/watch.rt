@@ -1,9 +1,10 @@
 //! `watch PROGRAM NETWORK --rounds FIRST..LAST`: all rounds from one to another, in one pass.
 
+use crate::endings::asked_by;
 use crate::labels::labels_at;
-use crate::plan_texts::{NamedPlan, named_plan_at};
+use crate::plan_texts::{NamedPlan, named_plan_at, read_plan_once};
 use crate::progress::Telling;
-use app_files::{Ending, path_in, print_out, read_once, shown_fields};
+use app_files::{Ending, path_in, print_out, shown_fields};
 use app_jobs::ServeFault;
 use app_requests::WatchRequest;
 use rounds_plan::{Plan, RoundFault};
@@ -58,10 +59,7 @@ fn watched_text(
     show: &Show<'_>,
 ) -> Result<Vec<u8>, Ending> {
     let mut telling = Telling::new(rt, span, plan.network().nodes());
-    match watched(threads, rt.alloc(), plan, span, show, &mut telling) {
-        Ok(text) => Ok(text),
-        Err(fault) => Err(no_rounds(fault)),
-    }
+    watched(threads, rt.alloc(), plan, span, show, &mut telling).map_err(no_rounds)
 }
 
 /// The text of the rounds, these fields being shown.
@@ -84,6 +82,18 @@ fn shown_text(
     watched_text(rt, threads, &named.plan, &asked.span, &show)
 }
 
+/// The text of the rounds, these fields being shown, where they may be.
+fn text_with(
+    rt: &HostRuntime,
+    threads: &(impl Threads + Sync),
+    named: &NamedPlan,
+    asked: &WatchRequest,
+    fields: &[u32],
+) -> Result<Vec<u8>, Ending> {
+    check_headings(rt.alloc(), named.plan.program(), asked.view.format, fields)?;
+    shown_text(rt, threads, named, asked, fields)
+}
+
 /// The text of the rounds of a plan.
 fn text_of(
     rt: &HostRuntime,
@@ -91,21 +101,8 @@ fn text_of(
     named: &NamedPlan,
     asked: &WatchRequest,
 ) -> Result<Vec<u8>, Ending> {
-    let program = named.plan.program();
-    let fields = shown_fields(rt.alloc(), program, &asked.view.only)?;
-    check_headings(rt.alloc(), program, asked.view.format, &fields)?;
-    shown_text(rt, threads, named, asked, &fields)
-}
-
-/// Refuses standard input for more than one of the texts.
-fn check_paths(alloc: Global, asked: &WatchRequest) -> Result<(), Ending> {
-    let paths = [
-        asked.plan.program.as_str(),
-        asked.plan.network.as_str(),
-        path_in(&asked.plan.from),
-        path_in(&asked.view.names),
-    ];
-    read_once(alloc, &paths)
+    let fields = shown_fields(rt.alloc(), named.plan.program(), &asked.view.only)?;
+    text_with(rt, threads, named, asked, &fields)
 }
 
 /// The text of the rounds that are asked for.
@@ -124,7 +121,7 @@ fn put_rounds(
     threads: &(impl Threads + Sync),
     asked: &WatchRequest,
 ) -> Result<u8, Ending> {
-    check_paths(rt.alloc(), asked)?;
+    read_plan_once(rt.alloc(), &asked.plan, path_in(&asked.view.names), "", "")?;
     let text = text_for(rt, threads, asked)?;
     print_out(rt, &text)
 }
@@ -135,6 +132,6 @@ pub(crate) fn watch_rounds(
     threads: &(impl Threads + Sync),
     words: &[String],
 ) -> Result<u8, Ending> {
-    let asked = WatchRequest::parse(rt.alloc(), words)?;
+    let asked = asked_by(WatchRequest::parse(rt.alloc(), words))?;
     put_rounds(rt, threads, &asked)
 }

@@ -1,5 +1,6 @@
 //! `why COMMAND WORDS..`: why a command refuses its texts.
 
+use crate::endings::asked_by;
 use app_files::{
     Ending, ModelRefusal, Text, check_constants, is_model, path_in, print_fault, program_name,
     read_once, refusal_of, text_at, text_where, write_out,
@@ -42,15 +43,25 @@ pub(crate) fn value_of<'w>(words: &'w [String], option: &str) -> Option<&'w str>
     None
 }
 
+/// What is told of a number outside the limits of its option.
+fn option_text(alloc: Global, option: &str, value: &str) -> Result<String, AllocError> {
+    let allowed = allowed(option);
+    format!(in alloc; "--{option}: expected {allowed}, found `{value}`")
+}
+
 /// What is told of invalid arguments: for a number outside its limits the option, what was given, and what is allowed.
 fn usage_text(alloc: Global, words: &[String], text: String) -> Result<String, AllocError> {
     match value_of(words, text.as_str()) {
-        Some(value) => {
-            let option = text.as_str();
-            let allowed = allowed(option);
-            format!(in alloc; "--{option}: expected {allowed}, found `{value}`")
-        }
+        Some(value) => option_text(alloc, text.as_str(), value),
         None => Ok(text),
+    }
+}
+
+/// The ending where the words make no request.
+fn no_request(alloc: Global, words: &[String], fault: UsageFault) -> Ending {
+    match fault {
+        UsageFault::Usage { text } => Ending::usage(usage_text(alloc, words, text)),
+        fault => Ending::from(fault),
     }
 }
 
@@ -63,8 +74,7 @@ fn request_of(alloc: Global, words: &[String]) -> Result<Request, Ending> {
     );
     match job_by(alloc, &command, words) {
         Ok(request) => Ok(request),
-        Err(UsageFault::Usage { text }) => Err(Ending::usage(usage_text(alloc, words, text))),
-        Err(fault) => Err(Ending::from(fault)),
+        Err(fault) => Err(no_request(alloc, words, fault)),
     }
 }
 
@@ -88,30 +98,30 @@ struct ReadTexts {
     schedule: Option<Text>,
 }
 
-/// The texts of a request beside the program and the network, read in the order in which its command reads them.
-fn read_rest(rt: &HostRuntime, request: &Request) -> Result<(Option<Text>, Option<Text>), Ending> {
-    let report = text_where(rt, &request.from)?;
-    let schedule = text_where(rt, &request.schedule)?;
-    Ok((report, schedule))
+/// Reads the texts of a request beside the program, in the order in which its command reads them.
+fn read_rest(rt: &HostRuntime, request: &Request, read: &mut ReadTexts) -> Result<(), Ending> {
+    read.network = text_where(rt, &request.network)?;
+    read.report = text_where(rt, &request.from)?;
+    read.schedule = text_where(rt, &request.schedule)?;
+    Ok(())
 }
 
-/// The program and the network of a request.
-fn read_first(rt: &HostRuntime, request: &Request) -> Result<(Text, Option<Text>), Ending> {
-    let program = text_at(rt, request.program.as_str())?;
-    let network = text_where(rt, &request.network)?;
-    Ok((program, network))
+/// The texts of a request, of which that of the program is this, the others being read.
+fn read_with(rt: &HostRuntime, request: &Request, program: Text) -> Result<ReadTexts, Ending> {
+    let mut read = ReadTexts {
+        program,
+        network: None,
+        report: None,
+        schedule: None,
+    };
+    read_rest(rt, request, &mut read)?;
+    Ok(read)
 }
 
 /// The texts of a request, read in the order in which its command reads them.
 fn read(rt: &HostRuntime, request: &Request) -> Result<ReadTexts, Ending> {
-    let (program, network) = read_first(rt, request)?;
-    let (report, schedule) = read_rest(rt, request)?;
-    Ok(ReadTexts {
-        program,
-        network,
-        report,
-        schedule,
-    })
+    let program = text_at(rt, request.program.as_str())?;
+    read_with(rt, request, program)
 }
 
 /// A text as it is looked at.
@@ -130,10 +140,15 @@ fn named_where(text: &Option<Text>) -> Option<Named<'_>> {
     }
 }
 
-/// What is found in the texts.
-fn finding_of(alloc: Global, request: &Request, read: &ReadTexts) -> Result<Finding, AllocError> {
+/// What is found in the texts, of which that of the program is this.
+fn finding_of(
+    alloc: Global,
+    request: &Request,
+    program: &Text,
+    read: &ReadTexts,
+) -> Result<Finding, AllocError> {
     let texts = Texts {
-        program: named(&read.program),
+        program: named(program),
         network: named_where(&read.network),
         report: named_where(&read.report),
         schedule: named_where(&read.schedule),
@@ -172,22 +187,41 @@ fn program_text(
     Ok(Text { name, bytes })
 }
 
+/// What is found in the texts that were read for a request, of which that of the program is this.
+fn found_with(
+    alloc: Global,
+    request: &Request,
+    program: &Text,
+    read: &ReadTexts,
+) -> Result<Found, AllocError> {
+    finding_of(alloc, request, program, read).map(Found::Job)
+}
+
+/// What is found in the texts that were read for a request whose program is a model.
+fn found_by_model(
+    alloc: Global,
+    request: &Request,
+    constants: &[Given],
+    read: &ReadTexts,
+) -> Result<Found, AllocError> {
+    let path = request.program.as_str();
+    match program_text(alloc, path, &read.program.bytes, constants) {
+        Ok(program) => found_with(alloc, request, &program, read),
+        Err(fault) => found_in_model(alloc, &read.program, constants, fault),
+    }
+}
+
 /// What is found in the texts that were read for a request.
 fn found_in(
     alloc: Global,
     request: &Request,
     constants: &[Given],
-    mut read: ReadTexts,
+    read: &ReadTexts,
 ) -> Result<Found, AllocError> {
-    let path = request.program.as_str();
-    if is_model(path) {
-        match program_text(alloc, path, &read.program.bytes, constants) {
-            Ok(program) => read.program = program,
-            Err(fault) => return found_in_model(alloc, &read.program, constants, fault),
-        }
+    if is_model(request.program.as_str()) {
+        return found_by_model(alloc, request, constants, read);
     }
-    let finding = finding_of(alloc, request, &read)?;
-    Ok(Found::Job(finding))
+    found_with(alloc, request, &read.program, read)
 }
 
 /// What is found in the texts of a request.
@@ -195,8 +229,7 @@ fn found_for(rt: &HostRuntime, request: &Request, constants: &[Given]) -> Result
     check_paths(rt.alloc(), request)?;
     check_constants(rt.alloc(), request.program.as_str(), constants)?;
     let read = read(rt, request)?;
-    let found = found_in(rt.alloc(), request, constants, read)?;
-    Ok(found)
+    found_in(rt.alloc(), request, constants, &read).map_err(Ending::from)
 }
 
 /// The status with which a command would end that has this fault, which is printed, or none.
@@ -226,10 +259,20 @@ fn put_found(rt: &HostRuntime, found: &Found) -> Result<u8, Ending> {
     }
 }
 
+/// Tells what is found in the texts of a request. The status with which its command would end.
+fn put_request(rt: &HostRuntime, request: &Request, constants: &[Given]) -> Result<u8, Ending> {
+    let found = found_for(rt, request, constants)?;
+    put_found(rt, &found)
+}
+
+/// Tells what is found in the texts of the request that these words make. The status with which its command would end.
+fn put_words(rt: &HostRuntime, words: &[String], constants: &[Given]) -> Result<u8, Ending> {
+    let request = request_of(rt.alloc(), words)?;
+    put_request(rt, &request, constants)
+}
+
 /// Tells why a command refuses its texts. The status with which that command would end.
 pub(crate) fn why_command(rt: &HostRuntime, words: &[String]) -> Result<u8, Ending> {
-    let (constants, words) = constants_among(rt.alloc(), words)?;
-    let request = request_of(rt.alloc(), &words)?;
-    let found = found_for(rt, &request, &constants)?;
-    put_found(rt, &found)
+    let (constants, words) = asked_by(constants_among(rt.alloc(), words))?;
+    put_words(rt, &words, &constants)
 }
