@@ -1,7 +1,9 @@
+mod Counting
 mod LaidOut
 mod Moves
 mod PartMade
 mod Passing
 mod RoundFaults
 mod StateWords
+mod Tallies
 mod Watches

@@ -5,7 +5,7 @@ use Rattle.rule_check.specs.Items.{rules_of}
 use Rattle.app_jobs.specs.Served.{IsAccepted}
 use Rattle.app_calls.specs.declared.fault.Fault.TheVariants.{Texts, Round, Replay, Settle, NotRising, NoJob, Room, Memory}
 use Rattle.large_calls.specs.declared.fault.LargeCallFault.{LargeCallFault}
-use Rattle.large_calls.specs.declared.fault.LargeCallFault.TheVariants.{Call, Lists, Part, WordCount}
+use Rattle.large_calls.specs.declared.fault.LargeCallFault.TheVariants.{Call, Lists, Part, WordCount, NoField, TooManyValues}
 use Rattle.link_net.specs.Layout.{rows_of}
 use Rattle.large_calls.specs.Lists.{given_weights, lists_fault}
 use Rattle.large_calls.specs.LargeAnswers.{IsNoMove, IsRefusedRounds}
@@ -26,6 +26,8 @@ refused_move program offsets ns ws start round room fields items (Call Memory) a
 refused_move program offsets ns ws start round room fields items (Lists f) accepted none h = absurd h
 refused_move program offsets ns ws start round room fields items WordCount accepted none h = (items, accepted, none, h)
 refused_move program offsets ns ws start round room fields items (Part f) accepted none h = absurd h
+refused_move program offsets ns ws start round room fields items NoField accepted none h = absurd h
+refused_move program offsets ns ws start round room fields items TooManyValues accepted none h = absurd h
 
 pub refused_part : (program ids offsets ns ws : List ℕ) (words room : ℕ) (items : List ItemTree) (f : LargeCallFault)
     → IsAccepted program items → lists_fault offsets ns ws ≡ None → IsNoPart (rules_of items) ids (rows_of offsets ns (given_weights ns ws)) words room f
@@ -41,6 +43,8 @@ refused_part program ids offsets ns ws words room items (Call Memory) accepted n
 refused_part program ids offsets ns ws words room items (Lists f) accepted none h = absurd h
 refused_part program ids offsets ns ws words room items WordCount accepted none h = absurd h
 refused_part program ids offsets ns ws words room items (Part f) accepted none h = (items, accepted, none, h)
+refused_part program ids offsets ns ws words room items NoField accepted none h = absurd h
+refused_part program ids offsets ns ws words room items TooManyValues accepted none h = absurd h
 
 pub refused_watch : (program offsets ns ws : List ℕ) (start : ℕ) (from rounds : List ℕ) (room fields : ℕ) (items : List ItemTree) (f : LargeCallFault)
     → IsAccepted program items → lists_fault offsets ns ws ≡ None
@@ -57,3 +61,5 @@ refused_watch program offsets ns ws start from rounds room fields items (Call Me
 refused_watch program offsets ns ws start from rounds room fields items (Lists f) accepted none h = absurd h
 refused_watch program offsets ns ws start from rounds room fields items WordCount accepted none h = (items, accepted, none, h)
 refused_watch program offsets ns ws start from rounds room fields items (Part f) accepted none h = absurd h
+refused_watch program offsets ns ws start from rounds room fields items NoField accepted none h = absurd h
+refused_watch program offsets ns ws start from rounds room fields items TooManyValues accepted none h = absurd h

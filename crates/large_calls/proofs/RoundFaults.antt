@@ -31,7 +31,7 @@ either : (a b : Option Fault) (f : Fault) → ((g : Fault) → a ≡ Some g → 
 either (Some g) b f first second h = first f h
 either None b f first second h = second f h
 
-of_list : (p : PlanView) (least : ℕ) (rounds : List ℕ) (f : Fault) → list_fault p least rounds ≡ Some f → IsOfList f
+pub of_list : (p : PlanView) (least : ℕ) (rounds : List ℕ) (f : Fault) → list_fault p least rounds ≡ Some f → IsOfList f
 of_list p least [] f h = cc
 of_list p least (t ∷ rounds) f h =
     either (entry_fault p least t) (list_fault p (t + 1) rounds) f

@@ -1,5 +1,5 @@
--- Lists of rounds that a plan has, and their words.
-use Rattle.std.proofs.Common.{◌≡◌, ◌∙◌, ℕ, suc, ◌+◌, ◌*◌, ◌≤◌, ◌<◌, ◌++◌, Bool, true, false, List, [], ◌∷◌, Option, Some, None, Result, Ok, Err, nat_lt, if◌then◌else◌, ap, arith, append_assoc, drop, length, refl, slice_index, subst, sym}
+-- Lists of rounds that a plan has, and what is told of them.
+use Rattle.std.proofs.Common.{◌≡◌, ◌∙◌, ℕ, suc, ◌+◌, ◌*◌, ◌≤◌, ◌<◌, ◌++◌, Bool, true, false, List, [], ◌∷◌, Option, Some, None, Ok, Err, nat_lt, if◌then◌else◌, ap, arith, append_assoc, drop, length, refl, slice_index, subst, sym}
 use Rattle.std.specs.Option.{option_or}
 use Rattle.std.proofs.Math.Nat.{suc-mul}
 use Rattle.std.proofs.Math.Seq.{drop-cons}
@@ -13,9 +13,11 @@ use Rattle.rounds_plan.specs.Configs.{Configuration, most_rounds}
 use Rattle.rounds_plan.specs.Lockstep.{lockstep, lockstep_config, lockstep_states, rounds_of}
 use Rattle.rounds_plan.specs.Plans.{PlanView}
 use Rattle.app_calls.specs.declared.fault.Fault.{Fault}
-use Rattle.app_calls.specs.declared.fault.Fault.TheVariants.{Texts, Round, Replay, Settle, NotRising, NoJob, Room, Memory}
+use Rattle.app_calls.specs.declared.fault.Fault.TheVariants.{Round, NotRising}
 use Rattle.app_calls.specs.Refusals.{word_count}
-use Rattle.app_calls.specs.Words.{entry_fault, list_fault, words_at, words_in, words_of}
+use Rattle.app_calls.specs.Words.{entry_fault, list_fault}
+use Rattle.large_calls.specs.declared.telling.Telling.{Telling}
+use Rattle.large_calls.specs.Tellings.{told_at, told_count, told_in, told_of}
 
 -- the fault of a round that a plan does not have
 entry_by : (a b : Bool) (c : Configuration) (rest : Option Fault) (f : RoundFault)
@@ -43,10 +45,10 @@ same_faults p q same least (t ∷ rounds) =
 pub same_there : (p q : PlanView) (rounds : List ℕ) → p.start ≡ q.start → list_fault p p.start rounds ≡ None → list_fault q q.start rounds ≡ None
 same_there p q rounds same there = ap (λ (s : ℕ). list_fault q s rounds) (sym same) ∙ sym (same_faults p q same p.start rounds) ∙ there
 
--- of no rounds there are no words
-pub none_left : (p : PlanView) (rounds : List ℕ) → length rounds ≡ 0 → words_at p rounds ≡ []
-none_left p [] none = refl
-none_left p (t ∷ rounds) none = absurd (omega (arith, none))
+-- of no rounds nothing is told
+pub none_left : (telling : Telling) (p : PlanView) (rounds : List ℕ) → length rounds ≡ 0 → told_at telling p rounds ≡ []
+none_left telling p [] none = refl
+none_left telling p (t ∷ rounds) none = absurd (omega (arith, none))
 
 chosen : (a b c : Bool) → (if a then Some (Round TooManyRounds) else if b then Some (Round RoundsBelowStart) else if c then Some NotRising else None) ≡ None → (a ≡ false) × (c ≡ false)
 chosen true b c h = cc
@@ -89,29 +91,32 @@ is_next p least rounds i inside h =
     let within = entry_within p least t both.0 in
     record { late = within.0; few = within.1; rest = both.1 }
 
--- the words of the states of a round are those of its configuration
-pub config_words : (p : PlanView) (t fields : ℕ) (states : List State) → states ≡ lockstep_states p t (length p.network) → fields ≡ length p.program.fields → words_in fields states ≡ words_of (lockstep_config p t)
-config_words p t fields states are count = ap (λ (f : ℕ). words_in f states) count ∙ ap (words_in (length p.program.fields)) are
+-- what is told of the states of a round is what is told of its configuration
+pub config_told : (telling : Telling) (p : PlanView) (t fields : ℕ) (states : List State) → states ≡ lockstep_states p t (length p.network) → fields ≡ length p.program.fields
+    → told_in telling fields states ≡ told_of telling (lockstep_config p t)
+config_told telling p t fields states are count = ap (λ (f : ℕ). told_in telling f states) count ∙ ap (told_in telling (length p.program.fields)) are
 
--- and they are as many as the plan's nodes have
-pub config_count : (p : PlanView) (t fields : ℕ) (states : List State) → states ≡ lockstep_states p t (length p.network) → fields ≡ length p.program.fields → length (words_in fields states) ≡ length states * fields
-    → length (words_of (lockstep_config p t)) ≡ word_count p
-config_count p t fields states are count each =
+-- and these numbers are as many as are told of the plan's nodes
+pub config_count : (telling : Telling) (p : PlanView) (t fields : ℕ) (states : List State) → states ≡ lockstep_states p t (length p.network) → fields ≡ length p.program.fields
+    → length (told_in telling fields states) ≡ told_count telling (length states * fields) → length (told_of telling (lockstep_config p t)) ≡ told_count telling (word_count p)
+config_count telling p t fields states are count each =
     let nodes : length states ≡ length p.network = ap length are ∙ length-map-range_with_len (lockstep p t) 0 (length p.network) in
-    ap length (sym (config_words p t fields states are count)) ∙ each ∙ ap (λ (n : ℕ). n * fields) nodes ∙ ap (λ (f : ℕ). length p.network * f) count
+    ap length (sym (config_told telling p t fields states are count)) ∙ each
+    ∙ ap (λ (n : ℕ). told_count telling (n * fields)) nodes ∙ ap (λ (f : ℕ). told_count telling (length p.network * f)) count
 
--- the words of one round more
-pub rounds_more : (p : PlanView) (rounds out new whole : List ℕ) (i : ℕ) → i < length rounds → new ≡ out ++ words_of (lockstep_config p (slice_index rounds i)) → out ++ words_at p (drop i rounds) ≡ whole → new ++ words_at p (drop (i + 1) rounds) ≡ whole
-rounds_more p rounds out new whole i inside is left =
+-- what is told of one round more
+pub rounds_more : (telling : Telling) (p : PlanView) (rounds out new whole : List ℕ) (i : ℕ) → i < length rounds → new ≡ out ++ told_of telling (lockstep_config p (slice_index rounds i))
+    → out ++ told_at telling p (drop i rounds) ≡ whole → new ++ told_at telling p (drop (i + 1) rounds) ≡ whole
+rounds_more telling p rounds out new whole i inside is left =
     let t = slice_index rounds i in
     let more : suc i ≡ i + 1 = omega arith in
-    let here = words_of (lockstep_config p t) in
-    let rest = words_at p (drop (i + 1) rounds) in
+    let here = told_of telling (lockstep_config p t) in
+    let rest = told_at telling p (drop (i + 1) rounds) in
     let parts : drop i rounds ≡ t ∷ drop (i + 1) rounds = drop-cons rounds i 0 inside ∙ ap (λ k. t ∷ drop k rounds) more in
-    let next : words_at p (drop i rounds) ≡ here ++ rest = ap (words_at p) parts in
+    let next : told_at telling p (drop i rounds) ≡ here ++ rest = ap (told_at telling p) parts in
     ap (λ l. l ++ rest) is ∙ append_assoc out here rest ∙ ap (λ l. out ++ l) (sym next) ∙ left
 
--- and how many words there are then
+-- and how many numbers there are then
 pub count_more : (out new here : List ℕ) (i n : ℕ) → new ≡ out ++ here → length here ≡ n → length out ≡ i * n → length new ≡ (i + 1) * n
 count_more out new here i n is count had =
     let more : i + 1 ≡ suc i = omega arith in

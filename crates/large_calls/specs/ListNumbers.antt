@@ -38,6 +38,8 @@ large_number_of (large.Call f) = number_of f
 large_number_of (large.Lists f) = lists_number f
 large_number_of large.WordCount = 149
 large_number_of (large.Part f) = part_number f
+large_number_of large.NoField = 152
+large_number_of large.TooManyValues = 153
 
 -- where the fault of lists lies, or how many there are of what there are too many or too few
 abbrev pub place_of : ListsFault → ℕ

@@ -31,6 +31,10 @@ pub enum LargeCallFault {
     WordCount,
     /// Numbers, words or room do not fit the rows of a part.
     Part(PartFault),
+    /// The program lacks the field that is to be counted.
+    NoField,
+    /// There are more values than are counted.
+    TooManyValues,
 }
 
 impl From<ServeFault> for LargeCallFault {
@@ -92,6 +96,8 @@ impl LargeCallFault {
             LargeCallFault::Lists(fault) => fault.number(),
             LargeCallFault::WordCount => 149,
             LargeCallFault::Part(fault) => part_number(*fault),
+            LargeCallFault::NoField => 152,
+            LargeCallFault::TooManyValues => 153,
         }
     }
 }

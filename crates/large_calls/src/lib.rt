@@ -2,13 +2,18 @@
 //! words in the caller's memory, with no state and no threads.
 #![tactic(auto)]
 
+mod counts;
 mod fault;
 mod lists;
 mod parts;
 mod rounds;
 mod states;
+mod tally;
+mod telling;
+mod told;
 mod watch;
 
+pub use counts::write_large_counts;
 pub use fault::{LargeCallFault, ListsFault};
 pub use lists::check_lists;
 pub use parts::write_part_round;

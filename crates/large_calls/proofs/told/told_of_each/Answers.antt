@@ -4,16 +4,16 @@ use Rattle.large_calls.specs.LargeAnswers.{words_plan}
 use Rattle.large_calls.specs.Lists.{given_weights}
 use Rattle.large_calls.specs.WatchAnswers.{plan_from}
 use Rattle.large_calls.proofs.Watches.{early, none_left}
-use Rattle.large_calls.proofs.watch.listed_words.Goals as goal
+use Rattle.large_calls.proofs.told.told_of_each.Goals as goal
 
 pub returns-then-is_empty-clause-words : goal.returns-then-is_empty-clause-words
 returns-then-is_empty-clause-words c =
     let a = c.args in
     let none : length a.rounds.now ≡ 0 = search rules in
     let plan = words_plan a.program.now (rows_of a.offsets.now a.neighbours.now (given_weights a.neighbours.now a.weights.now)) a.from.now a.start in
-    c.new.ensures.items ∙ sym (none_left plan a.rounds.now none)
+    c.new.ensures.items ∙ sym (none_left a.telling plan a.rounds.now none)
 
-pub watch_lists-requires-clause-early : goal.watch_lists-requires-clause-early
-watch_lists-requires-clause-early c =
+pub told_on_lists-requires-clause-early : goal.told_on_lists-requires-clause-early
+told_on_lists-requires-clause-early c =
     let some : 0 < length c.args.rounds.now = search rules in
     early (plan_from c.args.start) c.args.start c.args.rounds.now some c.requires.there

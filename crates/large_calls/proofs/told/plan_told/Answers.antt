@@ -3,9 +3,9 @@ use Rattle.rounds_plan.specs.Lockstep.{lockstep_config}
 use Rattle.rounds_plan.specs.Plans.{PlanView}
 use Rattle.lockstep.specs.Walking.{RoundView}
 use Rattle.app_calls.specs.Refusals.{word_count}
-use Rattle.app_calls.specs.Words.{words_of}
+use Rattle.large_calls.specs.Tellings.{told_count, told_of}
 use Rattle.large_calls.proofs.Watches.{count_more, is_next, rounds_more}
-use Rattle.large_calls.proofs.watch.plan_words.Goals as goal
+use Rattle.large_calls.proofs.told.plan_told.Goals as goal
 
 pub add_round-requires-clause-late : goal.add_round-requires-clause-late
 add_round-requires-clause-late c =
@@ -17,6 +17,7 @@ add_round-requires-clause-late c =
 
 pub loop-round-preserved : goal.loop-round-preserved
 loop-round-preserved c =
+    let telling = c.args.telling in
     let p = c.args.plan.now in
     let l = c.loop-round in
     let rounds = c.args.rounds.now in
@@ -25,12 +26,12 @@ loop-round-preserved c =
     let next = is_next p l.invariant.rest.0 rounds l.round-index inside l.invariant.rest.2 in
     let e = c.in_ok-add_round.ensures in
     let here : c.add_round.new.walk.round ≡ t = ap (λ (v : RoundView). v.round) e.there in
-    let added : c.add_round.new.words.items ≡ l.words.items ++ words_of (lockstep_config p t) = e.added ∙ ap (λ (q : PlanView). l.words.items ++ words_of (lockstep_config q t)) l.invariant.plan in
-    let count : length (words_of (lockstep_config p t)) ≡ word_count p =
-    ap (λ (q : PlanView). length (words_of (lockstep_config q t))) (sym l.invariant.plan) ∙ e.count ∙ ap word_count l.invariant.plan in
+    let added : c.add_round.new.words.items ≡ l.words.items ++ told_of telling (lockstep_config p t) = e.added ∙ ap (λ (q : PlanView). l.words.items ++ told_of telling (lockstep_config q t)) l.invariant.plan in
+    let count : length (told_of telling (lockstep_config p t)) ≡ told_count telling (word_count p) =
+    ap (λ (q : PlanView). length (told_of telling (lockstep_config q t))) (sym l.invariant.plan) ∙ e.count ∙ ap (λ (q : PlanView). told_count telling (word_count q)) l.invariant.plan in
     record {
       plan = ap (λ (v : RoundView). v.plan) e.there ∙ l.invariant.plan;
       rest = (t + 1, omega (arith, here), next.rest);
-      words = rounds_more p rounds l.words.items _ _ l.round-index inside added l.invariant.words;
-      count = count_more l.words.items _ _ l.round-index (word_count p) added count l.invariant.count;
+      words = rounds_more telling p rounds l.words.items _ _ l.round-index inside added l.invariant.words;
+      count = count_more l.words.items _ _ l.round-index (told_count telling (word_count p)) added count l.invariant.count;
     }

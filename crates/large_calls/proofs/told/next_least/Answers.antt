@@ -2,7 +2,7 @@ use Rattle.std.proofs.Common.{refl}
 use Rattle.std.proofs.lemmas.Result.{err_from_is_err_and}
 use Rattle.large_calls.specs.WatchAnswers.{plan_from}
 use Rattle.large_calls.proofs.Watches.{entry_of}
-use Rattle.large_calls.proofs.watch.next_least.Goals as goal
+use Rattle.large_calls.proofs.told.next_least.Goals as goal
 
 pub returns-in_err-check_span : goal.returns-in_err-check_span
 returns-in_err-check_span c =
