@@ -285,6 +285,53 @@ static void large_watch_faults(void) {
     watch_fault_is("large watch, no words and no room", "field a = 0; field b = 0; next a = b;", path_neighbours, rising, 0, 0, 149, 2);
 }
 
+static void large_counted(void) {
+    const char both[] = "field a = 0; field b = 0; next a = b; next b = total n.a;";
+    const uint32_t far[] = {0, FAR, FAR}, pairs[] = {1, 2, 3, 4, 5, 6}, five[] = {7, 3, 9};
+    uint32_t counts[] = {9, 9, 9, 9, 9, 9, 9, 9, 9, 9, 9, 9, 9, 9, 9, 9}, fields = 9, answer;
+    answer = unison_large_counts(TEXT(distance), PATH_LISTS, NO_WEIGHTS, 0, far, 3, (uint32_t[]){0, 1, 3}, 3, 0, (uint32_t[]){FAR, 0, 1, 2}, 4, counts, 15, &fields);
+    is("large counts", answer == 0 && fields == 1 && are(counts, (uint32_t[]){2, 1, 0, 0, 0, 1, 1, 1, 0, 0, 0, 1, 1, 1, 0, 9}, 16));
+    answer = unison_large_counts(TEXT(distance), PATH_LISTS, NO_WEIGHTS, 0, far, 3, (uint32_t[]){1}, 1, 0, (uint32_t[]){0, FAR, 0}, 3, counts, 5, &fields);
+    is("large counts, a value twice", answer == 0 && are(counts, (uint32_t[]){1, 1, 1, 1, 0}, 5));
+    answer = unison_large_counts(TEXT(distance), PATH_LISTS, NO_WEIGHTS, 5, five, 3, (uint32_t[]){6}, 1, 0, (uint32_t[]){4}, 1, counts, 2, &fields);
+    is("large counts from a later round", answer == 0 && are(counts, (uint32_t[]){2, 1, 1}, 3));
+    answer = unison_large_counts(TEXT(both), PATH_LISTS, NO_WEIGHTS, 0, pairs, 6, (uint32_t[]){0, 1}, 2, 1, (uint32_t[]){3, 4}, 2, counts, 6, &fields);
+    is("large counts, the second field", answer == 0 && fields == 2 && are(counts, (uint32_t[]){0, 1, 2, 2, 0, 1, 1}, 7));
+    answer = unison_large_counts(TEXT(both), PATH_LISTS, NO_WEIGHTS, 0, pairs, 6, (uint32_t[]){0, 1}, 2, 0, far, 0, counts, 2, &fields);
+    is("large counts, no values", answer == 0 && are(counts, (uint32_t[]){3, 3, 2}, 3));
+    answer = unison_large_counts(TEXT(distance), PATH_LISTS, NO_WEIGHTS, 2000000000, far, 3, far, 0, 0, far, 3, counts, 0, &fields);
+    is("large counts, no rounds", answer == 0 && fields == 1 && are(counts, (uint32_t[]){3, 3, 2}, 3));
+    is("large counts, the words to begin with stay", are(far, (uint32_t[]){0, FAR, FAR}, 3));
+}
+
+/* The answer to counts of a field after rounds on lists of four offsets and four neighbours, from so many words, of so many values and with so
+ * much room; the number of fields; and that the counts stay. */
+static void count_fault_is(const char *what, const char *program, const uint32_t neighbours[4], const uint32_t rounds[2], size_t count, uint32_t field,
+                           size_t values, size_t room, uint32_t wanted, uint32_t wanted_fields) {
+    static const uint32_t listed[257];
+    const uint32_t from[] = {0, FAR, FAR, 0};
+    uint32_t counts[] = {9, 9, 9, 9, 9, 9}, fields = 9;
+    uint32_t answer = unison_large_counts(TEXT(program), path_offsets, 4, neighbours, 4, NO_WEIGHTS, 3, from, count, rounds, 2, field, listed, values, counts, room, &fields);
+    is(what, answer == wanted && fields == wanted_fields && are(counts, (uint32_t[]){9, 9, 9, 9, 9, 9}, 6));
+}
+
+static void large_count_faults(void) {
+    const uint32_t loose_neighbours[] = {1, 0, 3, 1}, rising[] = {3, 5}, twice[] = {4, 4}, below[] = {2, 1}, above[] = {3, 1000000001};
+    count_fault_is("large counts, a program that breaks off", "field", loose_neighbours, twice, 2, 1, 257, 5, 18, 9);
+    count_fault_is("large counts, a neighbour that is no node", distance, loose_neighbours, twice, 2, 1, 257, 5, 147, 9);
+    count_fault_is("large counts, a round twice", distance, path_neighbours, twice, 2, 1, 257, 5, 4, 9);
+    count_fault_is("large counts, a round below the start", distance, path_neighbours, below, 2, 1, 257, 5, 81, 9);
+    count_fault_is("large counts, a round that is too large", distance, path_neighbours, above, 2, 1, 257, 5, 80, 9);
+    count_fault_is("large counts, a word too few", distance, path_neighbours, rising, 2, 1, 257, 5, 149, 1);
+    count_fault_is("large counts, a word too many", distance, path_neighbours, rising, 4, 1, 257, 5, 149, 1);
+    count_fault_is("large counts, a field behind the last", distance, path_neighbours, rising, 3, 1, 257, 5, 152, 1);
+    count_fault_is("large counts, a field far behind the last", distance, path_neighbours, rising, 3, FAR, 0, 6, 152, 1);
+    count_fault_is("large counts, a value too many", distance, path_neighbours, rising, 3, 0, 257, 5, 153, 1);
+    count_fault_is("large counts, too little room for 256 values", distance, path_neighbours, rising, 3, 0, 256, 6, 2, 1);
+    count_fault_is("large counts, too little room", distance, path_neighbours, rising, 3, 0, 2, 5, 2, 1);
+    count_fault_is("large counts, no room", distance, path_neighbours, rising, 3, 0, 0, 1, 2, 1);
+}
+
 /* Node 0 and node 1, and node 2 and node 3, of the path 0 - 1 - 2 - 3 as parts: each has the neighbour of its own nodes that is not its own behind them. */
 static const uint64_t left_offsets[] = {0, 1, 3, 3}, right_offsets[] = {0, 2, 3, 3};
 static const uint32_t left_ids[] = {0, 1, 2}, left_neighbours[] = {1, 0, 2}, right_ids[] = {2, 3, 1}, right_neighbours[] = {1, 2, 0};
@@ -345,6 +392,8 @@ int main(void) {
     large_faults();
     large_watched();
     large_watch_faults();
+    large_counted();
+    large_count_faults();
     part_rounds();
     part_faults();
     printf("%d passed, %d failed\n", passed, failed);

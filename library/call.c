@@ -8,6 +8,9 @@
  *     call large PROGRAM PACKED ROUND [INITIAL]   a line for each node, as of lockstep, on the network of any size that `unison pack` made;
  *                                                 INITIAL is what `call watch` printed of one round, to go on from
  *     call large_watch PROGRAM PACKED ROUND..     the same for each round, behind a line with its number, from what the program opens with
+ *     call large_counts PROGRAM PACKED FIELD ROUND VALUES..
+ *                                                 a line for each round up to this one: its number, how many nodes have each of the values in
+ *                                                 the field of this number, and how many have none of them
  *     call why JOB PROGRAM [NETWORK NUMBER [SCHEDULE]]
  *                                                 the number of the first fault, or 0, and what is told of it
  *
@@ -319,6 +322,35 @@ static int show_large_watch(char **words, size_t count) {
     return 0;
 }
 
+static int show_large_counts(char **words, size_t count) {
+    struct text program = read_file(words[0]), packed = read_file(words[1]);
+    struct lists lists;
+    int status = read_lists(words[1], packed, &lists);
+    if (status) return status;
+    uint32_t first[8], fields = 0, answer = open_node(program, first, &fields);
+    if (answer) return fault(answer);
+    size_t size = lists.nodes * fields, told = (size_t)number(words[3]) + 1;
+    uint32_t *from = open_nodes(first, lists.nodes, fields), *rounds = room_for(told, sizeof *rounds), *values = room_for(count, sizeof *values);
+    uint32_t *counts = room_for(told * (count + 1), sizeof *counts);
+    for (size_t i = 0; i < told; i++) rounds[i] = (uint32_t)i;
+    for (size_t i = 0; i < count; i++) values[i] = number(words[4 + i]);
+    answer = unison_large_counts(program.bytes, program.len, LISTS(lists), 0, from, size, rounds, told, number(words[2]), values, count, counts,
+                                 told * (count + 1), &fields);
+    if (answer) return fault(answer);
+    for (size_t i = 0; i < told; i++) {
+        printf("%u", (unsigned)rounds[i]);
+        for (size_t place = 0; place <= count; place++) printf(" %u", (unsigned)counts[i * (count + 1) + place]);
+        putchar('\n');
+    }
+    free(counts);
+    free(values);
+    free(rounds);
+    free(from);
+    free(packed.bytes);
+    free(program.bytes);
+    return 0;
+}
+
 int main(int count, char **words) {
     const char *call = count > 2 ? words[1] : "";
     if (strcmp(call, "check") == 0 && count == 3) return show_check(words[2]);
@@ -328,7 +360,8 @@ int main(int count, char **words) {
     if (strcmp(call, "replay") == 0 && count == 6) return show_replay(words + 2);
     if (strcmp(call, "large") == 0 && (count == 5 || count == 6)) return show_large(words + 2);
     if (strcmp(call, "large_watch") == 0 && count >= 4) return show_large_watch(words + 2, (size_t)count - 4);
+    if (strcmp(call, "large_counts") == 0 && count >= 6) return show_large_counts(words + 2, (size_t)count - 6);
     if (strcmp(call, "why") == 0 && count >= 4) return show_why(words + 2, (size_t)count - 2);
-    fputs("call: check, lockstep, watch, settle, replay, large, large_watch or why, and its files and numbers (call.c tells them)\n", stderr);
+    fputs("call: check, lockstep, watch, settle, replay, large, large_watch, large_counts or why, and its files and numbers (call.c tells them)\n", stderr);
     return 2;
 }

@@ -115,7 +115,7 @@ static void check_answer(uint32_t answer, const char *call) {
         UNISON_RUN_ROUNDS_BELOW_START, UNISON_SCHEDULE_BAD_LINE, UNISON_SCHEDULE_TOO_MANY_STEPS, UNISON_RUN_STOP_TOO_LARGE,
         UNISON_RUN_STOP_BELOW_START, UNISON_REPORT_BAD_LINE, UNISON_REPORT_TOO_MANY_ROUNDS, UNISON_PROGRAM_READS_ROUND,
         UNISON_LIMIT_TOO_LARGE, UNISON_LIMIT_BELOW_START, UNISON_LISTS_NODE_COUNT, UNISON_LISTS_OFFSETS, UNISON_LISTS_NEIGHBOUR,
-        UNISON_LISTS_WEIGHT_COUNT, UNISON_LISTS_WORD_COUNT, UNISON_LISTS_NUMBER_COUNT, UNISON_LISTS_ROOM_COUNT};
+        UNISON_LISTS_WEIGHT_COUNT, UNISON_LISTS_WORD_COUNT, UNISON_LISTS_NUMBER_COUNT, UNISON_LISTS_ROOM_COUNT, UNISON_LISTS_NO_FIELD, UNISON_LISTS_TOO_MANY_VALUES};
     for (size_t i = 0; i < sizeof named; i++) {
         if (answer == named[i]) {
             seen[answer]++;
@@ -468,6 +468,58 @@ static void hit_large_watch(void) {
     drop_texts(&texts, "large_watch");
 }
 
+enum { MOST_VALUES = 256 };
+
+/* The counts of a list of rounds are those of their words, node by node. */
+static void compare_counted(struct texts texts, struct lists lists, uint32_t start, const uint32_t *old, size_t size, const uint32_t *rounds, size_t count,
+                            uint32_t field, const uint32_t *values, size_t valued, const uint32_t *found) {
+    uint32_t words[MOST_WATCHED * MOST_LARGE_WORDS], fields = UNSET;
+    if (unison_large_watch(PROGRAM, LISTS, start, old, size, rounds, count, words, MOST_WATCHED * MOST_LARGE_WORDS, &fields)) fail("counted rounds that are refused", "large_counts");
+    for (size_t i = 0; i < count; i++, found += valued + 1) {
+        uint32_t counts[MOST_VALUES + 1] = {0};
+        for (size_t at = i * size + field; at < (i + 1) * size; at += fields) {
+            int is_value = 0;
+            for (size_t place = 0; place < valued; place++) {
+                counts[place] += words[at] == values[place];
+                is_value |= words[at] == values[place];
+            }
+            counts[valued] += !is_value;
+        }
+        if (memcmp(found, counts, sizeof *counts * (valued + 1)) != 0) fail("other counts than of the words", "large_counts");
+    }
+}
+
+/* Counts after a list of rounds on lists, most of it rising: the answer is what its parts have, and the counts are those of the words. */
+static void hit_large_counts(void) {
+    struct texts texts = draw_texts();
+    struct lists lists = draw_lists(), before = lists;
+    uint32_t old[MOST_LARGE_WORDS], rounds[MOST_WATCHED + 1], values[MOST_VALUES + 1], fields = UNSET, start = (uint32_t)below(5);
+    size_t count = below(MOST_WATCHED + 1), size = lists.nodes * (chance(10) ? below(9) : 1), valued = chance(20) ? MOST_VALUES + below(2) : below(6);
+    uint32_t field = chance(10) ? (uint32_t)draw() : (uint32_t)below(3);
+    for (size_t word = 0; word < MOST_LARGE_WORDS; word++) old[word] = chance(5) ? (uint32_t)draw() : (uint32_t)below(9);
+    for (size_t i = 0; i <= MOST_WATCHED; i++) rounds[i] = chance(20) ? some_round() : (i ? rounds[i - 1] + !chance(20) + (uint32_t)below(3) : start + (uint32_t)below(3));
+    for (size_t place = 0; place <= MOST_VALUES; place++) values[place] = chance(5) ? old[below(MOST_LARGE_WORDS)] : (uint32_t)below(9);
+    uint32_t asked = unison_large_rounds(PROGRAM, LISTS, 0, 0, old, 0, &fields), wanted;
+    if (!chance(10) && (!asked || asked == UNISON_LISTS_WORD_COUNT)) size = lists.nodes * fields;
+    size_t numbers = count * (valued + 1);
+    struct guarded counts = guarded(sizeof(uint32_t) * (chance(4) ? below(numbers + 2) : numbers + below(3)));
+    uint32_t *found = (uint32_t *)(void *)inside(counts);
+    size_t room = counts.len / sizeof(uint32_t);
+    wanted = watch_answer(texts, lists, start, rounds, count, size, SIZE_MAX);
+    if (!wanted && field >= fields) wanted = UNISON_LISTS_NO_FIELD;
+    if (!wanted && valued > MOST_VALUES) wanted = UNISON_LISTS_TOO_MANY_VALUES;
+    if (!wanted && room < numbers) wanted = UNISON_ROOM;
+    fields = UNSET;
+    uint32_t answer = unison_large_counts(PROGRAM, LISTS, start, old, size, rounds, count, field, values, valued, found, room, &fields);
+    check_answer(answer, "large_counts");
+    if (answer != wanted) fail("another answer than its parts have", "large_counts");
+    if ((!answer || answer == UNISON_ROOM || answer == UNISON_LISTS_WORD_COUNT || answer >= UNISON_LISTS_NO_FIELD) == (fields == UNSET)) fail("a number of fields", "large_counts");
+    if (!answer) compare_counted(texts, lists, start, old, size, rounds, count, field, values, valued, found);
+    if (memcmp(&lists, &before, sizeof lists) != 0) fail("wrote into the lists", "large_counts");
+    check_memory(counts, answer ? 0 : sizeof(uint32_t) * numbers, "large_counts");
+    drop_texts(&texts, "large_counts");
+}
+
 /* How many nodes have other words in the new list than in the old one. */
 static size_t count_changed(const uint32_t *old, const uint32_t *new, size_t nodes, size_t fields) {
     size_t count = 0;
@@ -513,7 +565,7 @@ static unsigned long resident(void) {
 }
 
 int main(int count, char **words) {
-    static void (*const hits[])(void) = {hit_check, hit_lockstep, hit_watch, hit_settle, hit_replay, hit_why, hit_large, hit_large_watch, hit_part};
+    static void (*const hits[])(void) = {hit_check, hit_lockstep, hit_watch, hit_settle, hit_replay, hit_why, hit_large, hit_large_watch, hit_large_counts, hit_part};
     if (count < 5) {
         fputs("hammer: SEED CALLS FILE..\n", stderr);
         return 2;

@@ -89,6 +89,14 @@ static uint32_t large_watch(struct room *it) {
     return unison_large_watch(BYTES("field s = 0; next s = total n.s;"), offsets, 4, neighbours, 4, neighbours, 0, 0, from, 3, rounds, 2, it->words, 8, &it->fields);
 }
 
+/* How many nodes have 4, 2 and none of them in the same rounds. */
+static uint32_t large_counts(struct room *it) {
+    static const uint64_t offsets[] = {0, 1, 3, 4};
+    static const uint32_t neighbours[] = {1, 0, 2, 1}, from[] = {1, 2, 3}, rounds[] = {0, 2}, values[] = {4, 2};
+    return unison_large_counts(BYTES("field s = 0; next s = total n.s;"), offsets, 4, neighbours, 4, neighbours, 0, 0, from, 3, rounds, 2, 0, values, 2, it->words, 8,
+                               &it->fields);
+}
+
 /* The middle node of the same path as the own one of a part: from 9, and its neighbours' 3 and 4, it changes to 7. */
 static uint32_t part(struct room *it) {
     static const uint64_t offsets[] = {0, 2, 2, 2};
@@ -106,8 +114,10 @@ static int is_right(const char *name, const struct room *it) {
     int has_shape = it->nodes == 3 && it->fields == 1;
     static const uint32_t summed[] = {0xA5A5A5A5, FAR, 0xA5A5A5A5, 0xA5A5A5A5};
     static const uint32_t changed[] = {7, 0xA5A5A5A5}, both[] = {1, 2, 3, 4, 4, 4, 0xA5A5A5A5};
+    static const uint32_t counted[] = {0, 1, 2, 3, 0, 0, 0xA5A5A5A5};
     if (!strcmp(name, "part")) return it->text_len == 1 && has_numbers(it->words, changed, 2);
     if (!strcmp(name, "large_watch")) return it->fields == 1 && has_numbers(it->words, both, 7);
+    if (!strcmp(name, "large_counts")) return it->fields == 1 && has_numbers(it->words, counted, 7);
     if (!strcmp(name, "large")) return it->fields == 1 && has_numbers(it->words, summed, 4);
     if (!strcmp(name, "check")) return has_text(it, "field dist = 4294967295;\nnext dist = (dist min least (n.dist + 1));\n");
     if (!strcmp(name, "lockstep")) return has_shape && has_numbers(it->words, from_report, 3);
@@ -141,7 +151,7 @@ int main(void) {
     static const struct {
         const char *name;
         uint32_t (*call)(struct room *);
-    } calls[] = {{"check", check}, {"lockstep", lockstep}, {"watch", watch}, {"settle", settle}, {"replay", replay}, {"why", why}, {"large", large}, {"large_watch", large_watch}, {"part", part}};
+    } calls[] = {{"check", check}, {"lockstep", lockstep}, {"watch", watch}, {"settle", settle}, {"replay", replay}, {"why", why}, {"large", large}, {"large_watch", large_watch}, {"large_counts", large_counts}, {"part", part}};
     for (size_t at = 0; at < sizeof calls / sizeof *calls; ++at) {
         unsigned long number = 0, told = 0;
         do {

@@ -78,14 +78,16 @@ enum unison_fault {
     UNISON_LIMIT_TOO_LARGE = 129,
     UNISON_LIMIT_BELOW_START = 130,
 
-    UNISON_LISTS_NODE_COUNT = 144,          /* calls on lists alone, to 151 */
+    UNISON_LISTS_NODE_COUNT = 144,          /* calls on lists alone, to 153 */
     UNISON_LISTS_OFFSETS = 145,
     UNISON_LISTS_TOO_MANY_NEIGHBOURS = 146,
     UNISON_LISTS_NEIGHBOUR = 147,
     UNISON_LISTS_WEIGHT_COUNT = 148,
-    UNISON_LISTS_WORD_COUNT = 149,          /* unison_large_rounds and unison_large_watch, which set *fields, and unison_part_round */
+    UNISON_LISTS_WORD_COUNT = 149,          /* unison_large_rounds, unison_large_watch and unison_large_counts, which set *fields, and unison_part_round */
     UNISON_LISTS_NUMBER_COUNT = 150,        /* unison_part_round alone, to 151 */
-    UNISON_LISTS_ROOM_COUNT = 151
+    UNISON_LISTS_ROOM_COUNT = 151,
+    UNISON_LISTS_NO_FIELD = 152,            /* unison_large_counts alone, which sets *fields, to 153 */
+    UNISON_LISTS_TOO_MANY_VALUES = 153
     /* (end of what is made) */
 };
 
@@ -188,6 +190,21 @@ uint32_t unison_large_watch(const uint8_t *program, size_t program_len, const ui
                             const uint32_t *neighbours, size_t neighbours_len, const uint32_t *weights, size_t weights_len,
                             uint32_t start, const uint32_t *from, size_t from_len, const uint32_t *rounds, size_t rounds_len,
                             uint32_t *words, size_t words_room, uint32_t *fields);
+
+/* How many nodes have each of some values in a field after each of these rounds, at the front of counts, one round behind the
+ * other: values_len numbers in the order of the values, and last how many nodes have none of them; so rounds_len times
+ * values_len + 1 of them, all in one pass over the rounds, of which no words are laid out. field counts from 0 in order of
+ * declaration; there are 256 values at most, and a value may stand there twice. The program, the lists, start, from and rounds are
+ * as with unison_large_watch, and so are the faults and their order: behind that of from_len come UNISON_LISTS_NO_FIELD where the
+ * program lacks the field, UNISON_LISTS_TOO_MANY_VALUES, and UNISON_ROOM where counts_room is too little for the counts of all
+ * rounds. *fields is set with these, with UNISON_LISTS_WORD_COUNT, and where the answer is 0; no round is computed unless it is 0.
+ * With rounds_len 0 no counts are written. While the call runs it has what unison_large_rounds has, the counts of all rounds once
+ * more, and 4 bytes for each node. */
+uint32_t unison_large_counts(const uint8_t *program, size_t program_len, const uint64_t *offsets, size_t offsets_len,
+                             const uint32_t *neighbours, size_t neighbours_len, const uint32_t *weights, size_t weights_len,
+                             uint32_t start, const uint32_t *from, size_t from_len, const uint32_t *rounds, size_t rounds_len,
+                             uint32_t field, const uint32_t *values, size_t values_len, uint32_t *counts, size_t counts_room,
+                             uint32_t *fields);
 
 /* The words of a part's own nodes after the step from a round, for engines that split a network and keep the states themselves:
  * the part has its own nodes and, behind them, those that are only neighbours of them. ids has the number of each of these nodes

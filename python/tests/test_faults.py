@@ -100,7 +100,7 @@ def test_each_fault_has_its_number_name_and_place():
 def test_each_number_is_met():
     """All but Memory and Room, which are other things to Python, the three that no call of the package can have, those of parts, which it
     does not call, and that of a node with more than 4,294,967,295 neighbours, which would take 16 GiB."""
-    assert {number for number, *_ in CASES} | {3, 5, 146, 149, 150, 151} == set(faults.FAULTS)
+    assert {number for number, *_ in CASES} | {3, 5, 146, 149, 150, 151, 152, 153} == set(faults.FAULTS)
 
 
 def test_the_numbers_are_those_of_the_header():

@@ -58,6 +58,8 @@ FAULTS: Dict[int, Tuple[str, str]] = {
     149: ("lists", "WordCount"),
     150: ("lists", "NumberCount"),
     151: ("lists", "RoomCount"),
+    152: ("lists", "NoField"),
+    153: ("lists", "TooManyValues"),
     # (end of what is made)
 }
 

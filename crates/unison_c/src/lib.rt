@@ -9,6 +9,7 @@ ghost use Rattle.app_calls.specs.Jobs.{HasJobWith, IsFirstNumber};
 ghost use Rattle.app_calls.specs.Numbers.{IsNumberOf};
 ghost use Rattle.app_calls.specs.Refusals.{AreNoRounds, IsNoReplay, IsNoRound, IsNoSettling, IsRefusedPlan, IsUnspelled, IsUntold, is_job};
 ghost use Rattle.large_net.specs.Large.{AreLaidOut};
+ghost use Rattle.large_calls.specs.CountAnswers.{HaveLargeCounts, IsRefusedCounts};
 ghost use Rattle.large_calls.specs.LargeAnswers.{HasLargeRounds, IsRefusedRounds};
 ghost use Rattle.large_calls.specs.PartAnswers.{HasPartRound, IsRefusedPart};
 ghost use Rattle.large_calls.specs.WatchAnswers.{HaveLargeRounds, IsRefusedWatch};
@@ -18,7 +19,9 @@ ghost use Rattle.large_calls.specs.ListNumbers.{IsLargeNumberOf, IsToldLists};
 use app_calls::{
     write_reason, write_replay, write_round, write_rounds, write_settling, write_spelling,
 };
-use large_calls::{check_lists, write_large_rounds, write_large_watch, write_part_round};
+use large_calls::{
+    check_lists, write_large_counts, write_large_rounds, write_large_watch, write_part_round,
+};
 use std::alloc::Global;
 
 /// The number of the fault of too little room.
@@ -26,6 +29,12 @@ const ROOM: u32 = 2;
 
 /// The number of the fault of a wrong number of words.
 const WORD_COUNT: u32 = 149;
+
+/// The number of the fault of a field that the program lacks.
+const NO_FIELD: u32 = 152;
+
+/// The number of the fault of too many values.
+const TOO_MANY_VALUES: u32 = 153;
 
 /// Writes the canonical spelling of a program to the front of the text, and how long it is; where there is too little room,
 /// how long it is alone. A program of more than 65,536 bytes takes no memory.
@@ -268,6 +277,42 @@ pub extern "C" fn unison_large_watch(
 {
     let done = write_large_watch(
         alloc, program, offsets, neighbours, weights, start, from, rounds, words, fields,
+    );
+    match done {
+        Ok(()) => 0,
+        Err(fault) => fault.number(),
+    }
+}
+
+/// Writes how many nodes have each of the values in a field after each of the rounds, and last in each round how many have none of
+/// them, to the front of the counts, one round behind the other, on a network of any size whose nodes have the words `from` after
+/// the start, and how many fields there are; where there is not one word in `from` for each field of each node, no such field, too
+/// many values or too little room, how many fields there are alone, and then no round is computed. All is done in one pass over
+/// the rounds, each of which is above the one before it.
+#[unsafe(no_mangle)]
+pub extern "C" fn unison_large_counts(
+    alloc: Global,
+    program: &[u8],
+    offsets: &[usize],
+    neighbours: &[u32],
+    weights: &[u32],
+    start: u32,
+    from: &[u32],
+    rounds: &[u32],
+    field: u32,
+    values: &[u32],
+    counts: &mut [u32],
+    fields: &mut u32,
+) -> u32
+    ensures written { result ≡ 0 → HaveLargeCounts program.now offsets.now neighbours.now weights.now start from.now rounds.now field values.now counts.old counts.new fields.new }
+    ensures kept { result ≢ 0 → counts.new ≡ counts.old }
+    ensures sized { result ≢ 0 → result ≢ WORD_COUNT → result ≢ NO_FIELD → result ≢ TOO_MANY_VALUES → result ≢ ROOM → fields.new ≡ fields.old }
+    ensures refused { result ≢ 0 → IsLargeNumberOf (IsRefusedCounts program.now offsets.now neighbours.now weights.now start from.now rounds.now field (length values.now) (length counts.old) fields.new) result }
+    ensures long { 65536 < length program.now → result ≡ 16 }
+{
+    let done = write_large_counts(
+        alloc, program, offsets, neighbours, weights, start, from, rounds, field, values, counts,
+        fields,
     );
     match done {
         Ok(()) => 0,
