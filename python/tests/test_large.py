@@ -65,6 +65,26 @@ def test_watched_words_on_random_rows():
     assert refused.name == "NotRising"
 
 
+def test_counted_nodes_on_random_rows():
+    """Of each of two fields, beside the words of the same rounds: values in any order, twice, and that no node has."""
+    rule = unison.Program(TOTALS)
+    for seed in range(25):
+        rows = random_rows(seed, 1 + seed % 9)
+        given = unison.Network.from_arrays(*lists_of(rows))
+        opening = array("I", [word for node in range(len(rows)) for word in (3 + node, 0)])
+        asked, values = [7, 9, 12], [4, 0, 1008, 4, *range(1, seed)]
+        seen = _calls.large_watch(rule.text, given._lists(), 7, opening, len(opening), asked)
+        for field in range(2):
+            found = _calls.large_counts(rule.text, given._lists(), 7, opening, len(opening), asked, field, values)
+            columns = [seen[place * len(opening) + field : (place + 1) * len(opening) : 2] for place in range(len(asked))]
+            expected = [[*(column.count(value) for value in values), sum(word not in values for word in column)] for column in columns]
+            assert list(found) == [number for row in expected for number in row], (seed, field)
+    call = lambda *rest: _calls.large_counts(rule.text, given._lists(), 7, opening, len(opening), *rest)  # noqa: E731
+    assert list(call([], 0, [1])) == [] and list(call([7], 0, [])) == [len(rows)]
+    for number, asked in ((4, ([9, 9], 0, [1])), (152, ([9], 2, [1])), (153, ([9], 1, range(257)))):
+        assert raised(unison.UnisonError, lambda: call(*asked)).number == number
+
+
 def test_large_and_small_networks_agree():
     for name, rule, rounds in (("karate", "distance", 3), ("votes", "majority", 4), ("weighted", "shortest_paths", 2), ("cells", "rule_110", 3)):
         small, rules = network(name), program(rule)

@@ -50,6 +50,30 @@ def test_counts_of_values_of_every_size():
         assert {key: value for key, value in found.items() if key not in ("s", "round")} == {str(value): values.count(value) for value in sorted(set(values))}
 
 
+def test_counts_are_the_same_whatever_values_the_library_is_asked_for():
+    """Small values are asked for at first, then those that occurred, and no more where there are too many; without the call the words are counted."""
+    from unison import _runs
+
+    rule, nodes = STEP, unison.Network(5, [])
+    before = _runs.counts_found
+    for steps in ([1], [2, 9], [1000, 1, 0, 4294967295]):
+        values = {"s": [[0, 1, 2, 3, 3], 7, [5, 5, 5, 5, 4294967290]], "step": steps}
+        found = unison.sweep(rule, nodes, values, range(0, 9, 2), count="s", workers=1)
+        _runs.counts_found = lambda *_: None
+        try:
+            assert unison.sweep(rule, nodes, values, range(0, 9, 2), count="s", workers=2).rows == found.rows, steps
+        finally:
+            _runs.counts_found = before
+    known = _runs.Values(rule, "s")
+    assert known.listed == tuple(range(8))
+    known.add([_runs.Found({}, {("s", 700): 1, ("s", 9): 0})])
+    assert known.listed == (*range(8), 700)
+    known.add([_runs.Found({}, {("s", value): 1 for value in range(300)})])
+    assert known.listed is None
+    known.add([_runs.Found({}, {("s", 1): 1})])
+    assert known.listed is None, "too many values stay too many"
+
+
 def test_several_fields_are_counted_apart():
     two = unison.Program("field a = 1; field b = 2; next a = b; next b = a;")
     found = unison.sweep(two, unison.Network(2, []), {}, [0, 1], count=["a", "b"])

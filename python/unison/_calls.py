@@ -210,3 +210,27 @@ def large_watch(
     )  # fmt: skip
     refuse(answer, CHECK, Texts(program), 0)
     return cut(words, room)
+
+
+def large_counts(
+    program: bytes,
+    lists: Tuple[int, ...],
+    start: int,
+    initial: "array[int]",
+    count: int,
+    rounds: Sequence[int],
+    field: int,
+    values: Sequence[int],
+) -> "array[int]":
+    """How many nodes have each of some values in the field at a place after each of some rounds, and last in each round how many have none of
+    them, from so many words of the start."""
+    listed, wanted = (array("I", given) if given else room_for(0) for given in (rounds, values))
+    room, fields = len(rounds) * (len(values) + 1), ctypes.c_uint32(0)
+    counts = room_for(room)
+    call = _library.load().unison_large_counts
+    answer = call(
+        program, len(program), *lists, start, address(initial), count, address(listed), len(rounds),
+        field, address(wanted), len(values), address(counts), room, ctypes.byref(fields),
+    )  # fmt: skip
+    refuse(answer, CHECK, Texts(program), 0)
+    return cut(counts, room)

@@ -29,6 +29,7 @@ CALLS = {
     "unison_large_check": LISTS + [POINTER],
     "unison_large_rounds": TEXT + LISTS + [U32, U32, POINTER, SIZE, POINTER],
     "unison_large_watch": TEXT + LISTS + [U32] + [POINTER, SIZE] * 3 + [POINTER],
+    "unison_large_counts": TEXT + LISTS + [U32] + [POINTER, SIZE] * 2 + [U32] + [POINTER, SIZE] * 2 + [POINTER],
     "unison_part_round": TEXT + [POINTER, SIZE] + LISTS + [U32] + [POINTER, SIZE] * 2 + [POINTER],
 }
 

@@ -2,6 +2,7 @@
 
 from __future__ import annotations
 
+import os
 from collections import Counter
 from concurrent.futures import ThreadPoolExecutor
 from typing import Any, Callable, Dict, Iterator, List, Mapping, NamedTuple, Optional, Sequence, Tuple
@@ -31,12 +32,31 @@ class Asked(NamedTuple):
     def is_nothing(self) -> bool:
         return not self.counted and not self.totals and self.of is None
 
+    def is_one_count(self) -> bool:
+        return len(self.counted) == 1 and not self.totals and self.of is None
+
 
 class Found(NamedTuple):
     """What was found in a round: numbers by their columns, and how many nodes have a value, by field and value."""
 
     numbers: Row
     counts: Dict[Tuple[str, int], int]
+
+
+class Values:
+    """The values of a field that the library is asked to count, for all runs of a sweep: the states that the model names, or small ones, and
+    then also those that occurred. None where there are too many."""
+
+    def __init__(self, program: Program, field: str) -> None:
+        states = program.states.get(field, ()) if isinstance(program, Model) else ()
+        self.field = field
+        self.listed: Optional[Tuple[int, ...]] = tuple(range(len(states) or FEW))
+
+    def add(self, found: Sequence[Found]) -> None:
+        """Takes up the values that occurred in a run."""
+        occurred = {value for part in found for (_, value), nodes in part.counts.items() if nodes}
+        values = sorted(occurred.union(self.listed or ()))
+        self.listed = tuple(values) if self.listed is not None and len(values) <= MOST_VALUES else None
 
 
 class Plan(NamedTuple):
@@ -48,6 +68,12 @@ class Plan(NamedTuple):
     rounds: List[int]
     from_: Optional[States]
     asked: Asked
+    values: Optional[Values]  # of the field that is counted, where nothing else is told of a round
+
+
+def processors() -> int:
+    """How many processors this process has."""
+    return len(os.sched_getaffinity(0)) if hasattr(os, "sched_getaffinity") else os.cpu_count() or 1
 
 
 def in_threads(call: Callable[[Any], Any], given: Sequence[Any], workers: int) -> List[Any]:
@@ -67,10 +93,31 @@ def rounds_found(plan: Plan, run: Dict[str, Any]) -> List[Found]:
     program = plan.program.with_constants(constants) if isinstance(plan.program, Model) and constants else plan.program
     lists = with_values(plan, {name: value for name, value in run.items() if name in fields})
     start = large.start_of(program, lists, plan.from_)
+    counted = None if plan.values is None else counts_found(program, start, plan.rounds, plan.values)
+    if counted is not None:
+        return counted
     found: List[Found] = []
-    for block in blocks_of(program, start, plan):
+    for block in blocks_of_rounds(program, start, plan.rounds, plan.network._names):
         found.extend(told_of(block, plan.asked))
+    if plan.values is not None:
+        plan.values.add(found)
     return found
+
+
+def counts_found(program: Program, start: Start, rounds: Sequence[int], values: Values) -> Optional[List[Found]]:
+    """How many nodes have each value of a field, as the library counts them, which lays out no words of all nodes. None where a node has
+    a value that the library was not asked for, or where there are too many values."""
+    listed = values.listed
+    if listed is None:
+        return None
+    width = len(listed) + 1
+    counts = large.counts_after_each(program, start, rounds, values.field, listed)
+    if any(counts[width - 1 :: width]):
+        return None
+    return [
+        Found({}, {(values.field, value): nodes for value, nodes in zip(listed, counts[place : place + width]) if nodes})
+        for place in range(0, len(counts), width)
+    ]
 
 
 def with_values(plan: Plan, values: Mapping[str, Any]) -> LargeNetwork:
@@ -85,14 +132,14 @@ def numbered(network: AnyNetwork, values: Mapping[Any, int]) -> Dict[int, int]:
     return {network.number(node): value for node, value in values.items()}
 
 
-def blocks_of(program: Program, start: Start, plan: Plan) -> Iterator[Rounds]:
+def blocks_of_rounds(program: Program, start: Start, asked: Sequence[int], names: Optional[Sequence[Any]]) -> Iterator[Rounds]:
     """The rounds, as many at once as are held in memory."""
-    nodes, size = plan.lists.nodes, plan.lists.nodes * len(program.fields)
+    nodes, size = start.lists.nodes, start.lists.nodes * len(program.fields)
     several = max(1, BLOCK // max(size, 1))
-    for place in range(0, len(plan.rounds), several):
-        rounds = plan.rounds[place : place + several]
+    for place in range(0, len(asked), several):
+        rounds = asked[place : place + several]
         words = large.words_of_each(program, start, rounds)
-        yield Rounds(rounds, program.fields, nodes, words, plan.network._names)
+        yield Rounds(rounds, program.fields, nodes, words, names)
         start = Start(start.lists, rounds[-1], words[len(words) - size :] or _calls.room_for(0))
 
 

@@ -249,6 +249,15 @@ def words_after(program: Program, start: Start, round: int) -> "array[int]":
     return _calls.cut(start.words, size)
 
 
+def counts_after_each(program: Program, start: Start, rounds: Sequence[int], field: str, values: Sequence[int]) -> "array[int]":
+    """How many nodes have each of some values of a field after each of some rounds, and last in each round how many have none of them, one
+    round behind the other, all in one pass."""
+    check_rising(rounds)
+    size = start.lists.nodes * len(program.fields)
+    place = program.fields.index(field)
+    return _calls.large_counts(program.text, start.lists._lists(), start.round, start.words, size, rounds, place, values)
+
+
 def is_rising(rounds: Sequence[int]) -> bool:
     """Whether each round is above the one before it."""
     return all(before < after for before, after in zip(rounds, rounds[1:]))

@@ -3,11 +3,10 @@
 from __future__ import annotations
 
 import itertools
-import os
 from typing import Any, Callable, Dict, Iterable, Iterator, List, Mapping, Optional, Sequence, Tuple, Union
 
 from . import _checks, _notebook, faults, jobs
-from ._runs import Asked, Found, Plan, Row, check_few, in_threads, rounds_found
+from ._runs import Asked, Found, Plan, Row, Values, check_few, in_threads, processors, rounds_found
 from .jobs import AnyNetwork
 from .model import Model
 from .program import Program
@@ -137,7 +136,8 @@ def sweep(
     listed = rounds_of(rounds)
     shown = listed[-1:] if asked.is_nothing() else listed
     check_start(rules, links, from_)
-    plan = Plan(rules, links, jobs.lists_for("sweep", rules, links), shown, from_, asked)
+    counted = Values(rules, asked.counted[0]) if asked.is_one_count() else None
+    plan = Plan(rules, links, jobs.lists_for("sweep", rules, links), shown, from_, asked, counted)
     runs = list(itertools.product(*values.values()))
     found = in_threads(lambda run: rounds_found(plan, dict(zip(values, run))), runs, workers_of(workers))
     heads = [{**dict(zip(values, run)), "round": round} for run in runs for round in shown]
@@ -197,7 +197,7 @@ def check_start(program: Program, network: AnyNetwork, from_: Any) -> None:
 def workers_of(workers: Any) -> int:
     """How many threads there are: as many as this process has processors, where it is not told."""
     if workers is None:
-        return len(os.sched_getaffinity(0)) if hasattr(os, "sched_getaffinity") else os.cpu_count() or 1
+        return processors()
     return _checks.whole("sweep", "workers", workers, 1)
 
 
