@@ -160,6 +160,34 @@ def test_counts_of_a_large_network():
     assert raised(unison.PlanError, lambda: unison.count(model, large.with_set({"stat": 1}), 1)).name == "UnknownField"
 
 
+def test_all_that_is_asked_for_on_a_large_network():
+    """The same as on a small one: figures, what ends the rounds, runs, and their means."""
+    model, one = unison.Model.from_file(EXAMPLES / "models" / "epidemic.model"), network("karate").with_set({"state": {0: 1, 33: 1}})
+    ends = [[link[part] for link in one.links] for part in range(2)]
+    large = unison.Network.from_edges(*ends, set={"state": {0: 1, 33: 1}})
+    for asked in (
+        {"sum": "state", "least": "state", "most": ["state"]},
+        {"until": {"state": "infected"}},
+        {"until": {"state": 2}, "sum": "state"},
+        {"constants": {"seed": 4}},
+        {"constants": {"seed": [4, 2], "infection": 9000}, "until": {"state": "infected"}},
+        {"constants": {"seed": [7]}, "mean": True},
+        {"constants": {"seed": range(1, 6)}, "mean": True, "sum": "state"},
+        {"constants": {"seed": range(1, 6)}, "mean": True, "until": {"state": "infected"}},
+    ):
+        assert unison.count(model, large, range(0, 41, 2), **asked) == unison.count(model, one, range(0, 41, 2), **asked), asked
+    many = unison.Model("const less = 0; field s = 0; next s = id - less;")
+    edges = (range(69), range(1, 70))
+    for asked in ({"sum": "s"}, {"constants": {"less": [0, 3]}, "most": "s"}, {"constants": {"less": [0, 3]}, "mean": True}):
+        assert unison.count(many, unison.Network.from_edges(*edges), 1, **asked) == unison.count(many, path(70), 1, **asked), asked
+    start = unison.lockstep(model, large, 2)
+    assert unison.count(model, large, [2, 3], from_=start, sum="state") == unison.count(model, one, [2, 3], from_=start, sum="state")
+    told = str(raised(ValueError, lambda: unison.count(model, large, 1, constants={"seed": [3, 3]})))
+    assert told == "count: a value of constants['seed'] is given twice"
+    told = str(raised(ValueError, lambda: unison.count(model, large, 1, constants={"seed": range(1001)})))
+    assert told == "count: constants['seed'] has 1001 values: 1000 at most may be counted together"
+
+
 def test_the_curves_are_the_counts():
     """The points of the curves in the picture are rounds and counts."""
     counts = unison.count(unison.Program(DISTANCE), path(4, dist={0: 0}), 3)

@@ -8,7 +8,8 @@ import io
 from base64 import b64encode
 from typing import Any, Dict, Iterator, List, Mapping, NamedTuple, Optional, Sequence, Tuple, Union
 
-from . import _checks, _files, _packed
+from . import _checks, _counted, _files, _packed
+from ._runs import processors
 from .faults import Missing
 from .large import LargeNetwork
 from .model import Model, constants_of
@@ -218,8 +219,8 @@ def count(
     """How many nodes have each value of a field, round by round: counted by the proved program in one pass.
 
     - `program`: a `Program`, or a `Model`, whose states are the names of columns.
-    - `network`: a `Network`; or a `LargeNetwork`, for which rounds are made by as many threads as there are processors, and which takes no
-      `sum`, `least`, `most`, `until`, `constants`, and no text for `from_`.
+    - `network`: a `Network`; or a `LargeNetwork`, which takes no text for `from_`. Its rounds are made by as many threads as there are
+      processors; where more is asked for than the counts, by one for each run.
     - `rounds`: the last round, counted from round 0, 1,000,000,000 at most: all up to it are counted; or rounds that are evenly apart, as
       `range(0, 101, 10)`.
     - `field`: the field whose values are counted; may be left out where the program has one alone.
@@ -240,17 +241,20 @@ def count(
     """
     rules = _checks.program("count", program)
     named = _checks.only_field("count", "field", field, rules)
+    given, several = constants_given(rules, constants), constant_of_several(constants)
+    if _checks.flag("count", "mean", mean) and several is None:
+        raise ValueError("count: mean is True, and no constant has several values, as constants={'seed': range(20)}, of which there are means")
     if isinstance(network, LargeNetwork):
-        plain_only(sum=sum, least=least, most=most, until=until, constants=constants, mean=mean)
-        return large_counts(rules, network, rounds, named, from_)
-    given = constants_given(rules, constants)
+        figures = [(kind, name) for kind, asked in (("sum", sum), ("least", least), ("most", most)) for name in _checks.fields("count", kind, asked, rules)]
+        if not figures and until is None and not given:
+            return large_counts(rules, network, rounds, named, from_)
+        wanted = _counted.Asked(named, range_of("count", rounds), figures, None if until is None else until_value(rules, until))
+        return counts_on_lists(rules, network, wanted, constants or {}, several, mean, from_)
     job = _files.job_of("count", rules, network, from_, given)
     words = ["count", *_files.span_words("count", rounds), f"--field={named}", *column_words(rules, sum, least, most)]
     if until is not None:
-        words.append(until_word(rules, until))
-    if _checks.flag("count", "mean", mean):
-        if constants is None or all(map(_checks.is_whole, constants.values())):
-            raise ValueError("count: mean is True, and no constant has several values, as constants={'seed': range(20)}, of which there are means")
+        words.append("--until={}={}".format(*until_value(rules, until)))
+    if mean:
         return Counts(*table_of(job.run(*words, "--mean").decode("utf-8")), named)
     table = table_of(job.run(*words).decode("utf-8"))
     asked = None if given or until is not None else Asked(rules, network, range_of("count", rounds), named, from_)
@@ -307,20 +311,29 @@ def column_words(program: Program, sum: Any, least: Any, most: Any) -> List[str]
     return [f"--{name}={field}" for name, given in asked.items() for field in _checks.fields("count", name, given, program)]
 
 
-def until_word(program: Program, until: Any) -> str:
-    """The word for the value without which the counts end."""
+def until_value(program: Program, until: Any) -> Tuple[str, int]:
+    """The field, and the value without which the counts end."""
     if not isinstance(until, Mapping) or len(until) != 1:
         _checks.refuse("count", "until", until, "a dict from one field to a value or a state, as {'state': 'infected'}, is wanted")
     ((name, value),) = until.items()
     field = _checks.field("count", "until", name, program)
-    return f"--until={field}={value_of('count', f'until[{field!r}]', program, field, value)}"
+    return field, value_of("count", f"until[{field!r}]", program, field, value)
 
 
-def plain_only(**given: Any) -> None:
-    """Raises where something is asked for that is not counted on a large network."""
-    for name, value in given.items():
-        if value is not None and value is not False and value != ():
-            raise ValueError(f"count: {name} is given, and the network is a unison.LargeNetwork: a unison.Network is wanted for it")
+def constant_of_several(constants: Optional[Mapping[str, Values]]) -> Optional[str]:
+    """The constant that has several values, where one has."""
+    return next((name for name, value in (constants or {}).items() if not _checks.is_whole(value)), None)
+
+
+def counts_on_lists(
+    program: Program, network: LargeNetwork, asked: _counted.Asked, constants: Mapping[str, Values], several: Optional[str], mean: bool, from_: Any
+) -> Counts:
+    """The counts on a large network with more than the values of a field: the library makes the rounds."""
+    states = program.states.get(asked.field, ()) if isinstance(program, Model) else ()
+    runs = _counted.runs_of(program, network, asked, constants, several, from_, processors())
+    if mean:
+        return Counts(*_counted.means_of(runs, asked, states), asked.field)
+    return counts_of(_counted.table_of(runs, asked, several, states), program, asked.field, None)
 
 
 def large_counts(program: Program, network: LargeNetwork, rounds: Any, field: str, from_: Any) -> Counts:

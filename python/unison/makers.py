@@ -5,14 +5,16 @@ from __future__ import annotations
 
 from fractions import Fraction
 from numbers import Rational, Real
-from typing import TYPE_CHECKING, Any, Mapping, Optional, Tuple, cast
+from typing import TYPE_CHECKING, Any, Mapping, Optional, Tuple, Union
 
 from . import _checks, _programs, faults
 
 if TYPE_CHECKING:
+    from .large import LargeNetwork
     from .network import InitialValues, Network
 
     Sets = Optional[Mapping[str, InitialValues]]
+    AnyNetwork = Union[Network, LargeNetwork]
 
 MOST_NODES, MOST_LINKS, MOST_NEIGHBOURS = 65536, 262144, 4096  # of a `Network`
 PACKED = ("path", "ring", "grid", "torus", "random", "preferential", "small-world")  # of any size
@@ -78,19 +80,25 @@ class Recipe:
         beyond = nodes > MOST_NODES or self.links > MOST_LINKS
         return beyond and self.packs and not any(word.startswith("--weights") for word in self.words)
 
-    def made(self, kind: Any, set: Sets, nodes: Optional[int] = None) -> Network:
-        """The network, with these initial values: a `Network`, or a large one, which types do not tell apart."""
-        large = self.is_large(self.sizes[0] if nodes is None else nodes)
+    def told(self, command: str) -> bytes:
+        """What the command prints."""
         try:
-            told = _programs.run(["pack" if large else "generate", *self.words])
+            return _programs.run([command, *self.words])
         except faults.UsageError as error:
             raise faults.in_words_of_calls(error, self.call) from None
-        if large:
-            from . import _packed
 
-            return cast("Network", _packed.read(told, set))
-        network: Network = kind.from_text(told)
+    def made(self, kind: Any, set: Sets) -> Network:
+        """The network, with these initial values."""
+        network: Network = kind.from_text(self.told("generate"))
         return network if set is None else network.with_set(set)
+
+    def made_of_any_size(self, kind: Any, set: Sets, nodes: Optional[int] = None) -> AnyNetwork:
+        """The network, with these initial values: a large one where it is beyond the limits of a `Network`."""
+        if not self.is_large(self.sizes[0] if nodes is None else nodes):
+            return self.made(kind, set)
+        from . import _packed
+
+        return _packed.read(self.told("pack"), set)
 
 
 class Makers:
@@ -104,14 +112,14 @@ class Makers:
     """
 
     @classmethod
-    def path(cls, n: int, *, weights: Weights = None, seed: Optional[int] = None, set: Sets = None) -> Network:
+    def path(cls, n: int, *, weights: Weights = None, seed: Optional[int] = None, set: Sets = None) -> AnyNetwork:
         """Each of `n` nodes is linked with the next one."""
         recipe = Recipe("path", "path", {"n": n})
         recipe.weights(weights, seed)
-        return recipe.made(cls, set)
+        return recipe.made_of_any_size(cls, set)
 
     @classmethod
-    def ring(cls, n: int, *, weights: Weights = None, seed: Optional[int] = None, set: Sets = None) -> Network:
+    def ring(cls, n: int, *, weights: Weights = None, seed: Optional[int] = None, set: Sets = None) -> AnyNetwork:
         """A path of `n` nodes, 3 or more, whose last node is linked with the first.
 
         >>> import unison
@@ -120,7 +128,7 @@ class Makers:
         """
         recipe = Recipe("ring", "ring", {"n": n})
         recipe.weights(weights, seed)
-        return recipe.made(cls, set)
+        return recipe.made_of_any_size(cls, set)
 
     @classmethod
     def star(cls, n: int, *, weights: Weights = None, seed: Optional[int] = None, set: Sets = None) -> Network:
@@ -161,18 +169,18 @@ class Makers:
     @classmethod
     def grid(
         cls, w: int, h: int, diagonals: bool = False, *, weights: Weights = None, seed: Optional[int] = None, set: Sets = None
-    ) -> Network:
+    ) -> AnyNetwork:
         """`w` nodes in each of `h` rows, row by row, each linked with those beside it, above it and below it; with `diagonals` with the
         four beside its corners, too."""
         recipe = Recipe("grid", "grid", {"w": w, "h": h})
         recipe.packs = not recipe.diagonals(diagonals)
         recipe.weights(weights, seed)
-        return recipe.made(cls, set, recipe.sizes[0] * recipe.sizes[1])
+        return recipe.made_of_any_size(cls, set, recipe.sizes[0] * recipe.sizes[1])
 
     @classmethod
     def torus(
         cls, w: int, h: int, diagonals: bool = False, *, weights: Weights = None, seed: Optional[int] = None, set: Sets = None
-    ) -> Network:
+    ) -> AnyNetwork:
         """A grid of `w` nodes in each of `h` rows, 3 or more each, whose rows and columns are rings.
 
         >>> import unison
@@ -182,7 +190,7 @@ class Makers:
         recipe = Recipe("torus", "torus", {"w": w, "h": h})
         recipe.links = (4 if recipe.diagonals(diagonals) else 2) * recipe.sizes[0] * recipe.sizes[1]
         recipe.weights(weights, seed)
-        return recipe.made(cls, set, recipe.sizes[0] * recipe.sizes[1])
+        return recipe.made_of_any_size(cls, set, recipe.sizes[0] * recipe.sizes[1])
 
     @classmethod
     def hex(cls, w: int, h: int, *, weights: Weights = None, seed: Optional[int] = None, set: Sets = None) -> Network:
@@ -193,12 +201,12 @@ class Makers:
         return recipe.made(cls, set)
 
     @classmethod
-    def random(cls, n: int, links: int, seed: int, *, weights: Weights = None, set: Sets = None) -> Network:
+    def random(cls, n: int, links: int, seed: int, *, weights: Weights = None, set: Sets = None) -> AnyNetwork:
         """`links` links between `n` nodes, all sets of so many equally likely."""
         recipe = Recipe("random", "random", {"n": n})
         recipe.links = recipe.number("links", links)
         recipe.drawn(weights, seed)
-        return recipe.made(cls, set)
+        return recipe.made_of_any_size(cls, set)
 
     @classmethod
     def gnp(cls, n: int, probability: float, seed: int, *, weights: Weights = None, set: Sets = None) -> Network:
@@ -217,14 +225,14 @@ class Makers:
         return recipe.made(cls, set)
 
     @classmethod
-    def preferential(cls, n: int, links_each: int, seed: int, *, weights: Weights = None, set: Sets = None) -> Network:
+    def preferential(cls, n: int, links_each: int, seed: int, *, weights: Weights = None, set: Sets = None) -> AnyNetwork:
         """Each of `n` nodes is linked with `links_each` before it, or with all of them while they are fewer, each drawn with a chance in
         proportion to the links that it has (Barabási and Albert 1999)."""
         recipe = Recipe("preferential", "preferential", {"n": n})
         each = min(recipe.number("links_each", links_each), recipe.sizes[0])
         recipe.links = each * recipe.sizes[0] - each * (each + 1) // 2
         recipe.drawn(weights, seed)
-        return recipe.made(cls, set)
+        return recipe.made_of_any_size(cls, set)
 
     @classmethod
     def regular(cls, n: int, degree: int, seed: int, *, weights: Weights = None, set: Sets = None) -> Network:
@@ -235,7 +243,7 @@ class Makers:
         return recipe.made(cls, set)
 
     @classmethod
-    def small_world(cls, n: int, near: int, rewire: float, seed: int, *, weights: Weights = None, set: Sets = None) -> Network:
+    def small_world(cls, n: int, near: int, rewire: float, seed: int, *, weights: Weights = None, set: Sets = None) -> AnyNetwork:
         """Each node of a ring of `n` is linked with the `near` that follow it; then each link is led to another node with a chance of
         `rewire` in 100, a percentage that is rounded to six digits behind the point (Watts and Strogatz 1998).
 
@@ -248,4 +256,4 @@ class Makers:
         recipe.links = recipe.number("near", near) * recipe.sizes[0]
         recipe.decimal("rewire", rewire, 100, 6)
         recipe.drawn(weights, seed)
-        return recipe.made(cls, set)
+        return recipe.made_of_any_size(cls, set)
