@@ -71,15 +71,15 @@ def test_counted_nodes_on_random_rows():
     for seed in range(25):
         rows = random_rows(seed, 1 + seed % 9)
         given = unison.Network.from_arrays(*lists_of(rows))
-        opening = array("I", [word for node in range(len(rows)) for word in (3 + node, 0)])
+        initial = array("I", [word for node in range(len(rows)) for word in (3 + node, 0)])
         asked, values = [7, 9, 12], [4, 0, 1008, 4, *range(1, seed)]
-        seen = _calls.large_watch(rule.text, given._lists(), 7, opening, len(opening), asked)
+        seen = _calls.large_watch(rule.text, given._lists(), 7, initial, len(initial), asked)
         for field in range(2):
-            found = _calls.large_counts(rule.text, given._lists(), 7, opening, len(opening), asked, field, values)
-            columns = [seen[place * len(opening) + field : (place + 1) * len(opening) : 2] for place in range(len(asked))]
+            found = _calls.large_counts(rule.text, given._lists(), 7, initial, len(initial), asked, field, values)
+            columns = [seen[place * len(initial) + field : (place + 1) * len(initial) : 2] for place in range(len(asked))]
             expected = [[*(column.count(value) for value in values), sum(word not in values for word in column)] for column in columns]
             assert list(found) == [number for row in expected for number in row], (seed, field)
-    call = lambda *rest: _calls.large_counts(rule.text, given._lists(), 7, opening, len(opening), *rest)  # noqa: E731
+    call = lambda *rest: _calls.large_counts(rule.text, given._lists(), 7, initial, len(initial), *rest)  # noqa: E731
     assert list(call([], 0, [1])) == [] and list(call([7], 0, [])) == [len(rows)]
     for number, asked in ((4, ([9, 9], 0, [1])), (152, ([9], 2, [1])), (153, ([9], 1, range(257)))):
         assert raised(unison.UnisonError, lambda: call(*asked)).number == number
