@@ -81,8 +81,9 @@ def test_counted_nodes_on_random_rows():
             assert list(found) == [number for row in expected for number in row], (seed, field)
     call = lambda *rest: _calls.large_counts(rule.text, given._lists(), 7, initial, len(initial), *rest)  # noqa: E731
     assert list(call([], 0, [1])) == [] and list(call([7], 0, [])) == [len(rows)]
-    for number, asked in ((4, ([9, 9], 0, [1])), (152, ([9], 2, [1])), (153, ([9], 1, range(257)))):
-        assert raised(unison.UnisonError, lambda: call(*asked)).number == number
+    for name, asked in (("NotRising", ([9, 9], 0, [1])), ("NoField", ([9], 2, [1])), ("TooManyValues", ([9], 1, range(257)))):
+        kind = unison.RunError if name == "NotRising" else unison.NetworkError
+        assert raised(kind, lambda: call(*asked)).name == name
 
 
 def test_large_and_small_networks_agree():
