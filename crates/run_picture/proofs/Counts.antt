@@ -16,6 +16,7 @@ use Rattle.run_picture.specs.Frames.{most_cells, refusal_of, time_refusal, value
 
 -- one for each node
 pub values_count : (p : PlanView) (field t : ℕ) → length (values_after p field t) ≡ length p.network
+unfolding values_after
 values_count p field t =
     length-map (lockstep_states p t (length p.network)) (λ state. slice_index state.words field) ∙ length-map-range_with_len (lockstep p t) 0 (length p.network)
 
@@ -31,6 +32,7 @@ rounds_count s = length-map-range_with_len (round_at s) 0 (count_of s)
 
 -- one for each node in each round
 pub values_total : (p : PlanView) (s : SpanView) (field : ℕ) → length (values_in p s field) ≡ length p.network * count_of s
+unfolding values_in
 values_total p s field = round_by_round p field (rounds_in s) ∙ ap (λ (k : ℕ). length p.network * k) (rounds_count s)
 
 neither : (a b : Option PictureFault) → option_or a b ≡ None → b ≡ None
@@ -43,6 +45,7 @@ not_over false none = refl
 
 -- where nothing is refused, they are few
 pub cells_few : (p : PlanView) (s : SpanView) (field : ℕ) → time_refusal p s field ≡ None → length (values_in p s field) ≤ most_cells
+unfolding time_refusal
 cells_few p s field fits =
     let few = not_over (nat_lt most_cells (length p.network * count_of s)) (neither (refusal_of p s.first s.last field) (if nat_lt most_cells (length p.network * count_of s) then Some TooManyCells else None) fits) in
     let total = values_total p s field in

@@ -78,6 +78,7 @@ slot nodes f each (t ∷ ts) (suc r) u low inside =
 
 value_at : (p : PlanView) (span : SpanView) (field u r : ℕ) → u < length p.network → r < count_of span
     → slice_index (values_in p span field) (r * length p.network + u) ≡ slice_index (values_after p field (round_at span r)) u
+unfolding values_in
 value_at p span field u r low inside =
     let many = length-map-range_with_len (round_at span) 0 (count_of span) in
     let e : 0 + r ≡ r = omega arith in

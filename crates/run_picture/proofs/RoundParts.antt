@@ -34,6 +34,7 @@ part nodes f each (t ∷ ts) (suc r) inside =
 -- the values after the round at a place of a span stand there
 part_at : (p : PlanView) (span : SpanView) (field r : ℕ) → r < count_of span
     → take (length p.network) (drop (r * length p.network) (values_in p span field)) ≡ values_after p field (round_at span r)
+unfolding values_in
 part_at p span field r inside =
     let many = length-map-range_with_len (round_at span) 0 (count_of span) in
     let e : 0 + r ≡ r = omega arith in

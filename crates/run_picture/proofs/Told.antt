@@ -312,6 +312,7 @@ module _ (styles : StylesView) (cells : List ℕ) (few : length (key_of styles c
   short v = omega (arith, few, prefix_len-le-length (λ (x : ℕ). nat_lt x v) (key_of styles cells).values)
 
   shades_told : (v w : ℕ) → is_among cells v ≡ true → is_among cells w ≡ true → shade_of (key_of styles cells) v ≡ shade_of (key_of styles cells) w → v ≡ w
+  unfolding shade_of
   shades_told v w has_v has_w same =
       let key = key_of styles cells in
       let all : is_few key ≡ true = grind (arith, nat_tests, few) in
@@ -319,6 +320,7 @@ module _ (styles : StylesView) (cells : List ℕ) (few : length (key_of styles c
       (within v has_v) (within w has_w) (short v) (short w) (λ nv nw. grind (arith, nat_tests, nv, nw)) (ranked v w has_v has_w) same
 
   small : (v : ℕ) → is_among cells v ≡ true → shade_of (key_of styles cells) v ≤ 24
+  unfolding shade_of
   small v has =
       let key = key_of styles cells in
       let all : is_few key ≡ true = grind (arith, nat_tests, few) in
@@ -338,6 +340,7 @@ module _ (styles : StylesView) (cells : List ℕ) (few : length (key_of styles c
   told_by false false v w has_v has_w own same = shades_told v w has_v has_w same
 
   told : (v w : ℕ) → is_among cells v ≡ true → is_among cells w ≡ true → class_of (key_of styles cells) v ≡ class_of (key_of styles cells) w → v ≡ w
+  unfolding class_of
   told v w has_v has_w same =
       let colours = (key_of styles cells).styles.colours in
       told_by (has_own colours v) (has_own colours w) v w has_v has_w refl same

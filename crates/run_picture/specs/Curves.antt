@@ -39,7 +39,7 @@ abbrev pub most_curves : ℕ
 most_curves = 64
 
 -- why there are no curves of the rounds of a span, of what is known before they are counted
-abbrev pub curves_refusal : PlanView → SpanView → ℕ → Option PictureFault
+unfoldable pub curves_refusal : PlanView → SpanView → ℕ → Option PictureFault
 curves_refusal p span field =
     option_or (refusal_of p span.first span.last field) (if nat_le (count_of span) 1 then Some OneRound else if nat_lt most_points (count_of span) then Some TooManyPoints else None)
 

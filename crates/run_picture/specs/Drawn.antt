@@ -72,9 +72,13 @@ link_lines network = flat_map (links_at network) (numbers_below (length network)
 unfoldable pub head_text : ℕ → List ℕ
 head_text t = codes "graph run {\n  label=\"round " ++ (decimal t ++ codes "\";\n  node [shape=circle, style=filled];\n")
 
--- a network with a value at each node, after round t
+-- a network with a value at each node, after round t, coloured by a key
+unfoldable pub graph_by : KeyView → Neighbours → List (List ℕ) → ℕ → List ℕ → List ℕ
+graph_by key network names t values = head_text t ++ (node_lines key names 0 values ++ (link_lines network ++ codes "}\n"))
+
+-- the same, coloured by a key of its own
 abbrev pub graph_text : StylesView → Neighbours → List (List ℕ) → ℕ → List ℕ → List ℕ
-graph_text styles network names t values = head_text t ++ (node_lines (key_of styles values) names 0 values ++ (link_lines network ++ codes "}\n"))
+graph_text styles network names t values = graph_by (key_of styles values) network names t values
 
 -- the network of a plan with the values of a field after round t
 abbrev pub network_text : StylesView → PlanView → List (List ℕ) → ℕ → ℕ → List ℕ

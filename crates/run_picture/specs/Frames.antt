@@ -10,11 +10,11 @@ use Rattle.run_picture.specs.declared.fault.PictureFault.{PictureFault}
 use Rattle.run_picture.specs.declared.fault.PictureFault.TheVariants.{TooManyRounds, RoundsBelowStart, NoField, NoWidth, TooManyCells}
 
 -- the values of a field after round t, by rising number of the node
-abbrev pub values_after : PlanView → ℕ → ℕ → List ℕ
+unfoldable pub values_after : PlanView → ℕ → ℕ → List ℕ
 values_after p field t = map (λ state. slice_index state.words field) (lockstep_states p t (length p.network))
 
 -- the same, round by round
-abbrev pub values_in : PlanView → SpanView → ℕ → List ℕ
+unfoldable pub values_in : PlanView → SpanView → ℕ → List ℕ
 values_in p span field = flat_map (values_after p field) (rounds_in span)
 
 -- the most cells of a picture
@@ -22,7 +22,7 @@ abbrev pub most_cells : ℕ
 most_cells = 1000000
 
 -- why rounds from a first one to a last one have no values of a field
-abbrev pub refusal_of : PlanView → ℕ → ℕ → ℕ → Option PictureFault
+unfoldable pub refusal_of : PlanView → ℕ → ℕ → ℕ → Option PictureFault
 refusal_of p first last field =
     if nat_lt most_rounds last then Some TooManyRounds
     else if nat_lt first p.start then Some RoundsBelowStart
@@ -30,9 +30,9 @@ refusal_of p first last field =
     else Some (NoField field)
 
 -- why there is no picture of the rounds of a span
-abbrev pub time_refusal : PlanView → SpanView → ℕ → Option PictureFault
+unfoldable pub time_refusal : PlanView → SpanView → ℕ → Option PictureFault
 time_refusal p span field = option_or (refusal_of p span.first span.last field) (if nat_lt most_cells (length p.network * count_of span) then Some TooManyCells else None)
 
 -- why there is no picture of a round in rows of a width
-abbrev pub grid_refusal : PlanView → ℕ → ℕ → ℕ → Option PictureFault
+unfoldable pub grid_refusal : PlanView → ℕ → ℕ → ℕ → Option PictureFault
 grid_refusal p round field width = option_or (refusal_of p round round field) (if width == 0 then Some NoWidth else None)

@@ -100,7 +100,7 @@ abbrev pub node_cell : KeyView → ℕ → ℕ → ℕ → ℕ → List ℕ → 
 node_cell key frames time width u classes = moving_text key frames time (slice_index classes 0) (u % width) (u / width) (changes_of classes)
 
 -- the cell of a node, where the values of all nodes stand frame by frame
-abbrev pub node_text : KeyView → ℕ → ℕ → ℕ → ℕ → List ℕ → ℕ → List ℕ
+unfoldable pub node_text : KeyView → ℕ → ℕ → ℕ → ℕ → List ℕ → ℕ → List ℕ
 node_text key frames time width nodes values u = node_cell key frames time width u (classes_of key values nodes frames u)
 
 -- all cells in rows of a width
@@ -113,7 +113,7 @@ moving_group key frames time width nodes values =
     codes "<g transform=\"scale(" ++ (decimal (side_of width nodes) ++ (codes ")\">\n" ++ (moving_cells key frames time width nodes values ++ codes "</g>\n")))
 
 -- cells that are coloured by a key, and the legend of the key
-abbrev pub moving_sheet : KeyView → ℕ → ℕ → ℕ → ℕ → List ℕ → List ℕ
+unfoldable pub moving_sheet : KeyView → ℕ → ℕ → ℕ → ℕ → List ℕ → List ℕ
 moving_sheet key frames time width nodes values =
     opening_text (sheet_width key width nodes) (sheet_height key width nodes)
     ++ (style_text key ++ (moving_group key frames time width nodes values ++ (legend_text key (legend_top width nodes) ++ codes "</svg>\n")))
@@ -127,7 +127,7 @@ abbrev pub rounds_picture : StylesView → PlanView → SpanView → ℕ → ℕ
 rounds_picture styles p span field width time = moving_picture styles (count_of span) time width (length p.network) (values_in p span field)
 
 -- why there is none
-abbrev pub moving_refusal : PlanView → SpanView → ℕ → ℕ → Option PictureFault
+unfoldable pub moving_refusal : PlanView → SpanView → ℕ → ℕ → Option PictureFault
 moving_refusal p span field width =
     option_or (refusal_of p span.first span.last field)
     (if width == 0 then Some NoWidth

@@ -69,7 +69,7 @@ abbrev pub node_circle : KeyView → ℕ → ℕ → ℕ → ℕ → List ℕ �
 node_circle key frames time nodes u classes = changing_circle key frames time nodes u (slice_index classes 0) (changes_of classes)
 
 -- a node, where the values of all nodes stand frame by frame
-abbrev pub circle_of : KeyView → ℕ → ℕ → ℕ → List ℕ → ℕ → List ℕ
+unfoldable pub circle_of : KeyView → ℕ → ℕ → ℕ → List ℕ → ℕ → List ℕ
 circle_of key frames time nodes values u = node_circle key frames time nodes u (classes_of key values nodes frames u)
 
 -- all nodes
@@ -84,19 +84,19 @@ circles_group key frames time nodes values =
 -- ---- the picture
 
 -- where the legend begins, in pixels from the top
-abbrev pub net_legend : ℕ → ℕ
+unfoldable pub net_legend : ℕ → ℕ
 net_legend nodes = across nodes + 48
 
 -- the size of the whole in pixels across, with room for the legend
-abbrev pub net_width : KeyView → ℕ → ℕ
+unfoldable pub net_width : KeyView → ℕ → ℕ
 net_width key nodes = max (across nodes + 40) (legend_width key)
 
 -- the size of the whole in pixels from the top to the bottom
-abbrev pub net_height : KeyView → ℕ → ℕ
+unfoldable pub net_height : KeyView → ℕ → ℕ
 net_height key nodes = net_legend nodes + 18 * legend_lines key
 
 -- a network whose nodes are coloured by a key, where their values stand frame by frame, and the legend of the key
-abbrev pub net_sheet : KeyView → ℕ → ℕ → Neighbours → List ℕ → List ℕ
+unfoldable pub net_sheet : KeyView → ℕ → ℕ → Neighbours → List ℕ → List ℕ
 net_sheet key frames time network values =
     opening_text (net_width key (length network)) (net_height key (length network))
     ++ (style_text key
@@ -107,7 +107,7 @@ abbrev pub net_picture : StylesView → PlanView → SpanView → ℕ → ℕ �
 net_picture styles p span field time = net_sheet (key_of styles (values_in p span field)) (count_of span) time p.network (values_in p span field)
 
 -- why there is none
-abbrev pub net_refusal : PlanView → SpanView → ℕ → Option PictureFault
+unfoldable pub net_refusal : PlanView → SpanView → ℕ → Option PictureFault
 net_refusal p span field =
     option_or (refusal_of p span.first span.last field)
     (if nat_lt most_cells (length p.network * count_of span) then Some TooManyCells

@@ -43,7 +43,7 @@ HasCells (Cells width) = 1 ≤ width
 HasCells Network = Unit {0}
 
 -- why there are none
-abbrev pub series_refusal : PlanView → SpanView → ℕ → Layout → Option PictureFault
+unfoldable pub series_refusal : PlanView → SpanView → ℕ → Layout → Option PictureFault
 series_refusal p span field layout =
     option_or (refusal_of p span.first span.last field)
     (if nat_lt most_cells (length p.network * count_of span) then Some TooManyCells

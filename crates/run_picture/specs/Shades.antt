@@ -59,12 +59,12 @@ abbrev pub least_of : KeyView → ℕ
 least_of key = slice_index key.values 0
 
 -- the step of a value, of 16 even ones from the least value to the greatest
-abbrev pub step_of : KeyView → ℕ → ℕ
+unfoldable pub step_of : KeyView → ℕ → ℕ
 step_of key v = min 15 ((v - least_of key) * 16 / (key.greatest - least_of key + 1))
 
 -- The number of a value's colour in the palette: 24 for `no_value`; where there is no value but 0 and 1, the value; where there are few values, how many are below this one, 0 to 7;
 -- else 8 and its step, 8 to 23.
-abbrev pub shade_of : KeyView → ℕ → ℕ
+unfoldable pub shade_of : KeyView → ℕ → ℕ
 shade_of key v =
     if v == no_value then 24
     else if nat_le key.greatest 1 then v
@@ -76,7 +76,7 @@ abbrev pub class_count : ℕ
 class_count = 25
 
 -- The number of a value's colour: of a value that has a colour of its own, 25 and how many such values stand before it; of any other that in the palette.
-abbrev pub class_of : KeyView → ℕ → ℕ
+unfoldable pub class_of : KeyView → ℕ → ℕ
 class_of key v = if has_own key.styles.colours v then class_count + own_place key.styles.colours v else shade_of key v
 
 -- how many colours there are
@@ -92,7 +92,7 @@ colours =
     ∷ codes "#1f988b" ∷ codes "#22a884" ∷ codes "#35b779" ∷ codes "#54c568" ∷ codes "#7ad151" ∷ codes "#a5db36" ∷ codes "#d2e21b" ∷ codes "#fde725" ∷ []
 
 -- the colour of a number in the palette; that of `no_value` is grey
-abbrev pub colour_of : ℕ → List ℕ
+unfoldable pub colour_of : ℕ → List ℕ
 colour_of class = slice_index_or colours class (codes "#bbbbbb")
 
 -- the colour that a value has for itself, where there is one
@@ -101,7 +101,7 @@ own_fill (Some own) = hex_text own.colour
 own_fill None = codes "#bbbbbb"
 
 -- the colour of a number: in the palette, or that of the value that has it for itself
-abbrev pub fill_of : KeyView → ℕ → List ℕ
+unfoldable pub fill_of : KeyView → ℕ → List ℕ
 fill_of key class = if nat_lt class class_count then colour_of class else own_fill (slice_get key.styles.colours (class - class_count))
 
 -- black is not read on this colour of the palette
@@ -114,11 +114,11 @@ own_is_dark (Some own) = is_dim own.colour
 own_is_dark None = false
 
 -- black is not read on this colour
-abbrev pub is_dark : KeyView → ℕ → Bool
+unfoldable pub is_dark : KeyView → ℕ → Bool
 is_dark key class = if nat_lt class class_count then shade_is_dark class else own_is_dark (slice_get key.styles.colours (class - class_count))
 
 -- a colour of writing that is read on this colour
-abbrev pub ink_of : KeyView → ℕ → List ℕ
+unfoldable pub ink_of : KeyView → ℕ → List ℕ
 ink_of key class = if is_dark key class then codes "#ffffff" else codes "#000000"
 
 -- In a picture with few values two cells have the same class exactly where they have the same value.

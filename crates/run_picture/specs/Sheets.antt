@@ -39,31 +39,31 @@ abbrev pub rows_of : ℕ → ℕ → ℕ
 rows_of width count = (count + width - 1) / width
 
 -- the side of a cell in pixels: the longer side of the picture is to have 960, but a cell has 1 at least and 24 at most
-abbrev pub side_of : ℕ → ℕ → ℕ
+unfoldable pub side_of : ℕ → ℕ → ℕ
 side_of width count = max 1 (min 24 (960 / max 1 (max (columns_of width count) (rows_of width count))))
 
 -- how many lines of the legend stand for values
-abbrev pub value_lines : KeyView → ℕ
+unfoldable pub value_lines : KeyView → ℕ
 value_lines key = if is_few key then length key.values else 2 + length key.styles.colours
 
 -- how many lines the legend has
-abbrev pub legend_lines : KeyView → ℕ
+unfoldable pub legend_lines : KeyView → ℕ
 legend_lines key = value_lines key + (if key.none then 1 else 0)
 
 -- where the legend begins, in pixels from the top
-abbrev pub legend_top : ℕ → ℕ → ℕ
+unfoldable pub legend_top : ℕ → ℕ → ℕ
 legend_top width count = side_of width count * rows_of width count + 8
 
 -- how wide the legend is, in pixels: 8 for each byte of the longest name, of 64 at most, and room for what stands before it
-abbrev pub legend_width : KeyView → ℕ
+unfoldable pub legend_width : KeyView → ℕ
 legend_width key = max 120 (92 + 8 * min 64 (longest key.styles.names))
 
 -- the size of the whole in pixels across, with room for the legend
-abbrev pub sheet_width : KeyView → ℕ → ℕ → ℕ
+unfoldable pub sheet_width : KeyView → ℕ → ℕ → ℕ
 sheet_width key width count = max (side_of width count * columns_of width count) (legend_width key)
 
 -- the size of the whole in pixels from the top to the bottom
-abbrev pub sheet_height : KeyView → ℕ → ℕ → ℕ
+unfoldable pub sheet_height : KeyView → ℕ → ℕ → ℕ
 sheet_height key width count = legend_top width count + 18 * legend_lines key
 
 -- the first line, for a size in pixels
@@ -134,7 +134,7 @@ unfoldable pub legend_text : KeyView → ℕ → List ℕ
 legend_text key top = shades_text key top ++ none_text key top
 
 -- cells that are coloured by a key, and the legend of the key
-abbrev pub sheet_text : KeyView → ℕ → List ℕ → List ℕ
+unfoldable pub sheet_text : KeyView → ℕ → List ℕ → List ℕ
 sheet_text key width cells =
     opening_text (sheet_width key width (length cells)) (sheet_height key width (length cells))
     ++ (style_text key ++ (cells_text key width cells ++ (legend_text key (legend_top width (length cells)) ++ codes "</svg>\n")))

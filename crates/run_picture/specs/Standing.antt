@@ -14,29 +14,29 @@ sines =
     ∷ 10000 ∷ []
 
 -- the sine of 0 to 180 degrees, in ten-thousandths
-abbrev pub half_sine : ℕ → ℕ
+unfoldable pub half_sine : ℕ → ℕ
 half_sine d = slice_index sines (min d (180 - d))
 
 -- 10000 and the sine of 0 to 359 degrees, in ten-thousandths: 0 to 20000
-abbrev pub swing : ℕ → ℕ
+unfoldable pub swing : ℕ → ℕ
 swing d = if nat_lt d 180 then 10000 + half_sine d else 10000 - half_sine (d - 180)
 
 -- the same at an angle of this many parts of a degree, n to a degree, taken on a straight line between two whole degrees; 360 degrees are none
-abbrev pub swing_between : ℕ → ℕ → ℕ
+unfoldable pub swing_between : ℕ → ℕ → ℕ
 swing_between n parts = (swing (parts / n % 360) * (n - parts % n) + swing ((parts / n + 1) % 360) * (parts % n)) / n
 
 -- how far it is across the circle on which so many nodes stand, in pixels
-abbrev pub across : ℕ → ℕ
+unfoldable pub across : ℕ → ℕ
 across nodes = max 120 (min 920 (10 * nodes))
 
 -- how far a node stands from the left or from the top, in pixels, at an angle of this many parts of a degree, as many to a degree as there are nodes; to the nearest, behind 20 that are left free
-abbrev pub distance_at : ℕ → ℕ → ℕ
+unfoldable pub distance_at : ℕ → ℕ → ℕ
 distance_at nodes parts = 20 + (across nodes * swing_between nodes parts + 10000) / 20000
 
 -- Where a node stands: node u of n at an angle of 360 u / n degrees from the top. From the left it stands by the sine of this angle, from the top by that of 270 degrees more, which is the cosine turned round.
-abbrev pub place_of : ℕ → ℕ → Place
+unfoldable pub place_of : ℕ → ℕ → Place
 place_of nodes u = record { x = distance_at nodes (360 * u); y = distance_at nodes (360 * u + 270 * nodes) }
 
 -- the radius of a node, in pixels
-abbrev pub radius_of : ℕ → ℕ
+unfoldable pub radius_of : ℕ → ℕ
 radius_of nodes = max 1 (min 12 (1200 / nodes))

@@ -17,8 +17,10 @@ use std::thread::Threads;
 pub const MOST_FRAMES: u64 = 10_000;
 
 /// Why there is no moving picture of the rounds of a span in rows of a width, whatever memory there is.
+#[tactic(auto, unfolding(crate::specs::Moving::moving_refusal))]
 fn moving_refusal(plan: &Plan, span: &Span, field: u32, width: u32) -> Option<PictureFault>
-    ensures { result ≡ moving_refusal plan.now span.now field width }
+    ensures refusal { result ≡ moving_refusal plan.now span.now field width }
+    ensures known { result ≢ Some Memory }
 {
     if let Some(fault) = refusal(plan, span.first(), span.last(), field) {
         return Some(fault);
@@ -37,6 +39,7 @@ fn moving_refusal(plan: &Plan, span: &Span, field: u32, width: u32) -> Option<Pi
 }
 
 /// The moving picture of the rounds of a span, where nothing refuses it.
+#[tactic(auto, unfolding(crate::specs::Moving::moving_refusal, crate::specs::Frames::refusal_of))]
 fn moving_text<P: Progress>(
     rt: &(impl Threads + Sync),
     alloc: Global,

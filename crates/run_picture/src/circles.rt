@@ -87,6 +87,7 @@ fn put_colours(
 }
 
 /// A node, of the values of so many nodes frame by frame.
+#[tactic(auto, unfolding(crate::specs::Nets::circle_of))]
 fn put_node(
     out: &mut String,
     alloc: Global,

@@ -11,6 +11,7 @@ use std::alloc::{AllocError, Global};
 pub(crate) const CLASS_COUNT: usize = 25;
 
 /// The step of a value, of 16 even ones from the least to the greatest.
+#[tactic(auto, unfolding(crate::specs::Shades::step_of))]
 fn step_of(key: &Key<'_>, value: u32) -> usize
     ensures { result ≡ step_of key.now value }
 {
@@ -21,6 +22,7 @@ fn step_of(key: &Key<'_>, value: u32) -> usize
 }
 
 /// The number of a value's colour in the palette.
+#[tactic(auto, unfolding(crate::specs::Shades::shade_of))]
 fn shade_of(key: &Key<'_>, value: u32) -> usize
     ensures shade { result ≡ shade_of key.now value }
 {
@@ -37,6 +39,7 @@ fn shade_of(key: &Key<'_>, value: u32) -> usize
 }
 
 /// The number of a value's colour: those of the palette first, then those that values have for themselves.
+#[tactic(auto, unfolding(crate::specs::Shades::class_of))]
 pub(crate) fn class_of(key: &Key<'_>, value: u32) -> usize
     ensures class { result ≡ class_of key.now value }
 {
@@ -57,6 +60,7 @@ pub(crate) fn class_total(key: &Key<'_>) -> usize
 }
 
 /// The colour of a number in the palette.
+#[tactic(auto, unfolding(crate::specs::Shades::colour_of))]
 fn colour_of(class: usize) -> &'static str
     ensures colour { result.now ≡ colour_of class }
 {
@@ -100,6 +104,7 @@ fn put_own_fill(out: &mut String, colours: &[ValueColour], place: usize) -> Resu
 }
 
 /// Puts the colour of a number.
+#[tactic(auto, unfolding(crate::specs::Shades::fill_of))]
 pub(crate) fn put_fill(out: &mut String, key: &Key<'_>, class: usize) -> Result<(), AllocError>
     ensures text { OnOk result (string_bytes out.new ≡ string_bytes out.old ++ fill_of key.now class) }
 {
@@ -136,6 +141,7 @@ fn own_is_dark(colours: &[ValueColour], place: usize) -> bool
 }
 
 /// Whether black is not read on this colour.
+#[tactic(auto, unfolding(crate::specs::Shades::is_dark))]
 fn is_dark(key: &Key<'_>, class: usize) -> bool
     ensures { result ≡ is_dark key.now class }
 {
@@ -146,6 +152,7 @@ fn is_dark(key: &Key<'_>, class: usize) -> bool
 }
 
 /// A colour of writing that is read on this colour.
+#[tactic(auto, unfolding(crate::specs::Shades::ink_of))]
 pub(crate) fn ink_of(key: &Key<'_>, class: usize) -> &'static str
     ensures ink { result.now ≡ ink_of key.now class }
 {

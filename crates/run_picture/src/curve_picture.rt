@@ -1,5 +1,5 @@
 //! How many nodes have each value, round by round, as curves.
-ghost use Rattle.std.specs.Prelude.{◌≡◌, ◌≢◌, Err, IfOk, IfErr, MatchOption, None};
+ghost use Rattle.std.specs.Prelude.{◌≡◌, ◌≢◌, Err, IfOk, IfErr, MatchOption, None, Some};
 ghost use Rattle.run_picture.specs.declared.fault.PictureFault.TheVariants.{Memory, TooManyValues};
 ghost use Rattle.run_picture.specs.Curves.{AreFieldRows, HasManyValues, IsCountPicture, IsCurveFault, curves_refusal};
 
@@ -20,8 +20,10 @@ pub const MOST_POINTS: u32 = 10_000;
 pub const MOST_CURVES: usize = 64;
 
 /// Why there are no curves of the rounds of a span, of what is known before they are counted.
+#[tactic(auto, unfolding(crate::specs::Curves::curves_refusal))]
 fn curves_refusal(plan: &Plan, span: &Span, field: u32) -> Option<PictureFault>
-    ensures { result ≡ curves_refusal plan.now span.now field }
+    ensures refusal { result ≡ curves_refusal plan.now span.now field }
+    ensures known { result ≢ Some Memory }
 {
     if let Some(fault) = refusal(plan, span.first(), span.last(), field) {
         return Some(fault);
@@ -36,6 +38,7 @@ fn curves_refusal(plan: &Plan, span: &Span, field: u32) -> Option<PictureFault>
 }
 
 /// The rounds of a span, counted by a field.
+#[tactic(auto, unfolding(crate::specs::Curves::curves_refusal, crate::specs::Frames::refusal_of))]
 fn field_rows<P: Progress>(
     rt: &(impl Threads + Sync),
     alloc: Global,
@@ -58,6 +61,7 @@ fn field_rows<P: Progress>(
 }
 
 /// The picture of counted rounds, where not too many values occur in them.
+#[tactic(auto, unfolding(crate::specs::Curves::curves_refusal, crate::specs::Frames::refusal_of))]
 fn picture_of(
     alloc: Global,
     plan: &Plan,

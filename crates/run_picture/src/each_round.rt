@@ -36,6 +36,7 @@ impl Layout {
     fn refusal(self, links: u32, frames: u64) -> Option<PictureFault>
         requires few { frames ≤ 10000 }
         ensures refusal { result ≡ layout_refusal self links frames }
+        ensures known { result ≢ Some Memory }
     {
         match self {
             Layout::Cells { width: 0 } => Some(PictureFault::NoWidth),
@@ -48,8 +49,10 @@ impl Layout {
 }
 
 /// Why there are no pictures of the rounds of a span, whatever memory there is.
+#[tactic(auto, unfolding(crate::specs::Series::series_refusal))]
 fn series_refusal(plan: &Plan, span: &Span, field: u32, layout: Layout) -> Option<PictureFault>
-    ensures { result ≡ series_refusal plan.now span.now field layout }
+    ensures refusal { result ≡ series_refusal plan.now span.now field layout }
+    ensures known { result ≢ Some Memory }
 {
     if let Some(fault) = refusal(plan, span.first(), span.last(), field) {
         return Some(fault);
@@ -122,6 +125,7 @@ fn sheets_of(
 }
 
 /// The pictures of the rounds of a span, where nothing refuses them.
+#[tactic(auto, unfolding(crate::specs::Series::series_refusal, crate::specs::Frames::refusal_of))]
 fn series_texts<P: Progress>(
     rt: &(impl Threads + Sync),
     alloc: Global,

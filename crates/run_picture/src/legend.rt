@@ -62,6 +62,7 @@ fn longest(names: &[String]) -> usize
 }
 
 /// How wide the legend is, in pixels.
+#[tactic(auto, unfolding(crate::specs::Sheets::legend_width))]
 pub(crate) fn legend_width(key: &Key<'_>) -> u32
     ensures width { result ≡ legend_width key.now }
     ensures small { result ≤ 604 }
@@ -71,6 +72,7 @@ pub(crate) fn legend_width(key: &Key<'_>) -> u32
 }
 
 /// How many lines of the legend stand for values.
+#[tactic(auto, unfolding(crate::specs::Sheets::value_lines))]
 fn value_lines(key: &Key<'_>) -> u32
     ensures lines { result ≡ value_lines key.now }
     ensures few { result ≤ 66 }
@@ -82,6 +84,7 @@ fn value_lines(key: &Key<'_>) -> u32
 }
 
 /// How many lines the legend has.
+#[tactic(auto, unfolding(crate::specs::Sheets::legend_lines))]
 pub(crate) fn legend_lines(key: &Key<'_>) -> u32
     ensures lines { result ≡ legend_lines key.now }
     ensures few { result ≤ 67 }

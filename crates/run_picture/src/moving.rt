@@ -1,6 +1,6 @@
 //! Cells that change from frame to frame, as SVG.
 ghost use Rattle.std.specs.Prelude.{◌≡◌, ◌++◌, ◌≤◌, ◌<◌, ◌*◌, OnOk, IfOk, length, slice_index, string_bytes};
-ghost use Rattle.run_picture.specs.Moving.{animate_text, begins, changing_text, clock_text, course_text, fills_text, fraction_text, last_text, most_frames, moving_cells, moving_group, moving_picture, moving_text, node_cell, node_text, place_text, times_text, turn_text};
+ghost use Rattle.run_picture.specs.Moving.{animate_text, begins, changing_text, clock_text, course_text, fills_text, fraction_text, last_text, most_frames, moving_cells, moving_group, moving_picture, moving_sheet, moving_text, node_cell, node_text, place_text, times_text, turn_text};
 
 use crate::changes::{Change, changes_of, classes_of};
 use crate::colour::put_fill;
@@ -197,6 +197,7 @@ fn put_colours(
 }
 
 /// The cell of a node, of the values of so many nodes frame by frame.
+#[tactic(auto, unfolding(crate::specs::Moving::node_text))]
 fn put_node(
     out: &mut String,
     alloc: Global,
@@ -259,6 +260,31 @@ fn put_group(
     out.push_str("</g>\n")
 }
 
+/// Cells that change, coloured by a key, and the legend of the key.
+#[tactic(auto, unfolding(crate::specs::Moving::moving_sheet))]
+fn put_sheet(
+    out: &mut String,
+    alloc: Global,
+    key: &Key<'_>,
+    pace: Pace,
+    width: u32,
+    nodes: u32,
+    values: &[u32],
+) -> Result<(), AllocError>
+    requires width { 1 ≤ width }
+    requires some { 1 ≤ pace.frames }
+    requires few { pace.frames ≤ most_frames }
+    requires nodes { nodes ≤ 65536 }
+    ensures text { OnOk result (string_bytes out.new ≡ string_bytes out.old ++ moving_sheet key.now pace.frames pace.time width nodes values.now) }
+{
+    let across = sheet_width(key, width, nodes);
+    put_opening(out, across, sheet_height(key, width, nodes))?;
+    put_style(out, key)?;
+    put_group(out, alloc, key, pace, width, nodes, values)?;
+    put_legend(out, key, legend_top(width, nodes))?;
+    out.push_str("</svg>\n")
+}
+
 /// The moving picture of the values of so many nodes, frame by frame, in rows of a width.
 pub(crate) fn moving_of(
     alloc: Global,
@@ -276,14 +302,6 @@ pub(crate) fn moving_of(
 {
     let key = key_of(alloc, styles, values)?;
     let mut out = String::new(alloc);
-    put_opening(
-        &mut out,
-        sheet_width(&key, width, nodes),
-        sheet_height(&key, width, nodes),
-    )?;
-    put_style(&mut out, &key)?;
-    put_group(&mut out, alloc, &key, pace, width, nodes, values)?;
-    put_legend(&mut out, &key, legend_top(width, nodes))?;
-    out.push_str("</svg>\n")?;
+    put_sheet(&mut out, alloc, &key, pace, width, nodes, values)?;
     Ok(out.into_bytes())
 }

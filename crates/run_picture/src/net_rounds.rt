@@ -17,8 +17,10 @@ use std::alloc::{AllocError, Global};
 use std::thread::Threads;
 
 /// Why there is no picture of the network in the rounds of a span, whatever memory there is.
+#[tactic(auto, unfolding(crate::specs::Nets::net_refusal))]
 fn net_refusal(plan: &Plan, span: &Span, field: u32) -> Option<PictureFault>
-    ensures { result ≡ net_refusal plan.now span.now field }
+    ensures refusal { result ≡ net_refusal plan.now span.now field }
+    ensures known { result ≢ Some Memory }
 {
     if let Some(fault) = refusal(plan, span.first(), span.last(), field) {
         return Some(fault);
@@ -34,6 +36,7 @@ fn net_refusal(plan: &Plan, span: &Span, field: u32) -> Option<PictureFault>
 }
 
 /// The picture of the network in the rounds of a span, where nothing refuses it.
+#[tactic(auto, unfolding(crate::specs::Nets::net_refusal, crate::specs::Frames::refusal_of))]
 fn net_text<P: Progress>(
     rt: &(impl Threads + Sync),
     alloc: Global,

@@ -1,5 +1,5 @@
 //! Networks drawn by nodes and links, as SVG.
-ghost use Rattle.std.specs.Prelude.{◌≡◌, ◌≤◌, IfOk};
+ghost use Rattle.std.specs.Prelude.{◌≡◌, ◌++◌, ◌≤◌, IfOk, OnOk, string_bytes};
 ghost use Rattle.run_picture.specs.Moving.{most_frames};
 ghost use Rattle.run_picture.specs.Nets.{net_height, net_legend, net_sheet, net_width};
 
@@ -14,6 +14,7 @@ use link_net::Network;
 use std::alloc::{AllocError, Global};
 
 /// Where the legend begins.
+#[tactic(auto, unfolding(crate::specs::Nets::net_legend))]
 fn net_legend(nodes: u32) -> u32
     requires few { nodes ≤ 65536 }
     ensures legend { result ≡ net_legend nodes }
@@ -23,6 +24,7 @@ fn net_legend(nodes: u32) -> u32
 }
 
 /// The size of the whole in pixels across.
+#[tactic(auto, unfolding(crate::specs::Nets::net_width))]
 fn net_width(key: &Key<'_>, nodes: u32) -> u32
     requires few { nodes ≤ 65536 }
     ensures { result ≡ net_width key.now nodes }
@@ -31,11 +33,36 @@ fn net_width(key: &Key<'_>, nodes: u32) -> u32
 }
 
 /// The size of the whole in pixels from the top to the bottom.
+#[tactic(auto, unfolding(crate::specs::Nets::net_height))]
 fn net_height(key: &Key<'_>, nodes: u32) -> u32
     requires few { nodes ≤ 65536 }
     ensures { result ≡ net_height key.now nodes }
 {
     net_legend(nodes) + 18 * legend_lines(key)
+}
+
+/// A network whose nodes are coloured by a key, and the legend of the key.
+#[tactic(auto, unfolding(crate::specs::Nets::net_sheet))]
+fn put_sheet(
+    out: &mut String,
+    alloc: Global,
+    key: &Key<'_>,
+    pace: Pace,
+    network: &Network,
+    values: &[u32],
+) -> Result<(), AllocError>
+    requires some { 1 ≤ pace.frames }
+    requires few { pace.frames ≤ most_frames }
+    ensures text { OnOk result (string_bytes out.new ≡ string_bytes out.old ++ net_sheet key.now pace.frames pace.time network.now values.now) }
+{
+    let nodes = network.nodes();
+    let width = net_width(key, nodes);
+    put_opening(out, width, net_height(key, nodes))?;
+    put_style(out, key)?;
+    put_strokes(out, network)?;
+    put_circles(out, alloc, key, pace, nodes, values)?;
+    put_legend(out, key, net_legend(nodes))?;
+    out.push_str("</svg>\n")
 }
 
 /// The picture of a network whose nodes are coloured by a key, where their values stand frame by frame.
@@ -50,13 +77,7 @@ pub(crate) fn net_sheet(
     requires few { pace.frames ≤ most_frames }
     ensures text { IfOk result (λ v. v.items ≡ net_sheet key.now pace.frames pace.time network.now values.now) }
 {
-    let nodes = network.nodes();
     let mut out = String::new(alloc);
-    put_opening(&mut out, net_width(key, nodes), net_height(key, nodes))?;
-    put_style(&mut out, key)?;
-    put_strokes(&mut out, network)?;
-    put_circles(&mut out, alloc, key, pace, nodes, values)?;
-    put_legend(&mut out, key, net_legend(nodes))?;
-    out.push_str("</svg>\n")?;
+    put_sheet(&mut out, alloc, key, pace, network, values)?;
     Ok(out.into_bytes())
 }

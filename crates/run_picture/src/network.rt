@@ -1,12 +1,12 @@
 //! Networks for Graphviz.
 ghost use Rattle.std.specs.Prelude.{◌≡◌, ◌≢◌, ◌≤◌, ◌++◌, Err, IfOk, IfErr, MatchOption, None, OnOk, Some, length, map, string_bytes};
 ghost use Rattle.run_picture.specs.declared.fault.PictureFault.TheVariants.{Memory};
-ghost use Rattle.run_picture.specs.Drawn.{graph_text, head_text, network_text};
+ghost use Rattle.run_picture.specs.Drawn.{graph_by, graph_text, head_text, network_text};
 ghost use Rattle.run_picture.specs.Frames.{refusal_of};
 
 use crate::fault::PictureFault;
 use crate::graph::put_nodes;
-use crate::key::key_of;
+use crate::key::{Key, key_of};
 use crate::links::put_network;
 use crate::styles::ValueStyles;
 use crate::values::{refusal, values_after};
@@ -26,7 +26,26 @@ fn put_head(out: &mut String, round: u32) -> Result<(), AllocError>
     )
 }
 
-/// A network with a value at each node, after a round.
+/// A network with a value at each node, after a round, coloured by a key.
+#[tactic(auto, unfolding(crate::specs::Drawn::graph_by))]
+fn put_graph(
+    out: &mut String,
+    key: &Key<'_>,
+    network: &Network,
+    labels: &[String],
+    round: u32,
+    values: &[u32],
+) -> Result<(), AllocError>
+    requires few { length values.now ≤ 65536 }
+    ensures text { OnOk result (string_bytes out.new ≡ string_bytes out.old ++ graph_by key.now network.now (map string_bytes labels.now) round values.now) }
+{
+    put_head(out, round)?;
+    put_nodes(out, key, labels, values)?;
+    put_network(out, network)?;
+    out.push_str("}\n")
+}
+
+/// The same, coloured by a key of its own.
 fn graph_of(
     alloc: Global,
     styles: &ValueStyles<'_>,
@@ -40,10 +59,7 @@ fn graph_of(
 {
     let key = key_of(alloc, styles, values)?;
     let mut out = String::new(alloc);
-    put_head(&mut out, round)?;
-    put_nodes(&mut out, &key, labels, values)?;
-    put_network(&mut out, network)?;
-    out.push_str("}\n")?;
+    put_graph(&mut out, &key, network, labels, round, values)?;
     Ok(out.into_bytes())
 }
 

@@ -17,8 +17,10 @@ use std::thread::Threads;
 pub const MOST_CELLS: u64 = 1_000_000;
 
 /// Why there is no picture of the rounds of a span, whatever memory there is.
+#[tactic(auto, unfolding(crate::specs::Frames::time_refusal))]
 fn time_refusal(plan: &Plan, span: &Span, field: u32) -> Option<PictureFault>
-    ensures { result ≡ time_refusal plan.now span.now field }
+    ensures refusal { result ≡ time_refusal plan.now span.now field }
+    ensures known { result ≢ Some Memory }
 {
     if let Some(fault) = refusal(plan, span.first(), span.last(), field) {
         return Some(fault);
@@ -31,8 +33,10 @@ fn time_refusal(plan: &Plan, span: &Span, field: u32) -> Option<PictureFault>
 }
 
 /// Why there is no picture of a round in rows of a width, whatever memory there is.
+#[tactic(auto, unfolding(crate::specs::Frames::grid_refusal))]
 fn grid_refusal(plan: &Plan, round: u32, field: u32, width: u32) -> Option<PictureFault>
-    ensures { result ≡ grid_refusal plan.now round field width }
+    ensures refusal { result ≡ grid_refusal plan.now round field width }
+    ensures known { result ≢ Some Memory }
 {
     if let Some(fault) = refusal(plan, round, round, field) {
         return Some(fault);
@@ -44,6 +48,7 @@ fn grid_refusal(plan: &Plan, round: u32, field: u32, width: u32) -> Option<Pictu
 }
 
 /// The picture of the rounds of a span, where nothing refuses it.
+#[tactic(auto, unfolding(crate::specs::Frames::time_refusal, crate::specs::Frames::refusal_of))]
 fn time_text<P: Progress>(
     rt: &(impl Threads + Sync),
     alloc: Global,
@@ -61,6 +66,7 @@ fn time_text<P: Progress>(
 }
 
 /// The picture of a round, where nothing refuses it.
+#[tactic(auto, unfolding(crate::specs::Frames::grid_refusal, crate::specs::Frames::refusal_of))]
 fn grid_text(
     rt: &(impl Threads + Sync),
     alloc: Global,

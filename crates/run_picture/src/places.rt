@@ -20,6 +20,7 @@ const SINES: [u16; 91] = [
 ];
 
 /// The sine of 0 to 180 degrees, in ten-thousandths.
+#[tactic(auto, unfolding(crate::specs::Standing::half_sine))]
 fn half_sine(degrees: usize) -> u16
     ensures { result ≡ half_sine degrees }
 {
@@ -28,6 +29,7 @@ fn half_sine(degrees: usize) -> u16
 }
 
 /// 10,000 and the sine of 0 to 359 degrees, in ten-thousandths.
+#[tactic(auto, unfolding(crate::specs::Standing::swing))]
 fn swing(degrees: usize) -> u32
     ensures swing { result ≡ swing degrees }
     ensures small { result ≤ 75535 }
@@ -39,6 +41,7 @@ fn swing(degrees: usize) -> u32
 }
 
 /// The same at an angle of so many parts of a degree.
+#[tactic(auto, unfolding(crate::specs::Standing::swing_between))]
 fn swing_between(parts_of_degree: u32, parts: u32) -> u64
     requires some { 1 ≤ parts_of_degree }
     requires few { parts_of_degree ≤ 65536 }
@@ -53,6 +56,7 @@ fn swing_between(parts_of_degree: u32, parts: u32) -> u64
 }
 
 /// How far it is across the circle on which so many nodes stand, in pixels.
+#[tactic(auto, unfolding(crate::specs::Standing::across))]
 pub(crate) fn across(nodes: u32) -> u32
     requires few { nodes ≤ 65536 }
     ensures across { result ≡ across nodes }
@@ -62,6 +66,7 @@ pub(crate) fn across(nodes: u32) -> u32
 }
 
 /// How far a node stands from the left or from the top, in pixels, at an angle of so many parts of a degree.
+#[tactic(auto, unfolding(crate::specs::Standing::distance_at))]
 fn distance_at(nodes: u32, parts: u32) -> u64
     requires some { 1 ≤ nodes }
     requires few { nodes ≤ 65536 }
@@ -71,6 +76,7 @@ fn distance_at(nodes: u32, parts: u32) -> u64
 }
 
 /// Where a node stands: on a circle by rising number.
+#[tactic(auto, unfolding(crate::specs::Standing::place_of))]
 pub(crate) fn place_of(nodes: u32, node: u32) -> Place
     requires node { node < nodes }
     requires few { nodes ≤ 65536 }
@@ -83,6 +89,7 @@ pub(crate) fn place_of(nodes: u32, node: u32) -> Place
 }
 
 /// The radius of a node, in pixels.
+#[tactic(auto, unfolding(crate::specs::Standing::radius_of))]
 pub(crate) fn radius_of(nodes: u32) -> u32
     requires some { 1 ≤ nodes }
     ensures radius { result ≡ radius_of nodes }

@@ -29,6 +29,7 @@ fn rows_of(width: u32, count: u32) -> u32
 }
 
 /// The side of a cell in pixels.
+#[tactic(auto, unfolding(crate::specs::Sheets::side_of))]
 pub(crate) fn side_of(width: u32, count: u32) -> u32
     requires width { 1 ≤ width }
     ensures side { result ≡ side_of width count }
@@ -39,6 +40,7 @@ pub(crate) fn side_of(width: u32, count: u32) -> u32
 }
 
 /// Where the legend begins.
+#[tactic(auto, unfolding(crate::specs::Sheets::legend_top))]
 pub(crate) fn legend_top(width: u32, count: u32) -> u32
     requires width { 1 ≤ width }
     requires count { count ≤ 1000000 }
@@ -60,6 +62,7 @@ pub(crate) fn put_opening(out: &mut String, width: u32, height: u32) -> Result<(
 }
 
 /// The size of the whole in pixels across.
+#[tactic(auto, unfolding(crate::specs::Sheets::sheet_width))]
 pub(crate) fn sheet_width(key: &Key<'_>, width: u32, count: u32) -> u32
     requires width { 1 ≤ width }
     requires count { count ≤ 1000000 }
@@ -69,6 +72,7 @@ pub(crate) fn sheet_width(key: &Key<'_>, width: u32, count: u32) -> u32
 }
 
 /// The size of the whole in pixels from the top to the bottom.
+#[tactic(auto, unfolding(crate::specs::Sheets::sheet_height))]
 pub(crate) fn sheet_height(key: &Key<'_>, width: u32, count: u32) -> u32
     requires width { 1 ≤ width }
     requires count { count ≤ 1000000 }
@@ -157,6 +161,22 @@ fn put_cells(out: &mut String, key: &Key<'_>, width: u32, cells: &[u32]) -> Resu
     out.push_str("</g>\n")
 }
 
+/// Values in rows of a width, coloured by a key, and the legend of the key.
+#[tactic(auto, unfolding(crate::specs::Sheets::sheet_text))]
+fn put_sheet(out: &mut String, key: &Key<'_>, width: u32, values: &[u32]) -> Result<(), AllocError>
+    requires width { 1 ≤ width }
+    requires count { length values.now ≤ 1000000 }
+    ensures text { OnOk result (string_bytes out.new ≡ string_bytes out.old ++ sheet_text key.now width values.now) }
+{
+    let count = values.len() as u32;
+    let across = sheet_width(key, width, count);
+    put_opening(out, across, sheet_height(key, width, count))?;
+    put_style(out, key)?;
+    put_cells(out, key, width, values)?;
+    put_legend(out, key, legend_top(width, count))?;
+    out.push_str("</svg>\n")
+}
+
 /// The picture of values in rows of a width, coloured by a key.
 pub(crate) fn sheet_of(
     alloc: Global,
@@ -168,17 +188,8 @@ pub(crate) fn sheet_of(
     requires count { length values.now ≤ 1000000 }
     ensures text { IfOk result (λ v. v.items ≡ sheet_text key.now width values.now) }
 {
-    let count = values.len() as u32;
     let mut out = String::new(alloc);
-    put_opening(
-        &mut out,
-        sheet_width(key, width, count),
-        sheet_height(key, width, count),
-    )?;
-    put_style(&mut out, key)?;
-    put_cells(&mut out, key, width, values)?;
-    put_legend(&mut out, key, legend_top(width, count))?;
-    out.push_str("</svg>\n")?;
+    put_sheet(&mut out, key, width, values)?;
     Ok(out.into_bytes())
 }
 

@@ -7,23 +7,19 @@ ghost use Rattle.run_picture.specs.Styling.{colour_refusal};
 use crate::chosen::{Colour, ValueColour, own_place};
 use std::alloc::{AllocError, AllocFailed, Global};
 use std::marker::Model;
-use thiserror::Error;
 
 /// The most values with colours of their own.
 pub const MOST_COLOURS: usize = 64;
 
 /// Why a value gets no colour of its own. Where several hold, the first in this order; `Memory` comes only where no other
 /// holds.
-#[derive(Clone, Copy, Debug, PartialEq, Eq, Error)]
+#[derive(Clone, Copy)]
 pub enum StylesFault {
     /// The value has a colour of its own already.
-    #[error("TwoColours")]
     TwoColours,
     /// 64 values have colours of their own already.
-    #[error("TooManyColours")]
     TooManyColours,
     /// Out of memory.
-    #[error("Memory")]
     Memory,
 }
 

@@ -1,7 +1,8 @@
 //! The values of a field, round by round.
-ghost use Rattle.std.specs.Prelude.{◌≡◌, ◌≤◌, ◌<◌, ◌++◌, ◌*◌, None, IfOk, OnOk, length, map, slice_index};
+ghost use Rattle.std.specs.Prelude.{◌≡◌, ◌≢◌, ◌≤◌, ◌<◌, ◌++◌, ◌*◌, None, IfOk, OnOk, Some, length, map, slice_index};
 ghost use Rattle.rounds_plan.specs.Configs.{most_rounds};
 ghost use Rattle.run_watch.specs.Spans.{count_of};
+ghost use Rattle.run_picture.specs.declared.fault.PictureFault.TheVariants.{Memory};
 ghost use Rattle.run_picture.specs.Frames.{refusal_of, values_after, values_in};
 
 use crate::fault::PictureFault;
@@ -13,8 +14,10 @@ use std::alloc::{AllocError, Global};
 use std::thread::Threads;
 
 /// Why rounds from a first one to a last one have no values of a field.
+#[tactic(auto, unfolding(crate::specs::Frames::refusal_of))]
 pub(crate) fn refusal(plan: &Plan, first: u32, last: u32, field: u32) -> Option<PictureFault>
     ensures refusal { result ≡ refusal_of plan.now first last field }
+    ensures known { result ≢ Some Memory }
 {
     if last > MOST_ROUNDS {
         return Some(PictureFault::TooManyRounds);
@@ -46,6 +49,7 @@ fn put_values(values: &mut Vec<u32>, states: &[State], field: u32) -> Result<(),
 }
 
 /// Goes on to a round, and puts the values of a field there behind those that are there.
+#[tactic(auto, unfolding(crate::specs::Frames::values_after))]
 fn put_round(
     rt: &(impl Threads + Sync),
     alloc: Global,
@@ -65,6 +69,7 @@ fn put_round(
 }
 
 /// Puts the values of a field in the rounds of a span, in one pass.
+#[tactic(auto, unfolding(crate::specs::Frames::values_in))]
 fn put_rounds<P: Progress>(
     rt: &(impl Threads + Sync),
     alloc: Global,
@@ -87,6 +92,7 @@ fn put_rounds<P: Progress>(
 }
 
 /// The values of a field in the rounds of a span, round by round.
+#[tactic(auto, unfolding(crate::specs::Frames::refusal_of))]
 pub(crate) fn values_in<P: Progress>(
     rt: &(impl Threads + Sync),
     alloc: Global,
@@ -106,6 +112,7 @@ pub(crate) fn values_in<P: Progress>(
 }
 
 /// The values of a field after a round.
+#[tactic(auto, unfolding(crate::specs::Frames::refusal_of))]
 pub(crate) fn values_after(
     rt: &(impl Threads + Sync),
     alloc: Global,

@@ -1,12 +1,16 @@
-use Rattle.std.proofs.Common.{◌<◌, arith, append_assoc}
-use Rattle.std.proofs.lemmas.Grind.{common_steps}
-use Rattle.run_picture.specs.Nets.{circle_of}
-use Rattle.run_watch.proofs.Ranges.{flat_left}
+use Rattle.std.proofs.Common.{◌<◌, ◌++◌, arith, string_bytes}
+use Rattle.run_picture.specs.Nets.{circle_of, circles_text}
+use Rattle.run_picture.proofs.Joined.{next_text}
 use Rattle.run_picture.proofs.circles.put_nodes.Goals as goal
 
 pub loop-node-preserved : goal.loop-node-preserved
 loop-node-preserved c =
+    let key = c.args.key.now in
+    let frames = c.args.pace.frames in
+    let time = c.args.pace.time in
+    let nodes = c.args.nodes in
+    let values = c.args.values.now in
     let u = c.loop-node.node in
-    let inside : u < c.args.nodes = omega (arith, c.loop-node-test.true) in
-    let more = flat_left (circle_of c.args.key.now c.args.pace.frames c.args.pace.time c.args.nodes c.args.values.now) u c.args.nodes inside in
-    grind (arith, common_steps, more, append_assoc)
+    let inside : u < nodes = omega (arith, c.loop-node-test.true) in
+    next_text (circle_of key frames time nodes values) u nodes (string_bytes c.loop-node.out) (string_bytes c.put_node.new.out) (string_bytes c.args.out.now ++ circles_text key frames time nodes values) inside
+    c.in_ok-put_node.ensures.text c.loop-node.invariant

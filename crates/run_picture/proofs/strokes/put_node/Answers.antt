@@ -1,8 +1,7 @@
-use Rattle.std.proofs.Common.{◌<◌, arith, append_assoc}
-use Rattle.std.proofs.lemmas.Grind.{common_steps}
+use Rattle.std.proofs.Common.{◌<◌, ◌++◌, arith, string_bytes}
 use Rattle.link_net.specs.Neighbours.{degree}
-use Rattle.run_picture.specs.Nets.{slot_stroke}
-use Rattle.run_watch.proofs.Ranges.{flat_left}
+use Rattle.run_picture.specs.Nets.{slot_stroke, strokes_at}
+use Rattle.run_picture.proofs.Joined.{next_text}
 use Rattle.run_picture.proofs.strokes.put_node.Goals as goal
 
 pub loop-slot-preserved : goal.loop-slot-preserved
@@ -11,5 +10,5 @@ loop-slot-preserved c =
     let u = c.args.node in
     let j = c.loop-slot.slot in
     let inside : j < degree network u = omega (arith, c.loop-slot-test.true, c.loop-slot.auto.slot-end, c.degree_of-slot-end.ensures) in
-    let more = flat_left (slot_stroke network u) j (degree network u) inside in
-    grind (arith, common_steps, more, append_assoc)
+    next_text (slot_stroke network u) j (degree network u) (string_bytes c.loop-slot.out) (string_bytes c.put_slot.new.out) (string_bytes c.args.out.now ++ strokes_at network u) inside c.in_ok-put_slot.ensures.text
+    c.loop-slot.invariant
