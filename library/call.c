@@ -280,62 +280,77 @@ static uint32_t *open_nodes(const uint32_t first[8], size_t nodes, uint32_t fiel
     return states;
 }
 
-static int show_large(char **words) {
-    struct text program = read_file(words[0]), packed = read_file(words[1]);
+/* A program and a packed network that were read, and the words that each node opens with. */
+struct large {
+    struct text program, packed;
     struct lists lists;
-    int status = read_lists(words[1], packed, &lists);
+    uint32_t first[8], fields;
+};
+
+/* Reads a program and a packed network by their paths. Another status than 0 where one is refused, which is told. */
+static int open_large(char **words, struct large *large) {
+    large->program = read_file(words[0]);
+    large->packed = read_file(words[1]);
+    large->fields = 0;
+    int status = read_lists(words[1], large->packed, &large->lists);
     if (status) return status;
-    uint32_t first[8], fields = 0, start = 0, answer = open_node(program, first, &fields);
+    uint32_t answer = open_node(large->program, large->first, &large->fields);
+    return answer ? fault(answer) : 0;
+}
+
+static int show_large(char **words) {
+    struct large large;
+    int status = open_large(words, &large);
+    if (status) return status;
+    uint32_t start = 0;
+    uint32_t *states = open_nodes(large.first, large.lists.nodes, large.fields);
+    if (words[3] && !read_initial(words[3], states, large.lists.nodes, large.fields, &start))
+        return wrong(words[3], "no words of one round, as `call watch` prints them");
+    uint32_t answer = unison_large_rounds(large.program.bytes, large.program.len, LISTS(large.lists), start, number(words[2]), states,
+                                          large.lists.nodes * large.fields, &large.fields);
     if (answer) return fault(answer);
-    uint32_t *states = open_nodes(first, lists.nodes, fields);
-    if (words[3] && !read_initial(words[3], states, lists.nodes, fields, &start)) return wrong(words[3], "no words of one round, as `call watch` prints them");
-    answer = unison_large_rounds(program.bytes, program.len, LISTS(lists), start, number(words[2]), states, lists.nodes * fields, &fields);
-    if (answer) return fault(answer);
-    print_words(states, (uint32_t)lists.nodes, fields);
+    print_words(states, (uint32_t)large.lists.nodes, large.fields);
     free(states);
-    free(packed.bytes);
-    free(program.bytes);
+    free(large.packed.bytes);
+    free(large.program.bytes);
     return 0;
 }
 
 static int show_large_watch(char **words, size_t count) {
-    struct text program = read_file(words[0]), packed = read_file(words[1]);
-    struct lists lists;
-    int status = read_lists(words[1], packed, &lists);
+    struct large large;
+    int status = open_large(words, &large);
     if (status) return status;
-    uint32_t first[8], fields = 0, answer = open_node(program, first, &fields);
-    if (answer) return fault(answer);
-    size_t size = lists.nodes * fields;
-    uint32_t *from = open_nodes(first, lists.nodes, fields), *rounds = room_for(count, sizeof *rounds), *states = room_for(count * size, sizeof *states);
+    size_t size = large.lists.nodes * large.fields;
+    uint32_t *from = open_nodes(large.first, large.lists.nodes, large.fields);
+    uint32_t *rounds = room_for(count, sizeof *rounds), *states = room_for(count * size, sizeof *states);
     for (size_t i = 0; i < count; i++) rounds[i] = number(words[2 + i]);
-    answer = unison_large_watch(program.bytes, program.len, LISTS(lists), 0, from, size, rounds, count, states, count * size, &fields);
+    uint32_t answer = unison_large_watch(large.program.bytes, large.program.len, LISTS(large.lists), 0, from, size, rounds, count, states,
+                                         count * size, &large.fields);
     if (answer) return fault(answer);
     for (size_t i = 0; i < count; i++) {
         printf("round %u\n", (unsigned)rounds[i]);
-        print_words(states + i * size, (uint32_t)lists.nodes, fields);
+        print_words(states + i * size, (uint32_t)large.lists.nodes, large.fields);
     }
     free(states);
     free(rounds);
     free(from);
-    free(packed.bytes);
-    free(program.bytes);
+    free(large.packed.bytes);
+    free(large.program.bytes);
     return 0;
 }
 
 static int show_large_counts(char **words, size_t count) {
-    struct text program = read_file(words[0]), packed = read_file(words[1]);
-    struct lists lists;
-    int status = read_lists(words[1], packed, &lists);
+    struct large large;
+    int status = open_large(words, &large);
     if (status) return status;
-    uint32_t first[8], fields = 0, answer = open_node(program, first, &fields);
-    if (answer) return fault(answer);
-    size_t size = lists.nodes * fields, told = (size_t)number(words[3]) + 1;
-    uint32_t *from = open_nodes(first, lists.nodes, fields), *rounds = room_for(told, sizeof *rounds), *values = room_for(count, sizeof *values);
+    size_t size = large.lists.nodes * large.fields, told = (size_t)number(words[3]) + 1;
+    uint32_t *from = open_nodes(large.first, large.lists.nodes, large.fields);
+    uint32_t *rounds = room_for(told, sizeof *rounds), *values = room_for(count, sizeof *values);
     uint32_t *counts = room_for(told * (count + 1), sizeof *counts);
     for (size_t i = 0; i < told; i++) rounds[i] = (uint32_t)i;
     for (size_t i = 0; i < count; i++) values[i] = number(words[4 + i]);
-    answer = unison_large_counts(program.bytes, program.len, LISTS(lists), 0, from, size, rounds, told, number(words[2]), values, count, counts,
-                                 told * (count + 1), &fields);
+    uint32_t answer = unison_large_counts(large.program.bytes, large.program.len, LISTS(large.lists), 0, from, size, rounds, told, number(words[2]),
+                                          values, count, counts, told * (count + 1), &large.fields);
     if (answer) return fault(answer);
     for (size_t i = 0; i < told; i++) {
         printf("%u", (unsigned)rounds[i]);
@@ -346,8 +361,8 @@ static int show_large_counts(char **words, size_t count) {
     free(values);
     free(rounds);
     free(from);
-    free(packed.bytes);
-    free(program.bytes);
+    free(large.packed.bytes);
+    free(large.program.bytes);
     return 0;
 }
 
