@@ -4,10 +4,9 @@ ghost use Rattle.std.specs.Prelude.{◌≡◌};
 ghost use Rattle.model_text.specs.declared.fault.ModelFault.TheVariants.{Memory};
 
 use std::alloc::{AllocError, AllocFailed};
-use thiserror::Error;
 
 /// What could stand at the place at which a text cannot be read on.
-#[derive(Clone, Copy, Debug, PartialEq, Eq)]
+#[derive(Clone, Copy, PartialEq, Eq)]
 pub enum Expected {
     /// `const`, `states`, `field`, `let` or `next`, with which an item begins.
     Item,
@@ -49,21 +48,17 @@ pub enum Expected {
 
 /// Why a text is no model, and where: the first cause that holds, in this order, but that running out of memory can come
 /// in place of `Lex`, of `Syntax` and of an answer. Places are counted in bytes from 0.
-#[derive(Clone, Copy, Debug, PartialEq, Eq, Error)]
+#[derive(Clone, Copy)]
 pub enum ModelFault {
     /// The text has more than 65,536 bytes.
-    #[error("TooLong")]
     TooLong,
     /// No token begins at the byte `at`; of a number above 4,294,967,295, of one with `_` that does not stand between
     /// digits and of a decimal with more than nine digits behind its point it is the first digit.
-    #[error("Lex")]
     Lex { at: u32 },
     /// The token that begins at the byte `at` is the first that cannot stand at its place, at which `expected`
     /// could; where the text breaks off inside an item, `at` is the length of the text.
-    #[error("Syntax")]
     Syntax { at: u32, expected: Expected },
     /// Out of memory.
-    #[error("Memory")]
     Memory,
 }
 

@@ -1,12 +1,12 @@
 //! The reserved words.
 
-ghost use Rattle.model_text.specs.Keywords.{keyword_of};
-ghost use Rattle.std.specs.Prelude.{◌≡◌};
+ghost use Rattle.model_text.specs.Keywords.{first_reserved, keyword_of};
+ghost use Rattle.std.specs.Prelude.{◌≡◌, map};
 
 use crate::tree::Function;
 
 /// A reserved word.
-#[derive(Clone, Copy, PartialEq, Eq)]
+#[derive(Clone, Copy)]
 pub enum Keyword {
     Const,
     States,
@@ -31,43 +31,56 @@ pub enum Keyword {
     Function(Function),
 }
 
+/// Each reserved word.
+const RESERVED: [(&str, Keyword); 31] = [
+    ("const", Keyword::Const),
+    ("states", Keyword::States),
+    ("field", Keyword::Field),
+    ("let", Keyword::Let),
+    ("next", Keyword::Next),
+    ("or", Keyword::Or),
+    ("and", Keyword::And),
+    ("not", Keyword::Not),
+    ("if", Keyword::If),
+    ("then", Keyword::Then),
+    ("else", Keyword::Else),
+    ("cases", Keyword::Cases),
+    ("none", Keyword::Nothing),
+    ("id", Keyword::Id),
+    ("degree", Keyword::Degree),
+    ("round", Keyword::Round),
+    ("weight", Keyword::Weight),
+    ("chance", Keyword::Chance),
+    ("chance_of", Keyword::ChanceOf),
+    ("total", Keyword::Function(Function::Total)),
+    ("sum", Keyword::Function(Function::Sum)),
+    ("least", Keyword::Function(Function::Least)),
+    ("most", Keyword::Function(Function::Most)),
+    ("count", Keyword::Function(Function::Count)),
+    ("any", Keyword::Function(Function::Any)),
+    ("all", Keyword::Function(Function::All)),
+    ("min", Keyword::Function(Function::Min)),
+    ("max", Keyword::Function(Function::Max)),
+    ("difference", Keyword::Function(Function::Difference)),
+    ("random", Keyword::Function(Function::Random)),
+    ("link_random", Keyword::Function(Function::LinkRandom)),
+];
+
+/// What the first of these words means that is this one.
+fn first_reserved(words: &[(&str, Keyword)], word: &str) -> Option<Keyword>
+    ensures { result ≡ first_reserved word.now (map (λ k. (k.0.now, k.1)) words.now) }
+{
+    for (text, keyword) in words {
+        if word == *text {
+            return Some(*keyword);
+        }
+    }
+    None
+}
+
 /// The reserved word that this is, or none where it is a name.
-#[tactic(auto, unfolding(crate::specs::Keywords::keyword_of))]
 pub fn reserved_word(word: &str) -> Option<Keyword>
     ensures { result ≡ keyword_of word.now }
 {
-    match word {
-        "const" => Some(Keyword::Const),
-        "states" => Some(Keyword::States),
-        "field" => Some(Keyword::Field),
-        "let" => Some(Keyword::Let),
-        "next" => Some(Keyword::Next),
-        "or" => Some(Keyword::Or),
-        "and" => Some(Keyword::And),
-        "not" => Some(Keyword::Not),
-        "if" => Some(Keyword::If),
-        "then" => Some(Keyword::Then),
-        "else" => Some(Keyword::Else),
-        "cases" => Some(Keyword::Cases),
-        "none" => Some(Keyword::Nothing),
-        "id" => Some(Keyword::Id),
-        "degree" => Some(Keyword::Degree),
-        "round" => Some(Keyword::Round),
-        "weight" => Some(Keyword::Weight),
-        "chance" => Some(Keyword::Chance),
-        "chance_of" => Some(Keyword::ChanceOf),
-        "total" => Some(Keyword::Function(Function::Total)),
-        "sum" => Some(Keyword::Function(Function::Sum)),
-        "least" => Some(Keyword::Function(Function::Least)),
-        "most" => Some(Keyword::Function(Function::Most)),
-        "count" => Some(Keyword::Function(Function::Count)),
-        "any" => Some(Keyword::Function(Function::Any)),
-        "all" => Some(Keyword::Function(Function::All)),
-        "min" => Some(Keyword::Function(Function::Min)),
-        "max" => Some(Keyword::Function(Function::Max)),
-        "difference" => Some(Keyword::Function(Function::Difference)),
-        "random" => Some(Keyword::Function(Function::Random)),
-        "link_random" => Some(Keyword::Function(Function::LinkRandom)),
-        _ => None,
-    }
+    first_reserved(&RESERVED, word)
 }

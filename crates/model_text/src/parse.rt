@@ -1,6 +1,8 @@
 //! From tokens to the tree of an expression.
 
-ghost use Rattle.std.specs.Prelude.{◌≡◌, ◌≤◌, string_bytes};
+ghost use Rattle.std.specs.Prelude.{◌≡◌, ◌≤◌, List, Some};
+ghost use Rattle.model_text.specs.Tokens.{Placed};
+ghost use Rattle.model_text.specs.Tree.{Tree, ApplyTree, CallTree, ChanceTree, ChanceOfTree, NameTree, NearTree};
 ghost use Rattle.model_text.specs.View.{tree_of, arms_of, arguments_of, placed_all};
 ghost use Rattle.model_text.specs.Causes.{Gives};
 ghost use Rattle.model_text.specs.Grammar.{is_chain};
@@ -14,7 +16,7 @@ use crate::fault::Expected;
 use crate::keyword::Keyword;
 use crate::stuck::Stuck;
 use crate::token::{Lexeme, Sign, Token};
-use crate::tree::{Arguments, Arms, Decimal, Expr, Operator};
+use crate::tree::{Arguments, Arms, Decimal, Expr, Function, Operator};
 use std::alloc::Global;
 
 /// The level of `not`.
@@ -124,20 +126,27 @@ fn form<'t, 'a>(
     let at = first.at;
     match first.token {
         Token::Number(value) => Ok((Expr::Number { value, at }, rest)),
-        Token::Name(name) => {
-            let name = String::from_str(alloc, name)?;
-            named(alloc, depth, name, at, rest)
-        }
-        Token::Near(name) => {
-            let name = String::from_str(alloc, name)?;
-            Ok((Expr::Near { name, at }, rest))
-        }
+        Token::Name(name) => named(alloc, depth, name, at, rest),
+        Token::Near(name) => near(alloc, name, at, rest),
         Token::NearId => Ok((Expr::NearId { at }, rest)),
         Token::NearWeight => Ok((Expr::NearWeight { at }, rest)),
         Token::Keyword(keyword) => worded(alloc, depth, level, keyword, tokens.len(), at, rest),
         Token::Sign(Sign::Open) => parens(alloc, depth, at, rest),
         Token::Sign(_) | Token::Decimal(_) => Err(Stuck::before(tokens, Expected::Expression)),
     }
+}
+
+/// A name of the neighbour, before these tokens.
+fn near<'t, 'a>(
+    alloc: Global,
+    name: &str,
+    at: u32,
+    tokens: &'t [Lexeme<'a>],
+) -> Result<(Expr, &'t [Lexeme<'a>]), Stuck>
+    ensures { Gives {Y = Tree × List Placed} (λ x. (tree_of x.0, placed_all x.1.now)) result (Some (NearTree name.now at, placed_all tokens.now)) }
+{
+    let name = String::from_str(alloc, name)?;
+    Ok((Expr::Near { name, at }, tokens))
 }
 
 /// What follows the reserved word with which the last `left` tokens begin.
@@ -163,23 +172,9 @@ fn worded<'t, 'a>(
         Keyword::Not => not(alloc, depth, level, left, at, tokens),
         Keyword::If => choice(alloc, depth, at, tokens),
         Keyword::Cases => cases(alloc, depth, at, tokens),
-        Keyword::Chance => {
-            let (decimal, rest) = chance(tokens)?;
-            Ok((Expr::Chance { at, decimal }, rest))
-        }
-        Keyword::ChanceOf => {
-            let (decimal, rest) = chance(tokens)?;
-            Ok((Expr::ChanceOf { at, decimal }, rest))
-        }
-        Keyword::Function(function) => {
-            let (arguments, rest) = call(alloc, depth, tokens)?;
-            let call = Expr::Call {
-                function,
-                at,
-                arguments,
-            };
-            Ok((call, rest))
-        }
+        Keyword::Chance => chance(at, tokens),
+        Keyword::ChanceOf => chance_of(at, tokens),
+        Keyword::Function(function) => call(alloc, depth, function, at, tokens),
         _ => Err(Stuck::Token {
             left,
             expected: Expected::Expression,
@@ -372,13 +367,21 @@ fn one_arm<'t, 'a>(
 fn call<'t, 'a>(
     alloc: Global,
     depth: u32,
+    function: Function,
+    at: u32,
     tokens: &'t [Lexeme<'a>],
-) -> Result<(Box<Arguments>, &'t [Lexeme<'a>]), Stuck>
+) -> Result<(Expr, &'t [Lexeme<'a>]), Stuck>
     requires { depth ≤ 99 }
-    ensures { Gives (λ x. (arguments_of x.0.value, placed_all x.1.now)) result (open_at (placed_all tokens.now) and_then arguments_at depth) }
+    ensures { Gives {Y = Tree × List Placed} (λ x. (tree_of x.0, placed_all x.1.now)) result ((open_at (placed_all tokens.now) and_then arguments_at depth) and_then λ a. Some (CallTree function at a.0, a.1)) }
 {
     let rest = open(tokens)?;
-    arguments(alloc, depth, rest)
+    let (arguments, rest) = arguments(alloc, depth, rest)?;
+    let call = Expr::Call {
+        function,
+        at,
+        arguments,
+    };
+    Ok((call, rest))
 }
 
 /// What follows a name: arguments in brackets, or nothing of the same expression.
@@ -387,12 +390,12 @@ fn call<'t, 'a>(
 fn named<'t, 'a>(
     alloc: Global,
     depth: u32,
-    name: String,
+    name: &str,
     at: u32,
     tokens: &'t [Lexeme<'a>],
 ) -> Result<(Expr, &'t [Lexeme<'a>]), Stuck>
     requires { depth ≤ 99 }
-    ensures { Gives (λ x. (tree_of x.0, placed_all x.1.now)) result (named_at (arguments_at depth) (string_bytes name) at (placed_all tokens.now)) }
+    ensures { Gives (λ x. (tree_of x.0, placed_all x.1.now)) result (named_at (arguments_at depth) name.now at (placed_all tokens.now)) }
 {
     match tokens {
         [
@@ -401,17 +404,44 @@ fn named<'t, 'a>(
                 ..
             },
             rest @ ..,
-        ] => {
-            let (arguments, rest) = arguments(alloc, depth, rest)?;
-            let apply = Expr::Apply {
-                name,
-                at,
-                arguments,
-            };
-            Ok((apply, rest))
-        }
-        _ => Ok((Expr::Name { name, at }, tokens)),
+        ] => application(alloc, depth, name, at, rest),
+        _ => plain(alloc, name, at, tokens),
     }
+}
+
+/// A name before these tokens, without arguments.
+fn plain<'t, 'a>(
+    alloc: Global,
+    name: &str,
+    at: u32,
+    tokens: &'t [Lexeme<'a>],
+) -> Result<(Expr, &'t [Lexeme<'a>]), Stuck>
+    ensures { Gives {Y = Tree × List Placed} (λ x. (tree_of x.0, placed_all x.1.now)) result (Some (NameTree name.now at, placed_all tokens.now)) }
+{
+    let name = String::from_str(alloc, name)?;
+    Ok((Expr::Name { name, at }, tokens))
+}
+
+/// A name and its arguments, which these tokens begin with.
+#[cycle(expression)]
+fn application<'t, 'a>(
+    alloc: Global,
+    depth: u32,
+    name: &str,
+    at: u32,
+    tokens: &'t [Lexeme<'a>],
+) -> Result<(Expr, &'t [Lexeme<'a>]), Stuck>
+    requires { depth ≤ 99 }
+    ensures { Gives {Y = Tree × List Placed} (λ x. (tree_of x.0, placed_all x.1.now)) result (arguments_at depth (placed_all tokens.now) and_then λ a. Some (ApplyTree name.now at a.0, a.1)) }
+{
+    let name = String::from_str(alloc, name)?;
+    let (arguments, rest) = arguments(alloc, depth, tokens)?;
+    let apply = Expr::Apply {
+        name,
+        at,
+        arguments,
+    };
+    Ok((apply, rest))
 }
 
 /// Arguments, to the closing bracket.
@@ -489,11 +519,27 @@ fn argument<'t, 'a>(
 
 /// A decimal in brackets.
 #[tactic(auto, unfolding(crate::specs::Reading::chance_at))]
-fn chance<'t, 'a>(tokens: &'t [Lexeme<'a>]) -> Result<(Decimal, &'t [Lexeme<'a>]), Stuck>
+fn bracketed<'t, 'a>(tokens: &'t [Lexeme<'a>]) -> Result<(Decimal, &'t [Lexeme<'a>]), Stuck>
     ensures { Gives (λ x. (x.0, placed_all x.1.now)) result (chance_at (placed_all tokens.now)) }
 {
     let rest = open(tokens)?;
     let (decimal, rest) = decimal(rest)?;
     let rest = close(rest)?;
     Ok((decimal, rest))
+}
+
+/// What follows `chance`.
+fn chance<'t, 'a>(at: u32, tokens: &'t [Lexeme<'a>]) -> Result<(Expr, &'t [Lexeme<'a>]), Stuck>
+    ensures { Gives {Y = Tree × List Placed} (λ x. (tree_of x.0, placed_all x.1.now)) result (chance_at (placed_all tokens.now) and_then λ d. Some (ChanceTree at d.0, d.1)) }
+{
+    let (decimal, rest) = bracketed(tokens)?;
+    Ok((Expr::Chance { at, decimal }, rest))
+}
+
+/// What follows `chance_of`.
+fn chance_of<'t, 'a>(at: u32, tokens: &'t [Lexeme<'a>]) -> Result<(Expr, &'t [Lexeme<'a>]), Stuck>
+    ensures { Gives {Y = Tree × List Placed} (λ x. (tree_of x.0, placed_all x.1.now)) result (chance_at (placed_all tokens.now) and_then λ d. Some (ChanceOfTree at d.0, d.1)) }
+{
+    let (decimal, rest) = bracketed(tokens)?;
+    Ok((Expr::ChanceOf { at, decimal }, rest))
 }

@@ -4,7 +4,7 @@ use crate::keyword::Keyword;
 use crate::tree::Decimal;
 
 /// A sign, one byte or two.
-#[derive(Clone, Copy, PartialEq, Eq)]
+#[derive(Clone, Copy)]
 pub enum Sign {
     Assign,
     Semicolon,

@@ -5,7 +5,7 @@
 //! takes.
 
 /// An operator between two parts.
-#[derive(Clone, Copy, PartialEq, Eq)]
+#[derive(Clone, Copy)]
 pub enum Operator {
     /// `a or b`
     Or,
@@ -42,7 +42,7 @@ pub enum Operator {
 }
 
 /// A function that the notation has; each name is a reserved word.
-#[derive(Clone, Copy, PartialEq, Eq)]
+#[derive(Clone, Copy)]
 pub enum Function {
     /// `total(a)`: the sum over the neighbours.
     Total,
@@ -72,7 +72,7 @@ pub enum Function {
 
 /// A decimal: `numerator` over the power of ten with exponent `places`, as 5 and 2 for `0.05`. It
 /// has as many places as digits stood behind the point; a whole number has 0.
-#[derive(Clone, Copy, PartialEq, Eq)]
+#[derive(Clone, Copy)]
 pub struct Decimal {
     pub numerator: u32,
     pub places: u32,

@@ -50,7 +50,10 @@ abbrev pub decreases-call : goal.decreases-call
 decreases-call l = 1000 * l.depth + 1
 
 abbrev pub decreases-named : goal.decreases-named
-decreases-named l = 1000 * l.depth + 1
+decreases-named l = 1000 * l.depth + 2
+
+abbrev pub decreases-application : goal.decreases-application
+decreases-application l = 1000 * l.depth + 1
 
 abbrev pub decreases-arguments : goal.decreases-arguments
 decreases-arguments l = 1000 * l.depth
