@@ -44,7 +44,7 @@ fn definition<'a>(items: &'a [Item], name: &str) -> Option<&'a Item>
 /// Whether a name of an item is that of something that is not known yet.
 fn lacks(fault: &ExpandFault) -> bool {
     match fault {
-        ExpandFault::At { cause, .. } => *cause == Cause::Ring,
+        ExpandFault::At { cause, .. } => matches!(cause, Cause::Ring),
         ExpandFault::UnknownGiven { .. } | ExpandFault::Memory => false,
     }
 }

@@ -17,7 +17,8 @@ ghost use Rattle.model_rules.specs.Terms.{NotTerm, OverTerm, looks, parted};
 use crate::draw::scaled;
 use crate::drawing::{chance_of, chance_term, check_bound, random_term};
 use crate::fault::{Cause, ExpandFault, wrong};
-use crate::names::{applied, inside_only, name_term, near_term};
+use crate::names::{applied, name_term, near_term};
+use crate::near::{near_id, near_weight};
 use crate::operators::{
     CallKind, Source, between, call_kind, choice, distance, ends, infix_term, over_term,
 };
@@ -51,14 +52,8 @@ pub fn expression(
         Expr::Degree { .. } => Ok(Term::Degree),
         Expr::Round { .. } => Ok(Term::Round),
         Expr::Near { name, at } => near_term(name, *at, scope, inside, alloc, room),
-        Expr::NearId { at } => {
-            inside_only(inside, *at)?;
-            Ok(Term::NearId)
-        }
-        Expr::NearWeight { at } => {
-            inside_only(inside, *at)?;
-            Ok(Term::NearWeight)
-        }
+        Expr::NearId { at } => near_id(inside, *at),
+        Expr::NearWeight { at } => near_weight(inside, *at),
         Expr::Infix {
             operator,
             left,

@@ -9,7 +9,7 @@ use std::alloc::{AllocError, AllocFailed};
 /// where several hold, the first in this order, and of that the first place. Then constants, states and lets are expanded,
 /// each once all that it uses is known, and then fields and next values in the text's order; of these the first fault is
 /// told.
-#[derive(Clone, Copy, PartialEq, Eq)]
+#[derive(Clone, Copy)]
 pub enum Cause {
     /// The ninth field.
     TooManyFields,

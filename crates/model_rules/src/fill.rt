@@ -11,6 +11,7 @@ use crate::term::Term;
 use std::alloc::Global;
 
 /// An equal term.
+#[cycle(copying)]
 pub fn copy(term: &Term, alloc: Global, room: &mut Room) -> Result<Term, ExpandFault>
     ensures exact { IfOk result (λ t. term_of t ≡ term_of term.now) }
     ensures item { item_at room.new ≡ item_at room.old }
@@ -28,19 +29,30 @@ pub fn copy(term: &Term, alloc: Global, room: &mut Room) -> Result<Term, ExpandF
         Term::NearId => Ok(Term::NearId),
         Term::NearWeight => Ok(Term::NearWeight),
         Term::Infix(op, a, b) => {
-            let a = Box::new(alloc, copy(a, alloc, room)?)?;
-            let b = Box::new(alloc, copy(b, alloc, room)?)?;
+            let a = copy_boxed(a, alloc, room)?;
+            let b = copy_boxed(b, alloc, room)?;
             Ok(Term::Infix(*op, a, b))
         }
-        Term::Not(a) => Ok(Term::Not(Box::new(alloc, copy(a, alloc, room)?)?)),
-        Term::Over(agg, a) => Ok(Term::Over(*agg, Box::new(alloc, copy(a, alloc, room)?)?)),
+        Term::Not(a) => Ok(Term::Not(copy_boxed(a, alloc, room)?)),
+        Term::Over(agg, a) => Ok(Term::Over(*agg, copy_boxed(a, alloc, room)?)),
         Term::Choice(a, b, c) => {
-            let a = Box::new(alloc, copy(a, alloc, room)?)?;
-            let b = Box::new(alloc, copy(b, alloc, room)?)?;
-            let c = Box::new(alloc, copy(c, alloc, room)?)?;
+            let a = copy_boxed(a, alloc, room)?;
+            let b = copy_boxed(b, alloc, room)?;
+            let c = copy_boxed(c, alloc, room)?;
             Ok(Term::Choice(a, b, c))
         }
     }
+}
+
+/// An equal term in a box.
+#[cycle(copying)]
+fn copy_boxed(term: &Term, alloc: Global, room: &mut Room) -> Result<Box<Term>, ExpandFault>
+    ensures exact { IfOk result (λ t. term_of t.value ≡ term_of term.now) }
+    ensures item { item_at room.new ≡ item_at room.old }
+    ensures refused { IfErr result (IsTooLong (item_at room.old)) }
+{
+    let made = copy(term, alloc, room)?;
+    Ok(Box::new(alloc, made)?)
 }
 
 /// The argument at this place, or 0 where there is none.
@@ -61,6 +73,7 @@ fn argument(
 }
 
 /// The term with the arguments in place of its parameters.
+#[cycle(filling)]
 pub fn fill(
     term: &Term,
     arguments: &[Term],
@@ -78,25 +91,38 @@ pub fn fill(
         Term::Id => Ok(Term::Id),
         Term::Degree => Ok(Term::Degree),
         Term::Round => Ok(Term::Round),
-        Term::Parameter(k) => Ok(argument(arguments, *k, alloc, room)?),
+        Term::Parameter(k) => argument(arguments, *k, alloc, room),
         Term::Near(name) => Ok(Term::Near(String::from_str(alloc, name)?)),
         Term::NearId => Ok(Term::NearId),
         Term::NearWeight => Ok(Term::NearWeight),
         Term::Infix(op, a, b) => {
-            let a = Box::new(alloc, fill(a, arguments, alloc, room)?)?;
-            let b = Box::new(alloc, fill(b, arguments, alloc, room)?)?;
+            let a = fill_boxed(a, arguments, alloc, room)?;
+            let b = fill_boxed(b, arguments, alloc, room)?;
             Ok(Term::Infix(*op, a, b))
         }
-        Term::Not(a) => Ok(Term::Not(Box::new(alloc, fill(a, arguments, alloc, room)?)?)),
-        Term::Over(agg, a) => {
-            let a = Box::new(alloc, fill(a, arguments, alloc, room)?)?;
-            Ok(Term::Over(*agg, a))
-        }
+        Term::Not(a) => Ok(Term::Not(fill_boxed(a, arguments, alloc, room)?)),
+        Term::Over(agg, a) => Ok(Term::Over(*agg, fill_boxed(a, arguments, alloc, room)?)),
         Term::Choice(a, b, c) => {
-            let a = Box::new(alloc, fill(a, arguments, alloc, room)?)?;
-            let b = Box::new(alloc, fill(b, arguments, alloc, room)?)?;
-            let c = Box::new(alloc, fill(c, arguments, alloc, room)?)?;
+            let a = fill_boxed(a, arguments, alloc, room)?;
+            let b = fill_boxed(b, arguments, alloc, room)?;
+            let c = fill_boxed(c, arguments, alloc, room)?;
             Ok(Term::Choice(a, b, c))
         }
     }
+}
+
+/// A term with the arguments in place of its parameters, in a box.
+#[cycle(filling)]
+fn fill_boxed(
+    term: &Term,
+    arguments: &[Term],
+    alloc: Global,
+    room: &mut Room,
+) -> Result<Box<Term>, ExpandFault>
+    ensures exact { IfOk result (λ t. term_of t.value ≡ filled (terms_of arguments.now) (term_of term.now)) }
+    ensures item { item_at room.new ≡ item_at room.old }
+    ensures refused { IfErr result (IsTooLong (item_at room.old)) }
+{
+    let made = fill(term, arguments, alloc, room)?;
+    Ok(Box::new(alloc, made)?)
 }

@@ -17,6 +17,7 @@ mod lower;
 mod model;
 mod names;
 mod naming;
+mod near;
 mod operators;
 mod places;
 mod room;

@@ -10,6 +10,7 @@ use rule_lang::Expr;
 use std::alloc::{AllocError, Global};
 
 /// The expression that a term without parameters is.
+#[cycle(lowering)]
 pub fn lower(term: &Term, alloc: Global) -> Result<Expr, AllocError>
     ensures exact { IfOk result (λ e. tree_of e ≡ lowered (term_of term.now)) }
 {
@@ -24,17 +25,26 @@ pub fn lower(term: &Term, alloc: Global) -> Result<Expr, AllocError>
         Term::NearId => Ok(Expr::NearId),
         Term::NearWeight => Ok(Expr::NearWeight),
         Term::Infix(op, a, b) => {
-            let a = Box::new(alloc, lower(a, alloc)?)?;
-            let b = Box::new(alloc, lower(b, alloc)?)?;
+            let a = boxed(a, alloc)?;
+            let b = boxed(b, alloc)?;
             Ok(Expr::Infix(*op, a, b))
         }
-        Term::Not(a) => Ok(Expr::Not(Box::new(alloc, lower(a, alloc)?)?)),
-        Term::Over(agg, a) => Ok(Expr::Over(*agg, Box::new(alloc, lower(a, alloc)?)?)),
+        Term::Not(a) => Ok(Expr::Not(boxed(a, alloc)?)),
+        Term::Over(agg, a) => Ok(Expr::Over(*agg, boxed(a, alloc)?)),
         Term::Choice(a, b, c) => {
-            let a = Box::new(alloc, lower(a, alloc)?)?;
-            let b = Box::new(alloc, lower(b, alloc)?)?;
-            let c = Box::new(alloc, lower(c, alloc)?)?;
+            let a = boxed(a, alloc)?;
+            let b = boxed(b, alloc)?;
+            let c = boxed(c, alloc)?;
             Ok(Expr::Choice(a, b, c))
         }
     }
+}
+
+/// That expression in a box.
+#[cycle(lowering)]
+fn boxed(term: &Term, alloc: Global) -> Result<Box<Expr>, AllocError>
+    ensures exact { IfOk result (λ e. tree_of e.value ≡ lowered (term_of term.now)) }
+{
+    let expression = lower(term, alloc)?;
+    Ok(Box::new(alloc, expression)?)
 }

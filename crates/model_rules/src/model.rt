@@ -71,6 +71,25 @@ fn check_names(items: &[Item], given: &[Given], alloc: Global) -> Result<(), Exp
     }
 }
 
+/// What is known of a model before its constants, states and lets are.
+fn first_scope(items: &[Item], given: &[Given], alloc: Global) -> Result<Scope, AllocError>
+    ensures fields { IfOk result (λ scope. map string_bytes scope.fields.items ≡ fields_of (items_of items.now)) }
+    ensures draws { IfOk result (λ scope. scope.draws.items ≡ draws_of (items_of items.now)) }
+    ensures stable { IfOk result (λ scope. AreStable (items_of items.now) (setting (items_of items.now) (givens_of given.now)) (map string_bytes scope.fields.items) (knowns_of scope.lets.items)) }
+{
+    let draws = draw_places(items, alloc)?;
+    let fields = field_names(items, alloc)?;
+    let lets = seed_lets(items, given, alloc)?;
+    let later = defined_names(items, alloc)?;
+    Ok(Scope {
+        draws,
+        fields,
+        lets,
+        later,
+        parameters: Vec::new(alloc),
+    })
+}
+
 /// What the names of a model stand for outside of its lets.
 fn known_scope(items: &[Item], given: &[Given], alloc: Global) -> Result<Scope, ExpandFault>
     ensures fields { IfOk result (λ scope. map string_bytes scope.fields.items ≡ fields_of (items_of items.now)) }
@@ -79,13 +98,7 @@ fn known_scope(items: &[Item], given: &[Given], alloc: Global) -> Result<Scope, 
     ensures stable { IfOk result (λ scope. AreStable (items_of items.now) (setting (items_of items.now) (givens_of given.now)) (map string_bytes scope.fields.items) (knowns_of scope.lets.items)) }
 {
     let names = defined_names(items, alloc)?;
-    let mut scope = Scope {
-        draws: draw_places(items, alloc)?,
-        fields: field_names(items, alloc)?,
-        lets: seed_lets(items, given, alloc)?,
-        later: defined_names(items, alloc)?,
-        parameters: Vec::new(alloc),
-    };
+    let mut scope = first_scope(items, given, alloc)?;
     define_all(&names, items, given, &mut scope, alloc)?;
     scope.parameters = Vec::new(alloc);
     Ok(scope)

@@ -248,24 +248,59 @@ fn given_fault(items: &[Item], alloc: Global) -> Result<Option<ExpandFault>, All
     }
 }
 
-/// What is wrong with the fields of a model: those that have a next value, and the states that they have.
-fn field_fault(
-    fields: &[&Name],
+/// The place of the first name of a kind that one before it equals.
+fn repeat_in(kind: NameKind, items: &[Item], alloc: Global) -> Result<Option<u32>, AllocError>
+    ensures exact { IfOk result (λ at. at ≡ repeat_after [] (names_as kind (items_of items.now))) }
+{
+    let names = names_in(kind, items, alloc)?;
+    Ok(first_repeat(&names))
+}
+
+/// The place of the first name of a kind that is none of those of another.
+fn stray_in(
+    kind: NameKind,
+    known: NameKind,
     items: &[Item],
     alloc: Global,
-) -> Result<Option<ExpandFault>, AllocError>
-    ensures exact { IfOk result (λ fault. fault ≡ misused (named fields.now) (items_of items.now)) }
+) -> Result<Option<u32>, AllocError>
+    ensures exact { IfOk result (λ at. at ≡ stray (bare (names_as known (items_of items.now))) (names_as kind (items_of items.now))) }
 {
-    let targets = names_in(NameKind::Target, items, alloc)?;
-    if let Some(at) = first_repeat(&targets) {
+    let others = names_in(known, items, alloc)?;
+    let names = names_in(kind, items, alloc)?;
+    Ok(first_stray(&others, &names))
+}
+
+/// The place of the first field that is too many.
+fn field_too_many(items: &[Item], alloc: Global) -> Result<Option<u32>, AllocError>
+    ensures exact { IfOk result (λ at. at ≡ place_at (names_as kind.Field (items_of items.now)) 8) }
+{
+    let fields = names_in(NameKind::Field, items, alloc)?;
+    Ok(nth_place(&fields, MOST_FIELDS))
+}
+
+/// The first of the constants that the caller sets which the model does not have, counted from 0.
+fn stray_constant(
+    items: &[Item],
+    given: &[Given],
+    alloc: Global,
+) -> Result<Option<usize>, AllocError>
+    ensures exact { IfOk result (λ place. place ≡ unknown_given (bare (names_as kind.Constant (items_of items.now))) 0 (givens_of given.now)) }
+{
+    let constants = names_in(NameKind::Constant, items, alloc)?;
+    Ok(given_stray(&constants, given))
+}
+
+/// What is wrong with the fields of a model: those that have a next value, and the states that they have.
+fn field_fault(items: &[Item], alloc: Global) -> Result<Option<ExpandFault>, AllocError>
+    ensures exact { IfOk result (λ fault. fault ≡ misused (names_as kind.Field (items_of items.now)) (items_of items.now)) }
+{
+    if let Some(at) = repeat_in(NameKind::Target, items, alloc)? {
         return Ok(Some(wrong(Cause::NextTwice, at)));
     }
-    if let Some(at) = first_stray(fields, &targets) {
+    if let Some(at) = stray_in(NameKind::Target, NameKind::Field, items, alloc)? {
         return Ok(Some(wrong(Cause::NoField, at)));
     }
-    let states = names_in(NameKind::States, items, alloc)?;
-    let used = names_in(NameKind::StatesUsed, items, alloc)?;
-    match first_stray(&states, &used) {
+    match stray_in(NameKind::StatesUsed, NameKind::States, items, alloc)? {
         Some(at) => Ok(Some(wrong(Cause::UnknownStates, at))),
         None => Ok(None),
     }
@@ -279,18 +314,16 @@ pub fn name_fault(
 ) -> Result<Option<ExpandFault>, AllocError>
     ensures exact { IfOk result (λ fault. fault ≡ naming_fault (items_of items.now) (givens_of given.now)) }
 {
-    let fields = names_in(NameKind::Field, items, alloc)?;
-    if let Some(at) = nth_place(&fields, MOST_FIELDS) {
+    if let Some(at) = field_too_many(items, alloc)? {
         return Ok(Some(wrong(Cause::TooManyFields, at)));
     }
     if let Some(fault) = given_fault(items, alloc)? {
         return Ok(Some(fault));
     }
-    if let Some(fault) = field_fault(&fields, items, alloc)? {
+    if let Some(fault) = field_fault(items, alloc)? {
         return Ok(Some(fault));
     }
-    let constants = names_in(NameKind::Constant, items, alloc)?;
-    match given_stray(&constants, given) {
+    match stray_constant(items, given, alloc)? {
         Some(place) => Ok(Some(ExpandFault::UnknownGiven { place })),
         None => Ok(None),
     }

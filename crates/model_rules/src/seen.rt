@@ -12,6 +12,7 @@ use std::alloc::Global;
 
 /// The term as seen from a neighbour: of its fields and its number. What a neighbour does not know is 0,
 /// and so are parameters.
+#[cycle(seeing)]
 pub fn seen(term: &Term, alloc: Global, room: &mut Room) -> Result<Term, ExpandFault>
     ensures exact { IfOk result (λ t. term_of t ≡ seen_near (term_of term.now)) }
     ensures item { item_at room.new ≡ item_at room.old }
@@ -30,16 +31,27 @@ pub fn seen(term: &Term, alloc: Global, room: &mut Room) -> Result<Term, ExpandF
         | Term::NearWeight
         | Term::Over(_, _) => Ok(Term::Number(0)),
         Term::Infix(op, a, b) => {
-            let a = Box::new(alloc, seen(a, alloc, room)?)?;
-            let b = Box::new(alloc, seen(b, alloc, room)?)?;
+            let a = seen_boxed(a, alloc, room)?;
+            let b = seen_boxed(b, alloc, room)?;
             Ok(Term::Infix(*op, a, b))
         }
-        Term::Not(a) => Ok(Term::Not(Box::new(alloc, seen(a, alloc, room)?)?)),
+        Term::Not(a) => Ok(Term::Not(seen_boxed(a, alloc, room)?)),
         Term::Choice(a, b, c) => {
-            let a = Box::new(alloc, seen(a, alloc, room)?)?;
-            let b = Box::new(alloc, seen(b, alloc, room)?)?;
-            let c = Box::new(alloc, seen(c, alloc, room)?)?;
+            let a = seen_boxed(a, alloc, room)?;
+            let b = seen_boxed(b, alloc, room)?;
+            let c = seen_boxed(c, alloc, room)?;
             Ok(Term::Choice(a, b, c))
         }
     }
+}
+
+/// A term as seen from a neighbour, in a box.
+#[cycle(seeing)]
+fn seen_boxed(term: &Term, alloc: Global, room: &mut Room) -> Result<Box<Term>, ExpandFault>
+    ensures exact { IfOk result (λ t. term_of t.value ≡ seen_near (term_of term.now)) }
+    ensures item { item_at room.new ≡ item_at room.old }
+    ensures refused { IfErr result (IsTooLong (item_at room.old)) }
+{
+    let made = seen(term, alloc, room)?;
+    Ok(Box::new(alloc, made)?)
 }
