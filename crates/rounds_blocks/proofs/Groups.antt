@@ -45,10 +45,10 @@ more_taken {X} xs m n =
     ∙ take-append-drop m (take (m + n) xs)
 
 module _ (network : Neighbours) (batch : Batch) (at behind count : ℕ) (group : List Slot) (is : IsGroup network batch at behind count group) where
-  slot_is : (k : ℕ) (d : Slot) → k < length group → IsSlot network batch.nodes (at + k) (slice_index_or group k d)
+  pub slot_is : (k : ℕ) (d : Slot) → k < length group → IsSlot network batch.nodes (at + k) (slice_index_or group k d)
   slot_is k d h = subst (IsSlot network batch.nodes (at + k)) (sym (is.are k d h)) (is.whole.slots (at + k) d (omega (arith, h, is.many, is.inside)))
 
-  slot_long : (k : ℕ) (d : Slot) → k < length group → length (slice_index_or group k d).neighbours ≡ count
+  pub slot_long : (k : ℕ) (d : Slot) → k < length group → length (slice_index_or group k d).neighbours ≡ count
   slot_long k d h = ap (λ (s : Slot). length s.neighbours) (is.are k d h) ∙ is.alike (at + k) d (omega arith) (omega (arith, h, is.many))
 
   -- their neighbours are places of columns
@@ -58,7 +58,7 @@ module _ (network : Neighbours) (batch : Batch) (at behind count : ℕ) (group :
       nodes_covered (length network) from slot.neighbours long (slot_within network batch.nodes (at + k) slot whole (slot_is k d h))
 
   module _ (none : Slot) (i : ℕ) where
-    has_one : (k : ℕ) → k < length group → i < count → at + k < degree network (slice_index batch.nodes i)
+    pub has_one : (k : ℕ) → k < length group → i < count → at + k < degree network (slice_index batch.nodes i)
     has_one k h low = (slot_is k none h).have i (omega (arith, low, slot_long k none h))
 
     -- each of the first nodes has a neighbour in all of them

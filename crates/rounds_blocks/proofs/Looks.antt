@@ -1,8 +1,8 @@
 -- Looks at a network.
-use Rattle.std.proofs.Common.{◌≡◌, ℕ, List, [], length, Option, Some, None, slice_get, slice_index_or, refl, ap, ◌∙◌}
+use Rattle.std.proofs.Common.{◌≡◌, ℕ, zero, suc, List, [], ◌∷◌, length, Option, Some, None, slice_get, slice_index_or, refl, ap, ◌∙◌}
 use Rattle.std.specs.Option.{option_map, option_and_then, unwrap_or}
 use Rattle.std.proofs.lemmas.Option.{unwrap_or-slice_get}
-use Rattle.link_net.specs.Neighbours.{Neighbours, degree, neighbour, weight, slot_at, neighbour_at, weight_at}
+use Rattle.link_net.specs.Neighbours.{Neighbours, row, degree, neighbour, weight, slot_at, neighbour_at, weight_at}
 
 known_length : (o : Option (List (ℕ × ℕ))) → unwrap_or (option_map length o) 0 ≡ length (unwrap_or o [])
 known_length None = refl
@@ -34,3 +34,9 @@ neighbour_known network u j = known_first (slot_at network u j) ∙ ap (λ (a : 
 -- the weight at a slot, as it is looked up
 pub weight_known : (network : Neighbours) (u j : ℕ) → unwrap_or (weight_at network u j) 0 ≡ weight network u j
 weight_known network u j = known_second (slot_at network u j) ∙ ap (λ (a : ℕ × ℕ). a.1) (slot_known network u j)
+
+-- of a node that is none
+pub no_row : {B : Type 0} (network : Neighbours) (u : ℕ) (f : List (ℕ × ℕ) → B) → None ≡ option_map f (slice_get network u) → row network u ≡ []
+no_row [] u f none = refl
+no_row (r ∷ rs) zero f none = cc
+no_row (r ∷ rs) (suc u) f none = no_row rs u f none

@@ -2,6 +2,7 @@
 #![tactic(auto)]
 
 mod activity;
+mod alone;
 mod batch;
 mod columns;
 mod costs;

@@ -1,6 +1,6 @@
 //! Single looks at a network.
-ghost use Rattle.std.specs.Prelude.{◌≡◌, ◌≤◌};
-ghost use Rattle.link_net.specs.Neighbours.{degree, neighbour, weight};
+ghost use Rattle.std.specs.Prelude.{◌≡◌, ◌≤◌, map};
+ghost use Rattle.link_net.specs.Neighbours.{degree, neighbour, row, weight};
 
 use link_net::NetRows;
 
@@ -26,4 +26,24 @@ pub fn weight_of(network: &NetRows<'_>, node: u32, slot: u32) -> u32
     ensures exact { result ≡ weight network.now node slot }
 {
     network.weight(node, slot).unwrap_or(0)
+}
+
+/// The neighbours of a node, none where there is no such node.
+pub fn neighbours_of<'n>(network: &'n NetRows<'_>, node: u32) -> &'n [u32]
+    ensures exact { result.now ≡ map (λ a. a.0) (row network.now node) }
+{
+    match network.neighbours(node) {
+        Some(neighbours) => neighbours,
+        None => &[],
+    }
+}
+
+/// The weights of the links to the neighbours of a node, none where there is no such node.
+pub fn weights_of<'n>(network: &'n NetRows<'_>, node: u32) -> &'n [u32]
+    ensures exact { result.now ≡ map (λ a. a.1) (row network.now node) }
+{
+    match network.weights(node) {
+        Some(weights) => weights,
+        None => &[],
+    }
 }

@@ -9,6 +9,7 @@ ghost use Rattle.rounds_blocks.specs.Rounds.{HaveWords, IsNext};
 ghost use Rattle.rounds_blocks.specs.Walks.{IsTask, HasNext, HoldsOfDue};
 ghost use Rattle.rounds_blocks.specs.Gathered.{gathered};
 
+use crate::alone::{first_alone, gather_alone};
 use crate::batch::Batch;
 use crate::group::group_end;
 use crate::task::Task;
@@ -33,13 +34,15 @@ fn gather(
         → slice_index_or block.new.lanes i d ≡ gathered block.old.rules network.now round from.now (slice_index batch.now.nodes i) }
 {
     block.enter(round, &batch.nodes, &batch.degrees, from);
+    let alone = first_alone(network, batch);
     let mut at = 0;
-    while at < batch.slots.len() {
+    while at < alone {
         let count = batch.slots[at].neighbours.count();
         let behind = group_end(&batch.slots, at, count);
         block.take_slots(&batch.slots[at..behind], count, from);
         at = behind;
     }
+    gather_alone(network, batch, block, at, round, from);
 }
 
 /// Writes the next states of a batch's nodes.

@@ -1,7 +1,7 @@
-use Rattle.std.proofs.Common.{◌-◌, ◌∙◌, ap, arith, take, drop, length, slice_index}
+use Rattle.std.proofs.Common.{◌-◌, ◌∙◌, ap, sym, arith, take, drop, length, slice_index}
 use Rattle.std.proofs.lemmas.Bool.{cases_lt}
+use Rattle.rounds_blocks.specs.Gathered.{gathered, gathered_first}
 use Rattle.rounds_blocks.proofs.Groups.{group_made, group_within}
-use Rattle.rounds_blocks.proofs.Sums.{gathered_whole}
 use Rattle.rounds_blocks.proofs.Steps.{lane_step}
 use Rattle.rounds_blocks.proofs.round.gather.Goals as goal
 
@@ -35,9 +35,16 @@ loop-at-preserved c =
           c.take_slots.ensures.nodes c.take_slots.ensures.gathered c.take_slots.ensures.others (l.invariant.lanes i d inside) inside (cases_lt i count);
     }
 
+pub gather_alone-requires-clause-alone : goal.gather_alone-requires-clause-alone
+gather_alone-requires-clause-alone c = λ i late inside. omega (arith, c.first_alone-alone.ensures.alone i late inside, c.loop-at-test.false)
+
+pub gather_alone-requires-clause-lanes : goal.gather_alone-requires-clause-lanes
+gather_alone-requires-clause-lanes c = λ i d inside.
+    let a = c.args in
+    let l = c.loop-at in
+    l.invariant.lanes i d inside ∙ ap (λ rules. gathered_first rules a.network.now a.round a.from.now l.at (slice_index a.batch.now.nodes i)) (sym l.invariant.rules)
+
 pub returns-clause-lanes : goal.returns-clause-lanes
 returns-clause-lanes c = λ i d inside.
     let a = c.args in
-    let u = slice_index a.batch.now.nodes i in
-    c.loop-at.invariant.lanes i d inside
-    ∙ gathered_whole a.block.now.rules a.network.now a.round a.from.now c.loop-at.at u (omega (arith, c.requires.batch.whole i 0 inside, c.loop-at-test.false, c.len.ensures))
+    c.gather_alone.ensures.lanes i d inside ∙ ap (λ rules. gathered rules a.network.now a.round a.from.now (slice_index a.batch.now.nodes i)) c.loop-at.invariant.rules
