@@ -2,7 +2,6 @@ mod Counting
 mod LaidOut
 mod Moves
 mod PartMade
-mod Passing
 mod RoundFaults
 mod StateWords
 mod Tallies
