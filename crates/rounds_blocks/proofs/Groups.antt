@@ -58,7 +58,7 @@ module _ (network : Neighbours) (batch : Batch) (at behind count : ℕ) (group :
       nodes_covered (length network) from slot.neighbours long (slot_within network batch.nodes (at + k) slot whole (slot_is k d h))
 
   module _ (none : Slot) (i : ℕ) where
-    pub has_one : (k : ℕ) → k < length group → i < count → at + k < degree network (slice_index batch.nodes i)
+    has_one : (k : ℕ) → k < length group → i < count → at + k < degree network (slice_index batch.nodes i)
     has_one k h low = (slot_is k none h).have i (omega (arith, low, slot_long k none h))
 
     -- each of the first nodes has a neighbour in all of them

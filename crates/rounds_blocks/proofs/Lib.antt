@@ -15,4 +15,4 @@ pub mod Covers
 pub mod Homes
 pub mod Turns
 pub mod OneByOne
-pub mod Alone
+pub mod Hubs

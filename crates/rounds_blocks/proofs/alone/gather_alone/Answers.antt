@@ -1,11 +1,9 @@
-use Rattle.std.proofs.Common.{◌≡◌, ◌<◌, ◌≤◌, ◌+◌, ◌-◌, ◌⊎◌, inl, inr, ℕ, List, ◌++◌, ◌∙◌, ap, sym, subst, arith, take, drop, map, length, slice_index, slice_index_or}
+use Rattle.std.proofs.Common.{◌<◌, ◌≤◌, ◌+◌, ◌-◌, ◌⊎◌, inl, inr, ℕ, ◌++◌, ◌∙◌, ap, arith, take, drop, map, length, slice_index, slice_index_or}
 use Rattle.std.proofs.lemmas.Bool.{cases_lt}
 use Rattle.std.proofs.lemmas.List.{length-map}
-use Rattle.rule_check.specs.declared.state.Near.{Near}
 use Rattle.link_net.specs.Neighbours.{row, degree}
-use Rattle.rounds_code.specs.declared.slot.Slot.{Slot}
-use Rattle.rounds_code.specs.Block.{Lane, HasGathered, near_in}
-use Rattle.rounds_blocks.proofs.Alone.{slot_in, for_first, in_slots, alone_group, alone_row, alone_within}
+use Rattle.rounds_code.specs.Block.{HasGathered, near_in}
+use Rattle.rounds_blocks.proofs.Hubs.{slot_in, for_first, in_slots, alone_group, alone_row, alone_within}
 use Rattle.rounds_blocks.proofs.Sums.{gathered_whole}
 use Rattle.rounds_blocks.proofs.Steps.{lane_step}
 use Rattle.rounds_blocks.proofs.alone.gather_alone.Goals as goal
@@ -30,7 +28,7 @@ loop-at-preserved c =
     let behind = c.part_end-behind in
     let u = slice_index batch.nodes 0 in
     let some : 0 < length batch.nodes = omega arith in
-    let others = λ i late inside. omega (arith, c.requires.alone i late inside, l.invariant.late) in
+    let others : (i : ℕ) → 1 ≤ i → i < length batch.nodes → degree network (slice_index batch.nodes i) ≤ l.at = λ i late inside. omega (arith, c.requires.alone i late inside, l.invariant.late) in
     let near_are = c.neighbours_of-neighbours.ensures.exact ∙ ap (λ u. map (λ a. a.0) (row network u)) c.first_node-node.ensures.exact in
     let weights_are = c.weights_of-weights.ensures.exact ∙ ap (λ u. map (λ a. a.1) (row network u)) c.first_node-node.ensures.exact in
     let far : behind.result ≤ degree network u = omega (arith, behind.ensures.inside, ap length near_are, length-map (row network u) (λ a. a.0)) in

@@ -1,5 +1,5 @@
 -- Slots in which the first node of a batch stands alone.
-use Rattle.std.proofs.Common.{◌≡◌, ◌<◌, ◌≤◌, ◌+◌, ◌-◌, ◌⊎◌, inl, inr, ℕ, zero, suc, List, [], ◌∷◌, length, map, take, drop, All, refl, ap, sym, ◌∙◌, arith, subst, slice_index, slice_index_or}
+use Rattle.std.proofs.Common.{◌≡◌, ◌<◌, ◌≤◌, ◌+◌, ◌-◌, ◌⊎◌, inl, inr, ℕ, zero, suc, List, [], ◌∷◌, length, map, take, drop, refl, ap, sym, ◌∙◌, arith, subst, slice_index, slice_index_or}
 use Rattle.std.specs.Global.{Vec}
 use Rattle.std.proofs.lemmas.Bool.{cases_lt}
 use Rattle.std.proofs.lemmas.List.{length-map, length-take-le, length-drop, get_or-map, get_or-take, get_or-drop}
@@ -10,7 +10,7 @@ use Rattle.rounds_blocks.specs.declared.batch.Batch.{Batch}
 use Rattle.rounds_blocks.specs.Batches.{IsBatch, AreAlike}
 use Rattle.rounds_blocks.specs.Rounds.{HaveWords}
 use Rattle.rounds_blocks.proofs.Slots.{neighbour_in, weight_in, nodes_covered}
-use Rattle.rounds_blocks.proofs.Groups.{IsGroup, group_made, slot_is, slot_long, has_one}
+use Rattle.rounds_blocks.proofs.Groups.{IsGroup, group_made, slot_is, slot_long}
 
 -- one of some slots
 pub slot_in : (slots : List Slot) (n : ℕ) → n < length slots → Slot
