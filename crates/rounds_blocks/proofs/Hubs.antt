@@ -9,7 +9,7 @@ use Rattle.rounds_code.specs.Block.{Covers, IsRow}
 use Rattle.rounds_blocks.specs.declared.batch.Batch.{Batch}
 use Rattle.rounds_blocks.specs.Batches.{IsBatch, AreAlike}
 use Rattle.rounds_blocks.specs.Rounds.{HaveWords}
-use Rattle.rounds_blocks.proofs.Slots.{neighbour_in, weight_in, nodes_covered}
+use Rattle.rounds_blocks.proofs.Slots.{degree_at, neighbour_in, weight_in, nodes_covered}
 use Rattle.rounds_blocks.proofs.Groups.{IsGroup, group_made, slot_is, slot_long}
 
 -- one of some slots
@@ -30,10 +30,19 @@ part_at : {X : Type 0} (xs : List X) (at behind k : ℕ) (d : X) → k < behind 
 part_at xs at behind k d inside = get_or-take (behind - at) (drop at xs) k d inside ∙ get_or-drop at xs k d
 
 module _ (network : Neighbours) (batch : Batch) (whole : IsBatch network batch) where
-  -- where at most one node has a neighbour in a slot, others have none from it on
-  pub others_end : (j : ℕ) (d : Slot) → j < length batch.slots.items → length (slice_index_or batch.slots.items j d).neighbours ≤ 1
-      → (i : ℕ) → 1 ≤ i → i < length batch.nodes → degree network (slice_index batch.nodes i) ≤ j
-  others_end j d there few i late inside = (whole.slots j d there).lack i (omega (arith, late, few)) inside
+  -- in the slot behind the second node's last one no node but the first has a neighbour
+  few_behind : (j : ℕ) (d : Slot) → j ≡ slice_index batch.degrees.items 1 → j < length batch.slots.items
+      → ((1 < length (slice_index_or batch.slots.items j d).neighbours) ⊎ (length (slice_index_or batch.slots.items j d).neighbours ≤ 1)) → length (slice_index_or batch.slots.items j d).neighbours ≤ 1
+  few_behind j d second there (inr h) = h
+  few_behind j d second there (inl h) =
+      let slot = whole.slots j d there in
+      absurd (omega (arith, slot.have 1 h, second, degree_at network batch.nodes batch.degrees.items 1 whole.degrees (omega (arith, h, slot.few))))
+
+  -- from it on others have none
+  pub others_end : (j : ℕ) → j ≡ slice_index batch.degrees.items 1 → j < length batch.slots.items → (i : ℕ) → 1 ≤ i → i < length batch.nodes → degree network (slice_index batch.nodes i) ≤ j
+  others_end j second there i late inside =
+      let d = slot_in batch.slots.items j there in
+      (whole.slots j d there).lack i (omega (arith, late, few_behind j d second there (cases_lt 1 (length (slice_index_or batch.slots.items j d).neighbours)))) inside
 
   module _ (at behind : ℕ) (some : 0 < length batch.nodes) (others : (i : ℕ) → 1 ≤ i → i < length batch.nodes → degree network (slice_index batch.nodes i) ≤ at)
       (low : at < behind) (far : behind ≤ degree network (slice_index batch.nodes 0)) where

@@ -9,7 +9,7 @@ use Rattle.rounds_blocks.specs.declared.batch.Batch.{Batch}
 use Rattle.rounds_blocks.specs.Batches.{AreFalling, IsSlot, IsBatch}
 use Rattle.rounds_blocks.specs.Rounds.{HaveWords}
 
-degree_at : (network : Neighbours) (nodes degrees : List ℕ) (i : ℕ) → degrees ≡ map (degree network) nodes → i < length nodes → slice_index degrees i ≡ degree network (slice_index nodes i)
+pub degree_at : (network : Neighbours) (nodes degrees : List ℕ) (i : ℕ) → degrees ≡ map (degree network) nodes → i < length nodes → slice_index degrees i ≡ degree network (slice_index nodes i)
 degree_at network nodes degrees i are inside = ap (λ ds. slice_index ds i) are ∙ get_or-map (degree network) nodes i 0 0 inside
 
 as_many : (network : Neighbours) (nodes degrees : List ℕ) → degrees ≡ map (degree network) nodes → length degrees ≡ length nodes

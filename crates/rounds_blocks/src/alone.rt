@@ -14,9 +14,19 @@ use rounds_code::Block;
 /// How many neighbours of one node are taken at once.
 const LANES: usize = 256;
 
-/// In how many slots the first node has to stand alone for its neighbours there to be read where they stand in the network, side by
-/// side, and not slot by slot.
+/// In how many slots the first node has to stand alone for its neighbours there to be read where they stand in the
+/// network, side by side, and not slot by slot.
 const FEWEST_ALONE: usize = 8;
+
+/// The second of these degrees, or 0 where there is none.
+fn second_degree(degrees: &[u32]) -> u32
+    ensures exact { result ≡ slice_index degrees.now 1 }
+{
+    if degrees.len() < 2 {
+        return 0;
+    }
+    degrees[1]
+}
 
 /// The first slot of many in which at most the first node has a neighbour, or else the end of the slots.
 pub fn first_alone(network: &NetRows<'_>, batch: &Batch) -> usize
@@ -25,12 +35,8 @@ pub fn first_alone(network: &NetRows<'_>, batch: &Batch) -> usize
     ensures alone { (i : ℕ) → 1 ≤ i → i < length batch.now.nodes → degree network.now (slice_index batch.now.nodes i) ≤ result }
 {
     let slots = batch.slots.len();
-    let second = if batch.degrees.len() > 1 {
-        batch.degrees[1] as usize
-    } else {
-        0
-    };
-    if slots.saturating_sub(second) < FEWEST_ALONE || batch.slots[second].neighbours.count() > 1 {
+    let second = second_degree(&batch.degrees) as usize;
+    if slots.saturating_sub(second) < FEWEST_ALONE {
         return slots;
     }
     second
