@@ -10,3 +10,4 @@ mod Changing
 mod Ring
 mod Degrees
 mod Chances
+mod Mapped
