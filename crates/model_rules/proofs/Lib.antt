@@ -13,3 +13,4 @@ pub mod Accepted
 pub mod Counting
 pub mod Fits
 pub mod Keeping
+pub mod Behind

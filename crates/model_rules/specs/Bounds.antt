@@ -15,6 +15,14 @@ pub record IsAllowed (names : List (List ℕ)) (body : Tree) : Type 0 where
   pub inside : looks_outside body ≡ false
   pub flat : nests body ≡ false
 
+-- why a program with these fields may not have an expression, if it may not: it has a name that is no field's, or else names a
+-- neighbour outside of an aggregate, or else has an aggregate in an aggregate
+abbrev pub form_cause : List (List ℕ) → Tree → Option Cause
+form_cause names body =
+    if names_unknown names body then Some cause.UnknownName else
+    (if looks_outside body then Some cause.NeighbourOutside else
+    (if nests body then Some cause.NestedAggregate else None))
+
 -- an expression that a next value may have
 pub record IsFit (names : List (List ℕ)) (body : Tree) : Type 0 where
   pub allowed : IsAllowed names body

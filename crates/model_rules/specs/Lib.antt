@@ -9,6 +9,7 @@ pub mod Operators
 pub mod Refusals
 pub mod TermFor
 pub mod FirstFaults
+pub mod Faults
 pub mod Amounts
 pub mod Models
 pub mod Expansions

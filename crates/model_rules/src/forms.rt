@@ -1,6 +1,6 @@
 //! What a rule's expression has to be, so that the program is accepted.
 
-ghost use Rattle.std.specs.Prelude.{◌≡◌, min, map, length, string_bytes, OnOk};
+ghost use Rattle.std.specs.Prelude.{◌≡◌, min, map, length, string_bytes, None, Some, IfErr, OnOk};
 ghost use Rattle.rule_lang.specs.View.{tree_of};
 ghost use Rattle.rule_lang.specs.Tree.{depth};
 ghost use Rattle.rule_check.specs.Table.{M};
@@ -8,7 +8,8 @@ ghost use Rattle.rule_check.specs.Value.{parts};
 ghost use Rattle.rule_check.specs.WellFormed.{names_unknown, looks_outside, nests};
 ghost use Rattle.model_rules.specs.Terms.{lowered};
 ghost use Rattle.model_rules.specs.TermView.{term_of};
-ghost use Rattle.model_rules.specs.Bounds.{IsAllowed};
+ghost use Rattle.model_rules.specs.Bounds.{IsAllowed, form_cause};
+ghost use Rattle.model_rules.specs.FirstFaults.{told_at};
 
 use crate::fault::{Cause, ExpandFault, wrong};
 use crate::scope::place_of;
@@ -116,6 +117,8 @@ pub fn depth_of(term: &Term) -> u32
 /// The expression is one that a program with these fields may have.
 pub fn check_form(e: &Expr, fields: &[String], at: u32) -> Result<(), ExpandFault>
     ensures allowed { OnOk result (IsAllowed (map string_bytes fields.now) (tree_of e.now)) }
+    ensures faultless { OnOk result (form_cause (map string_bytes fields.now) (tree_of e.now) ≡ None) }
+    ensures refused { IfErr result (λ fault. told_at at (form_cause (map string_bytes fields.now) (tree_of e.now)) ≡ Some fault) }
 {
     if has_unknown(fields, e) {
         return Err(wrong(Cause::UnknownName, at));

@@ -1,6 +1,6 @@
 //! The rules of a model's items.
 
-ghost use Rattle.std.specs.Prelude.{◌≡◌, ◌++◌, ◌∷◌, [], IfOk, OnOk, IfSome, List, map, string_bytes};
+ghost use Rattle.std.specs.Prelude.{◌≡◌, ◌++◌, ◌∷◌, [], None, IfErr, IfOk, OnOk, IfSome, List, map, string_bytes};
 ghost use Rattle.std.specs.List.{AllByRecursion};
 ghost use Rattle.std.specs.Option.{option_map};
 ghost use Rattle.rule_lang.specs.View.{item_of as rule_item, items_of as rules_of, tree_of as rule_tree};
@@ -10,7 +10,11 @@ ghost use Rattle.model_rules.specs.Counts.{IsCounted};
 ghost use Rattle.model_rules.specs.Expansions.{Expands, IsBodyOf, IsRuleOf};
 ghost use Rattle.model_text.specs.Tree.{ItemTree};
 ghost use Rattle.model_rules.specs.Models.{is_state, states_count};
-ghost use Rattle.model_rules.specs.ScopeView.{frame_of};
+ghost use Rattle.model_rules.specs.Faults.{name_place, rule_for, next_fault, rule_fault, rules_made, item_fault, items_fault, IsRulesRefusal};
+ghost use Rattle.model_rules.specs.FirstFaults.{IsRefusal};
+ghost use Rattle.model_rules.specs.ScopeView.{frame_of, later_of};
+ghost use Rattle.model_rules.specs.TermFor.{term_for};
+ghost use Rattle.model_rules.specs.Terms.{lowered};
 
 use crate::expansion::Expansion;
 use crate::fault::{Cause, ExpandFault, wrong};
@@ -57,6 +61,9 @@ fn is_of_states(items: &[Item], states: &Option<Name>, value: u32) -> bool
 fn body_for(tree: &Expr, at: u32, scope: &Scope, alloc: Global) -> Result<Body, ExpandFault>
     ensures means { IfOk result (λ e. IsBodyOf (frame_of scope.now) (tree_of tree.now) (rule_tree e)) }
     ensures fit { IfOk result (λ e. IsFit (map string_bytes scope.now.fields.items) (rule_tree e)) }
+    ensures exact { IfOk result (λ e. rule_tree e ≡ lowered (term_for (frame_of scope.now) (tree_of tree.now))) }
+    ensures faultless { OnOk result (next_fault (frame_of scope.now) (later_of scope.now) (tree_of tree.now) at ≡ None) }
+    ensures refused { IfErr result (IsRefusal (next_fault (frame_of scope.now) (later_of scope.now) (tree_of tree.now) at) at) }
 {
     let term = shallow_term(tree, at, scope, alloc)?;
     let body = lower(&term, alloc)?;
@@ -73,6 +80,9 @@ fn rule_of(
 ) -> Result<Option<Rule>, ExpandFault>
     ensures exact { IfOk result (λ found. IsRuleOf (items_of items.now) (frame_of scope.now) (item_of item.now) (option_map rule_item found)) }
     ensures fit { IfOk result (λ found. IfSome found (λ rule. IsFitRule (map string_bytes scope.now.fields.items) (rule_item rule))) }
+    ensures made { IfOk result (λ found. option_map rule_item found ≡ rule_for (frame_of scope.now) (item_of item.now)) }
+    ensures faultless { OnOk result (rule_fault (items_of items.now) (frame_of scope.now) (later_of scope.now) (item_of item.now) ≡ None) }
+    ensures refused { IfErr result (IsRefusal (rule_fault (items_of items.now) (frame_of scope.now) (later_of scope.now) (item_of item.now)) (name_place (item_of item.now))) }
 {
     match item {
         Item::Field {
@@ -97,7 +107,9 @@ fn rule_of(
 }
 
 /// The place of the name that an item begins with.
-fn item_place(item: &Item) -> u32 {
+fn item_place(item: &Item) -> u32
+    ensures exact { result ≡ name_place (item_of item.now) }
+{
     match item {
         Item::Const { name, .. }
         | Item::States { name, .. }
@@ -120,6 +132,12 @@ fn add_rule(
     ensures fit { AllByRecursion (IsFitRule (map string_bytes scope.now.fields.items)) (rules_of expansion.old.rules.items)
         → OnOk result (AllByRecursion (IsFitRule (map string_bytes scope.now.fields.items)) (rules_of expansion.new.rules.items)) }
     ensures counted { IsCounted expansion.old → OnOk result (IsCounted expansion.new) }
+    ensures made { (before : List ItemTree) → rules_of expansion.old.rules.items ≡ rules_made (frame_of scope.now) before
+        → OnOk result (rules_of expansion.new.rules.items ≡ rules_made (frame_of scope.now) (before ++ item_of item.now ∷ [])) }
+    ensures faultless { (before : List ItemTree) → rules_of expansion.old.rules.items ≡ rules_made (frame_of scope.now) before → IsCounted expansion.old
+        → OnOk result (item_fault (items_of items.now) (frame_of scope.now) (later_of scope.now) before (item_of item.now) ≡ None) }
+    ensures refused { (before : List ItemTree) → rules_of expansion.old.rules.items ≡ rules_made (frame_of scope.now) before → IsCounted expansion.old
+        → IfErr result (IsRefusal (item_fault (items_of items.now) (frame_of scope.now) (later_of scope.now) before (item_of item.now)) (name_place (item_of item.now))) }
 {
     let found = rule_of(item, items, scope, alloc)?;
     let Some(rule) = found else {
@@ -134,6 +152,9 @@ pub fn rules_for(items: &[Item], scope: &Scope, alloc: Global) -> Result<Vec<Rul
     ensures expands { IfOk result (λ rules. Expands (items_of items.now) (frame_of scope.now) (items_of items.now) (rules_of rules.items)) }
     ensures fit { IfOk result (λ rules. AllByRecursion (IsFitRule (map string_bytes scope.now.fields.items)) (rules_of rules.items)) }
     ensures within { IfOk result (λ rules. IsWithin (rules_of rules.items)) }
+    ensures made { IfOk result (λ rules. rules_of rules.items ≡ rules_made (frame_of scope.now) (items_of items.now)) }
+    ensures faultless { OnOk result (items_fault (items_of items.now) (frame_of scope.now) (later_of scope.now) [] (items_of items.now) ≡ None) }
+    ensures refused { IfErr result (IsRulesRefusal (items_of items.now) (frame_of scope.now) (later_of scope.now) (items_of items.now)) }
 {
     let mut expansion = Expansion::new(alloc);
     for item in items {
