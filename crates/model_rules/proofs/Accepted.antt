@@ -1,6 +1,6 @@
 -- The program that a model is expanded to is accepted.
 use Rattle.std.proofs.Common.{◌≡◌, ◌≤◌, ℕ, length, List, [], ◌∷◌, refl, sym, ap, ◌∙◌, subst, arith}
-use Rattle.std.specs.Prelude.{map, Option, Some, None, Bool, true, false, not, ◌||◌, nat_lt, if◌then◌else◌}
+use Rattle.std.specs.Prelude.{None, false, not, ◌||◌, nat_lt}
 use Rattle.std.specs.List.{AllByRecursion, list_any}
 use Rattle.std.specs.Option.{option_or, option_map}
 use Rattle.std.proofs.lemmas.List.{length-map}
@@ -15,7 +15,7 @@ use Rattle.model_rules.specs.declared.fault.Cause.TheVariants as cause
 use Rattle.model_rules.specs.Frames.{Frame}
 use Rattle.model_rules.specs.Models.{GivenTree, bare, fields_of}
 use Rattle.model_rules.specs.Naming.{names_given, names_as, repeat_after, stray, place_at, extra_state, parameter_twice, unknown_given, misnamed, misused, naming_fault}
-use Rattle.model_rules.specs.Bounds.{IsFit, IsFitRule, IsWithin, IsAccepted}
+use Rattle.model_rules.specs.Bounds.{IsFitRule, IsWithin, IsAccepted}
 use Rattle.model_rules.specs.Expansions.{Expands}
 use Rattle.model_rules.proofs.Expanded.{same_fields}
 use Rattle.model_rules.proofs.Differing.{none_first, none_second, none_under, both_false, distinct, none_strays, field_names, fields_differ, none_there}

@@ -1,6 +1,6 @@
 -- The rules and the faults of items, one behind the other.
 use Rattle.std.proofs.Common.{◌≡◌, ◌≤◌, ℕ, length, List, [], ◌∷◌, ◌++◌, refl, sym, ap, ◌∙◌, subst, arith}
-use Rattle.std.specs.Prelude.{Option, Some, None, true, false, nat_lt, ◌≢◌}
+use Rattle.std.specs.Prelude.{Option, Some, None, false, nat_lt}
 use Rattle.std.specs.List.{filter_map}
 use Rattle.std.specs.Option.{option_or}
 use Rattle.std.proofs.lemmas.List.{append-nil, append_assoc}
@@ -10,13 +10,11 @@ use Rattle.rule_lang.specs.Canonical.{program_text}
 use Rattle.rule_check.specs.Items.{nexts_of}
 use Rattle.rule_check.specs.WellFormed.{all_parts}
 use Rattle.model_text.specs.Tree.{ItemTree}
-use Rattle.model_rules.specs.declared.fault.Cause.TheVariants as cause
 use Rattle.model_rules.specs.declared.fault.ExpandFault.{ExpandFault}
-use Rattle.model_rules.specs.declared.fault.ExpandFault.TheVariants as fault
 use Rattle.model_rules.specs.Frames.{Frame}
 use Rattle.model_rules.specs.Bounds.{IsWithin, size_cause}
-use Rattle.model_rules.specs.FirstFaults.{IsRefusal, IsFirst, told_at}
-use Rattle.model_rules.specs.Faults.{name_place, rule_for, rule_fault, rules_made, item_fault, items_fault, IsLongItem, IsRulesRefusal}
+use Rattle.model_rules.specs.FirstFaults.{IsRefusal, told_at}
+use Rattle.model_rules.specs.Faults.{name_place, rule_for, rule_fault, rules_made, item_fault, items_fault, IsRulesRefusal}
 
 -- the rules with that of one item more
 one_rule : (f : Frame) (item : ItemTree) (rule : RuleTree) → rule_for f item ≡ Some rule → filter_map (rule_for f) (item ∷ []) ≡ rule ∷ []

@@ -1,5 +1,5 @@
 -- The next state of a model's expansion is the model's.
-use Rattle.std.proofs.Common.{◌≡◌, ◌≤◌, ℕ, ◌+◌, List, [], ◌∷◌, ◌++◌, length, refl, sym, ap, ◌∙◌, subst}
+use Rattle.std.proofs.Common.{◌≡◌, ◌≤◌, ℕ, List, [], ◌∷◌, length, refl, sym, ap, ◌∙◌, subst}
 use Rattle.std.specs.Prelude.{map, Option, Some, None, if◌then◌else◌, Bool, true, false, ◌&&◌}
 use Rattle.std.specs.List.{AllByRecursion}
 use Rattle.std.specs.Str.{bytes_eq}
@@ -11,9 +11,9 @@ use Rattle.rule_check.specs.declared.state.Near.{Near}
 use Rattle.rule_check.specs.Value.{Here, value, alone, names_of, body_for, next_word, next_at, next_state, here_at, updated, cleared}
 use Rattle.rule_check.specs.Items.{rules_of, fields_of as rule_fields, nexts_of}
 use Rattle.model_text.specs.Tree.{Tree as ModelTree, ItemTree, ConstTree, StatesTree, FieldTree, LetTree, NextTree}
-use Rattle.model_rules.specs.Terms.{TermTree, NumberTerm, lowered, term_value}
-use Rattle.model_rules.specs.Meaning.{Worths, Scene, meaning}
-use Rattle.model_rules.specs.Frames.{Frame, IsIn, IsWorth, Means}
+use Rattle.model_rules.specs.Terms.{lowered}
+use Rattle.model_rules.specs.Meaning.{Worths}
+use Rattle.model_rules.specs.Frames.{Frame, IsIn, IsWorth}
 use Rattle.model_rules.specs.Models.{Setting, draws_of, fields_of, body_of, in_states, initials_of, scene_of, worth_at, worths_by, next_word_of, node_at, model_next}
 use Rattle.model_rules.specs.Expansions.{Expands, AreStable}
 use Rattle.model_rules.proofs.Values.{lowered_value}

@@ -14,3 +14,5 @@ pub mod Counting
 pub mod Fits
 pub mod Keeping
 pub mod Behind
+pub mod Rounds
+pub mod Wrong

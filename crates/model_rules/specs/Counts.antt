@@ -1,5 +1,5 @@
 -- Rules with how much they are.
-use Rattle.std.specs.Prelude.{ℕ, ◌≡◌, length}
+use Rattle.std.specs.Prelude.{◌≡◌, length}
 use Rattle.rule_lang.specs.View.{items_of}
 use Rattle.rule_lang.specs.Canonical.{program_text}
 use Rattle.rule_check.specs.Items.{nexts_of}

@@ -12,7 +12,9 @@ pub mod FirstFaults
 pub mod Faults
 pub mod Amounts
 pub mod Models
+pub mod Definitions
 pub mod Expansions
 pub mod Bounds
 pub mod Naming
+pub mod ModelFaults
 pub mod Counts

@@ -2,7 +2,7 @@
 use Rattle.std.specs.Borrow.{Bor}
 use Rattle.std.specs.Prelude.{ℕ, ◌≡◌, List, map, Some, slice_get, string_bytes}
 use Rattle.model_text.specs.declared.tree.Name.{Name}
-use Rattle.model_text.specs.Tree.{NameAt}
+use Rattle.model_text.specs.Tree.{NameAt, ItemTree}
 use Rattle.model_text.specs.View.{name_of}
 use Rattle.model_rules.specs.declared.scope.Given.{Given}
 use Rattle.model_rules.specs.declared.scope.Known.{Known}
@@ -11,7 +11,8 @@ use Rattle.model_rules.specs.TermView.{term_of}
 use Rattle.model_rules.specs.Terms.{NumberTerm}
 use Rattle.model_rules.specs.Meaning.{seed_name}
 use Rattle.model_rules.specs.Frames.{KnownTree, Frame}
-use Rattle.model_rules.specs.Models.{GivenTree, Setting}
+use Rattle.model_rules.specs.Models.{GivenTree, Setting, draws_of, fields_of}
+use Rattle.model_rules.specs.Definitions.{names_defined}
 
 -- a let whose term is known
 abbrev pub known_of : Known → KnownTree
@@ -56,3 +57,9 @@ named names = map (λ n. name_of n.now) names
 -- what belongs to a model of which this is known, where the caller sets these constants
 abbrev pub setting_in : List GivenTree → Scope → Setting
 setting_in values scope = record { values = values; draws = scope.draws.items }
+
+-- what is known belongs to a model with these items: the places of its draws, its fields, and the names of its constants, states and lets
+pub record IsScopeOf (items : List ItemTree) (scope : Scope) : Type 0 where
+  pub draws : scope.draws.items ≡ draws_of items
+  pub fields : map string_bytes scope.fields.items ≡ fields_of items
+  pub later : later_of scope ≡ names_defined items

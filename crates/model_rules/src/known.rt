@@ -1,6 +1,6 @@
 //! What constants, states and lets are worth.
 
-ghost use Rattle.std.specs.Prelude.{◌≡◌, ◌≤◌, [], IfErr, IfOk, IfSome, None, OnOk, List, ℕ, map, string_bytes};
+ghost use Rattle.std.specs.Prelude.{◌≡◌, ◌≤◌, [], IfErr, IfOk, IfSome, None, Some, OnOk, List, ℕ, map, string_bytes};
 ghost use Rattle.model_text.specs.View.{item_of, name_of, tree_of};
 ghost use Rattle.model_text.specs.Tree.{NameAt, ConstTree, StatesTree, LetTree};
 ghost use Rattle.model_rules.specs.Models.{GivenTree, Setting, bare, given_value};
@@ -8,7 +8,10 @@ ghost use Rattle.model_rules.specs.Frames.{KnownTree, Means};
 ghost use Rattle.model_rules.specs.Expansions.{Tells};
 ghost use Rattle.model_rules.specs.ScopeView.{frame_of, known_of, knowns_of, givens_of, later_of, setting_in};
 ghost use Rattle.model_rules.specs.Amounts.{amount_in, value_fault, body_fault};
-ghost use Rattle.model_rules.specs.FirstFaults.{IsRefusal};
+ghost use Rattle.std.specs.Option.{option_map};
+ghost use Rattle.model_rules.specs.Definitions.{member_fault, member_known, known_let, under, told_fault, told_known};
+ghost use Rattle.model_rules.specs.Faults.{name_place};
+ghost use Rattle.model_rules.specs.FirstFaults.{IsFirst, IsRefusal};
 ghost use Rattle.model_rules.specs.TermFor.{term_for};
 ghost use Rattle.rule_lang.specs.Tree.{depth};
 ghost use Rattle.model_rules.specs.TermView.{term_of};
@@ -92,6 +95,9 @@ fn state_let(
 ) -> Result<Option<Known>, ExpandFault>
     ensures tells { (fields : List (List ℕ)) (lets : List KnownTree) (given : Setting) (own : NameAt) → IfOk result (λ found. IfSome found (λ known.
         Tells fields lets given name.now (StatesTree own (map name_of members.now)) (known_of known))) }
+    ensures made { IfOk result (λ found. option_map known_of found ≡ member_known (bare (map name_of members.now)) name.now) }
+    ensures faultless { OnOk result (member_fault (bare (map name_of members.now)) name.now at ≡ None) }
+    ensures refused { IfErr result (IsFirst (member_fault (bare (map name_of members.now)) name.now at)) }
 {
     let Some(k) = place_among(members, name) else {
         return Ok(None);
@@ -120,6 +126,9 @@ fn constant_known(
     requires plain { scope.now.parameters.items ≡ [] }
     ensures tells { IfOk result (λ known. Tells (map string_bytes scope.now.fields.items) (knowns_of scope.now.lets.items) (setting_in (givens_of given.now) scope.now) name.now
         (ConstTree (name_of own.now) (tree_of body.now)) (known_of known)) }
+    ensures made { IfOk result (λ known. Some (known_of known) ≡ told_known (givens_of given.now) (frame_of scope.now) name.now (ConstTree (name_of own.now) (tree_of body.now))) }
+    ensures faultless { OnOk result (told_fault (givens_of given.now) (frame_of scope.now) (later_of scope.now) name.now (ConstTree (name_of own.now) (tree_of body.now)) ≡ None) }
+    ensures refused { IfErr result (IsRefusal (told_fault (givens_of given.now) (frame_of scope.now) (later_of scope.now) name.now (ConstTree (name_of own.now) (tree_of body.now))) own.now.at) }
 {
     let text = String::from_str(alloc, name)?;
     match given_for(given, name) {
@@ -152,8 +161,12 @@ fn let_known(
     ensures lets { scope.new.lets ≡ scope.old.lets }
     ensures fields { scope.new.fields ≡ scope.old.fields }
     ensures draws { scope.new.draws ≡ scope.old.draws }
+    ensures later { scope.new.later ≡ scope.old.later }
     ensures tells { (values : List GivenTree) → IfOk result (λ known. Tells (map string_bytes scope.old.fields.items) (knowns_of scope.old.lets.items) (setting_in values scope.old) name.now
         (LetTree (name_of own.now) (map name_of parameters.now) (tree_of body.now)) (known_of known)) }
+    ensures made { IfOk result (λ known. known_of known ≡ known_let (frame_of scope.old) name.now (map name_of parameters.now) (tree_of body.now)) }
+    ensures faultless { OnOk result (body_fault (under (frame_of scope.old) (bare (map name_of parameters.now))) (later_of scope.old) (tree_of body.now) own.now.at ≡ None) }
+    ensures refused { IfErr result (IsRefusal (body_fault (under (frame_of scope.old) (bare (map name_of parameters.now))) (later_of scope.old) (tree_of body.now) own.now.at) own.now.at) }
 {
     scope.parameters = spelled(parameters, alloc)?;
     let term = shallow_term(body, own.at, scope, alloc)?;
@@ -176,8 +189,12 @@ pub fn known_by(
     ensures lets { scope.new.lets ≡ scope.old.lets }
     ensures fields { scope.new.fields ≡ scope.old.fields }
     ensures draws { scope.new.draws ≡ scope.old.draws }
+    ensures later { scope.new.later ≡ scope.old.later }
     ensures tells { IfOk result (λ found. IfSome found (λ known.
         Tells (map string_bytes scope.old.fields.items) (knowns_of scope.old.lets.items) (setting_in (givens_of given.now) scope.old) name.now (item_of item.now) (known_of known))) }
+    ensures made { IfOk result (λ found. option_map known_of found ≡ told_known (givens_of given.now) (frame_of scope.old) name.now (item_of item.now)) }
+    ensures faultless { OnOk result (told_fault (givens_of given.now) (frame_of scope.old) (later_of scope.old) name.now (item_of item.now) ≡ None) }
+    ensures refused { IfErr result (IsRefusal (told_fault (givens_of given.now) (frame_of scope.old) (later_of scope.old) name.now (item_of item.now)) (name_place (item_of item.now))) }
 {
     match item {
         Item::Const { name: own, value } => {

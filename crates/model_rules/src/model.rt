@@ -1,18 +1,20 @@
 //! From a model to the items of a program.
 
-ghost use Rattle.std.specs.Prelude.{◌≡◌, ◌≢◌, ◌≤◌, [], IfOk, IfErr, OnOk, List, ℕ, map, string_bytes, Some, None, true};
+ghost use Rattle.std.specs.Prelude.{◌≡◌, ◌≢◌, ◌++◌, ◌≤◌, [], IfOk, IfErr, OnOk, List, ℕ, map, string_bytes, Some, None, true};
 ghost use Rattle.rule_lang.specs.View.{items_of as rules_of};
 ghost use Rattle.rule_check.specs.declared.state.State.{State};
 ghost use Rattle.rule_check.specs.declared.state.Near.{Near};
 ghost use Rattle.rule_check.specs.Value.{Here, next_state, names_of};
 ghost use Rattle.rule_check.specs.Items.{rules_of as program_of};
-ghost use Rattle.model_text.specs.View.{items_of};
+ghost use Rattle.model_text.specs.View.{items_of, item_of, name_of};
 ghost use Rattle.model_rules.specs.declared.fault.ExpandFault.TheVariants.{Memory};
 ghost use Rattle.model_rules.specs.Bounds.{IsAccepted};
 ghost use Rattle.model_rules.specs.Expansions.{AreStable};
-ghost use Rattle.model_rules.specs.Models.{draws_of, fields_of, in_states, initials_of, model_next, setting, worths_by};
+ghost use Rattle.model_rules.specs.Models.{bare, draws_of, fields_of, in_states, initials_of, model_next, setting, worths_by};
 ghost use Rattle.model_rules.specs.Naming.{naming_fault};
-ghost use Rattle.model_rules.specs.ScopeView.{givens_of, knowns_of};
+ghost use Rattle.model_rules.specs.Definitions.{IsHalt, defined_by, names_defined, settled, defining_fault, seed_first};
+ghost use Rattle.model_rules.specs.ModelFaults.{model_fault};
+ghost use Rattle.model_rules.specs.ScopeView.{IsScopeOf, givens_of, knowns_of, later_of};
 
 use crate::define::{define_all, seed_lets};
 use crate::fault::ExpandFault;
@@ -38,24 +40,36 @@ fn field_names(items: &[Item], alloc: Global) -> Result<Vec<String>, AllocError>
 }
 
 /// Adds the names of states.
-fn add_states(names: &mut Vec<String>, members: &[Name], alloc: Global) -> Result<(), AllocError> {
+fn add_states(names: &mut Vec<String>, members: &[Name], alloc: Global) -> Result<(), AllocError>
+    ensures added { OnOk result (map string_bytes names.new.items ≡ map string_bytes names.old.items ++ bare (map name_of members.now)) }
+{
     for member in members {
         names.push(String::from_str(alloc, &member.name)?)?;
     }
     Ok(())
 }
 
+/// Adds the names that an item defines.
+fn add_defined(names: &mut Vec<String>, item: &Item, alloc: Global) -> Result<(), AllocError>
+    ensures added { OnOk result (map string_bytes names.new.items ≡ map string_bytes names.old.items ++ defined_by (item_of item.now)) }
+{
+    match item {
+        Item::Const { name, .. } | Item::Let { name, .. } => {
+            names.push(String::from_str(alloc, &name.name)?)?;
+        }
+        Item::States { members, .. } => add_states(names, members, alloc)?,
+        Item::Field { .. } | Item::Next { .. } => {}
+    }
+    Ok(())
+}
+
 /// The names of all constants, states and lets.
-fn defined_names(items: &[Item], alloc: Global) -> Result<Vec<String>, AllocError> {
+fn defined_names(items: &[Item], alloc: Global) -> Result<Vec<String>, AllocError>
+    ensures exact { IfOk result (λ names. map string_bytes names.items ≡ names_defined (items_of items.now)) }
+{
     let mut names = Vec::new(alloc);
     for item in items {
-        match item {
-            Item::Const { name, .. } | Item::Let { name, .. } => {
-                names.push(String::from_str(alloc, &name.name)?)?;
-            }
-            Item::States { members, .. } => add_states(&mut names, members, alloc)?,
-            Item::Field { .. } | Item::Next { .. } => {}
-        }
+        add_defined(&mut names, item, alloc)?;
     }
     Ok(names)
 }
@@ -75,6 +89,9 @@ fn check_names(items: &[Item], given: &[Given], alloc: Global) -> Result<(), Exp
 fn first_scope(items: &[Item], given: &[Given], alloc: Global) -> Result<Scope, AllocError>
     ensures fields { IfOk result (λ scope. map string_bytes scope.fields.items ≡ fields_of (items_of items.now)) }
     ensures draws { IfOk result (λ scope. scope.draws.items ≡ draws_of (items_of items.now)) }
+    ensures later { IfOk result (λ scope. later_of scope ≡ names_defined (items_of items.now)) }
+    ensures of { IfOk result (λ scope. IsScopeOf (items_of items.now) scope) }
+    ensures first { IfOk result (λ scope. knowns_of scope.lets.items ≡ seed_first (items_of items.now) (givens_of given.now)) }
     ensures stable { IfOk result (λ scope. AreStable (items_of items.now) (setting (items_of items.now) (givens_of given.now)) (map string_bytes scope.fields.items) (knowns_of scope.lets.items)) }
 {
     let draws = draw_places(items, alloc)?;
@@ -95,6 +112,10 @@ fn known_scope(items: &[Item], given: &[Given], alloc: Global) -> Result<Scope, 
     ensures fields { IfOk result (λ scope. map string_bytes scope.fields.items ≡ fields_of (items_of items.now)) }
     ensures plain { IfOk result (λ scope. scope.parameters.items ≡ []) }
     ensures draws { IfOk result (λ scope. scope.draws.items ≡ draws_of (items_of items.now)) }
+    ensures later { IfOk result (λ scope. later_of scope ≡ names_defined (items_of items.now)) }
+    ensures known { IfOk result (λ scope. knowns_of scope.lets.items ≡ settled (items_of items.now) (givens_of given.now) (seed_first (items_of items.now) (givens_of given.now))) }
+    ensures faultless { OnOk result (defining_fault (items_of items.now) (givens_of given.now) (seed_first (items_of items.now) (givens_of given.now)) ≡ None) }
+    ensures refused { IfErr result (IsHalt (defining_fault (items_of items.now) (givens_of given.now) (seed_first (items_of items.now) (givens_of given.now)))) }
     ensures stable { IfOk result (λ scope. AreStable (items_of items.now) (setting (items_of items.now) (givens_of given.now)) (map string_bytes scope.fields.items) (knowns_of scope.lets.items)) }
 {
     let names = defined_names(items, alloc)?;
@@ -126,6 +147,8 @@ pub fn expand_model(
     ensures fits { IfOk result (λ rules. IsAccepted (rules_of rules.items)) }
     ensures named { IfOk result (λ rules. naming_fault (items_of items.now) (givens_of given.now) ≡ None) }
     ensures misnamed { (fault : ExpandFault) → naming_fault (items_of items.now) (givens_of given.now) ≡ Some fault → IfErr result (λ e. e ≢ Memory → e ≡ fault) }
+    ensures faultless { OnOk result (model_fault (items_of items.now) (givens_of given.now) ≡ None) }
+    ensures refused { IfErr result (IsHalt (model_fault (items_of items.now) (givens_of given.now))) }
 {
     check_names(items, given, alloc)?;
     let scope = known_scope(items, given, alloc)?;

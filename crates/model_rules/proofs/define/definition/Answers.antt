@@ -1,4 +1,4 @@
-use Rattle.std.proofs.Common.{◌≡◌, List, sym, ap, ◌∙◌}
+use Rattle.std.proofs.Common.{List, sym, ap, ◌∙◌}
 use Rattle.std.proofs.lemmas.List.{drop_all}
 use Rattle.model_text.specs.Tree.{ItemTree}
 use Rattle.model_text.specs.View.{items_of}
@@ -12,4 +12,4 @@ returns-clause-none c = λ e.
     let name = c.args.name.now in
     left_out (items_of items) name
     (λ given w here xs. ap (λ (its : List ItemTree). told its given w here name xs) (sym (ap items_of (drop_all c.loop-item.item-index items c.loop-item-test.false)))
-    ∙ c.loop-item.invariant given w here xs)
+    ∙ c.loop-item.invariant.same given w here xs)

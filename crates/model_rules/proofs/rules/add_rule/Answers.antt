@@ -11,7 +11,7 @@ use Rattle.rule_check.proofs.Repeats.{none_of}
 use Rattle.model_text.specs.View.{item_of, items_of}
 use Rattle.model_rules.specs.Bounds.{IsFitRule, size_cause}
 use Rattle.model_rules.specs.Expansions.{Expands, IsRuleOf}
-use Rattle.model_rules.specs.Faults.{rule_for, rules_made, name_place, rule_fault, item_fault}
+use Rattle.model_rules.specs.Faults.{rule_for}
 use Rattle.model_rules.specs.FirstFaults.{told_at}
 use Rattle.model_rules.specs.ScopeView.{frame_of, later_of}
 use Rattle.model_rules.proofs.Sound.{expands_more, expands_none}
