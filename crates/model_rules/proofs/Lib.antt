@@ -16,3 +16,4 @@ pub mod Keeping
 pub mod Behind
 pub mod Rounds
 pub mod Wrong
+pub mod Parts

@@ -17,4 +17,5 @@ pub mod Expansions
 pub mod Bounds
 pub mod Naming
 pub mod ModelFaults
+pub mod Parts
 pub mod Counts

@@ -1,7 +1,9 @@
 //! Terms put in the place of parameters.
 
-ghost use Rattle.std.specs.Prelude.{◌≡◌, IfErr, IfOk, slice_get};
-ghost use Rattle.model_rules.specs.Refusals.{item_at, IsTooLong};
+ghost use Rattle.std.specs.Prelude.{◌≡◌, ◌≢◌, ◌+◌, ◌<◌, IfErr, IfOk, OnOk, slice_get};
+ghost use Rattle.model_rules.specs.declared.fault.ExpandFault.TheVariants.{Memory};
+ghost use Rattle.model_rules.specs.Parts.{size, size_put, filled_parts};
+ghost use Rattle.model_rules.specs.Refusals.{item_at, parts_left, IsTooLong};
 ghost use Rattle.model_rules.specs.Terms.{filled, term_or};
 ghost use Rattle.model_rules.specs.TermView.{term_of, terms_of};
 
@@ -12,10 +14,13 @@ use std::alloc::Global;
 
 /// An equal term.
 #[cycle(copying)]
+#[tactic(auto, using(crate::proofs::Parts::size_some))]
 pub fn copy(term: &Term, alloc: Global, room: &mut Room) -> Result<Term, ExpandFault>
     ensures exact { IfOk result (λ t. term_of t ≡ term_of term.now) }
     ensures item { item_at room.new ≡ item_at room.old }
+    ensures taken { OnOk result (parts_left room.new + size (term_of term.now) ≡ parts_left room.old) }
     ensures refused { IfErr result (IsTooLong (item_at room.old)) }
+    ensures many { IfErr result (λ fault. fault ≢ Memory → parts_left room.old < size (term_of term.now)) }
 {
     room.take()?;
     match term {
@@ -49,7 +54,9 @@ pub fn copy(term: &Term, alloc: Global, room: &mut Room) -> Result<Term, ExpandF
 fn copy_boxed(term: &Term, alloc: Global, room: &mut Room) -> Result<Box<Term>, ExpandFault>
     ensures exact { IfOk result (λ t. term_of t.value ≡ term_of term.now) }
     ensures item { item_at room.new ≡ item_at room.old }
+    ensures taken { OnOk result (parts_left room.new + size (term_of term.now) ≡ parts_left room.old) }
     ensures refused { IfErr result (IsTooLong (item_at room.old)) }
+    ensures many { IfErr result (λ fault. fault ≢ Memory → parts_left room.old < size (term_of term.now)) }
 {
     let made = copy(term, alloc, room)?;
     Ok(Box::new(alloc, made)?)
@@ -64,7 +71,9 @@ fn argument(
 ) -> Result<Term, ExpandFault>
     ensures exact { IfOk result (λ t. term_of t ≡ term_or (slice_get (terms_of arguments.now) k)) }
     ensures item { item_at room.new ≡ item_at room.old }
+    ensures taken { OnOk result (parts_left room.new + size_put (slice_get (terms_of arguments.now) k) ≡ parts_left room.old) }
     ensures refused { IfErr result (IsTooLong (item_at room.old)) }
+    ensures many { IfErr result (λ fault. fault ≢ Memory → parts_left room.old < size_put (slice_get (terms_of arguments.now) k)) }
 {
     match arguments.get(k) {
         Some(term) => copy(term, alloc, room),
@@ -74,6 +83,7 @@ fn argument(
 
 /// The term with the arguments in place of its parameters.
 #[cycle(filling)]
+#[tactic(auto, using(crate::proofs::Parts::filled_some))]
 pub fn fill(
     term: &Term,
     arguments: &[Term],
@@ -82,7 +92,9 @@ pub fn fill(
 ) -> Result<Term, ExpandFault>
     ensures exact { IfOk result (λ t. term_of t ≡ filled (terms_of arguments.now) (term_of term.now)) }
     ensures item { item_at room.new ≡ item_at room.old }
+    ensures taken { OnOk result (parts_left room.new + filled_parts (terms_of arguments.now) (term_of term.now) ≡ parts_left room.old) }
     ensures refused { IfErr result (IsTooLong (item_at room.old)) }
+    ensures many { IfErr result (λ fault. fault ≢ Memory → parts_left room.old < filled_parts (terms_of arguments.now) (term_of term.now)) }
 {
     room.take()?;
     match term {
@@ -121,7 +133,9 @@ fn fill_boxed(
 ) -> Result<Box<Term>, ExpandFault>
     ensures exact { IfOk result (λ t. term_of t.value ≡ filled (terms_of arguments.now) (term_of term.now)) }
     ensures item { item_at room.new ≡ item_at room.old }
+    ensures taken { OnOk result (parts_left room.new + filled_parts (terms_of arguments.now) (term_of term.now) ≡ parts_left room.old) }
     ensures refused { IfErr result (IsTooLong (item_at room.old)) }
+    ensures many { IfErr result (λ fault. fault ≢ Memory → parts_left room.old < filled_parts (terms_of arguments.now) (term_of term.now)) }
 {
     let made = fill(term, arguments, alloc, room)?;
     Ok(Box::new(alloc, made)?)

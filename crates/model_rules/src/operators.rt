@@ -1,10 +1,12 @@
 //! Terms of operators and of functions that the notation has.
 
-ghost use Rattle.std.specs.Prelude.{◌≡◌, IfErr, IfOk};
+ghost use Rattle.std.specs.Prelude.{◌≡◌, ◌≢◌, ◌+◌, ◌<◌, IfErr, IfOk, OnOk};
+ghost use Rattle.model_rules.specs.declared.fault.ExpandFault.TheVariants.{Memory};
+ghost use Rattle.model_rules.specs.Parts.{size};
 ghost use Rattle.model_text.specs.View.{arguments_of};
 ghost use Rattle.model_rules.specs.TermView.{term_of};
 ghost use Rattle.model_rules.specs.Terms.{InfixTerm, OverTerm, ChoiceTerm, is_test, is_tested, tested, parted};
-ghost use Rattle.model_rules.specs.Refusals.{item_at, IsTooLong};
+ghost use Rattle.model_rules.specs.Refusals.{item_at, parts_left, IsTooLong};
 ghost use Rattle.model_rules.specs.Operators.{combined, kind_of, is_end};
 
 use crate::fault::ExpandFault;
@@ -109,7 +111,9 @@ pub fn distance(
 ) -> Result<Term, ExpandFault>
     ensures exact { IfOk result (λ t. term_of t ≡ parted (term_of left) (term_of right)) }
     ensures item { item_at room.new ≡ item_at room.old }
+    ensures taken { OnOk result (parts_left room.new + (size (term_of left) + size (term_of right)) ≡ parts_left room.old) }
     ensures refused { IfErr result (IsTooLong (item_at room.old)) }
+    ensures many { IfErr result (λ fault. fault ≢ Memory → parts_left room.old < size (term_of left) + size (term_of right)) }
 {
     let same_left = copy(&left, alloc, room)?;
     let same_right = copy(&right, alloc, room)?;

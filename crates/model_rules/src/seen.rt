@@ -1,7 +1,9 @@
 //! Terms as seen from a neighbour.
 
-ghost use Rattle.std.specs.Prelude.{◌≡◌, IfErr, IfOk};
-ghost use Rattle.model_rules.specs.Refusals.{item_at, IsTooLong};
+ghost use Rattle.std.specs.Prelude.{◌≡◌, ◌≢◌, ◌+◌, ◌<◌, IfErr, IfOk, OnOk};
+ghost use Rattle.model_rules.specs.declared.fault.ExpandFault.TheVariants.{Memory};
+ghost use Rattle.model_rules.specs.Parts.{size};
+ghost use Rattle.model_rules.specs.Refusals.{item_at, parts_left, IsTooLong};
 ghost use Rattle.model_rules.specs.Terms.{seen_near};
 ghost use Rattle.model_rules.specs.TermView.{term_of};
 
@@ -13,10 +15,13 @@ use std::alloc::Global;
 /// The term as seen from a neighbour: of its fields and its number. What a neighbour does not know is 0,
 /// and so are parameters.
 #[cycle(seeing)]
+#[tactic(auto, using(crate::proofs::Parts::seen_some))]
 pub fn seen(term: &Term, alloc: Global, room: &mut Room) -> Result<Term, ExpandFault>
     ensures exact { IfOk result (λ t. term_of t ≡ seen_near (term_of term.now)) }
     ensures item { item_at room.new ≡ item_at room.old }
+    ensures taken { OnOk result (parts_left room.new + size (seen_near (term_of term.now)) ≡ parts_left room.old) }
     ensures refused { IfErr result (IsTooLong (item_at room.old)) }
+    ensures many { IfErr result (λ fault. fault ≢ Memory → parts_left room.old < size (seen_near (term_of term.now))) }
 {
     room.take()?;
     match term {
@@ -50,7 +55,9 @@ pub fn seen(term: &Term, alloc: Global, room: &mut Room) -> Result<Term, ExpandF
 fn seen_boxed(term: &Term, alloc: Global, room: &mut Room) -> Result<Box<Term>, ExpandFault>
     ensures exact { IfOk result (λ t. term_of t.value ≡ seen_near (term_of term.now)) }
     ensures item { item_at room.new ≡ item_at room.old }
+    ensures taken { OnOk result (parts_left room.new + size (seen_near (term_of term.now)) ≡ parts_left room.old) }
     ensures refused { IfErr result (IsTooLong (item_at room.old)) }
+    ensures many { IfErr result (λ fault. fault ≢ Memory → parts_left room.old < size (seen_near (term_of term.now))) }
 {
     let made = seen(term, alloc, room)?;
     Ok(Box::new(alloc, made)?)
