@@ -13,8 +13,8 @@ use Rattle.model_text.specs.Tree.{ItemTree}
 use Rattle.model_rules.specs.declared.fault.ExpandFault.{ExpandFault}
 use Rattle.model_rules.specs.Frames.{Frame}
 use Rattle.model_rules.specs.Bounds.{IsWithin, size_cause}
-use Rattle.model_rules.specs.FirstFaults.{IsRefusal, told_at}
-use Rattle.model_rules.specs.Faults.{name_place, rule_for, rule_fault, rules_made, item_fault, items_fault, IsRulesRefusal}
+use Rattle.model_rules.specs.FirstFaults.{IsFirst, told_at}
+use Rattle.model_rules.specs.Faults.{name_place, rule_for, rule_fault, rules_made, item_fault, items_fault}
 
 -- the rules with that of one item more
 one_rule : (f : Frame) (item : ItemTree) (rule : RuleTree) → rule_for f item ≡ Some rule → filter_map (rule_for f) (item ∷ []) ≡ rule ∷ []
@@ -85,11 +85,9 @@ faults_more model f later before item h g =
 some_first : (a b : Option ExpandFault) (end : ExpandFault) → a ≡ Some end → option_or a b ≡ Some end
 some_first a b end h = ap (λ (o : Option ExpandFault). option_or o b) h
 
-pub first_here : (model : List ItemTree) (f : Frame) (later : List (List ℕ)) (items before : List ItemTree) (item : ItemTree) (behind : List ItemTree) (end : ExpandFault) → items ≡ before ++ item ∷ behind → items_fault model f later [] before ≡ None → IsRefusal (item_fault model f later before item) (name_place item) end → IsRulesRefusal model f later items end
-first_here model f later items before item behind end e h r = λ m n.
-    let own : item_fault model f later before item ≡ Some end =
-    r m (λ q. n (record { before = before; item = item; behind = behind; split = e; faultless = h; long = q })) in
+pub first_here : (model : List ItemTree) (f : Frame) (later : List (List ℕ)) (items before : List ItemTree) (item : ItemTree) (behind : List ItemTree) (end : ExpandFault) → items ≡ before ++ item ∷ behind → items_fault model f later [] before ≡ None → IsFirst (item_fault model f later before item) end → IsFirst (items_fault model f later [] items) end
+first_here model f later items before item behind end e h r = λ m.
     ap (λ (its : List ItemTree). items_fault model f later [] its) e
     ∙ (faults_both model f later [] before (item ∷ behind)
     ∙ (ap (λ (o : Option ExpandFault). option_or o (items_fault model f later before (item ∷ behind))) h
-    ∙ some_first (item_fault model f later before item) (items_fault model f later (before ++ item ∷ []) behind) end own))
+    ∙ some_first (item_fault model f later before item) (items_fault model f later (before ++ item ∷ []) behind) end (r m)))

@@ -7,6 +7,7 @@ use Rattle.model_rules.specs.declared.fault.Cause.TheVariants as cause
 use Rattle.model_rules.specs.Terms.{OwnTerm, ParameterTerm, NearTerm}
 use Rattle.model_rules.specs.Frames.{Frame}
 use Rattle.model_rules.specs.Refusals.{let_for, apply_cause, name_cause, near_let_cause, near_cause}
+use Rattle.model_rules.specs.Parts.{unless_wrong, let_parts, seen_parts, name_parts, near_parts}
 use Rattle.model_rules.specs.TermFor.{let_term, named_term, near_let_term, near_named_term}
 
 -- no argument names the neighbour, where there is none
@@ -31,6 +32,22 @@ near_let f later name inside h k = rw (h, k) refl
 
 pub near_outside : (f : Frame) (later : List (List ℕ)) (name : List ℕ) (inside : Bool) → inside ≡ false → near_cause f later name inside ≡ Some cause.NeighbourOutside
 near_outside f later name inside h = rw h refl
+
+-- the parts of names
+pub free_parameter : (f : Frame) (later : List (List ℕ)) (name : List ℕ) (inside : Bool) → is_among f.parameters name ≡ true → unless_wrong (name_cause f later name inside) (name_parts f name) ≡ 0
+free_parameter f later name inside h = rw h refl
+
+pub free_field : (f : Frame) (later : List (List ℕ)) (name : List ℕ) (inside : Bool) → is_among f.parameters name ≡ false → is_among f.fields name ≡ true → unless_wrong (name_cause f later name inside) (name_parts f name) ≡ 0
+free_field f later name inside h k = rw (h, k) refl
+
+pub parts_let : (f : Frame) (name : List ℕ) → is_among f.parameters name ≡ false → is_among f.fields name ≡ false → name_parts f name ≡ let_parts (let_for f.lets name) []
+parts_let f name h k = rw (h, k) refl
+
+pub free_near : (f : Frame) (later : List (List ℕ)) (name : List ℕ) (inside : Bool) → inside ≡ true → is_among f.fields name ≡ true → unless_wrong (near_cause f later name inside) (near_parts f name) ≡ 0
+free_near f later name inside h k = rw (h, k) refl
+
+pub parts_near_let : (f : Frame) (name : List ℕ) → is_among f.fields name ≡ false → near_parts f name ≡ seen_parts (let_for f.lets name)
+parts_near_let f name h = rw h refl
 
 -- the terms of names
 pub term_parameter : (f : Frame) (name : List ℕ) → is_among f.parameters name ≡ true → named_term f name ≡ ParameterTerm (place f.parameters name)

@@ -4,7 +4,6 @@ use Rattle.std.specs.Prelude.{Option, Some, None, is_some, Result, Ok, Err, OnOk
 use Rattle.std.specs.Option.{option_or, option_to_list}
 use Rattle.std.proofs.lemmas.List.{append-nil, append_assoc, length-append}
 use Rattle.model_text.specs.Tree.{ItemTree, ConstTree, StatesTree, FieldTree, LetTree, NextTree}
-use Rattle.model_rules.specs.declared.fault.Cause.TheVariants as cause
 use Rattle.model_rules.specs.declared.fault.ExpandFault.{ExpandFault}
 use Rattle.model_rules.specs.declared.fault.ExpandFault.TheVariants as fault
 use Rattle.model_rules.specs.declared.scope.Scope.{Scope}
@@ -13,10 +12,10 @@ use Rattle.model_rules.specs.Frames.{KnownTree, Frame}
 use Rattle.model_rules.specs.Models.{GivenTree, bare, given_or, given_value}
 use Rattle.model_rules.specs.TermFor.{term_for}
 use Rattle.model_rules.specs.Refusals.{let_for}
-use Rattle.model_rules.specs.FirstFaults.{IsRefusal}
+use Rattle.model_rules.specs.FirstFaults.{IsFirst}
 use Rattle.model_rules.specs.Amounts.{amount_in, value_fault, body_fault}
 use Rattle.model_rules.specs.ScopeView.{frame_of, knowns_of, later_of, IsScopeOf}
-use Rattle.model_rules.specs.Definitions.{names_defined, definition_of, frame_in, unless_given, under, told_fault, told_known, fault_by, known_by, unless_known, fault_of, where_none, unless_there, becomes, with_name, known_along, is_ring, stopping, stop_along, last_along, known_after, stop_after, last_after, settled, defining_fault, IsLooked, IsPassed, IsHalt}
+use Rattle.model_rules.specs.Definitions.{names_defined, definition_of, frame_in, unless_given, under, told_fault, told_known, fault_by, known_by, unless_known, fault_of, where_none, unless_there, becomes, with_name, known_along, is_ring, stopping, stop_along, last_along, known_after, stop_after, last_after, settled, defining_fault, IsLooked, IsPassed}
 
 -- the parameters that were known before do not count
 under_same : (f g : Frame) (ps : List (List ℕ)) → f.draws ≡ g.draws → f.fields ≡ g.fields → f.lets ≡ g.lets → under f ps ≡ under g ps
@@ -101,26 +100,23 @@ looked_same items values scope name item s n d f k =
 ring_memory : (e : ExpandFault) → is_ring e ≡ true → e ≢ fault.Memory
 ring_memory e h = λ q. let r : is_ring fault.Memory ≡ true = subst (λ (x : ExpandFault). is_ring x ≡ true) q h in absurd (cc)
 
-ring_long : (e : ExpandFault) (at : ℕ) → is_ring e ≡ true → e ≢ fault.At cause.TooLong at
-ring_long e at h = λ q. let r : is_ring (fault.At cause.TooLong at) ≡ true = subst (λ (x : ExpandFault). is_ring x ≡ true) q h in absurd (cc)
-
 going_ring : (e : ExpandFault) → is_ring e ≡ true → stopping (Some e) ≡ None
 going_ring e h = ap (λ (b : Bool). if b then None else Some e) h
 
 stops_other : (e : ExpandFault) → is_ring e ≡ false → stopping (Some e) ≡ Some e
 stops_other e h = ap (λ (b : Bool). if b then None else Some e) h
 
-pub looked_ring : (items : List ItemTree) (values : List GivenTree) (scope : Scope) (name : List ℕ) (item : ItemTree) (e : ExpandFault) (at : ℕ) → IsScopeOf items scope → let_for (knowns_of scope.lets.items) name ≡ None → definition_of items name ≡ Some item → IsRefusal (told_fault values (frame_of scope) (later_of scope) name item) at e → is_ring e ≡ true
+pub looked_ring : (items : List ItemTree) (values : List GivenTree) (scope : Scope) (name : List ℕ) (item : ItemTree) (e : ExpandFault) → IsScopeOf items scope → let_for (knowns_of scope.lets.items) name ≡ None → definition_of items name ≡ Some item → IsFirst (told_fault values (frame_of scope) (later_of scope) name item) e → is_ring e ≡ true
     → IsLooked items values (knowns_of scope.lets.items) name (Some e) (knowns_of scope.lets.items)
-looked_ring items values scope name item e at s n d r h =
-    let f : told_fault values (frame_of scope) (later_of scope) name item ≡ Some e = r (ring_memory e h) (ring_long e at h) in
+looked_ring items values scope name item e s n d r h =
+    let f : told_fault values (frame_of scope) (later_of scope) name item ≡ Some e = r (ring_memory e h) in
     let t = told_becomes items values scope name item (Some e) (told_known values (frame_of scope) name item) s n d f refl in
     record { known = none_with items values (knowns_of scope.lets.items) name t.1; told = sym t.0; going = ap stopping t.0 ∙ going_ring e h }
 
-pub looked_stop : (items : List ItemTree) (values : List GivenTree) (scope : Scope) (name : List ℕ) (item : ItemTree) (e : ExpandFault) (at : ℕ) → IsScopeOf items scope → let_for (knowns_of scope.lets.items) name ≡ None → definition_of items name ≡ Some item → IsRefusal (told_fault values (frame_of scope) (later_of scope) name item) at e → is_ring e ≡ false
-    → IsHalt (stopping (fault_of items values (knowns_of scope.lets.items) name)) e
-looked_stop items values scope name item e at s n d r h = λ m l.
-    let f : told_fault values (frame_of scope) (later_of scope) name item ≡ Some e = r m (l at) in
+pub looked_stop : (items : List ItemTree) (values : List GivenTree) (scope : Scope) (name : List ℕ) (item : ItemTree) (e : ExpandFault) → IsScopeOf items scope → let_for (knowns_of scope.lets.items) name ≡ None → definition_of items name ≡ Some item → IsFirst (told_fault values (frame_of scope) (later_of scope) name item) e → is_ring e ≡ false
+    → IsFirst (stopping (fault_of items values (knowns_of scope.lets.items) name)) e
+looked_stop items values scope name item e s n d r h = λ m.
+    let f : told_fault values (frame_of scope) (later_of scope) name item ≡ Some e = r m in
     let t = told_becomes items values scope name item (Some e) (told_known values (frame_of scope) name item) s n d f refl in
     ap stopping t.0 ∙ stops_other e h
 
@@ -143,9 +139,9 @@ last_step items values lets now name names found lacking h =
     ∙ (ap (λ (o : Option ExpandFault). option_or (last_along items values (with_name items values lets name) names) (option_or o lacking)) h.told
     ∙ or_assoc (last_along items values (with_name items values lets name) names) (fault_of items values lets name) lacking)
 
-pub stop_here : (items : List ItemTree) (values : List GivenTree) (lets : List KnownTree) (name : List ℕ) (names : List (List ℕ)) (e : ExpandFault) → IsHalt (stopping (fault_of items values lets name)) e → IsHalt (stop_along items values lets (name ∷ names)) e
-stop_here items values lets name names e h = λ m l.
-    ap (λ (o : Option ExpandFault). option_or o (stop_along items values (with_name items values lets name) names)) (h m l)
+pub stop_here : (items : List ItemTree) (values : List GivenTree) (lets : List KnownTree) (name : List ℕ) (names : List (List ℕ)) (e : ExpandFault) → IsFirst (stopping (fault_of items values lets name)) e → IsFirst (stop_along items values lets (name ∷ names)) e
+stop_here items values lets name names e h = λ m.
+    ap (λ (o : Option ExpandFault). option_or o (stop_along items values (with_name items values lets name) names)) (h m)
 
 -- where nothing is added, what is known stays the same
 adds : (items : List ItemTree) (values : List GivenTree) (lets : List KnownTree) (names : List (List ℕ)) → (more : List KnownTree) × (known_along items values lets names ≡ lets ++ more)
@@ -224,10 +220,10 @@ ends_early items values lets now lacking k m n e d s p b =
     (p.told ∙ sym (ap (last_after items values lets) e ∙ last_still items values lets k m same))
 
 -- a fault that stops at one of the times
-pub ends_stopped : (items : List ItemTree) (values : List GivenTree) (lets : List KnownTree) (k m n : ℕ) (end : ExpandFault) → n ≡ m + suc k → n ≡ length (names_defined items) → stop_after items values lets k ≡ None → IsHalt (stop_along items values (known_after items values lets k) (names_defined items)) end → IsHalt (defining_fault items values lets) end
-ends_stopped items values lets k m n end e d s h = λ x y.
+pub ends_stopped : (items : List ItemTree) (values : List GivenTree) (lets : List KnownTree) (k m n : ℕ) (end : ExpandFault) → n ≡ m + suc k → n ≡ length (names_defined items) → stop_after items values lets k ≡ None → IsFirst (stop_along items values (known_after items values lets k) (names_defined items)) end → IsFirst (defining_fault items values lets) end
+ends_stopped items values lets k m n end e d s h = λ x.
     let one : stop_after items values lets (suc k) ≡ Some end =
-    ap (λ (o : Option ExpandFault). option_or o (stop_along items values (known_after items values lets k) (names_defined items))) s ∙ h x y in
+    ap (λ (o : Option ExpandFault). option_or o (stop_along items values (known_after items values lets k) (names_defined items))) s ∙ h x in
     let all : stop_after items values lets (length (names_defined items)) ≡ Some end =
     ap (stop_after items values lets) (sym d ∙ e) ∙ stop_stays items values lets (suc k) m end one in
     ap (λ (o : Option ExpandFault). option_or o (last_after items values lets (length (names_defined items)))) all
@@ -250,18 +246,18 @@ pub ends_faultless : {X : Type 0} (r : Result X ExpandFault) (items : List ItemT
 ends_faultless (Ok x) items values lets now lacking h n = h.fault ∙ n
 ends_faultless (Err x) items values lets now lacking h n = tt
 
-pub ends_refused : {X : Type 0} (r : Result X ExpandFault) (items : List ItemTree) (values : List GivenTree) (lets now : List KnownTree) (lacking : Option ExpandFault) → Ends items values lets now lacking → IfErr r (λ e. lacking ≡ Some e) → IfErr r (IsHalt (defining_fault items values lets))
+pub ends_refused : {X : Type 0} (r : Result X ExpandFault) (items : List ItemTree) (values : List GivenTree) (lets now : List KnownTree) (lacking : Option ExpandFault) → Ends items values lets now lacking → IfErr r (λ e. lacking ≡ Some e) → IfErr r (IsFirst (defining_fault items values lets))
 ends_refused (Ok x) items values lets now lacking h n = tt
-ends_refused (Err x) items values lets now lacking h n = λ m l. h.fault ∙ n
+ends_refused (Err x) items values lets now lacking h n = λ m. h.fault ∙ n
 
 -- a pass over all names, so many times after the first
 pub pass_at : (items : List ItemTree) (values : List GivenTree) (lets l now : List KnownTree) (names : List (List ℕ)) (found : Option ExpandFault) (k : ℕ) → l ≡ known_after items values lets k → names ≡ names_defined items → IsPassed items values l names found now → IsPassed items values (known_after items values lets k) (names_defined items) found now
 pass_at items values lets l now names found k e n h =
     subst (λ (ns : List (List ℕ)). IsPassed items values (known_after items values lets k) ns found now) n (subst (λ (ks : List KnownTree). IsPassed items values ks names found now) e h)
 
-pub halt_at : (items : List ItemTree) (values : List GivenTree) (lets l : List KnownTree) (names : List (List ℕ)) (k : ℕ) (end : ExpandFault) → l ≡ known_after items values lets k → names ≡ names_defined items → IsHalt (stop_along items values l names) end → IsHalt (stop_along items values (known_after items values lets k) (names_defined items)) end
-halt_at items values lets l names k end e n h =
-    subst (λ (ns : List (List ℕ)). IsHalt (stop_along items values (known_after items values lets k) ns) end) n (subst (λ (ks : List KnownTree). IsHalt (stop_along items values ks names) end) e h)
+pub first_at : (items : List ItemTree) (values : List GivenTree) (lets l : List KnownTree) (names : List (List ℕ)) (k : ℕ) (end : ExpandFault) → l ≡ known_after items values lets k → names ≡ names_defined items → IsFirst (stop_along items values l names) end → IsFirst (stop_along items values (known_after items values lets k) (names_defined items)) end
+first_at items values lets l names k end e n h =
+    subst (λ (ns : List (List ℕ)). IsFirst (stop_along items values (known_after items values lets k) ns) end) n (subst (λ (ks : List KnownTree). IsFirst (stop_along items values ks names) end) e h)
 
 -- one time more
 next_is : (k : ℕ) → k + 1 ≡ suc k
@@ -282,7 +278,7 @@ after_last items values lets now found k h = h.told ∙ ap (last_after items val
 pub early : (items : List ItemTree) (values : List GivenTree) (lets now : List KnownTree) (found : Option ExpandFault) (k n : ℕ) → k < n → n ≡ length (names_defined items) → stop_after items values lets k ≡ None → IsPassed items values (known_after items values lets k) (names_defined items) found now → length now ≡ length (known_after items values lets k) → Ends items values lets now found
 early items values lets now found k n b d s h l = ends_early items values lets now found k (n - suc k) n (omega arith) d s h l
 
-pub stopped : (items : List ItemTree) (values : List GivenTree) (lets : List KnownTree) (k n : ℕ) (end : ExpandFault) → k < n → n ≡ length (names_defined items) → stop_after items values lets k ≡ None → IsHalt (stop_along items values (known_after items values lets k) (names_defined items)) end → IsHalt (defining_fault items values lets) end
+pub stopped : (items : List ItemTree) (values : List GivenTree) (lets : List KnownTree) (k n : ℕ) (end : ExpandFault) → k < n → n ≡ length (names_defined items) → stop_after items values lets k ≡ None → IsFirst (stop_along items values (known_after items values lets k) (names_defined items)) end → IsFirst (defining_fault items values lets) end
 stopped items values lets k n end b d s h = ends_stopped items values lets k (n - suc k) n end (omega arith) d s h
 
 -- a name that is known, or not

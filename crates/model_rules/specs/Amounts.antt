@@ -13,6 +13,7 @@ use Rattle.model_rules.specs.Terms.{TermTree, NumberTerm, OwnTerm, IdTerm, Degre
 use Rattle.model_rules.specs.Frames.{Frame}
 use Rattle.model_rules.specs.TermFor.{term_for}
 use Rattle.model_rules.specs.FirstFaults.{told_at, fault_in}
+use Rattle.model_rules.specs.Parts.{parts_in, bounded_fault}
 
 -- the number that a term of numbers and operators is worth
 abbrev pub amount_in : TermTree → ℕ
@@ -74,12 +75,17 @@ amount_cause (ChoiceTerm a b c) = Some cause.NotConstant
 abbrev pub depth_cause : TermTree → Option Cause
 depth_cause t = if nat_lt 64 (depth (lowered t)) then Some cause.TooDeep else None
 
+-- The first fault of an expression outside of aggregates, of the item at a place: that more than 65,536 parts are made up to the first
+-- fault that it has by itself, or else that one.
+abbrev pub expression_fault : Frame → List (List ℕ) → Tree → ℕ → Option ExpandFault
+expression_fault frame later tree at = bounded_fault 65536 (parts_in frame later false tree) at (fault_in frame later false tree)
+
 -- The first fault of an expression that has to be a constant, of the item at a place: one of the expression, or else that it is no
 -- constant.
 abbrev pub value_fault : Frame → List (List ℕ) → Tree → ℕ → Option ExpandFault
-value_fault frame later tree at = option_or (fault_in frame later false tree) (told_at at (amount_cause (term_for frame tree)))
+value_fault frame later tree at = option_or (expression_fault frame later tree at) (told_at at (amount_cause (term_for frame tree)))
 
 -- The first fault of the expression of a let or of a next value, of the item at a place: one of the expression, or else that it is
 -- deeper than 64 with all lets put in.
 abbrev pub body_fault : Frame → List (List ℕ) → Tree → ℕ → Option ExpandFault
-body_fault frame later tree at = option_or (fault_in frame later false tree) (told_at at (depth_cause (term_for frame tree)))
+body_fault frame later tree at = option_or (expression_fault frame later tree at) (told_at at (depth_cause (term_for frame tree)))

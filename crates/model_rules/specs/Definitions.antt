@@ -1,6 +1,6 @@
 -- What is wrong with the constants, states and lets of a model, and what they are worth: the first fault, in the order in which they
 -- become known.
-use Rattle.std.specs.Prelude.{ℕ, zero, suc, Bool, true, false, nat_lt, List, [], ◌∷◌, ◌++◌, length, Option, Some, None, if◌then◌else◌, ◌≡◌, ◌≢◌}
+use Rattle.std.specs.Prelude.{ℕ, zero, suc, Bool, true, false, nat_lt, List, [], ◌∷◌, ◌++◌, length, Option, Some, None, if◌then◌else◌, ◌≡◌}
 use Rattle.std.specs.List.{find, flat_map}
 use Rattle.std.specs.Option.{option_or, option_to_list}
 use Rattle.rule_check.specs.Value.{place}
@@ -194,7 +194,3 @@ pub record IsPassed (items : List ItemTree) (values : List GivenTree) (lets : Li
 -- what is known of a model in the end
 abbrev pub settled : List ItemTree → List GivenTree → List KnownTree → List KnownTree
 settled items values lets = known_after items values lets (length (names_defined items))
-
--- this fault is told where this is the first, unless memory is out or an item is too long
-abbrev pub IsHalt : Option ExpandFault → ExpandFault → Type 0
-IsHalt first end = end ≢ fault.Memory → ((at : ℕ) → end ≢ fault.At cause.TooLong at) → first ≡ Some end

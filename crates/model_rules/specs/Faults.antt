@@ -1,5 +1,5 @@
 -- What is wrong with the items of a model once its constants, states and lets are known: the first fault.
-use Rattle.std.specs.Prelude.{ℕ, ◌≡◌, ◌≢◌, List, [], ◌∷◌, ◌++◌, Option, Some, None, if◌then◌else◌}
+use Rattle.std.specs.Prelude.{ℕ, List, [], ◌∷◌, ◌++◌, Option, Some, None, if◌then◌else◌}
 use Rattle.std.specs.List.{filter_map}
 use Rattle.std.specs.Option.{option_or}
 use Rattle.rule_lang.specs.Tree.{ItemTree as RuleTree, FieldTree as FieldRule, NextTree as NextRule}
@@ -7,7 +7,6 @@ use Rattle.model_text.specs.Tree.{Tree, NameAt, ItemTree, ConstTree, StatesTree,
 use Rattle.model_rules.specs.declared.fault.Cause.{Cause}
 use Rattle.model_rules.specs.declared.fault.Cause.TheVariants as cause
 use Rattle.model_rules.specs.declared.fault.ExpandFault.{ExpandFault}
-use Rattle.model_rules.specs.declared.fault.ExpandFault.TheVariants as fault
 use Rattle.model_rules.specs.Terms.{lowered}
 use Rattle.model_rules.specs.Frames.{Frame}
 use Rattle.model_rules.specs.Models.{is_state}
@@ -72,17 +71,3 @@ abbrev pub items_fault : List ItemTree → Frame → List (List ℕ) → List It
 items_fault model frame later before [] = None
 items_fault model frame later before (item ∷ items) =
     option_or (item_fault model frame later before item) (items_fault model frame later (before ++ item ∷ []) items)
-
--- an item of these is told to be too long, and none before it has a fault
-pub record IsLongItem (model : List ItemTree) (frame : Frame) (later : List (List ℕ)) (items : List ItemTree) (end : ExpandFault) : Type 0 where
-  pub before : List ItemTree
-  pub item : ItemTree
-  pub behind : List ItemTree
-  pub split : items ≡ before ++ item ∷ behind
-  pub faultless : items_fault model frame later [] before ≡ None
-  pub long : end ≡ fault.At cause.TooLong (name_place item)
-
--- this fault is told of the rules of these items: it is their first, unless memory is out, or an item of which no earlier one has a fault is too long
-abbrev pub IsRulesRefusal : List ItemTree → Frame → List (List ℕ) → List ItemTree → ExpandFault → Type 0
-IsRulesRefusal model frame later items end =
-    end ≢ fault.Memory → (IsLongItem model frame later items end → ⊥) → items_fault model frame later [] items ≡ Some end

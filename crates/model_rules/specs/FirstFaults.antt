@@ -19,11 +19,6 @@ use Rattle.model_rules.specs.Frames.{KnownTree, Frame}
 use Rattle.model_rules.specs.Refusals.{let_for, name_cause, near_cause, apply_cause}
 use Rattle.model_rules.specs.TermFor.{number_in, terms_for}
 
--- this fault is told of an item at a place, whose expression has this first fault: it is that one, unless memory is out
--- or the item is too long
-abbrev pub IsRefusal : Option ExpandFault → ℕ → ExpandFault → Type 0
-IsRefusal first item end = end ≢ fault.Memory → end ≢ fault.At cause.TooLong item → first ≡ Some end
-
 -- this fault is told where this is the first, unless memory is out
 abbrev pub IsFirst : Option ExpandFault → ExpandFault → Type 0
 IsFirst first end = end ≢ fault.Memory → first ≡ Some end

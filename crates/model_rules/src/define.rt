@@ -3,7 +3,8 @@
 ghost use Rattle.std.specs.Prelude.{◌≡◌, ◌∷◌, [], IfErr, IfOk, IfSome, IsNone, OnOk, None, Some, is_some, List, ℕ, map, string_bytes};
 ghost use Rattle.std.specs.Option.{option_map};
 ghost use Rattle.model_rules.specs.Refusals.{let_for};
-ghost use Rattle.model_rules.specs.Definitions.{IsHalt, IsLooked, IsPassed, definition_of, names_defined, fault_of, stopping, is_ring, stop_along, settled, defining_fault, seed_first};
+ghost use Rattle.model_rules.specs.Definitions.{IsLooked, IsPassed, definition_of, names_defined, fault_of, stopping, is_ring, stop_along, settled, defining_fault, seed_first};
+ghost use Rattle.model_rules.specs.FirstFaults.{IsFirst};
 ghost use Rattle.model_rules.specs.Terms.{NumberTerm};
 ghost use Rattle.model_text.specs.View.{items_of, item_of};
 ghost use Rattle.model_rules.specs.Models.{given_or, given_value, names_it};
@@ -72,7 +73,7 @@ fn define(
     ensures looked { IsScopeOf (items_of items.now) scope.old → let_for (knowns_of scope.old.lets.items) name.now ≡ None
         → IfOk result (λ found. IsLooked (items_of items.now) (givens_of given.now) (knowns_of scope.old.lets.items) name.now found (knowns_of scope.new.lets.items)) }
     ensures refused { IsScopeOf (items_of items.now) scope.old → let_for (knowns_of scope.old.lets.items) name.now ≡ None
-        → IfErr result (IsHalt (stopping (fault_of (items_of items.now) (givens_of given.now) (knowns_of scope.old.lets.items) name.now))) }
+        → IfErr result (IsFirst (stopping (fault_of (items_of items.now) (givens_of given.now) (knowns_of scope.old.lets.items) name.now))) }
 {
     let Some(item) = definition(items, name) else {
         return Ok(None);
@@ -116,7 +117,7 @@ fn look(
     ensures looked { IsScopeOf (items_of items.now) scope.old
         → IfOk result (λ found. IsLooked (items_of items.now) (givens_of given.now) (knowns_of scope.old.lets.items) name.now found (knowns_of scope.new.lets.items)) }
     ensures refused { IsScopeOf (items_of items.now) scope.old
-        → IfErr result (IsHalt (stopping (fault_of (items_of items.now) (givens_of given.now) (knowns_of scope.old.lets.items) name.now))) }
+        → IfErr result (IsFirst (stopping (fault_of (items_of items.now) (givens_of given.now) (knowns_of scope.old.lets.items) name.now))) }
 {
     if is_known(&scope.lets, name) {
         return Ok(None);
@@ -140,7 +141,7 @@ fn define_some(
     ensures passed { IsScopeOf (items_of items.now) scope.old
         → IfOk result (λ found. IsPassed (items_of items.now) (givens_of given.now) (knowns_of scope.old.lets.items) (map string_bytes names.now) found (knowns_of scope.new.lets.items)) }
     ensures refused { IsScopeOf (items_of items.now) scope.old
-        → IfErr result (IsHalt (stop_along (items_of items.now) (givens_of given.now) (knowns_of scope.old.lets.items) (map string_bytes names.now))) }
+        → IfErr result (IsFirst (stop_along (items_of items.now) (givens_of given.now) (knowns_of scope.old.lets.items) (map string_bytes names.now))) }
 {
     let mut lacking = None;
     for name in names {
@@ -179,7 +180,7 @@ pub fn define_all(
     ensures faultless { IsScopeOf (items_of items.now) scope.old → map string_bytes names.now ≡ names_defined (items_of items.now)
         → OnOk result (defining_fault (items_of items.now) (givens_of given.now) (knowns_of scope.old.lets.items) ≡ None) }
     ensures refused { IsScopeOf (items_of items.now) scope.old → map string_bytes names.now ≡ names_defined (items_of items.now)
-        → IfErr result (IsHalt (defining_fault (items_of items.now) (givens_of given.now) (knowns_of scope.old.lets.items))) }
+        → IfErr result (IsFirst (defining_fault (items_of items.now) (givens_of given.now) (knowns_of scope.old.lets.items))) }
 {
     let mut lacking = None;
     for round in 0..names.len() {

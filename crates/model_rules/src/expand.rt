@@ -1,14 +1,15 @@
 //! From expressions of a model to terms.
 
-ghost use Rattle.std.specs.Prelude.{◌≡◌, ◌||◌, if◌then◌else◌, IfErr, IfOk, OnOk, None, Some, true, length};
+ghost use Rattle.std.specs.Prelude.{◌≡◌, ◌+◌, ◌||◌, if◌then◌else◌, IfErr, IfOk, OnOk, None, Some, true, length};
 ghost use Rattle.std.specs.List.{list_any};
 ghost use Rattle.std.specs.Option.{option_or};
 ghost use Rattle.model_rules.specs.declared.fault.Cause.TheVariants.{NestedAggregate};
 ghost use Rattle.model_rules.specs.declared.fault.ExpandFault.TheVariants.{At};
 ghost use Rattle.model_text.specs.View.{tree_of, arms_of, arguments_of};
-ghost use Rattle.model_rules.specs.FirstFaults.{IsRefusal, told_at, first_of, fault_in, arms_fault, faults_in, only_fault, some_fault, two_fault, few_fault, call_fault, draw_cause, bound_cause};
+ghost use Rattle.model_rules.specs.FirstFaults.{IsFirst, told_at, first_of, fault_in, arms_fault, faults_in, only_fault, some_fault, two_fault, few_fault, call_fault, draw_cause, bound_cause};
 ghost use Rattle.model_rules.specs.Operators.{kind_of};
-ghost use Rattle.model_rules.specs.Refusals.{item_at, let_for, apply_cause};
+ghost use Rattle.model_rules.specs.Refusals.{item_at, parts_left, let_for, apply_cause};
+ghost use Rattle.model_rules.specs.Parts.{size, unless_wrong, let_parts, parts_upto, only_parts, two_parts, call_parts, parts_below, arms_parts, parts_each, parts_in, bounded};
 ghost use Rattle.model_rules.specs.ScopeView.{frame_of, knowns_of, later_of};
 ghost use Rattle.model_rules.specs.TermFor.{term_for, arms_term, terms_for, let_term, first_term, second_term, joined_term, bounded_term, draw_term, call_term};
 ghost use Rattle.model_rules.specs.TermView.{term_of, terms_of};
@@ -41,9 +42,28 @@ pub fn expression(
     ensures exact { IfOk result (λ t. term_of t ≡ term_for (frame_of scope.now) (tree_of tree.now)) }
     ensures faultless { OnOk result (fault_in (frame_of scope.now) (later_of scope.now) inside (tree_of tree.now) ≡ None) }
     ensures item { item_at room.new ≡ item_at room.old }
-    ensures refused { IfErr result (IsRefusal (fault_in (frame_of scope.now) (later_of scope.now) inside (tree_of tree.now)) (item_at room.old)) }
+    ensures taken { OnOk result (parts_left room.new + parts_in (frame_of scope.now) (later_of scope.now) inside (tree_of tree.now) ≡ parts_left room.old) }
+    ensures refused { IfErr result (IsFirst (bounded room.old (parts_in (frame_of scope.now) (later_of scope.now) inside (tree_of tree.now)) (fault_in (frame_of scope.now) (later_of scope.now) inside (tree_of tree.now)))) }
 {
     room.take()?;
+    form(tree, scope, inside, alloc, room)
+}
+
+/// The term of an expression whose own part is taken.
+#[cycle(expansion)]
+fn form(
+    tree: &Expr,
+    scope: &Scope,
+    inside: bool,
+    alloc: Global,
+    room: &mut Room,
+) -> Result<Term, ExpandFault>
+    ensures exact { IfOk result (λ t. term_of t ≡ term_for (frame_of scope.now) (tree_of tree.now)) }
+    ensures faultless { OnOk result (fault_in (frame_of scope.now) (later_of scope.now) inside (tree_of tree.now) ≡ None) }
+    ensures item { item_at room.new ≡ item_at room.old }
+    ensures taken { OnOk result (parts_left room.new + parts_below (frame_of scope.now) (later_of scope.now) inside (tree_of tree.now) ≡ parts_left room.old) }
+    ensures refused { IfErr result (IsFirst (bounded room.old (parts_below (frame_of scope.now) (later_of scope.now) inside (tree_of tree.now)) (fault_in (frame_of scope.now) (later_of scope.now) inside (tree_of tree.now)))) }
+{
     match tree {
         Expr::Number { value, .. } => Ok(Term::Number(*value)),
         Expr::Nothing { .. } => Ok(Term::Number(4294967295)),
@@ -100,7 +120,8 @@ fn negation(
     ensures exact { IfOk result (λ t. term_of t ≡ NotTerm (term_for (frame_of scope.now) (tree_of part.now))) }
     ensures faultless { OnOk result (fault_in (frame_of scope.now) (later_of scope.now) inside (tree_of part.now) ≡ None) }
     ensures item { item_at room.new ≡ item_at room.old }
-    ensures refused { IfErr result (IsRefusal (fault_in (frame_of scope.now) (later_of scope.now) inside (tree_of part.now)) (item_at room.old)) }
+    ensures taken { OnOk result (parts_left room.new + parts_in (frame_of scope.now) (later_of scope.now) inside (tree_of part.now) ≡ parts_left room.old) }
+    ensures refused { IfErr result (IsFirst (bounded room.old (parts_in (frame_of scope.now) (later_of scope.now) inside (tree_of part.now)) (fault_in (frame_of scope.now) (later_of scope.now) inside (tree_of part.now)))) }
 {
     let part = expression(part, scope, inside, alloc, room)?;
     Ok(Term::Not(Box::new(alloc, part)?))
@@ -118,7 +139,8 @@ fn cases(
     ensures exact { IfOk result (λ t. term_of t ≡ arms_term (frame_of scope.now) (arms_of arms.now)) }
     ensures faultless { OnOk result (arms_fault (frame_of scope.now) (later_of scope.now) inside (arms_of arms.now) ≡ None) }
     ensures item { item_at room.new ≡ item_at room.old }
-    ensures refused { IfErr result (IsRefusal (arms_fault (frame_of scope.now) (later_of scope.now) inside (arms_of arms.now)) (item_at room.old)) }
+    ensures taken { OnOk result (parts_left room.new + arms_parts (frame_of scope.now) (later_of scope.now) inside (arms_of arms.now) ≡ parts_left room.old) }
+    ensures refused { IfErr result (IsFirst (bounded room.old (arms_parts (frame_of scope.now) (later_of scope.now) inside (arms_of arms.now)) (arms_fault (frame_of scope.now) (later_of scope.now) inside (arms_of arms.now)))) }
 {
     match arms {
         Arms::Arm { test, value, rest } => {
@@ -145,7 +167,8 @@ fn call(
     ensures exact { IfOk result (λ t. term_of t ≡ call_term (kind_of function) (frame_of scope.now) at (terms_for (frame_of scope.now) (arguments_of arguments.now))) }
     ensures faultless { OnOk result (call_fault (kind_of function) (frame_of scope.now) inside at (terms_for (frame_of scope.now) (arguments_of arguments.now)) (faults_in (frame_of scope.now) (later_of scope.now) inside (arguments_of arguments.now)) (faults_in (frame_of scope.now) (later_of scope.now) true (arguments_of arguments.now)) ≡ None) }
     ensures item { item_at room.new ≡ item_at room.old }
-    ensures refused { IfErr result (IsRefusal (call_fault (kind_of function) (frame_of scope.now) inside at (terms_for (frame_of scope.now) (arguments_of arguments.now)) (faults_in (frame_of scope.now) (later_of scope.now) inside (arguments_of arguments.now)) (faults_in (frame_of scope.now) (later_of scope.now) true (arguments_of arguments.now))) (item_at room.old)) }
+    ensures taken { OnOk result (parts_left room.new + call_parts (kind_of function) (frame_of scope.now) inside at (terms_for (frame_of scope.now) (arguments_of arguments.now)) (faults_in (frame_of scope.now) (later_of scope.now) inside (arguments_of arguments.now)) (parts_each (frame_of scope.now) (later_of scope.now) inside (arguments_of arguments.now)) (parts_each (frame_of scope.now) (later_of scope.now) true (arguments_of arguments.now)) ≡ parts_left room.old) }
+    ensures refused { IfErr result (IsFirst (bounded room.old (call_parts (kind_of function) (frame_of scope.now) inside at (terms_for (frame_of scope.now) (arguments_of arguments.now)) (faults_in (frame_of scope.now) (later_of scope.now) inside (arguments_of arguments.now)) (parts_each (frame_of scope.now) (later_of scope.now) inside (arguments_of arguments.now)) (parts_each (frame_of scope.now) (later_of scope.now) true (arguments_of arguments.now))) (call_fault (kind_of function) (frame_of scope.now) inside at (terms_for (frame_of scope.now) (arguments_of arguments.now)) (faults_in (frame_of scope.now) (later_of scope.now) inside (arguments_of arguments.now)) (faults_in (frame_of scope.now) (later_of scope.now) true (arguments_of arguments.now))))) }
 {
     match call_kind(function) {
         CallKind::Gather(agg) => gathered(arguments, agg, at, scope, inside, alloc, room),
@@ -169,7 +192,8 @@ fn gathered(
     ensures exact { IfOk result (λ t. term_of t ≡ OverTerm agg (first_term (terms_for (frame_of scope.now) (arguments_of arguments.now)))) }
     ensures faultless { OnOk result (if inside then Some (At NestedAggregate at) else only_fault at (faults_in (frame_of scope.now) (later_of scope.now) true (arguments_of arguments.now)) ≡ None) }
     ensures item { item_at room.new ≡ item_at room.old }
-    ensures refused { IfErr result (IsRefusal (if inside then Some (At NestedAggregate at) else only_fault at (faults_in (frame_of scope.now) (later_of scope.now) true (arguments_of arguments.now))) (item_at room.old)) }
+    ensures taken { OnOk result (parts_left room.new + (if inside then 0 else only_parts (parts_each (frame_of scope.now) (later_of scope.now) true (arguments_of arguments.now))) ≡ parts_left room.old) }
+    ensures refused { IfErr result (IsFirst (bounded room.old (if inside then 0 else only_parts (parts_each (frame_of scope.now) (later_of scope.now) true (arguments_of arguments.now))) (if inside then Some (At NestedAggregate at) else only_fault at (faults_in (frame_of scope.now) (later_of scope.now) true (arguments_of arguments.now))))) }
 {
     if inside {
         return Err(wrong(Cause::NestedAggregate, at));
@@ -192,7 +216,8 @@ fn application(
     ensures exact { IfOk result (λ t. term_of t ≡ let_term (let_for (knowns_of scope.now.lets.items) name.now) (terms_for (frame_of scope.now) (arguments_of arguments.now))) }
     ensures faultless { OnOk result (option_or (first_of (faults_in (frame_of scope.now) (later_of scope.now) inside (arguments_of arguments.now))) (told_at at (apply_cause (let_for (knowns_of scope.now.lets.items) name.now) (later_of scope.now) name.now (length (terms_for (frame_of scope.now) (arguments_of arguments.now))) (inside || list_any looks (terms_for (frame_of scope.now) (arguments_of arguments.now))))) ≡ None) }
     ensures item { item_at room.new ≡ item_at room.old }
-    ensures refused { IfErr result (IsRefusal (option_or (first_of (faults_in (frame_of scope.now) (later_of scope.now) inside (arguments_of arguments.now))) (told_at at (apply_cause (let_for (knowns_of scope.now.lets.items) name.now) (later_of scope.now) name.now (length (terms_for (frame_of scope.now) (arguments_of arguments.now))) (inside || list_any looks (terms_for (frame_of scope.now) (arguments_of arguments.now)))))) (item_at room.old)) }
+    ensures taken { OnOk result (parts_left room.new + (parts_upto (faults_in (frame_of scope.now) (later_of scope.now) inside (arguments_of arguments.now)) (parts_each (frame_of scope.now) (later_of scope.now) inside (arguments_of arguments.now)) + unless_wrong (first_of (faults_in (frame_of scope.now) (later_of scope.now) inside (arguments_of arguments.now))) (unless_wrong (apply_cause (let_for (knowns_of scope.now.lets.items) name.now) (later_of scope.now) name.now (length (terms_for (frame_of scope.now) (arguments_of arguments.now))) (inside || list_any looks (terms_for (frame_of scope.now) (arguments_of arguments.now)))) (let_parts (let_for (knowns_of scope.now.lets.items) name.now) (terms_for (frame_of scope.now) (arguments_of arguments.now))))) ≡ parts_left room.old) }
+    ensures refused { IfErr result (IsFirst (bounded room.old (parts_upto (faults_in (frame_of scope.now) (later_of scope.now) inside (arguments_of arguments.now)) (parts_each (frame_of scope.now) (later_of scope.now) inside (arguments_of arguments.now)) + unless_wrong (first_of (faults_in (frame_of scope.now) (later_of scope.now) inside (arguments_of arguments.now))) (unless_wrong (apply_cause (let_for (knowns_of scope.now.lets.items) name.now) (later_of scope.now) name.now (length (terms_for (frame_of scope.now) (arguments_of arguments.now))) (inside || list_any looks (terms_for (frame_of scope.now) (arguments_of arguments.now)))) (let_parts (let_for (knowns_of scope.now.lets.items) name.now) (terms_for (frame_of scope.now) (arguments_of arguments.now))))) (option_or (first_of (faults_in (frame_of scope.now) (later_of scope.now) inside (arguments_of arguments.now))) (told_at at (apply_cause (let_for (knowns_of scope.now.lets.items) name.now) (later_of scope.now) name.now (length (terms_for (frame_of scope.now) (arguments_of arguments.now))) (inside || list_any looks (terms_for (frame_of scope.now) (arguments_of arguments.now)))))))) }
 {
     let terms = each(arguments, scope, inside, alloc, room)?;
     applied(name, at, &terms, scope, inside, alloc, room)
@@ -210,7 +235,8 @@ fn each(
     ensures exact { IfOk result (λ ts. terms_of ts.items ≡ terms_for (frame_of scope.now) (arguments_of arguments.now)) }
     ensures faultless { OnOk result (first_of (faults_in (frame_of scope.now) (later_of scope.now) inside (arguments_of arguments.now)) ≡ None) }
     ensures item { item_at room.new ≡ item_at room.old }
-    ensures refused { IfErr result (IsRefusal (first_of (faults_in (frame_of scope.now) (later_of scope.now) inside (arguments_of arguments.now))) (item_at room.old)) }
+    ensures taken { OnOk result (parts_left room.new + parts_upto (faults_in (frame_of scope.now) (later_of scope.now) inside (arguments_of arguments.now)) (parts_each (frame_of scope.now) (later_of scope.now) inside (arguments_of arguments.now)) ≡ parts_left room.old) }
+    ensures refused { IfErr result (IsFirst (bounded room.old (parts_upto (faults_in (frame_of scope.now) (later_of scope.now) inside (arguments_of arguments.now)) (parts_each (frame_of scope.now) (later_of scope.now) inside (arguments_of arguments.now))) (first_of (faults_in (frame_of scope.now) (later_of scope.now) inside (arguments_of arguments.now))))) }
 {
     match arguments {
         Arguments::End => Ok(Vec::new(alloc)),
@@ -237,7 +263,8 @@ fn single(
     ensures exact { IfOk result (λ t. term_of t ≡ first_term (terms_for (frame_of scope.now) (arguments_of arguments.now))) }
     ensures faultless { OnOk result (only_fault at (faults_in (frame_of scope.now) (later_of scope.now) inside (arguments_of arguments.now)) ≡ None) }
     ensures item { item_at room.new ≡ item_at room.old }
-    ensures refused { IfErr result (IsRefusal (only_fault at (faults_in (frame_of scope.now) (later_of scope.now) inside (arguments_of arguments.now))) (item_at room.old)) }
+    ensures taken { OnOk result (parts_left room.new + only_parts (parts_each (frame_of scope.now) (later_of scope.now) inside (arguments_of arguments.now)) ≡ parts_left room.old) }
+    ensures refused { IfErr result (IsFirst (bounded room.old (only_parts (parts_each (frame_of scope.now) (later_of scope.now) inside (arguments_of arguments.now))) (only_fault at (faults_in (frame_of scope.now) (later_of scope.now) inside (arguments_of arguments.now))))) }
 {
     match arguments {
         Arguments::End => Err(wrong(Cause::WrongArguments, at)),
@@ -265,7 +292,8 @@ fn joined(
     ensures exact { IfOk result (λ t. term_of t ≡ joined_term op (terms_for (frame_of scope.now) (arguments_of arguments.now))) }
     ensures faultless { OnOk result (some_fault at (faults_in (frame_of scope.now) (later_of scope.now) inside (arguments_of arguments.now)) ≡ None) }
     ensures item { item_at room.new ≡ item_at room.old }
-    ensures refused { IfErr result (IsRefusal (some_fault at (faults_in (frame_of scope.now) (later_of scope.now) inside (arguments_of arguments.now))) (item_at room.old)) }
+    ensures taken { OnOk result (parts_left room.new + parts_upto (faults_in (frame_of scope.now) (later_of scope.now) inside (arguments_of arguments.now)) (parts_each (frame_of scope.now) (later_of scope.now) inside (arguments_of arguments.now)) ≡ parts_left room.old) }
+    ensures refused { IfErr result (IsFirst (bounded room.old (parts_upto (faults_in (frame_of scope.now) (later_of scope.now) inside (arguments_of arguments.now)) (parts_each (frame_of scope.now) (later_of scope.now) inside (arguments_of arguments.now))) (some_fault at (faults_in (frame_of scope.now) (later_of scope.now) inside (arguments_of arguments.now))))) }
 {
     match arguments {
         Arguments::End => Err(wrong(Cause::WrongArguments, at)),
@@ -293,7 +321,8 @@ fn difference(
     ensures exact { IfOk result (λ t. term_of t ≡ parted (first_term (terms_for (frame_of scope.now) (arguments_of arguments.now))) (second_term (terms_for (frame_of scope.now) (arguments_of arguments.now)))) }
     ensures faultless { OnOk result (two_fault at (faults_in (frame_of scope.now) (later_of scope.now) inside (arguments_of arguments.now)) ≡ None) }
     ensures item { item_at room.new ≡ item_at room.old }
-    ensures refused { IfErr result (IsRefusal (two_fault at (faults_in (frame_of scope.now) (later_of scope.now) inside (arguments_of arguments.now))) (item_at room.old)) }
+    ensures taken { OnOk result (parts_left room.new + (two_parts (faults_in (frame_of scope.now) (later_of scope.now) inside (arguments_of arguments.now)) (parts_each (frame_of scope.now) (later_of scope.now) inside (arguments_of arguments.now)) + unless_wrong (two_fault at (faults_in (frame_of scope.now) (later_of scope.now) inside (arguments_of arguments.now))) (size (first_term (terms_for (frame_of scope.now) (arguments_of arguments.now))) + size (second_term (terms_for (frame_of scope.now) (arguments_of arguments.now))))) ≡ parts_left room.old) }
+    ensures refused { IfErr result (IsFirst (bounded room.old (two_parts (faults_in (frame_of scope.now) (later_of scope.now) inside (arguments_of arguments.now)) (parts_each (frame_of scope.now) (later_of scope.now) inside (arguments_of arguments.now)) + unless_wrong (two_fault at (faults_in (frame_of scope.now) (later_of scope.now) inside (arguments_of arguments.now))) (size (first_term (terms_for (frame_of scope.now) (arguments_of arguments.now))) + size (second_term (terms_for (frame_of scope.now) (arguments_of arguments.now))))) (two_fault at (faults_in (frame_of scope.now) (later_of scope.now) inside (arguments_of arguments.now))))) }
 {
     match arguments {
         Arguments::End => Err(wrong(Cause::WrongArguments, at)),
@@ -319,7 +348,8 @@ fn random(
     ensures exact { IfOk result (λ t. term_of t ≡ bounded_term (draw_term source (frame_of scope.now) at) (terms_for (frame_of scope.now) (arguments_of arguments.now))) }
     ensures faultless { OnOk result (option_or (told_at at (draw_cause source (frame_of scope.now) inside at)) (option_or (few_fault at (faults_in (frame_of scope.now) (later_of scope.now) inside (arguments_of arguments.now))) (told_at at (bound_cause (terms_for (frame_of scope.now) (arguments_of arguments.now))))) ≡ None) }
     ensures item { item_at room.new ≡ item_at room.old }
-    ensures refused { IfErr result (IsRefusal (option_or (told_at at (draw_cause source (frame_of scope.now) inside at)) (option_or (few_fault at (faults_in (frame_of scope.now) (later_of scope.now) inside (arguments_of arguments.now))) (told_at at (bound_cause (terms_for (frame_of scope.now) (arguments_of arguments.now)))))) (item_at room.old)) }
+    ensures taken { OnOk result (parts_left room.new + unless_wrong (draw_cause source (frame_of scope.now) inside at) (only_parts (parts_each (frame_of scope.now) (later_of scope.now) inside (arguments_of arguments.now))) ≡ parts_left room.old) }
+    ensures refused { IfErr result (IsFirst (bounded room.old (unless_wrong (draw_cause source (frame_of scope.now) inside at) (only_parts (parts_each (frame_of scope.now) (later_of scope.now) inside (arguments_of arguments.now)))) (option_or (told_at at (draw_cause source (frame_of scope.now) inside at)) (option_or (few_fault at (faults_in (frame_of scope.now) (later_of scope.now) inside (arguments_of arguments.now))) (told_at at (bound_cause (terms_for (frame_of scope.now) (arguments_of arguments.now)))))))) }
 {
     let draw = random_term(source, scope, inside, at, alloc)?;
     match arguments {
@@ -345,7 +375,8 @@ fn bound(
     ensures exact { IfOk result (λ t. term_of t ≡ first_term (terms_for (frame_of scope.now) (arguments_of arguments.now))) }
     ensures faultless { OnOk result (option_or (only_fault at (faults_in (frame_of scope.now) (later_of scope.now) inside (arguments_of arguments.now))) (told_at at (bound_cause (terms_for (frame_of scope.now) (arguments_of arguments.now)))) ≡ None) }
     ensures item { item_at room.new ≡ item_at room.old }
-    ensures refused { IfErr result (IsRefusal (option_or (only_fault at (faults_in (frame_of scope.now) (later_of scope.now) inside (arguments_of arguments.now))) (told_at at (bound_cause (terms_for (frame_of scope.now) (arguments_of arguments.now))))) (item_at room.old)) }
+    ensures taken { OnOk result (parts_left room.new + only_parts (parts_each (frame_of scope.now) (later_of scope.now) inside (arguments_of arguments.now)) ≡ parts_left room.old) }
+    ensures refused { IfErr result (IsFirst (bounded room.old (only_parts (parts_each (frame_of scope.now) (later_of scope.now) inside (arguments_of arguments.now))) (option_or (only_fault at (faults_in (frame_of scope.now) (later_of scope.now) inside (arguments_of arguments.now))) (told_at at (bound_cause (terms_for (frame_of scope.now) (arguments_of arguments.now))))))) }
 {
     let limit = single(arguments, at, scope, inside, alloc, room)?;
     check_bound(&limit, at)?;

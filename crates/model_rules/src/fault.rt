@@ -50,7 +50,8 @@ pub enum Cause {
     TooDeep,
     /// The item with which the expansion would have more than 16 aggregates.
     TooManyAggregates,
-    /// The item with which the expansion would have more than 65,536 bytes, or one of more than 65,536 parts.
+    /// The item with which the expansion would have more than 65,536 bytes, or one of whose expression more than 65,536
+    /// parts are made up to its first other fault.
     TooLong,
 }
 

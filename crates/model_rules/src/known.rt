@@ -1,17 +1,16 @@
 //! What constants, states and lets are worth.
 
-ghost use Rattle.std.specs.Prelude.{◌≡◌, ◌≤◌, [], IfErr, IfOk, IfSome, None, Some, OnOk, List, ℕ, map, string_bytes};
+ghost use Rattle.std.specs.Prelude.{◌≡◌, ◌≤◌, [], false, IfErr, IfOk, IfSome, None, Some, OnOk, List, ℕ, map, string_bytes};
 ghost use Rattle.model_text.specs.View.{item_of, name_of, tree_of};
 ghost use Rattle.model_text.specs.Tree.{NameAt, ConstTree, StatesTree, LetTree};
 ghost use Rattle.model_rules.specs.Models.{GivenTree, Setting, bare, given_value};
 ghost use Rattle.model_rules.specs.Frames.{KnownTree, Means};
 ghost use Rattle.model_rules.specs.Expansions.{Tells};
 ghost use Rattle.model_rules.specs.ScopeView.{frame_of, known_of, knowns_of, givens_of, later_of, setting_in};
-ghost use Rattle.model_rules.specs.Amounts.{amount_in, value_fault, body_fault};
+ghost use Rattle.model_rules.specs.Amounts.{amount_in, expression_fault, value_fault, body_fault};
 ghost use Rattle.std.specs.Option.{option_map};
 ghost use Rattle.model_rules.specs.Definitions.{member_fault, member_known, known_let, under, told_fault, told_known};
-ghost use Rattle.model_rules.specs.Faults.{name_place};
-ghost use Rattle.model_rules.specs.FirstFaults.{IsFirst, IsRefusal};
+ghost use Rattle.model_rules.specs.FirstFaults.{IsFirst, fault_in};
 ghost use Rattle.model_rules.specs.TermFor.{term_for};
 ghost use Rattle.rule_lang.specs.Tree.{depth};
 ghost use Rattle.model_rules.specs.TermView.{term_of};
@@ -54,16 +53,26 @@ pub fn given_for(given: &[Given], name: &str) -> Option<u32>
     None
 }
 
+/// The term of the expression of an item, outside of aggregates, of which 65,536 parts are made at most.
+fn item_term(tree: &Expr, at: u32, scope: &Scope, alloc: Global) -> Result<Term, ExpandFault>
+    ensures exact { IfOk result (λ t. term_of t ≡ term_for (frame_of scope.now) (tree_of tree.now)) }
+    ensures sound { OnOk result (fault_in (frame_of scope.now) (later_of scope.now) false (tree_of tree.now) ≡ None) }
+    ensures faultless { OnOk result (expression_fault (frame_of scope.now) (later_of scope.now) (tree_of tree.now) at ≡ None) }
+    ensures refused { IfErr result (IsFirst (expression_fault (frame_of scope.now) (later_of scope.now) (tree_of tree.now) at)) }
+{
+    let mut room = Room::new(at);
+    expression(tree, scope, false, alloc, &mut room)
+}
+
 /// The value of an expression that is made of numbers, constants and states alone.
 #[tactic(auto, using(crate::proofs::Worth::value_by))]
 pub fn value_of(body: &Expr, at: u32, scope: &Scope, alloc: Global) -> Result<u32, ExpandFault>
     ensures means { IfOk result (λ v. Means (frame_of scope.now) (tree_of body.now) (NumberTerm v)) }
     ensures exact { IfOk result (λ v. v ≡ amount_in (term_for (frame_of scope.now) (tree_of body.now))) }
     ensures faultless { OnOk result (value_fault (frame_of scope.now) (later_of scope.now) (tree_of body.now) at ≡ None) }
-    ensures refused { IfErr result (IsRefusal (value_fault (frame_of scope.now) (later_of scope.now) (tree_of body.now) at) at) }
+    ensures refused { IfErr result (IsFirst (value_fault (frame_of scope.now) (later_of scope.now) (tree_of body.now) at)) }
 {
-    let mut room = Room::new(at);
-    let term = expression(body, scope, false, alloc, &mut room)?;
+    let term = item_term(body, at, scope, alloc)?;
     let value = amount(&term, at)?;
     Ok(value)
 }
@@ -75,10 +84,9 @@ pub fn shallow_term(tree: &Expr, at: u32, scope: &Scope, alloc: Global) -> Resul
     ensures shallow { IfOk result (λ t. depth (lowered (term_of t)) ≤ 64) }
     ensures exact { IfOk result (λ t. term_of t ≡ term_for (frame_of scope.now) (tree_of tree.now)) }
     ensures faultless { OnOk result (body_fault (frame_of scope.now) (later_of scope.now) (tree_of tree.now) at ≡ None) }
-    ensures refused { IfErr result (IsRefusal (body_fault (frame_of scope.now) (later_of scope.now) (tree_of tree.now) at) at) }
+    ensures refused { IfErr result (IsFirst (body_fault (frame_of scope.now) (later_of scope.now) (tree_of tree.now) at)) }
 {
-    let mut room = Room::new(at);
-    let term = expression(tree, scope, false, alloc, &mut room)?;
+    let term = item_term(tree, at, scope, alloc)?;
     if depth_of(&term) > MOST_DEPTH {
         return Err(wrong(Cause::TooDeep, at));
     }
@@ -128,7 +136,7 @@ fn constant_known(
         (ConstTree (name_of own.now) (tree_of body.now)) (known_of known)) }
     ensures made { IfOk result (λ known. Some (known_of known) ≡ told_known (givens_of given.now) (frame_of scope.now) name.now (ConstTree (name_of own.now) (tree_of body.now))) }
     ensures faultless { OnOk result (told_fault (givens_of given.now) (frame_of scope.now) (later_of scope.now) name.now (ConstTree (name_of own.now) (tree_of body.now)) ≡ None) }
-    ensures refused { IfErr result (IsRefusal (told_fault (givens_of given.now) (frame_of scope.now) (later_of scope.now) name.now (ConstTree (name_of own.now) (tree_of body.now))) own.now.at) }
+    ensures refused { IfErr result (IsFirst (told_fault (givens_of given.now) (frame_of scope.now) (later_of scope.now) name.now (ConstTree (name_of own.now) (tree_of body.now)))) }
 {
     let text = String::from_str(alloc, name)?;
     match given_for(given, name) {
@@ -166,7 +174,7 @@ fn let_known(
         (LetTree (name_of own.now) (map name_of parameters.now) (tree_of body.now)) (known_of known)) }
     ensures made { IfOk result (λ known. known_of known ≡ known_let (frame_of scope.old) name.now (map name_of parameters.now) (tree_of body.now)) }
     ensures faultless { OnOk result (body_fault (under (frame_of scope.old) (bare (map name_of parameters.now))) (later_of scope.old) (tree_of body.now) own.now.at ≡ None) }
-    ensures refused { IfErr result (IsRefusal (body_fault (under (frame_of scope.old) (bare (map name_of parameters.now))) (later_of scope.old) (tree_of body.now) own.now.at) own.now.at) }
+    ensures refused { IfErr result (IsFirst (body_fault (under (frame_of scope.old) (bare (map name_of parameters.now))) (later_of scope.old) (tree_of body.now) own.now.at)) }
 {
     scope.parameters = spelled(parameters, alloc)?;
     let term = shallow_term(body, own.at, scope, alloc)?;
@@ -194,7 +202,7 @@ pub fn known_by(
         Tells (map string_bytes scope.old.fields.items) (knowns_of scope.old.lets.items) (setting_in (givens_of given.now) scope.old) name.now (item_of item.now) (known_of known))) }
     ensures made { IfOk result (λ found. option_map known_of found ≡ told_known (givens_of given.now) (frame_of scope.old) name.now (item_of item.now)) }
     ensures faultless { OnOk result (told_fault (givens_of given.now) (frame_of scope.old) (later_of scope.old) name.now (item_of item.now) ≡ None) }
-    ensures refused { IfErr result (IsRefusal (told_fault (givens_of given.now) (frame_of scope.old) (later_of scope.old) name.now (item_of item.now)) (name_place (item_of item.now))) }
+    ensures refused { IfErr result (IsFirst (told_fault (givens_of given.now) (frame_of scope.old) (later_of scope.old) name.now (item_of item.now))) }
 {
     match item {
         Item::Const { name: own, value } => {

@@ -12,7 +12,8 @@ ghost use Rattle.model_rules.specs.Bounds.{IsAccepted};
 ghost use Rattle.model_rules.specs.Expansions.{AreStable};
 ghost use Rattle.model_rules.specs.Models.{bare, draws_of, fields_of, in_states, initials_of, model_next, setting, worths_by};
 ghost use Rattle.model_rules.specs.Naming.{naming_fault};
-ghost use Rattle.model_rules.specs.Definitions.{IsHalt, defined_by, names_defined, settled, defining_fault, seed_first};
+ghost use Rattle.model_rules.specs.Definitions.{defined_by, names_defined, settled, defining_fault, seed_first};
+ghost use Rattle.model_rules.specs.FirstFaults.{IsFirst};
 ghost use Rattle.model_rules.specs.ModelFaults.{model_fault};
 ghost use Rattle.model_rules.specs.ScopeView.{IsScopeOf, givens_of, knowns_of, later_of};
 
@@ -115,7 +116,7 @@ fn known_scope(items: &[Item], given: &[Given], alloc: Global) -> Result<Scope, 
     ensures later { IfOk result (λ scope. later_of scope ≡ names_defined (items_of items.now)) }
     ensures known { IfOk result (λ scope. knowns_of scope.lets.items ≡ settled (items_of items.now) (givens_of given.now) (seed_first (items_of items.now) (givens_of given.now))) }
     ensures faultless { OnOk result (defining_fault (items_of items.now) (givens_of given.now) (seed_first (items_of items.now) (givens_of given.now)) ≡ None) }
-    ensures refused { IfErr result (IsHalt (defining_fault (items_of items.now) (givens_of given.now) (seed_first (items_of items.now) (givens_of given.now)))) }
+    ensures refused { IfErr result (IsFirst (defining_fault (items_of items.now) (givens_of given.now) (seed_first (items_of items.now) (givens_of given.now)))) }
     ensures stable { IfOk result (λ scope. AreStable (items_of items.now) (setting (items_of items.now) (givens_of given.now)) (map string_bytes scope.fields.items) (knowns_of scope.lets.items)) }
 {
     let names = defined_names(items, alloc)?;
@@ -148,7 +149,7 @@ pub fn expand_model(
     ensures named { IfOk result (λ rules. naming_fault (items_of items.now) (givens_of given.now) ≡ None) }
     ensures misnamed { (fault : ExpandFault) → naming_fault (items_of items.now) (givens_of given.now) ≡ Some fault → IfErr result (λ e. e ≢ Memory → e ≡ fault) }
     ensures faultless { OnOk result (model_fault (items_of items.now) (givens_of given.now) ≡ None) }
-    ensures refused { IfErr result (IsHalt (model_fault (items_of items.now) (givens_of given.now))) }
+    ensures refused { IfErr result (IsFirst (model_fault (items_of items.now) (givens_of given.now))) }
 {
     check_names(items, given, alloc)?;
     let scope = known_scope(items, given, alloc)?;

@@ -1,6 +1,6 @@
 //! Terms of names.
 
-ghost use Rattle.std.specs.Prelude.{◌≡◌, ◌&&◌, ◌||◌, IfErr, IfOk, OnOk, Some, None, Err, true, false, length};
+ghost use Rattle.std.specs.Prelude.{◌≡◌, ◌+◌, ◌&&◌, ◌||◌, IfErr, IfOk, OnOk, Some, None, Err, true, false, length};
 ghost use Rattle.std.specs.List.{list_any};
 ghost use Rattle.model_rules.specs.TermView.{term_of, terms_of};
 ghost use Rattle.model_rules.specs.Terms.{looks, gathers, filled, seen_near};
@@ -9,8 +9,9 @@ ghost use Rattle.model_rules.specs.ScopeView.{frame_of, known_of, knowns_of, lat
 ghost use Rattle.model_rules.specs.declared.fault.Cause.{Cause};
 ghost use Rattle.model_rules.specs.declared.fault.Cause.TheVariants.{NeighbourOutside};
 ghost use Rattle.model_rules.specs.declared.fault.ExpandFault.TheVariants.{At};
-ghost use Rattle.model_rules.specs.FirstFaults.{IsRefusal, told_at};
-ghost use Rattle.model_rules.specs.Refusals.{item_at, let_for, unknown_cause, put_cause, seen_cause, apply_cause, name_cause, near_cause};
+ghost use Rattle.model_rules.specs.FirstFaults.{IsFirst, told_at};
+ghost use Rattle.model_rules.specs.Parts.{size, filled_parts, let_parts, name_parts, near_parts, unless_wrong, bounded};
+ghost use Rattle.model_rules.specs.Refusals.{item_at, parts_left, let_for, unknown_cause, put_cause, seen_cause, apply_cause, name_cause, near_cause};
 
 use crate::fault::{Cause, ExpandFault, wrong};
 use crate::fill::fill;
@@ -69,6 +70,7 @@ fn put_in_cause(known: &Known, arguments: &[Term], inside: bool) -> Option<Cause
 }
 
 /// The term of a let with these arguments.
+#[tactic(auto, using(crate::proofs::Parts::told_put, crate::proofs::Parts::told_unput))]
 fn put_in(
     known: &Known,
     arguments: &[Term],
@@ -81,7 +83,8 @@ fn put_in(
     ensures item { item_at room.new ≡ item_at room.old }
     ensures at_once { (cause : Cause) → put_cause (known_of known.now) (length arguments.now) (inside || list_any looks (terms_of arguments.now)) ≡ Some cause → result ≡ Err (At cause at) }
     ensures faultless { OnOk result (put_cause (known_of known.now) (length arguments.now) (inside || list_any looks (terms_of arguments.now)) ≡ None) }
-    ensures refused { IfErr result (IsRefusal (told_at at (put_cause (known_of known.now) (length arguments.now) (inside || list_any looks (terms_of arguments.now)))) (item_at room.old)) }
+    ensures taken { OnOk result (parts_left room.new + unless_wrong (put_cause (known_of known.now) (length arguments.now) (inside || list_any looks (terms_of arguments.now))) (filled_parts (terms_of arguments.now) (term_of known.now.term)) ≡ parts_left room.old) }
+    ensures refused { IfErr result (IsFirst (bounded room.old (unless_wrong (put_cause (known_of known.now) (length arguments.now) (inside || list_any looks (terms_of arguments.now))) (filled_parts (terms_of arguments.now) (term_of known.now.term))) (told_at at (put_cause (known_of known.now) (length arguments.now) (inside || list_any looks (terms_of arguments.now)))))) }
 {
     match put_in_cause(known, arguments, inside) {
         Some(cause) => Err(wrong(cause, at)),
@@ -100,7 +103,7 @@ fn unknown(name: &str, at: u32, scope: &Scope, cause: Cause) -> ExpandFault
 }
 
 /// The term of a name.
-#[tactic(auto, using(crate::proofs::Refused::name_parameter, crate::proofs::Refused::name_field, crate::proofs::Refused::name_let, crate::proofs::Refused::term_parameter, crate::proofs::Refused::term_field))]
+#[tactic(auto, using(crate::proofs::Refused::name_parameter, crate::proofs::Refused::name_field, crate::proofs::Refused::name_let, crate::proofs::Refused::term_parameter, crate::proofs::Refused::term_field, crate::proofs::Refused::free_parameter, crate::proofs::Refused::free_field, crate::proofs::Parts::told_unput))]
 pub fn name_term(
     name: &str,
     at: u32,
@@ -113,7 +116,8 @@ pub fn name_term(
     ensures item { item_at room.new ≡ item_at room.old }
     ensures at_once { (cause : Cause) → name_cause (frame_of scope.now) (later_of scope.now) name.now inside ≡ Some cause → result ≡ Err (At cause at) }
     ensures faultless { OnOk result (name_cause (frame_of scope.now) (later_of scope.now) name.now inside ≡ None) }
-    ensures refused { IfErr result (IsRefusal (told_at at (name_cause (frame_of scope.now) (later_of scope.now) name.now inside)) (item_at room.old)) }
+    ensures taken { OnOk result (parts_left room.new + unless_wrong (name_cause (frame_of scope.now) (later_of scope.now) name.now inside) (name_parts (frame_of scope.now) name.now) ≡ parts_left room.old) }
+    ensures refused { IfErr result (IsFirst (bounded room.old (unless_wrong (name_cause (frame_of scope.now) (later_of scope.now) name.now inside) (name_parts (frame_of scope.now) name.now)) (told_at at (name_cause (frame_of scope.now) (later_of scope.now) name.now inside)))) }
 {
     if let Some(k) = place_of(&scope.parameters, name) {
         return Ok(Term::Parameter(k));
@@ -141,12 +145,14 @@ fn seen_let_cause(known: &Known) -> Option<Cause>
 }
 
 /// The term of a let as seen from a neighbour.
+#[tactic(auto, using(crate::proofs::Parts::told_put, crate::proofs::Parts::told_unput))]
 fn seen_let(known: &Known, at: u32, alloc: Global, room: &mut Room) -> Result<Term, ExpandFault>
     ensures exact { IfOk result (λ t. term_of t ≡ seen_near (term_of known.now.term)) }
     ensures item { item_at room.new ≡ item_at room.old }
     ensures at_once { (cause : Cause) → seen_cause (known_of known.now) ≡ Some cause → result ≡ Err (At cause at) }
     ensures faultless { OnOk result (seen_cause (known_of known.now) ≡ None) }
-    ensures refused { IfErr result (IsRefusal (told_at at (seen_cause (known_of known.now))) (item_at room.old)) }
+    ensures taken { OnOk result (parts_left room.new + unless_wrong (seen_cause (known_of known.now)) (size (seen_near (term_of known.now.term))) ≡ parts_left room.old) }
+    ensures refused { IfErr result (IsFirst (bounded room.old (unless_wrong (seen_cause (known_of known.now)) (size (seen_near (term_of known.now.term)))) (told_at at (seen_cause (known_of known.now))))) }
 {
     match seen_let_cause(known) {
         Some(cause) => Err(wrong(cause, at)),
@@ -155,7 +161,7 @@ fn seen_let(known: &Known, at: u32, alloc: Global, room: &mut Room) -> Result<Te
 }
 
 /// The term of a name behind `n.`.
-#[tactic(auto, using(crate::proofs::Refused::near_field, crate::proofs::Refused::near_let, crate::proofs::Refused::near_outside, crate::proofs::Refused::near_term_field))]
+#[tactic(auto, using(crate::proofs::Refused::near_field, crate::proofs::Refused::near_let, crate::proofs::Refused::near_outside, crate::proofs::Refused::near_term_field, crate::proofs::Refused::free_near, crate::proofs::Parts::told_unput))]
 pub fn near_term(
     name: &str,
     at: u32,
@@ -168,7 +174,8 @@ pub fn near_term(
     ensures item { item_at room.new ≡ item_at room.old }
     ensures at_once { (cause : Cause) → near_cause (frame_of scope.now) (later_of scope.now) name.now inside ≡ Some cause → result ≡ Err (At cause at) }
     ensures faultless { OnOk result (near_cause (frame_of scope.now) (later_of scope.now) name.now inside ≡ None) }
-    ensures refused { IfErr result (IsRefusal (told_at at (near_cause (frame_of scope.now) (later_of scope.now) name.now inside)) (item_at room.old)) }
+    ensures taken { OnOk result (parts_left room.new + unless_wrong (near_cause (frame_of scope.now) (later_of scope.now) name.now inside) (near_parts (frame_of scope.now) name.now) ≡ parts_left room.old) }
+    ensures refused { IfErr result (IsFirst (bounded room.old (unless_wrong (near_cause (frame_of scope.now) (later_of scope.now) name.now inside) (near_parts (frame_of scope.now) name.now)) (told_at at (near_cause (frame_of scope.now) (later_of scope.now) name.now inside)))) }
 {
     if !inside {
         return Err(wrong(Cause::NeighbourOutside, at));
@@ -183,6 +190,7 @@ pub fn near_term(
 }
 
 /// The term of a let with arguments, by its name.
+#[tactic(auto, using(crate::proofs::Parts::told_unput))]
 pub fn applied(
     name: &str,
     at: u32,
@@ -196,7 +204,8 @@ pub fn applied(
     ensures item { item_at room.new ≡ item_at room.old }
     ensures at_once { (cause : Cause) → apply_cause (let_for (knowns_of scope.now.lets.items) name.now) (later_of scope.now) name.now (length arguments.now) (inside || list_any looks (terms_of arguments.now)) ≡ Some cause → result ≡ Err (At cause at) }
     ensures faultless { OnOk result (apply_cause (let_for (knowns_of scope.now.lets.items) name.now) (later_of scope.now) name.now (length arguments.now) (inside || list_any looks (terms_of arguments.now)) ≡ None) }
-    ensures refused { IfErr result (IsRefusal (told_at at (apply_cause (let_for (knowns_of scope.now.lets.items) name.now) (later_of scope.now) name.now (length arguments.now) (inside || list_any looks (terms_of arguments.now)))) (item_at room.old)) }
+    ensures taken { OnOk result (parts_left room.new + unless_wrong (apply_cause (let_for (knowns_of scope.now.lets.items) name.now) (later_of scope.now) name.now (length arguments.now) (inside || list_any looks (terms_of arguments.now))) (let_parts (let_for (knowns_of scope.now.lets.items) name.now) (terms_of arguments.now)) ≡ parts_left room.old) }
+    ensures refused { IfErr result (IsFirst (bounded room.old (unless_wrong (apply_cause (let_for (knowns_of scope.now.lets.items) name.now) (later_of scope.now) name.now (length arguments.now) (inside || list_any looks (terms_of arguments.now))) (let_parts (let_for (knowns_of scope.now.lets.items) name.now) (terms_of arguments.now))) (told_at at (apply_cause (let_for (knowns_of scope.now.lets.items) name.now) (later_of scope.now) name.now (length arguments.now) (inside || list_any looks (terms_of arguments.now)))))) }
 {
     match let_of(&scope.lets, name) {
         Some(known) => put_in(known, arguments, at, inside, alloc, room),

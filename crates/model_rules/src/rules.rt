@@ -10,8 +10,8 @@ ghost use Rattle.model_rules.specs.Counts.{IsCounted};
 ghost use Rattle.model_rules.specs.Expansions.{Expands, IsBodyOf, IsRuleOf};
 ghost use Rattle.model_text.specs.Tree.{ItemTree};
 ghost use Rattle.model_rules.specs.Models.{is_state, states_count};
-ghost use Rattle.model_rules.specs.Faults.{name_place, rule_for, next_fault, rule_fault, rules_made, item_fault, items_fault, IsRulesRefusal};
-ghost use Rattle.model_rules.specs.FirstFaults.{IsRefusal};
+ghost use Rattle.model_rules.specs.Faults.{name_place, rule_for, next_fault, rule_fault, rules_made, item_fault, items_fault};
+ghost use Rattle.model_rules.specs.FirstFaults.{IsFirst};
 ghost use Rattle.model_rules.specs.ScopeView.{frame_of, later_of};
 ghost use Rattle.model_rules.specs.TermFor.{term_for};
 ghost use Rattle.model_rules.specs.Terms.{lowered};
@@ -63,7 +63,7 @@ fn body_for(tree: &Expr, at: u32, scope: &Scope, alloc: Global) -> Result<Body, 
     ensures fit { IfOk result (λ e. IsFit (map string_bytes scope.now.fields.items) (rule_tree e)) }
     ensures exact { IfOk result (λ e. rule_tree e ≡ lowered (term_for (frame_of scope.now) (tree_of tree.now))) }
     ensures faultless { OnOk result (next_fault (frame_of scope.now) (later_of scope.now) (tree_of tree.now) at ≡ None) }
-    ensures refused { IfErr result (IsRefusal (next_fault (frame_of scope.now) (later_of scope.now) (tree_of tree.now) at) at) }
+    ensures refused { IfErr result (IsFirst (next_fault (frame_of scope.now) (later_of scope.now) (tree_of tree.now) at)) }
 {
     let term = shallow_term(tree, at, scope, alloc)?;
     let body = lower(&term, alloc)?;
@@ -82,7 +82,7 @@ fn rule_of(
     ensures fit { IfOk result (λ found. IfSome found (λ rule. IsFitRule (map string_bytes scope.now.fields.items) (rule_item rule))) }
     ensures made { IfOk result (λ found. option_map rule_item found ≡ rule_for (frame_of scope.now) (item_of item.now)) }
     ensures faultless { OnOk result (rule_fault (items_of items.now) (frame_of scope.now) (later_of scope.now) (item_of item.now) ≡ None) }
-    ensures refused { IfErr result (IsRefusal (rule_fault (items_of items.now) (frame_of scope.now) (later_of scope.now) (item_of item.now)) (name_place (item_of item.now))) }
+    ensures refused { IfErr result (IsFirst (rule_fault (items_of items.now) (frame_of scope.now) (later_of scope.now) (item_of item.now))) }
 {
     match item {
         Item::Field {
@@ -137,7 +137,7 @@ fn add_rule(
     ensures faultless { (before : List ItemTree) → rules_of expansion.old.rules.items ≡ rules_made (frame_of scope.now) before → IsCounted expansion.old
         → OnOk result (item_fault (items_of items.now) (frame_of scope.now) (later_of scope.now) before (item_of item.now) ≡ None) }
     ensures refused { (before : List ItemTree) → rules_of expansion.old.rules.items ≡ rules_made (frame_of scope.now) before → IsCounted expansion.old
-        → IfErr result (IsRefusal (item_fault (items_of items.now) (frame_of scope.now) (later_of scope.now) before (item_of item.now)) (name_place (item_of item.now))) }
+        → IfErr result (IsFirst (item_fault (items_of items.now) (frame_of scope.now) (later_of scope.now) before (item_of item.now))) }
 {
     let found = rule_of(item, items, scope, alloc)?;
     let Some(rule) = found else {
@@ -154,7 +154,7 @@ pub fn rules_for(items: &[Item], scope: &Scope, alloc: Global) -> Result<Vec<Rul
     ensures within { IfOk result (λ rules. IsWithin (rules_of rules.items)) }
     ensures made { IfOk result (λ rules. rules_of rules.items ≡ rules_made (frame_of scope.now) (items_of items.now)) }
     ensures faultless { OnOk result (items_fault (items_of items.now) (frame_of scope.now) (later_of scope.now) [] (items_of items.now) ≡ None) }
-    ensures refused { IfErr result (IsRulesRefusal (items_of items.now) (frame_of scope.now) (later_of scope.now) (items_of items.now)) }
+    ensures refused { IfErr result (IsFirst (items_fault (items_of items.now) (frame_of scope.now) (later_of scope.now) [] (items_of items.now))) }
 {
     let mut expansion = Expansion::new(alloc);
     for item in items {

@@ -63,11 +63,11 @@ returns-then-lacks-clause-looked c = λ s n.
     let item = item_of c.in-Some.item.now in
     let d : definition_of items c.args.name.now ≡ Some item = sym c.definition.ensures.first ∙ ap (λ (o : Option (Bor Item)). option_map (λ i. item_of i.now) o) c.in-Some.is in
     looked_now items values lets lets (knowns_of c.known_by.new.scope.lets.items) c.args.name.now (Some c.in-Err.fault) (ap (λ v. knowns_of v.items) c.known_by.ensures.lets)
-    (looked_ring items values c.args.scope.now c.args.name.now item c.in-Err.fault _ s n d c.in-Err.ensures.refused (sym c.lacks.ensures.exact ∙ c.if-lacks.true))
+    (looked_ring items values c.args.scope.now c.args.name.now item c.in-Err.fault s n d c.in-Err.ensures.refused (sym c.lacks.ensures.exact ∙ c.if-lacks.true))
 
 pub returns-else-lacks-clause-refused : goal.returns-else-lacks-clause-refused
 returns-else-lacks-clause-refused c = λ s n.
     let items = items_of c.args.items.now in
     let item = item_of c.in-Some.item.now in
     let d : definition_of items c.args.name.now ≡ Some item = sym c.definition.ensures.first ∙ ap (λ (o : Option (Bor Item)). option_map (λ i. item_of i.now) o) c.in-Some.is in
-    looked_stop items (givens_of c.args.given.now) c.args.scope.now c.args.name.now item c.in-Err.fault _ s n d c.in-Err.ensures.refused (sym c.lacks.ensures.exact ∙ c.if-lacks.false)
+    looked_stop items (givens_of c.args.given.now) c.args.scope.now c.args.name.now item c.in-Err.fault s n d c.in-Err.ensures.refused (sym c.lacks.ensures.exact ∙ c.if-lacks.false)

@@ -6,7 +6,7 @@ use Rattle.model_text.specs.View.{items_of}
 use Rattle.model_rules.specs.ScopeView.{IsScopeOf, known_of, knowns_of, givens_of}
 use Rattle.model_rules.specs.Definitions.{names_defined, known_after, IsPassed}
 use Rattle.model_rules.proofs.Keeping.{kept_on}
-use Rattle.model_rules.proofs.Rounds.{scope_same, pass_at, halt_at, after_known, after_going, after_last, stopped, early, ends_at, ends_known, ends_faultless, ends_refused}
+use Rattle.model_rules.proofs.Rounds.{scope_same, pass_at, first_at, after_known, after_going, after_last, stopped, early, ends_at, ends_known, ends_faultless, ends_refused}
 use Rattle.model_rules.proofs.define.define_all.Goals as goal
 
 pub loop-round-preserved : goal.loop-round-preserved
@@ -45,7 +45,7 @@ returns-in_err-found-clause-refused c = λ s n.
     let names = map string_bytes c.args.names.now in
     rw (p.1, p.2)
     (stopped items values lets k (length c.args.names.now) _ c.loop-round-test.true (sym (length-map c.args.names.now string_bytes) ∙ ap length n) (i.going s n)
-    (halt_at items values lets (knowns_of now.lets.items) names k _ (i.known s n) n (c.in_err-found.ensures.refused (scope_same items c.args.scope.now now s i.fields i.draws i.later))))
+    (first_at items values lets (knowns_of now.lets.items) names k _ (i.known s n) n (c.in_err-found.ensures.refused (scope_same items c.args.scope.now now s i.fields i.draws i.later))))
 
 pub returns-then-len-before-clause-known : goal.returns-then-len-before-clause-known
 returns-then-len-before-clause-known c = λ s n.

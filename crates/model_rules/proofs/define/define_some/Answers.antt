@@ -69,7 +69,7 @@ returns-in_err-found-clause-refused c = λ s.
     let cut : drop k xs ≡ x ∷ drop (k + 1) xs = drop_more xs k x c.loop-name-test.true ∙ ap (λ y. y ∷ drop (k + 1) xs) (sym c.name-item.is) in
     let told = rw c.deref.ensures at c.in_err-found.ensures.refused in
     rw (p.1, p.2)
-    (λ m l.
+    (λ m.
     sym (i.going s)
     ∙ (ap (λ ys. stop_along items values (knowns_of now.lets.items) (map string_bytes ys)) cut
-    ∙ stop_here items values (knowns_of now.lets.items) (string_bytes x) (map string_bytes (drop (k + 1) xs)) _ (told (scope_same items c.args.scope.now now s i.fields i.draws i.later)) m l))
+    ∙ stop_here items values (knowns_of now.lets.items) (string_bytes x) (map string_bytes (drop (k + 1) xs)) _ (told (scope_same items c.args.scope.now now s i.fields i.draws i.later)) m))

@@ -4,7 +4,7 @@ use Rattle.std.proofs.lemmas.Result.{err_from_is_err_and}
 use Rattle.model_text.specs.View.{items_of}
 use Rattle.model_rules.specs.Frames.{KnownTree}
 use Rattle.model_rules.specs.Definitions.{settled, defining_fault}
-use Rattle.model_rules.proofs.Wrong.{halt_same}
+use Rattle.model_rules.proofs.Wrong.{first_same}
 use Rattle.model_rules.specs.ScopeView.{givens_of}
 use Rattle.model_rules.proofs.model.known_scope.Goals as goal
 
@@ -28,4 +28,4 @@ returns-in_err-define_all-clause-refused c =
     let items = items_of c.args.items.now in
     let values = givens_of c.args.given.now in
     let h = rw c.deref.ensures.value at c.in_err-define_all.ensures.refused in
-    rw (p.1, p.2) (halt_same items values _ _ _ c.in_ok-scope.ensures.first (h c.in_ok-scope.ensures.of c.in_ok-names.ensures.exact))
+    rw (p.1, p.2) (first_same items values _ _ _ c.in_ok-scope.ensures.first (h c.in_ok-scope.ensures.of c.in_ok-names.ensures.exact))

@@ -1,4 +1,4 @@
-use Rattle.std.proofs.Common.{◌≡◌, ◌∙◌, sym, ap, List, subst}
+use Rattle.std.proofs.Common.{◌≡◌, ◌+◌, ◌∙◌, sym, ap, List, subst}
 use Rattle.std.specs.Prelude.{length, Option, Some, None, ◌||◌, IfErr, IfOk, OnOk}
 use Rattle.std.specs.List.{list_any}
 use Rattle.model_rules.specs.declared.fault.Cause.{Cause}
@@ -8,8 +8,9 @@ use Rattle.model_rules.specs.TermFor.{let_term}
 use Rattle.model_rules.specs.Terms.{TermTree, looks, filled}
 use Rattle.model_rules.specs.Frames.{KnownTree}
 use Rattle.model_rules.specs.ScopeView.{known_of, knowns_of, later_of}
-use Rattle.model_rules.specs.Refusals.{item_at, let_for, put_cause, apply_cause}
-use Rattle.model_rules.specs.FirstFaults.{IsRefusal, told_at}
+use Rattle.model_rules.specs.Refusals.{parts_left, let_for, put_cause, apply_cause}
+use Rattle.model_rules.specs.FirstFaults.{IsFirst, told_at}
+use Rattle.model_rules.specs.Parts.{unless_wrong, let_parts, bounded}
 use Rattle.model_rules.proofs.names.applied.Goals as goal
 
 pub returns-in-Some : goal.returns-in-Some
@@ -29,5 +30,6 @@ returns-in-Some c =
       item = c.put_in.ensures.item;
       at_once = λ cause h. c.put_in.ensures.at_once cause (sym same ∙ h);
       faultless = subst (λ (o : Option Cause). OnOk c.put_in.result (o ≡ None)) (sym same) c.put_in.ensures.faultless;
-      refused = subst (λ (o : Option Cause). IfErr c.put_in.result (IsRefusal (told_at c.args.at o) (item_at c.args.room.now))) (sym same) c.put_in.ensures.refused;
+      taken = subst (λ (o : Option KnownTree). OnOk c.put_in.result (parts_left c.put_in.new.room + unless_wrong (apply_cause o later name count within) (let_parts o terms) ≡ parts_left c.args.room.now)) (sym found) c.put_in.ensures.taken;
+      refused = subst (λ (o : Option KnownTree). IfErr c.put_in.result (IsFirst (bounded c.args.room.now (unless_wrong (apply_cause o later name count within) (let_parts o terms)) (told_at c.args.at (apply_cause o later name count within))))) (sym found) c.put_in.ensures.refused;
     }

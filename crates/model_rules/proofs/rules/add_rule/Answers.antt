@@ -93,10 +93,10 @@ returns-in_err-add-clause-refused c = λ before e h.
     let old = c.args.expansion.now.rules.items in
     let q : rule_for f item ≡ Some (rule_item rule) = sym c.in_ok-found.ensures.made ∙ ap (λ (o : Option Rule). option_map rule_item o) c.in-Some.is in
     rw (p.1, p.2)
-    (λ m n. item_large model f (later_of c.args.scope.now) before item (rules_of old ++ rule_item rule ∷ []) _ (made_more f before (rules_of old) item (rule_item rule) e q) c.in_ok-found.ensures.faultless (ap (λ (at : ℕ). told_at at (size_cause (rules_of old ++ rule_item rule ∷ []))) (sym c.item_place.ensures.exact) ∙ c.in_err-add.ensures.refused h m))
+    (λ m. item_large model f (later_of c.args.scope.now) before item (rules_of old ++ rule_item rule ∷ []) _ (made_more f before (rules_of old) item (rule_item rule) e q) c.in_ok-found.ensures.faultless (ap (λ (at : ℕ). told_at at (size_cause (rules_of old ++ rule_item rule ∷ []))) (sym c.item_place.ensures.exact) ∙ c.in_err-add.ensures.refused h m))
 
 pub returns-in_err-found-clause-refused : goal.returns-in_err-found-clause-refused
 returns-in_err-found-clause-refused c = λ before e h.
     let p = err_from_is_err_and c.from_residual.result c.from_residual.ensures.1 in
     rw (p.1, p.2)
-    (λ m n. item_wrong (items_of c.args.items.now) (frame_of c.args.scope.now) (later_of c.args.scope.now) before (item_of c.args.item.now) _ (c.in_err-found.ensures.refused m n))
+    (λ m. item_wrong (items_of c.args.items.now) (frame_of c.args.scope.now) (later_of c.args.scope.now) before (item_of c.args.item.now) _ (c.in_err-found.ensures.refused m))
