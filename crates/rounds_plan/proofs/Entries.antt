@@ -7,7 +7,7 @@ use Rattle.std.proofs.lemmas.Bool.{cases_eq}
 use Rattle.rounds_plan.specs.declared.fault.PlanFault.{PlanFault}
 use Rattle.rounds_plan.specs.Plans.{has_number_twice, nodes_in, number_of}
 use Rattle.rounds_plan.specs.PlanCauses.{first_place, IsNodeRepeat}
-use Rattle.rounds_plan.proofs.Marks.{twice_from, twice_any, AllBelow, marked}
+use Rattle.rounds_plan.proofs.Marks.{twice_from, twice_any, AllBelow, marked, either}
 
 -- a search finds a place where some element passes
 some_step : (b : Bool) (k : ℕ) (o : Option ℕ) → is_some (cond b (Some k) o) ≡ (b || is_some o)
@@ -69,6 +69,23 @@ search_more test xs k x at fails left =
 
 pub search_end : {X : Type 0} (test : X → Bool) (xs : List X) (k : ℕ) → length xs ≤ k → position_from test k (drop k xs) ≡ first_place test xs → first_place test xs ≡ None
 search_end test xs k past left = sym left ∙ ap (position_from test k) (drop_all k xs past)
+
+-- a test of what is left, at an element that passes, at one that fails, and at the end
+pub any_found : {X : Type 0} (test : X → Bool) (xs : List X) (k : ℕ) (x : X) → slice_get xs k ≡ Some x → test x ≡ true → list_any test (drop k xs) ≡ list_any test xs → list_any test xs ≡ true
+any_found test xs k x at passes left =
+    sym left ∙ ap (list_any test) (drop_at_place xs k x at) ∙ ap (λ b. b || list_any test (drop (k + 1) xs)) passes
+
+pub any_more : {X : Type 0} (test : X → Bool) (xs : List X) (k : ℕ) (x : X) → slice_get xs k ≡ Some x → test x ≡ false → list_any test (drop k xs) ≡ list_any test xs → list_any test (drop (k + 1) xs) ≡ list_any test xs
+any_more test xs k x at fails left =
+    ap (λ b. b || list_any test (drop (k + 1) xs)) (sym fails) ∙ ap (list_any test) (sym (drop_at_place xs k x at)) ∙ left
+
+pub any_end : {X : Type 0} (test : X → Bool) (xs : List X) (k : ℕ) → length xs ≤ k → list_any test (drop k xs) ≡ list_any test xs → list_any test xs ≡ false
+any_end test xs k past left = sym left ∙ ap (list_any test) (drop_all k xs past)
+
+-- where nothing that is left passes, neither does the next element nor what is behind it
+pub none_left : {X : Type 0} (test : X → Bool) (xs : List X) (k : ℕ) (x : X) → slice_get xs k ≡ Some x → list_any test (drop k xs) ≡ false → (test x ≡ false) × (list_any test (drop (k + 1) xs) ≡ false)
+none_left test xs k x at none =
+    either (test x) (list_any test (drop (k + 1) xs)) (ap (list_any test) (sym (drop_at_place xs k x at)) ∙ none)
 
 -- what holds of the element at a place
 pub at_element : {X : Type 0} (o : Option X) (x : X) (P : X → Type 0) → o ≡ Some x → P x → IsSomeAnd o P

@@ -1,7 +1,7 @@
 //! Plans.
-ghost use Rattle.std.specs.Prelude.{◌≡◌, ◌≢◌, ◌↔◌, IsTrue, IfOk, IfErr, Err, slice_get};
+ghost use Rattle.std.specs.Prelude.{◌≡◌, ◌≢◌, ◌↔◌, IsTrue, IfOk, IfErr, Ok, Err, slice_get};
 ghost use Rattle.rounds_plan.specs.Plans.{IsPlan, plan_of};
-ghost use Rattle.rounds_plan.specs.Resume.{resumed, GoesOnAs};
+ghost use Rattle.rounds_plan.specs.Resume.{from_config, resumed, GoesOnAs};
 ghost use Rattle.rounds_plan.specs.Answer.{IsAnswer};
 
 use crate::config::Config;
@@ -67,16 +67,8 @@ impl Plan {
         ensures at_once { IfErr (resumed self config.now) (λ fault. result ≡ Err fault) }
         ensures law { IfOk result (GoesOnAs self config.now) }
     {
-        // For the proof: what holds of every plan.
-        let _phase = self.phase();
         let start = config.rounds();
-        if config.nodes() != self.network.nodes() {
-            return Err(ResumeFault::Foreign);
-        }
-        if config.fields() != self.program.field_count() {
-            return Err(ResumeFault::Foreign);
-        }
-        let opening = config.states().to_vec(alloc)?;
+        let opening = self.states_of(alloc, config)?;
         Ok(Plan {
             program: self.program,
             network: self.network,
@@ -84,6 +76,27 @@ impl Plan {
             opening,
             start,
         })
+    }
+
+    /// The states of a configuration that has as many nodes and fields as the plan.
+    fn states_of(&self, alloc: Global, config: &Config) -> Result<Vec<State>, ResumeFault>
+        ensures states { IfOk result (λ v. v.items ≡ config.now.states) }
+        ensures plan { IfOk result (λ _. resumed self.now config.now ≡ Ok (from_config self.now config.now)) }
+        ensures whole { IfOk result (λ _. IsPlan (from_config self.now config.now)) }
+        ensures fault { IfErr result (λ fault. fault ≢ ResumeFault.Memory → resumed self.now config.now ≡ Err fault) }
+        ensures at_once { IfErr (resumed self.now config.now) (λ fault. result ≡ Err fault) }
+    {
+        // For the proof: what holds of every plan, and of every configuration.
+        let _phase = self.phase();
+        let _round = config.rounds();
+        if config.nodes() != self.network.nodes() {
+            return Err(ResumeFault::Foreign);
+        }
+        if config.fields() != self.program.field_count() {
+            return Err(ResumeFault::Foreign);
+        }
+        let states = config.states().to_vec(alloc)?;
+        Ok(states)
     }
 
     /// The program.
