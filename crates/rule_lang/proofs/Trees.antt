@@ -39,7 +39,7 @@ infix_sound d expr snd ts x e =
     let op = some_of (op_at a.0.1) _ x a.2 in
     let b = some_of (expr op.0.1) _ x op.2 in
     let end = some_of (close_at b.0.1) _ x b.2 in
-    parsed_at (suc d) _ _ x end.2
+    parsed_at (suc d) (SignTok sign.Open ∷ ts) (InfixTree op.0.0 a.0.0 b.0.0, end.0) x end.2
     (infix_parsed d ts a.0.1 op.0.1 b.0.1 end.0 a.0.0 b.0.0 op.0.0 (snd ts a.0 a.1) (op_at_is a.0.1 op.0.1 op.0.0 op.1) (snd op.0.1 b.0 b.1) (close_is b.0.1 end.0 end.1))
 
 choice_parsed : (d : ℕ) (ts u1 u2 u3 u4 rest : List Tok) (a b c : Tree) → Parsed d ts a u1 → u1 ≡ WordTok (codes "then") ∷ u2 → Parsed d u2 b u3 → u3 ≡ WordTok (codes "else") ∷ u4 → Parsed d u4 c rest → Parsed (suc d) (WordTok (codes "if") ∷ ts) (ChoiceTree a b c) rest
@@ -57,7 +57,7 @@ choice_sound d expr snd ts x e =
     let b = some_of (expr t.0) _ x t.2 in
     let f = some_of (else_at b.0.1) _ x b.2 in
     let c = some_of (expr f.0) _ x f.2 in
-    parsed_at (suc d) _ _ x c.2
+    parsed_at (suc d) (WordTok (codes "if") ∷ ts) (ChoiceTree a.0.0 b.0.0 c.0.0, c.0.1) x c.2
     (choice_parsed d ts a.0.1 t.0 b.0.1 f.0 c.0.1 a.0.0 b.0.0 c.0.0 (snd ts a.0 a.1) (then_is a.0.1 t.0 t.1) (snd t.0 b.0 b.1) (else_is b.0.1 f.0 f.1) (snd f.0 c.0 c.1))
 
 not_parsed : (d : ℕ) (ts rest : List Tok) (a : Tree) → Parsed d ts a rest → Parsed (suc d) (WordTok (codes "not") ∷ ts) (NotTree a) rest

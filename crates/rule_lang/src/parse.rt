@@ -1,7 +1,6 @@
 //! From tokens to the tree.
 
-ghost use Rattle.std.specs.Prelude.{◌≡◌, IfOk, string_bytes};
-ghost use Rattle.std.specs.Option.{option_map};
+ghost use Rattle.std.specs.Prelude.{string_bytes};
 ghost use Rattle.rule_lang.specs.View.{tree_of, item_of, items_of, toks_of};
 ghost use Rattle.rule_lang.specs.Causes.{Gives, IsProgramOf};
 ghost use Rattle.rule_lang.specs.Reading.{◌>>=◌ as ◌and_then◌, then_at, else_at, near_of, field_at, next_at, item_at, infix_at, choice_at, over_at, prefix_at, form_at, expr_at};
@@ -14,21 +13,21 @@ use crate::keyword::{Keyword, reserved_word};
 use crate::stuck::Stuck;
 use crate::token::{Lexeme, Sign, Token};
 use crate::tree::{Expr, Item};
-use std::alloc::{AllocError, Global};
+use std::alloc::Global;
 
 /// The greatest depth of an expression.
 const NESTING: u32 = 64;
 
-/// A form of a neighbour, by the word behind `n.`.
+/// A form of a neighbour, by the word behind `n.` with which these tokens begin.
 #[tactic(auto, unfolding(crate::specs::Reading::near_of))]
-fn near(alloc: Global, word: &str) -> Result<Option<Expr>, AllocError>
-    ensures { IfOk result (λ e. option_map tree_of e ≡ near_of word.now) }
+fn near(alloc: Global, tokens: &[Lexeme], word: &str) -> Result<Expr, Stuck>
+    ensures { Gives tree_of result (near_of word.now) }
 {
     match reserved_word(word) {
-        None => Ok(Some(Expr::Near(String::from_str(alloc, word)?))),
-        Some(Keyword::Id) => Ok(Some(Expr::NearId)),
-        Some(Keyword::Weight) => Ok(Some(Expr::NearWeight)),
-        Some(_) => Ok(None),
+        None => Ok(Expr::Near(String::from_str(alloc, word)?)),
+        Some(Keyword::Id) => Ok(Expr::NearId),
+        Some(Keyword::Weight) => Ok(Expr::NearWeight),
+        Some(_) => Err(Stuck::before(tokens, Expected::NearForm)),
     }
 }
 
@@ -50,10 +49,7 @@ fn expression<'t, 'a>(
     };
     match first.token {
         Token::Number(value) => Ok((Expr::Number(value), rest)),
-        Token::Near(word) => match near(alloc, word)? {
-            Some(form) => Ok((form, rest)),
-            None => Err(Stuck::before(tokens, Expected::NearForm)),
-        },
+        Token::Near(word) => Ok((near(alloc, tokens, word)?, rest)),
         Token::Word(word) => match reserved_word(word) {
             None => Ok((Expr::Own(String::from_str(alloc, word)?), rest)),
             Some(word) => prefix(alloc, depth - 1, tokens.len(), word, rest),

@@ -11,59 +11,42 @@ use crate::source::Source;
 use crate::tree::{Agg, Expr, Item, Op};
 use std::alloc::{AllocError, Global};
 
-/// The spelling of an operator.
+/// An operator between two blanks.
 fn operator_text(op: Op) -> &'static str
-    ensures { result.now ≡ op_text op }
+    ensures { result.now ≡ codes " " ++ (op_text op ++ codes " ") }
 {
     match op {
-        Op::Plus => "+",
-        Op::Minus => "-",
-        Op::Times => "*",
-        Op::Quot => "/",
-        Op::Rem => "%",
-        Op::BitAnd => "&",
-        Op::BitOr => "|",
-        Op::BitXor => "^",
-        Op::Equal => "==",
-        Op::Differ => "!=",
-        Op::Less => "<",
-        Op::LessEq => "<=",
-        Op::Greater => ">",
-        Op::GreaterEq => ">=",
-        Op::Min => "min",
-        Op::Max => "max",
+        Op::Plus => " + ",
+        Op::Minus => " - ",
+        Op::Times => " * ",
+        Op::Quot => " / ",
+        Op::Rem => " % ",
+        Op::BitAnd => " & ",
+        Op::BitOr => " | ",
+        Op::BitXor => " ^ ",
+        Op::Equal => " == ",
+        Op::Differ => " != ",
+        Op::Less => " < ",
+        Op::LessEq => " <= ",
+        Op::Greater => " > ",
+        Op::GreaterEq => " >= ",
+        Op::Min => " min ",
+        Op::Max => " max ",
     }
 }
 
-/// The word of an aggregate.
+/// The word of an aggregate and a blank.
 fn aggregate_text(agg: Agg) -> &'static str
-    ensures { result.now ≡ agg_word agg }
+    ensures { result.now ≡ agg_word agg ++ codes " " }
 {
     match agg {
-        Agg::Total => "total",
-        Agg::Least => "least",
-        Agg::Most => "most",
-        Agg::Count => "count",
-        Agg::Some1 => "any",
-        Agg::Every => "all",
+        Agg::Total => "total ",
+        Agg::Least => "least ",
+        Agg::Most => "most ",
+        Agg::Count => "count ",
+        Agg::Some1 => "any ",
+        Agg::Every => "all ",
     }
-}
-
-/// Adds an operator between two blanks.
-fn put_operator(out: &mut String, op: Op) -> Result<(), AllocError>
-    ensures { OnOk result (string_bytes out.new ≡ string_bytes out.old ++ (codes " " ++ (op_text op ++ codes " "))) }
-{
-    out.push_str(" ")?;
-    out.push_str(operator_text(op))?;
-    out.push_str(" ")
-}
-
-/// Adds the word of an aggregate and a blank.
-fn put_aggregate(out: &mut String, agg: Agg) -> Result<(), AllocError>
-    ensures { OnOk result (string_bytes out.new ≡ string_bytes out.old ++ (agg_word agg ++ codes " ")) }
-{
-    out.push_str(aggregate_text(agg))?;
-    out.push_str(" ")
 }
 
 /// Adds a number.
@@ -74,6 +57,7 @@ fn put_number(alloc: Global, out: &mut String, value: u32) -> Result<(), AllocEr
 }
 
 /// Adds an expression.
+#[cycle(expression)]
 fn put_expression(alloc: Global, out: &mut String, expr: &Expr) -> Result<(), AllocError>
     ensures { OnOk result (string_bytes out.new ≡ string_bytes out.old ++ tree_text (tree_of expr.now)) }
 {
@@ -90,29 +74,27 @@ fn put_expression(alloc: Global, out: &mut String, expr: &Expr) -> Result<(), Al
         Expr::NearId => out.push_str("n.id"),
         Expr::NearWeight => out.push_str("n.weight"),
         Expr::Infix(op, left, right) => {
-            out.push_str("(")?;
-            put_expression(alloc, out, left)?;
-            put_operator(out, *op)?;
-            put_expression(alloc, out, right)?;
+            put_part(alloc, out, "(", left)?;
+            put_part(alloc, out, operator_text(*op), right)?;
             out.push_str(")")
         }
-        Expr::Not(part) => {
-            out.push_str("not ")?;
-            put_expression(alloc, out, part)
-        }
-        Expr::Over(agg, part) => {
-            put_aggregate(out, *agg)?;
-            put_expression(alloc, out, part)
-        }
+        Expr::Not(part) => put_part(alloc, out, "not ", part),
+        Expr::Over(agg, part) => put_part(alloc, out, aggregate_text(*agg), part),
         Expr::Choice(test, yes, no) => {
-            out.push_str("if ")?;
-            put_expression(alloc, out, test)?;
-            out.push_str(" then ")?;
-            put_expression(alloc, out, yes)?;
-            out.push_str(" else ")?;
-            put_expression(alloc, out, no)
+            put_part(alloc, out, "if ", test)?;
+            put_part(alloc, out, " then ", yes)?;
+            put_part(alloc, out, " else ", no)
         }
     }
+}
+
+/// Adds what stands before an expression, and the expression.
+#[cycle(expression)]
+fn put_part(alloc: Global, out: &mut String, before: &str, expr: &Expr) -> Result<(), AllocError>
+    ensures { OnOk result (string_bytes out.new ≡ string_bytes out.old ++ (before.now ++ tree_text (tree_of expr.now))) }
+{
+    out.push_str(before)?;
+    put_expression(alloc, out, expr)
 }
 
 /// Adds how an item begins, up to what its name is given.
