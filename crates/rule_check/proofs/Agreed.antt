@@ -1,6 +1,7 @@
 -- The first test that finds a cause finds the first fault.
-use Rattle.std.proofs.Common.{◌≡◌, ℕ, Option, Some, None, is_some, option_map, refl, sym, ap, ◌∙◌, IsSomeAnd, subst}
-use Rattle.std.specs.Prelude.{Bool, true, false, not, ◌||◌, List, if◌then◌else◌}
+use Rattle.std.proofs.Common.{◌≡◌, ℕ, ◌<◌, Option, Some, None, is_some, option_map, refl, sym, ap, ◌∙◌, IsSomeAnd, subst}
+use Rattle.std.specs.Prelude.{Bool, true, false, not, ◌||◌, List, if◌then◌else◌, IfSome, nat_lt}
+use Rattle.std.proofs.lemmas.Bool.{lt-ltb}
 use Rattle.rule_lang.specs.Tree.{Tree, ItemTree, FieldTree, NextTree}
 use Rattle.rule_check.specs.declared.cause.CheckCause.{CheckCause}
 use Rattle.rule_check.specs.declared.fault.CheckFault.{CheckFault}
@@ -9,17 +10,27 @@ use Rattle.rule_check.specs.Causes.{fault_of, is_next, IsNextWith, first_foreign
 use Rattle.rule_check.specs.Searches.{foreign_of}
 use Rattle.rule_check.proofs.Searches.{some_foreign}
 
--- a test that finds no cause does not hold
-pub passed : (test : Bool) (fault : CheckFault) (cause : Option CheckCause) → option_map fault_of cause ≡ (if test then Some fault else None) → is_some cause ≡ false → test ≡ false
-passed true fault None e none = cc
-passed true fault (Some c) e none = cc
-passed false fault cause e none = refl
+-- a test that finds a cause finds the first fault of those behind it
+pub told : (test : Bool) (fault : CheckFault) (cause : Option CheckCause) (x : CheckCause) (rest : Option CheckFault) → option_map fault_of cause ≡ (if test then Some fault else None) → cause ≡ Some x → Some (fault_of x) ≡ (if test then Some fault else rest)
+told true fault cause x rest e some = sym (ap (option_map fault_of) some) ∙ e
+told false fault cause x rest e some = let no : Some (fault_of x) ≡ None = sym (ap (option_map fault_of) some) ∙ e in cc
 
--- a test that finds a cause holds
-pub told : (test : Bool) (fault : CheckFault) (cause : Option CheckCause) (rest : Option CheckFault) → option_map fault_of cause ≡ (if test then Some fault else None) → is_some cause ≡ true → option_map fault_of cause ≡ (if test then Some fault else rest)
-told true fault cause rest e some = e
-told false fault None rest e some = cc
-told false fault (Some c) rest e some = cc
+-- a test that finds none leaves it to those behind it
+pub passed : (test : Bool) (fault : CheckFault) (cause : Option CheckCause) (found rest : Option CheckFault) → option_map fault_of cause ≡ (if test then Some fault else None) → cause ≡ None → found ≡ rest → found ≡ (if test then Some fault else rest)
+passed true fault cause found rest e none next = let no : None ≡ Some fault = sym (ap (option_map fault_of) none) ∙ e in cc
+passed false fault cause found rest e none next = next
+
+-- there are no more than the test allows
+pub few : (n : ℕ) (fault : CheckFault) (cause : Option CheckCause) → option_map fault_of cause ≡ (if nat_lt 8 n then Some fault else None) → cause ≡ None → 8 < n → ⊥
+few n fault cause e none h =
+    let no : None ≡ (if nat_lt 8 n then Some fault else None) = sym (ap (option_map fault_of) none) ∙ e in
+    let more : nat_lt 8 n ≡ true = lt-ltb 8 n h in
+    let some : None ≡ Some fault = no ∙ ap (λ t. if t then Some fault else None) more in cc
+
+-- what is found has what each that is found has
+pub at_some : {X : Type 0} (P : X → Type 0) (o : Option X) (x : X) → IfSome o P → o ≡ Some x → P x
+at_some P None x h e = cc
+at_some P (Some y) x h e = let same : y ≡ x = cc in subst P same h
 
 -- a search that finds an item, and one that finds none
 pub holds : {X : Type 0} (test : Bool) (fault : CheckFault) (place : Option X) (k : X) → is_some place ≡ test → place ≡ Some k → Some fault ≡ (if test then Some fault else None)

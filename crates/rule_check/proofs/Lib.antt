@@ -2,6 +2,7 @@ pub mod Places
 pub mod Booleans
 pub mod Lists
 pub mod Exec
+pub mod Faults
 pub mod Runs
 pub mod Values
 pub mod Flat

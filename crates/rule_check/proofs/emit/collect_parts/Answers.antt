@@ -9,6 +9,11 @@ use Rattle.rule_check.proofs.Collects.{next_begins, no_next_begins, parts_turn}
 use Rattle.rule_check.proofs.emit.collect_parts.Goals as goal
 use Rattle.rule_check.proofs.emit.collect_parts.Goals.{in-Next+in_ok-emit_parts, in_default}
 
+pub emit_parts-requires-clause-flat : goal.emit_parts-requires-clause-flat
+emit_parts-requires-clause-flat c =
+    let begins = next_begins c.args.items.now c.loop-item.item-index c.item-item.result c.loop-item-test.true c.item-item.is c.in-Next.name c.in-Next.body c.in-Next.is in
+    (neither (nests (tree_of c.in-Next.body)) _ (rw begins at c.loop-item.invariant.flat)).0
+
 pub loop-item-preserved : goal.loop-item-preserved
 loop-item-preserved c =
     let items = c.args.items.now in
