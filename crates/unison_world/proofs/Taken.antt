@@ -164,6 +164,9 @@ module _ (plan : PlanView) (stop : ℕ) (nodes : List Node) (drawn : IsDrawn pla
       pub read_drawn : IsDrawn plan (set nodes u (with_desk node left))
       read_drawn = drawn-set plan nodes u (with_desk node left) drawn offered_picture
 
+pub answer-no_slot : (network : Neighbours) (stop : ℕ) (c : Counts) (u j : ℕ) → u < length network → degree network u ≤ j → answer.NoSlot ≡ answer_of network stop c (Read u j)
+answer-no_slot network stop c u j a b = grind (arith, nat_tests)
+
 pub answer-stopped : (network : Neighbours) (stop : ℕ) (c : Counts) (u j : ℕ) → u < length network → j < degree network u → moves_of c u ≡ stop → answer.Stopped ≡ answer_of network stop c (Read u j)
 answer-stopped network stop c u j a b d = grind (arith, nat_tests)
 

@@ -30,9 +30,9 @@ fn answer_from(offer: Offer) -> Answer
 fn link_at(network: &Network, node: u32, slot: u32) -> Option<(u32, u32)>
     ensures { result ≡ slice_get (row network.now node) slot }
 {
-    let neighbour = network.neighbour(node, slot)?;
-    let weight = network.weight(node, slot)?;
-    Some((neighbour, weight))
+    network
+        .neighbour(node, slot)
+        .zip(network.weight(node, slot))
 }
 
 /// A node reads the register at one of its slots.

@@ -1,12 +1,14 @@
-use Rattle.std.proofs.Common.{arith, ◌≡◌, ◌∙◌, ap, length, slice_get, Some, refl}
-use Rattle.std.proofs.lemmas.Option.{slice_get_read}
-use Rattle.link_net.specs.Neighbours.{neighbour, weight}
+use Rattle.std.proofs.Common.{arith, sym, None, ⊎_elim, ◌≡◌, ◌∙◌, ap, length, slice_get, Some, refl}
+use Rattle.std.proofs.lemmas.Option.{slice_get_read, slice_get_cases, none-some}
+use Rattle.link_net.specs.Neighbours.{row, neighbour, weight}
 use Rattle.rounds_plan.specs.Lockstep.{lockstep}
 use Rattle.phase_register.specs.Looks.{look_by_phases}
 use Rattle.unison_node.specs.declared.desk.Seat.{Seat}
+use Rattle.unison_world.specs.declared.step.Step.TheVariants.{Read}
+use Rattle.unison_world.specs.Counting.{change}
 use Rattle.unison_world.specs.Pictures.{counts_of, seat_of}
 use Rattle.unison_world.proofs.Sights.{Found, Shows, IsOffered, found, sees, slot_within, moves_at, same_node, same_offer}
-use Rattle.unison_world.proofs.Taken.{read_answer, read_counts, read_drawn, answer-stopped}
+use Rattle.unison_world.proofs.Taken.{read_answer, read_counts, read_drawn, answer-stopped, answer-no_slot}
 use Rattle.unison_world.proofs.events.read.Goals as goal
 use Rattle.unison_world.proofs.events.read.Goals.{After-answer_from}
 
@@ -63,3 +65,16 @@ returns-clause-counts c =
 pub returns-clause-drawn : goal.returns-clause-drawn
 returns-clause-drawn c =
     read_drawn c.args.plan.now c.args.stop c.args.nodes.now.items c.requires.drawn c.args.node c.args.slot c.index_mut.result.now c.index.result.now (here c) _ (seen_here c) _ _ (offered_here c)
+
+pub returns-in_default-clause-answer : goal.returns-in_default-clause-answer
+returns-in_default-clause-answer c =
+    let network = c.args.plan.now.network in
+    let none : slice_get (row network c.args.node) c.args.slot ≡ None = sym (rw c.network.ensures.network at c.link_at.ensures) ∙ c.in_default.is in
+    answer-no_slot network c.args.stop (counts_of c.args.nodes.now.items) c.args.node c.args.slot (omega (arith, c.requires.drawn.one_each))
+    (⊎_elim (λ a. absurd (none-some a.0 (sym none ∙ a.2))) (λ b. b.0) (slice_get_cases (row network c.args.node) c.args.slot).1)
+
+pub returns-in_default-clause-counts : goal.returns-in_default-clause-counts
+returns-in_default-clause-counts c = ap (change (counts_of c.args.nodes.now.items) (Read c.args.node c.args.slot)) (returns-in_default-clause-answer c)
+
+pub returns-then-this-stop-clause-counts : goal.returns-then-this-stop-clause-counts
+returns-then-this-stop-clause-counts c = ap (change (counts_of c.args.nodes.now.items) (Read c.args.node c.args.slot)) (returns-then-this-stop-clause-answer c)

@@ -1,9 +1,14 @@
-use Rattle.std.proofs.Common.{arith, ◌≡◌, ◌∙◌, sym, ap, ℕ, ◌<◌, length, refl, List}
+use Rattle.std.proofs.Common.{arith, ◌≡◌, ◌∙◌, sym, ap, ℕ, ◌<◌, length, refl, List, Some, slice_get}
+use Rattle.std.proofs.lemmas.List.{length-map}
+use Rattle.std.proofs.lemmas.Option.{slice_get_read}
 use Rattle.std.specs.Arc.{arc_value}
 use Rattle.rule_check.specs.declared.state.State.{State}
 use Rattle.rounds_plan.specs.Configs.{Configuration}
+use Rattle.rounds_plan.specs.Plans.{PlanView}
+use Rattle.unison_world.specs.declared.node.Node.{Node}
 use Rattle.unison_world.specs.Counting.{moves_of}
 use Rattle.unison_world.specs.Pictures.{counts_of}
+use Rattle.unison_world.proofs.Sights.{moves_at}
 use Rattle.unison_world.proofs.Plains.{finished_states}
 use Rattle.unison_world.proofs.world.World.finish.Goals as goal
 
@@ -32,3 +37,25 @@ returns c =
       );
       memory = tt;
     })
+
+pub of-requires-clause-nodes : goal.of-requires-clause-nodes
+of-requires-clause-nodes c =
+    let items = c.self.inside.nodes.items in
+    let same = sym c.deref.ensures ∙ c.if-not-same.ensures.exact.0 refl in
+    let many = ap length c.in_ok-states.ensures.states ∙ length-map items (λ (n : Node). n.register.current) ∙ c.self.invariant.drawn.one_each ∙ ap (λ (p : PlanView). length p.network) same in
+    omega (arith, many)
+
+pub returns-in-Some-clause-answer : goal.returns-in-Some-clause-answer
+returns-in-Some-clause-answer c =
+    let items = c.self.inside.nodes.items in
+    let first = c.in-Some.ensures in
+    let at : slice_get items c.in-Some.node ≡ Some c.index.result.now = slice_get_read items (length items) c.in-Some.node c.index.result.now refl first.inside c.index.ensures in
+    let moves = moves_at items c.in-Some.node c.index.result.now at in
+    let inside : c.in-Some.node < length (arc_value c.self.inside.plan).network = omega (arith, first.inside, c.self.invariant.drawn.one_each) in
+    rw (← c.self.view_is) (
+      (sym c.deref.ensures ∙ c.if-not-same.ensures.exact.0 refl, c.if-self-stop.false),
+      inside,
+      sym moves,
+      (rw moves at first.below),
+      λ u h. (let least = first.least u h in let most = c.self.invariant.in_step.within u in omega (arith, least, most)),
+    )
