@@ -36,6 +36,7 @@ fields_there p look none = none_missing (length p.program.fields) look.fields.no
 
 pub rounds_fit : (p : PlanView) (span : SpanView) (look : Look) → rounds_refusal p span look ≡ None
     → (span.last ≤ most_rounds) × (p.start ≤ span.first) × All (λ place. place < length p.program.fields) look.fields.now
+unfolding rounds_refusal
 rounds_fit p span look none =
     let parts = neither (nat_lt most_rounds span.last) (nat_lt span.first p.start) TooManyRounds RoundsBelowStart (option_or (field_refusal p look) (values_refusal (values_in p look (count_of span)))) none in (
       not_below most_rounds span.last parts.0,
@@ -45,6 +46,7 @@ rounds_fit p span look none =
 
 pub steps_fit : (p : PlanView) (stop : ℕ) (look : Look) → opening_refusal p stop look ≡ None
     → (stop ≤ most_rounds) × (p.start ≤ stop) × All (λ place. place < length p.program.fields) look.fields.now
+unfolding opening_refusal
 steps_fit p stop look none =
     let parts = neither (nat_lt most_rounds stop) (nat_lt stop p.start) StopTooLarge StopBelowStart (field_refusal p look) none in
     (not_below most_rounds stop parts.0, not_below stop p.start parts.1, fields_there p look parts.2)

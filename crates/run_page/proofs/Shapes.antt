@@ -15,7 +15,7 @@ use Rattle.unison_world.specs.declared.step.Step.{Step}
 use Rattle.unison_world.specs.declared.step.Step.TheVariants.{Read, Write}
 use Rattle.run_page.specs.declared.look.Look.{Look}
 use Rattle.run_page.specs.Closed.{IsClosed, ItemsAreClosed, MembersAreClosed, is_closed}
-use Rattle.run_page.specs.Pages.{headed, legend_of, links_of, links_up, listed, numbers, rounds_page, settling_data, shown, shown_names, states_of, step_data, stepped, stepped_naively, texts, value_names, values_at, whole, writes_of, written_data}
+use Rattle.run_page.specs.Pages.{headed, legend_of, links_of, links_up, listed, numbers, rounds_members, rounds_page, settling_data, shown, shown_names, states_of, step_data, stepped, stepped_naively, texts, value_names, values_at, whole, writes_of, written_data}
 
 -- closed, and no deeper than so
 abbrev Shaped : ℕ → Data → Type 0
@@ -82,6 +82,7 @@ step_shaped (Write node) = numbers_shaped (node ∷ [])
 
 headed_shaped : (p : PlanView) (look : Look) (manner : List ℕ) (rest : Members) → is_closed manner ≡ true → MembersAreClosed rest → members_depth rest ≤ 3
     → MembersAreClosed (headed p look manner rest) × (members_depth (headed p look manner rest) ≤ 3)
+unfolding headed
 headed_shaped p look manner rest closed others shallow =
     let fields = texts_shaped (shown_names p look) in
     let legend = legend_shaped look in
@@ -93,6 +94,7 @@ headed_shaped p look manner rest closed others shallow =
 
 -- a page of rounds
 pub rounds_shaped : (p : PlanView) (span : SpanView) (look : Look) (settling : Option Settling) → IsClosed (rounds_page p span look settling) × (depth (rounds_page p span look settling) ≤ max_depth)
+unfolding rounds_page rounds_members
 rounds_shaped p span look settling =
     let rounds = numbers_shaped (rounds_in span) in
     let becomes = listed_shaped 0 (settling_data settling) (settling_shaped settling) in
@@ -107,6 +109,7 @@ rounds_shaped p span look settling =
 -- what is said of steps, before others
 stepped_shaped : (p : PlanView) (stop : ℕ) (steps : List Step) (look : Look) (answers rounds : List ℕ) (rest : Members) → MembersAreClosed rest → members_depth rest ≤ 3
     → MembersAreClosed (stepped p stop steps look answers rounds rest) × (members_depth (stepped p stop steps look answers rounds rest) ≤ 3)
+unfolding stepped
 stepped_shaped p stop steps look answers rounds rest closed shallow =
     let codes_of = numbers_shaped answers in
     let reached = numbers_shaped rounds in
@@ -135,6 +138,7 @@ written_shaped fields (Some state) = numbers_shaped (shown fields state)
 -- a page of steps that are also made by nodes that do not wait
 pub naive_shaped : (p : PlanView) (stop : ℕ) (steps : List Step) (look : Look) (answers rounds : List ℕ) (states : List (Option State))
     → IsClosed (stepped_naively p stop steps look answers rounds states) × (depth (stepped_naively p stop steps look answers rounds states) ≤ max_depth)
+unfolding stepped_naively
 naive_shaped p stop steps look answers rounds states =
     let fields = look.fields.now in
     let writes = listed_shaped 1 (map (written_data fields) states) (mapped 1 (written_data fields) (written_shaped fields) states) in

@@ -54,6 +54,7 @@ module _ (w : WorldView) (steps : List Step) (begun : w ≡ opened w.plan w.stop
     -- and the rounds that its nodes have reached
     pub stepped_is : (look : Look) (plan : PlanView) (stop : ℕ) (span : SpanView) (d : Data) → plan ≡ new.plan → stop ≡ new.stop → span ≡ span_of new
         → d ≡ object (stepped plan stop steps look (map code_of (answers w.plan.network w.stop w.counts steps)) (rounds_in span) no_members) → d ≡ steps_page w.plan w.stop steps look
+    unfolding steps_page
     stepped_is look plan stop span d p s r e =
         answered (λ x t told rounds. object (stepped x t steps look told rounds no_members)) plan stop (rounds_in span) (rounds_in (reached w.plan w.stop steps)) d p s (ap rounds_in (reaches span r)) e
 
@@ -61,6 +62,7 @@ module _ (w : WorldView) (steps : List Step) (begun : w ≡ opened w.plan w.stop
     pub naive_is : (look : Look) (plan first : PlanView) (stop until : ℕ) (span : SpanView) (last : ℕ) (states : List (Option State)) (d : Data) → plan ≡ new.plan → stop ≡ new.stop
         → first ≡ w.plan → until ≡ w.stop → span ≡ span_up_to new last → last ≡ last_count first until steps → states ≡ all_written first until steps
         → d ≡ stepped_naively plan stop steps look (map code_of (answers w.plan.network w.stop w.counts steps)) (rounds_in span) states → d ≡ naive_page w.plan w.stop steps look
+    unfolding naive_page
     naive_is look plan first stop until span last states d p s f u r count wrote e =
         let counted : last ≡ last_count w.plan w.stop steps = count ∙ ap (λ (x : PlanView). last_count x until steps) f ∙ ap (λ (x : ℕ). last_count w.plan x steps) u in
         let all : states ≡ all_written w.plan w.stop steps = wrote ∙ ap (λ (x : PlanView). all_written x until steps) f ∙ ap (λ (x : ℕ). all_written w.plan x steps) u in

@@ -73,7 +73,7 @@ abbrev pub states_of : PlanView → List ℕ → List ℕ → Data
 states_of p fields rounds = listed (map (λ t. numbers (values_at p fields t)) rounds)
 
 -- what each page says first, of the plan and of the way in which it is shown
-abbrev pub headed : PlanView → Look → List ℕ → Members → Members
+unfoldable pub headed : PlanView → Look → List ℕ → Members → Members
 headed p look manner rest =
     member (codes "fields") (texts (shown_names p look))
     (member (codes "grid") (whole (unwrap_or look.grid 0))
@@ -91,14 +91,17 @@ settling_data (Some (Settles round)) = string (codes "settles") ∷ (whole round
 settling_data (Some (Repeats round period)) = string (codes "repeats") ∷ (whole round ∷ (whole period ∷ []))
 settling_data (Some (Open limit)) = string (codes "open") ∷ (whole limit ∷ [])
 
--- the data of a page of the rounds of a span
-abbrev pub rounds_page : PlanView → SpanView → Look → Option Settling → Data
-rounds_page p span look settling =
-    object
-    (headed p look (codes "rounds")
+-- what a page says of the rounds of a span
+unfoldable pub rounds_members : PlanView → SpanView → Look → Option Settling → Members
+rounds_members p span look settling =
+    headed p look (codes "rounds")
     (member (codes "rounds") (numbers (rounds_in span))
     (member (codes "settling") (listed (settling_data settling))
-    (member (codes "states") (states_of p look.fields.now (rounds_in span)) no_members))))
+    (member (codes "states") (states_of p look.fields.now (rounds_in span)) no_members)))
+
+-- the data of a page of the rounds of a span
+unfoldable pub rounds_page : PlanView → SpanView → Look → Option Settling → Data
+rounds_page p span look settling = object (rounds_members p span look settling)
 
 -- a step: a read as its node and its slot, a write as its node
 abbrev pub step_data : Step → Data
@@ -121,7 +124,7 @@ abbrev pub reached : PlanView → ℕ → List Step → SpanView
 reached p stop steps = record { first = p.start; last = fold max p.start (run_of p stop steps).moves; every = 1 }
 
 -- what is said of steps with these answers and these rounds
-abbrev pub stepped : PlanView → ℕ → List Step → Look → List ℕ → List ℕ → Members → Members
+unfoldable pub stepped : PlanView → ℕ → List Step → Look → List ℕ → List ℕ → Members → Members
 stepped p stop steps look answers rounds rest =
     member (codes "answers") (numbers answers)
     (headed p look (codes "steps")
@@ -131,7 +134,7 @@ stepped p stop steps look answers rounds rest =
     (member (codes "stop") (whole stop) rest)))))
 
 -- the data of a page of steps: their answers, and the rounds that they reach
-abbrev pub steps_page : PlanView → ℕ → List Step → Look → Data
+unfoldable pub steps_page : PlanView → ℕ → List Step → Look → Data
 steps_page p stop steps look = object (stepped p stop steps look (map code_of (answers_of p stop steps)) (rounds_in (reached p stop steps)) no_members)
 
 -- each round from the plan's start up to the greatest count after the steps, be they made by nodes that wait or by nodes that do not
@@ -148,10 +151,10 @@ abbrev pub writes_of : List ℕ → List (Option State) → Data
 writes_of fields states = listed (map (written_data fields) states)
 
 -- the data of steps with these answers, these rounds, and these states to which they move nodes that do not wait
-abbrev pub stepped_naively : PlanView → ℕ → List Step → Look → List ℕ → List ℕ → List (Option State) → Data
+unfoldable pub stepped_naively : PlanView → ℕ → List Step → Look → List ℕ → List ℕ → List (Option State) → Data
 stepped_naively p stop steps look answers rounds states =
     object (stepped p stop steps look answers rounds (member (codes "written") (writes_of look.fields.now states) no_members))
 
 -- the data of a page of steps that are also made by nodes that do not wait
-abbrev pub naive_page : PlanView → ℕ → List Step → Look → Data
+unfoldable pub naive_page : PlanView → ℕ → List Step → Look → Data
 naive_page p stop steps look = stepped_naively p stop steps look (map code_of (answers_of p stop steps)) (rounds_in (reached_naively p stop steps)) (all_written p stop steps)

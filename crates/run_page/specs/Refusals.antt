@@ -30,21 +30,21 @@ abbrev pub values_refusal : ℕ → Option PageFault
 values_refusal values = if nat_lt most_values values then Some TooManyValues else None
 
 -- why there is no data of the rounds of a span, whatever memory there is
-abbrev pub rounds_refusal : PlanView → SpanView → Look → Option PageFault
+unfoldable pub rounds_refusal : PlanView → SpanView → Look → Option PageFault
 rounds_refusal p span look =
     if nat_lt most_rounds span.last then Some TooManyRounds
     else if nat_lt span.first p.start then Some RoundsBelowStart
     else option_or (field_refusal p look) (values_refusal (values_in p look (count_of span)))
 
 -- the same of steps, of what is known before the first
-abbrev pub opening_refusal : PlanView → ℕ → Look → Option PageFault
+unfoldable pub opening_refusal : PlanView → ℕ → Look → Option PageFault
 opening_refusal p stop look =
     if nat_lt most_rounds stop then Some StopTooLarge
     else if nat_lt stop p.start then Some StopBelowStart
     else field_refusal p look
 
 -- the same of steps: each step is a value too
-abbrev pub steps_refusal : PlanView → ℕ → List Step → Look → Option PageFault
+unfoldable pub steps_refusal : PlanView → ℕ → List Step → Look → Option PageFault
 steps_refusal p stop steps look =
     option_or (opening_refusal p stop look) (values_refusal (values_in p look (count_of (reached p stop steps)) + length steps))
 
@@ -53,7 +53,7 @@ abbrev pub values_written : Look → ℕ → ℕ
 values_written look steps = steps * max (length look.fields.now) 1
 
 -- the same of steps that are also made by nodes that do not wait: of each step the state to which it moves its node counts too
-abbrev pub naive_refusal : PlanView → ℕ → List Step → Look → Option PageFault
+unfoldable pub naive_refusal : PlanView → ℕ → List Step → Look → Option PageFault
 naive_refusal p stop steps look =
     option_or (opening_refusal p stop look)
     (values_refusal (values_in p look (count_of (reached_naively p stop steps)) + (length steps + values_written look (length steps))))

@@ -1,5 +1,5 @@
 //! What each page says of its plan, and of the way in which it is shown.
-ghost use Rattle.std.specs.Prelude.{◌≡◌, ◌<◌, [], All, IfOk, length, map, slice_index_or, string_bytes};
+ghost use Rattle.std.specs.Prelude.{◌≡◌, ◌<◌, [], All, IfOk, OnOk, length, map, slice_index_or, string_bytes};
 ghost use Rattle.rule_check.specs.Value.{names_of};
 ghost use Rattle.serde_json.specs.Data.{no_members};
 ghost use Rattle.serde_json.specs.View.{members_view, view};
@@ -68,31 +68,30 @@ fn legend(alloc: Global, look: &Look<'_>) -> Result<Value, AllocError>
     Ok(Value::Array(items))
 }
 
-/// What a page of this manner says first.
-pub(crate) fn head(
+/// Puts what a page of this manner says first, where nothing is said yet.
+#[tactic(auto, unfolding(crate::specs::Pages::headed))]
+pub(crate) fn put_head(
+    members: &mut Map<String, Value>,
     alloc: Global,
     plan: &Plan,
     look: &Look<'_>,
     manner: &str,
-) -> Result<Map<String, Value>, AllocError>
+) -> Result<(), AllocError>
+    requires blank { members_view members.old.entries ≡ no_members }
     requires fields { All (λ place. place < length plan.now.program.fields) look.now.fields.now }
-    ensures { IfOk result (λ m. members_view m.entries ≡ headed plan.now look.now manner.now no_members) }
+    ensures { OnOk result (members_view members.new.entries ≡ headed plan.now look.now manner.now no_members) }
 {
-    let mut members = Map::new(alloc);
     let fields = field_names(alloc, plan.program(), look.fields)?;
-    put(&mut members, alloc, "fields", fields)?;
-    let grid = Value::from(look.grid.unwrap_or(0));
-    put(&mut members, alloc, "grid", grid)?;
+    put(members, alloc, "fields", fields)?;
+    put(members, alloc, "grid", Value::from(look.grid.unwrap_or(0)))?;
     let legend = legend(alloc, look)?;
-    put(&mut members, alloc, "legend", legend)?;
+    put(members, alloc, "legend", legend)?;
     let links = links(alloc, plan.network())?;
-    put(&mut members, alloc, "links", links)?;
+    put(members, alloc, "links", links)?;
     let manner = Value::try_from_str(alloc, manner)?;
-    put(&mut members, alloc, "manner", manner)?;
+    put(members, alloc, "manner", manner)?;
     let names = names(alloc, look.labels)?;
-    put(&mut members, alloc, "names", names)?;
-    let nodes = Value::from(plan.network().nodes());
-    put(&mut members, alloc, "nodes", nodes)?;
-    put(&mut members, alloc, "phase", Value::from(plan.phase()))?;
-    Ok(members)
+    put(members, alloc, "names", names)?;
+    put(members, alloc, "nodes", Value::from(plan.network().nodes()))?;
+    put(members, alloc, "phase", Value::from(plan.phase()))
 }

@@ -65,6 +65,7 @@ fn reached_naively(world: &World, last: u32) -> Span
 
 /// The data of a plan's steps up to a stop, with these answers, the rounds of this span, and these states to which the steps
 /// move nodes that do not wait.
+#[tactic(auto, unfolding(crate::specs::Pages::stepped_naively, crate::specs::Pages::stepped, crate::specs::Pages::headed))]
 fn page(
     rt: &(impl Threads + Sync),
     alloc: Global,
@@ -88,24 +89,25 @@ fn page(
 }
 
 /// The text of steps that are made on a world before any step, and by nodes that do not wait.
+#[tactic(auto, unfolding(crate::specs::Refusals::naive_refusal, crate::specs::Refusals::opening_refusal))]
 fn text(
     rt: &(impl Threads + Sync),
     alloc: Global,
-    mut world: World,
+    world: &mut World,
     steps: &[Step],
     look: &Look<'_>,
 ) -> Result<Vec<u8>, PageFault>
-    requires opened { world ≡ opened world.plan world.stop }
-    requires fits { opening_refusal world.plan world.stop look.now ≡ None }
-    ensures text { IfOk result (λ v. v.items ≡ compact_text (naive_page world.plan world.stop steps.now look.now)) }
-    ensures reads_back { IfOk result (λ v. read v.items ≡ Some (naive_page world.plan world.stop steps.now look.now)) }
+    requires opened { world.old ≡ opened world.old.plan world.old.stop }
+    requires fits { opening_refusal world.old.plan world.old.stop look.now ≡ None }
+    ensures text { IfOk result (λ v. v.items ≡ compact_text (naive_page world.old.plan world.old.stop steps.now look.now)) }
+    ensures reads_back { IfOk result (λ v. read v.items ≡ Some (naive_page world.old.plan world.old.stop steps.now look.now)) }
     ensures closed { IfOk result (λ v. All (λ b. b ≢ 60) v.items) }
-    ensures fits { IfOk result (λ _. naive_refusal world.plan world.stop steps.now look.now ≡ None) }
-    ensures refused { IfErr result (IsFault (opening_refusal world.plan world.stop look.now) (naive_refusal world.plan world.stop steps.now look.now)) }
+    ensures fits { IfOk result (λ _. naive_refusal world.old.plan world.old.stop steps.now look.now ≡ None) }
+    ensures refused { IfErr result (IsFault (opening_refusal world.old.plan world.old.stop look.now) (naive_refusal world.old.plan world.old.stop steps.now look.now)) }
 {
     let writes = naive_writes(alloc, world.plan(), world.stop(), steps)?;
-    let answers = make(alloc, &mut world, steps)?;
-    let span = reached_naively(&world, writes.last);
+    let answers = make(alloc, world, steps)?;
+    let span = reached_naively(world, writes.last);
     let rounds = span.steps() + 1;
     if let Some(fault) = naive_values_refusal(world.plan(), look, rounds, steps.len()) {
         return Err(fault);
@@ -136,6 +138,7 @@ fn text(
 /// else `NoField` with the first place of those that are to be shown at which the program has no field, all before anything is
 /// done; `TooManyValues` after the steps, where the steps, a state for each of them, and the values of the rounds are more than
 /// 20,000,000 values together; `Memory` where memory was wanted and none of the first three holds.
+#[tactic(auto, unfolding(crate::specs::Refusals::naive_refusal, crate::specs::Refusals::opening_refusal))]
 pub fn naive_data(
     rt: &(impl Threads + Sync),
     alloc: Global,
@@ -153,7 +156,7 @@ pub fn naive_data(
     if let Some(fault) = refusal(&plan, stop, look) {
         return Err(fault);
     }
-    let world = World::new(alloc, plan, stop)?;
-    let text = text(rt, alloc, world, steps, look)?;
+    let mut world = World::new(alloc, plan, stop)?;
+    let text = text(rt, alloc, &mut world, steps, look)?;
     Ok(text)
 }

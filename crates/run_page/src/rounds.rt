@@ -1,13 +1,14 @@
 //! Pages of rounds.
-ghost use Rattle.std.specs.Prelude.{◌≡◌, ◌≢◌, All, IfOk, IfErr, None, Some};
+ghost use Rattle.std.specs.Prelude.{◌≡◌, ◌≢◌, All, IfOk, IfErr, None, OnOk, Some};
+ghost use Rattle.serde_json.specs.Data.{no_members};
 ghost use Rattle.serde_json.specs.Read.{read};
-ghost use Rattle.serde_json.specs.View.{view};
+ghost use Rattle.serde_json.specs.View.{members_view, view};
 ghost use Rattle.serde_json.specs.Written.{compact_text};
-ghost use Rattle.run_page.specs.Pages.{rounds_page};
+ghost use Rattle.run_page.specs.Pages.{rounds_members, rounds_page};
 ghost use Rattle.run_page.specs.Refusals.{IsFault, rounds_refusal};
 
 use crate::fault::PageFault;
-use crate::head::head;
+use crate::head::put_head;
 use crate::look::Look;
 use crate::refusals::{field_refusal, values_refusal};
 use crate::settled::settled;
@@ -16,11 +17,12 @@ use crate::text::text_of;
 use rounds_plan::{MOST_ROUNDS, Plan};
 use run_settle::Settling;
 use run_watch::{Progress, Span};
-use serde_json::{Value, put};
+use serde_json::{Map, Value, put};
 use std::alloc::{AllocError, Global};
 use std::thread::Threads;
 
 /// Why there is no data, whatever memory there is.
+#[tactic(auto, unfolding(crate::specs::Refusals::rounds_refusal))]
 fn refusal(plan: &Plan, span: &Span, look: &Look<'_>) -> Option<PageFault>
     ensures { result ≡ rounds_refusal plan.now span.now look.now }
 {
@@ -36,7 +38,33 @@ fn refusal(plan: &Plan, span: &Span, look: &Look<'_>) -> Option<PageFault>
     }
 }
 
+/// Puts what a page says of the rounds, where nothing is said yet and nothing refuses it.
+#[tactic(auto, unfolding(crate::specs::Pages::rounds_members, crate::specs::Pages::headed, crate::specs::Refusals::rounds_refusal))]
+fn put_rounds<P: Progress>(
+    rt: &(impl Threads + Sync),
+    members: &mut Map<String, Value>,
+    alloc: Global,
+    plan: &Plan,
+    span: &Span,
+    look: &Look<'_>,
+    settling: Option<Settling>,
+    progress: &mut P,
+) -> Result<(), AllocError>
+    requires blank { members_view members.old.entries ≡ no_members }
+    requires fits { rounds_refusal plan.now span.now look.now ≡ None }
+    ensures { OnOk result (members_view members.new.entries ≡ rounds_members plan.now span.now look.now settling) }
+{
+    put_head(members, alloc, plan, look, "rounds")?;
+    let rounds = round_numbers(alloc, span)?;
+    put(members, alloc, "rounds", rounds)?;
+    let settling = settled(alloc, settling)?;
+    put(members, alloc, "settling", settling)?;
+    let states = states(rt, alloc, plan, span, look.fields, progress)?;
+    put(members, alloc, "states", states)
+}
+
 /// The data, where nothing refuses it.
+#[tactic(auto, unfolding(crate::specs::Pages::rounds_page))]
 fn page<P: Progress>(
     rt: &(impl Threads + Sync),
     alloc: Global,
@@ -49,13 +77,17 @@ fn page<P: Progress>(
     requires fits { rounds_refusal plan.now span.now look.now ≡ None }
     ensures { IfOk result (λ v. view v ≡ rounds_page plan.now span.now look.now settling) }
 {
-    let mut members = head(alloc, plan, look, "rounds")?;
-    let rounds = round_numbers(alloc, span)?;
-    put(&mut members, alloc, "rounds", rounds)?;
-    let settling = settled(alloc, settling)?;
-    put(&mut members, alloc, "settling", settling)?;
-    let states = states(rt, alloc, plan, span, look.fields, progress)?;
-    put(&mut members, alloc, "states", states)?;
+    let mut members = Map::new(alloc);
+    put_rounds(
+        rt,
+        &mut members,
+        alloc,
+        plan,
+        span,
+        look,
+        settling,
+        progress,
+    )?;
     Ok(Value::Object(members))
 }
 
@@ -93,6 +125,7 @@ fn text<P: Progress>(
 /// plan's start, else `NoField` with the first place of those that are to be shown at which the program has no field, and else
 /// `TooManyValues` where the rounds have more than 20,000,000 values, one for each node and shown field (where none is shown, for
 /// each node), all before anything is done; `Memory` only where none of them holds.
+#[tactic(auto, unfolding(crate::specs::Refusals::rounds_refusal))]
 pub fn rounds_data<P: Progress>(
     rt: &(impl Threads + Sync),
     alloc: Global,

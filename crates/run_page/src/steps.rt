@@ -13,7 +13,7 @@ ghost use Rattle.run_page.specs.Pages.{code_of, listed, numbers as numbers_data,
 ghost use Rattle.run_page.specs.Refusals.{IsFault, opening_refusal, steps_refusal};
 
 use crate::fault::PageFault;
-use crate::head::head;
+use crate::head::put_head;
 use crate::look::Look;
 use crate::parts::numbers;
 use crate::refusals::{field_refusal, values_refusal};
@@ -36,6 +36,7 @@ impl Progress for Untold {
 }
 
 /// Why there is no data, whatever memory there is, by what is known before the first step.
+#[tactic(auto, unfolding(crate::specs::Refusals::opening_refusal))]
 pub(crate) fn refusal(plan: &Plan, stop: u32, look: &Look<'_>) -> Option<PageFault>
     ensures { result ≡ opening_refusal plan.now stop look.now }
 {
@@ -133,6 +134,36 @@ fn step_values(alloc: Global, steps: &[Step]) -> Result<Value, AllocError>
     Ok(Value::Array(items))
 }
 
+/// Puts what is said of a plan's steps up to a stop, with these answers and the rounds of this span, where nothing is said yet.
+#[tactic(auto, unfolding(crate::specs::Pages::stepped, crate::specs::Pages::headed))]
+fn put_stepped(
+    rt: &(impl Threads + Sync),
+    members: &mut Map<String, Value>,
+    alloc: Global,
+    plan: &Plan,
+    stop: u32,
+    steps: &[Step],
+    look: &Look<'_>,
+    answers: Value,
+    span: &Span,
+) -> Result<(), AllocError>
+    requires blank { members_view members.old.entries ≡ no_members }
+    requires fields { All (λ place. place < length plan.now.program.fields) look.now.fields.now }
+    requires late { plan.now.start ≤ span.now.first }
+    requires few { span.now.last ≤ most_rounds }
+    ensures { OnOk result ((codes : List ℕ) → view answers ≡ numbers_data codes → members_view members.new.entries ≡ stepped plan.now stop steps.now look.now codes (rounds_in span.now) no_members) }
+{
+    put_head(members, alloc, plan, look, "steps")?;
+    put(members, alloc, "answers", answers)?;
+    let rounds = round_numbers(alloc, span)?;
+    put(members, alloc, "rounds", rounds)?;
+    let states = states(rt, alloc, plan, span, look.fields, &mut Untold)?;
+    put(members, alloc, "states", states)?;
+    let steps = step_values(alloc, steps)?;
+    put(members, alloc, "steps", steps)?;
+    put(members, alloc, "stop", Value::from(stop))
+}
+
 /// What is said of a plan's steps up to a stop, with these answers and the rounds of this span.
 pub(crate) fn stepped(
     rt: &(impl Threads + Sync),
@@ -149,15 +180,18 @@ pub(crate) fn stepped(
     requires few { span.now.last ≤ most_rounds }
     ensures { IfOk result (λ m. (codes : List ℕ) → view answers ≡ numbers_data codes → members_view m.entries ≡ stepped plan.now stop steps.now look.now codes (rounds_in span.now) no_members) }
 {
-    let mut members = head(alloc, plan, look, "steps")?;
-    put(&mut members, alloc, "answers", answers)?;
-    let rounds = round_numbers(alloc, span)?;
-    put(&mut members, alloc, "rounds", rounds)?;
-    let states = states(rt, alloc, plan, span, look.fields, &mut Untold)?;
-    put(&mut members, alloc, "states", states)?;
-    let steps = step_values(alloc, steps)?;
-    put(&mut members, alloc, "steps", steps)?;
-    put(&mut members, alloc, "stop", Value::from(stop))?;
+    let mut members = Map::new(alloc);
+    put_stepped(
+        rt,
+        &mut members,
+        alloc,
+        plan,
+        stop,
+        steps,
+        look,
+        answers,
+        span,
+    )?;
     Ok(members)
 }
 
@@ -182,23 +216,24 @@ fn page(
 }
 
 /// The text of steps that are made on a world before any step.
+#[tactic(auto, unfolding(crate::specs::Refusals::steps_refusal, crate::specs::Refusals::opening_refusal))]
 fn text(
     rt: &(impl Threads + Sync),
     alloc: Global,
-    mut world: World,
+    world: &mut World,
     steps: &[Step],
     look: &Look<'_>,
 ) -> Result<Vec<u8>, PageFault>
-    requires opened { world ≡ opened world.plan world.stop }
-    requires fits { opening_refusal world.plan world.stop look.now ≡ None }
-    ensures text { IfOk result (λ v. v.items ≡ compact_text (steps_page world.plan world.stop steps.now look.now)) }
-    ensures reads_back { IfOk result (λ v. read v.items ≡ Some (steps_page world.plan world.stop steps.now look.now)) }
+    requires opened { world.old ≡ opened world.old.plan world.old.stop }
+    requires fits { opening_refusal world.old.plan world.old.stop look.now ≡ None }
+    ensures text { IfOk result (λ v. v.items ≡ compact_text (steps_page world.old.plan world.old.stop steps.now look.now)) }
+    ensures reads_back { IfOk result (λ v. read v.items ≡ Some (steps_page world.old.plan world.old.stop steps.now look.now)) }
     ensures closed { IfOk result (λ v. All (λ b. b ≢ 60) v.items) }
-    ensures fits { IfOk result (λ _. steps_refusal world.plan world.stop steps.now look.now ≡ None) }
-    ensures refused { IfErr result (IsFault (opening_refusal world.plan world.stop look.now) (steps_refusal world.plan world.stop steps.now look.now)) }
+    ensures fits { IfOk result (λ _. steps_refusal world.old.plan world.old.stop steps.now look.now ≡ None) }
+    ensures refused { IfErr result (IsFault (opening_refusal world.old.plan world.old.stop look.now) (steps_refusal world.old.plan world.old.stop steps.now look.now)) }
 {
-    let answers = make(alloc, &mut world, steps)?;
-    let span = reached(&world);
+    let answers = make(alloc, world, steps)?;
+    let span = reached(world);
     if let Some(fault) = values_refusal(world.plan(), look, span.steps() + 1, steps.len()) {
         return Err(fault);
     }
@@ -229,6 +264,7 @@ fn text(
 /// else `NoField` with the first place of those that are to be shown at which the program has no field, all before anything is
 /// done; `TooManyValues` after the steps, where the steps and the values of the rounds are more than 20,000,000 together; `Memory`
 /// where memory was wanted and none of the first three holds.
+#[tactic(auto, unfolding(crate::specs::Refusals::steps_refusal, crate::specs::Refusals::opening_refusal))]
 pub fn steps_data(
     rt: &(impl Threads + Sync),
     alloc: Global,
@@ -246,7 +282,7 @@ pub fn steps_data(
     if let Some(fault) = refusal(&plan, stop, look) {
         return Err(fault);
     }
-    let world = World::new(alloc, plan, stop)?;
-    let text = text(rt, alloc, world, steps, look)?;
+    let mut world = World::new(alloc, plan, stop)?;
+    let text = text(rt, alloc, &mut world, steps, look)?;
     Ok(text)
 }

@@ -17,13 +17,13 @@ use Rattle.run_page.proofs.naive.text.Goals as goal
 
 pub page-requires-clause-fields : goal.page-requires-clause-fields
 page-requires-clause-fields g c κs within =
-    let w = c.args.world in
+    let w = c.args.world.now in
     let plan = same_plan w c.args.steps.now c.requires.opened c.make.new.world c.in_ok-answers.ensures.made c.plan-3.result.now c.plan-3.ensures.plan in
     subst (λ (p : PlanView). All (λ place. place < length p.program.fields) c.args.look.now.fields.now) (sym plan) (steps_fit w.plan w.stop c.args.look.now c.requires.fits).2
 
 pub text_of-requires-clause-closed : goal.text_of-requires-clause-closed
 text_of-requires-clause-closed g c =
-    let w = c.args.world in
+    let w = c.args.world.now in
     let steps = c.args.steps.now in
     let look = c.args.look.now in
     let told = map code_of (answers w.plan.network w.stop w.counts steps) in
@@ -36,7 +36,7 @@ text_of-requires-clause-closed g c =
 
 pub text_of-requires-clause-shallow : goal.text_of-requires-clause-shallow
 text_of-requires-clause-shallow g c =
-    let w = c.args.world in
+    let w = c.args.world.now in
     let steps = c.args.steps.now in
     let look = c.args.look.now in
     let told = map code_of (answers w.plan.network w.stop w.counts steps) in
@@ -49,7 +49,7 @@ text_of-requires-clause-shallow g c =
 
 pub returns-clause-text : goal.returns-clause-text
 returns-clause-text g c =
-    let w = c.args.world in
+    let w = c.args.world.now in
     let steps = c.args.steps.now in
     let look = c.args.look.now in
     let told = map code_of (answers w.plan.network w.stop w.counts steps) in
@@ -62,7 +62,7 @@ returns-clause-text g c =
 
 pub returns-clause-reads_back : goal.returns-clause-reads_back
 returns-clause-reads_back g c =
-    let w = c.args.world in
+    let w = c.args.world.now in
     let steps = c.args.steps.now in
     let look = c.args.look.now in
     let told = map code_of (answers w.plan.network w.stop w.counts steps) in

@@ -1,0 +1,5 @@
+use Rattle.run_page.proofs.Fitting.{rounds_fit}
+use Rattle.run_page.proofs.rounds.put_rounds.Goals as goal
+
+pub put_head-requires-clause-fields : goal.put_head-requires-clause-fields
+put_head-requires-clause-fields g c = (rounds_fit c.args.plan.now c.args.span.now c.args.look.now c.requires.fits).2
