@@ -9,7 +9,7 @@ use Rattle.unison_world.specs.Counting.{answers}
 use Rattle.run_naive.specs.Writing.{all_written}
 use Rattle.run_watch.specs.Spans.{rounds_in}
 use Rattle.run_page.specs.Closed.{IsClosed}
-use Rattle.run_page.specs.Pages.{code_of, reached_naively}
+use Rattle.run_page.specs.Pages.{code_of, naive_page, reached_naively}
 use Rattle.run_page.proofs.Fitting.{steps_fit}
 use Rattle.run_page.proofs.Shapes.{naive_shaped}
 use Rattle.run_page.proofs.Stepping.{naive_is, same_plan}
@@ -22,6 +22,7 @@ page-requires-clause-fields g c κs within =
     subst (λ (p : PlanView). All (λ place. place < length p.program.fields) c.args.look.now.fields.now) (sym plan) (steps_fit w.plan w.stop c.args.look.now c.requires.fits).2
 
 pub text_of-requires-clause-closed : goal.text_of-requires-clause-closed
+unfolding naive_page
 text_of-requires-clause-closed g c =
     let w = c.args.world.now in
     let steps = c.args.steps.now in
@@ -35,6 +36,7 @@ text_of-requires-clause-closed g c =
     subst IsClosed (sym page) (naive_shaped w.plan w.stop steps look (map code_of (answers_of w.plan w.stop steps)) (rounds_in (reached_naively w.plan w.stop steps)) (all_written w.plan w.stop steps)).0
 
 pub text_of-requires-clause-shallow : goal.text_of-requires-clause-shallow
+unfolding naive_page
 text_of-requires-clause-shallow g c =
     let w = c.args.world.now in
     let steps = c.args.steps.now in

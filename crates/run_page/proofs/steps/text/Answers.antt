@@ -8,7 +8,7 @@ use Rattle.unison_trace.specs.Histories.{answers_of}
 use Rattle.unison_world.specs.Counting.{answers}
 use Rattle.run_watch.specs.Spans.{rounds_in}
 use Rattle.run_page.specs.Closed.{IsClosed}
-use Rattle.run_page.specs.Pages.{code_of, reached}
+use Rattle.run_page.specs.Pages.{code_of, reached, steps_page}
 use Rattle.run_page.proofs.Fitting.{steps_fit}
 use Rattle.run_page.proofs.Shapes.{steps_shaped}
 use Rattle.run_page.proofs.Stepping.{same_plan, stepped_is}
@@ -21,6 +21,7 @@ page-requires-clause-fields g c κs within =
     subst (λ (p : PlanView). All (λ place. place < length p.program.fields) c.args.look.now.fields.now) (sym plan) (steps_fit w.plan w.stop c.args.look.now c.requires.fits).2
 
 pub text_of-requires-clause-closed : goal.text_of-requires-clause-closed
+unfolding steps_page
 text_of-requires-clause-closed g c =
     let w = c.args.world.now in
     let steps = c.args.steps.now in
@@ -32,6 +33,7 @@ text_of-requires-clause-closed g c =
     subst IsClosed (sym page) (steps_shaped w.plan w.stop steps look (map code_of (answers_of w.plan w.stop steps)) (rounds_in (reached w.plan w.stop steps))).0
 
 pub text_of-requires-clause-shallow : goal.text_of-requires-clause-shallow
+unfolding steps_page
 text_of-requires-clause-shallow g c =
     let w = c.args.world.now in
     let steps = c.args.steps.now in
