@@ -9,6 +9,33 @@ use std::str;
 /// How a choice is written.
 const CHOICE: &str = "a choice is written: if A then B else C";
 
+/// What stands for `-` in other texts.
+const DASH: &str = "this is a minus sign or a dash of Unicode: write `-`";
+
+/// What names and numbers do not have.
+const QUOTES: &str = "names and numbers stand without quotes";
+
+/// The signs that compare.
+const COMPARISONS: &str = "comparisons are written in ASCII: `<=`, `>=`, `!=`";
+
+/// Characters that are not ASCII, and what to do about them.
+const FOREIGN: [(&'static str, &'static str); 11] = [
+    ("\u{2212}", DASH),
+    ("\u{2013}", DASH),
+    ("\u{2014}", DASH),
+    ("\u{2018}", QUOTES),
+    ("\u{2019}", QUOTES),
+    ("\u{201c}", QUOTES),
+    ("\u{201d}", QUOTES),
+    ("\u{2264}", COMPARISONS),
+    ("\u{2265}", COMPARISONS),
+    ("\u{2260}", COMPARISONS),
+    (
+        "\u{a0}",
+        "this is a blank that does not break: write a space",
+    ),
+];
+
 /// What stands before a byte in a text, blanks left out.
 fn before(text: &[u8], at: usize) -> &[u8] {
     text[..at.min(text.len())].trim_ascii_end()
@@ -25,27 +52,10 @@ fn dot_hint(front: &[u8]) -> &'static str {
 
 /// What to do about a character that is not ASCII.
 fn foreign_hint(rest: &[u8]) -> &'static str {
-    if rest.starts_with(b"\xe2\x88\x92")
-        || rest.starts_with(b"\xe2\x80\x93")
-        || rest.starts_with(b"\xe2\x80\x94")
-    {
-        return "this is a minus sign or a dash of Unicode: write `-`";
-    }
-    if rest.starts_with(b"\xe2\x80\x98")
-        || rest.starts_with(b"\xe2\x80\x99")
-        || rest.starts_with(b"\xe2\x80\x9c")
-        || rest.starts_with(b"\xe2\x80\x9d")
-    {
-        return "names and numbers stand without quotes";
-    }
-    if rest.starts_with(b"\xe2\x89\xa4")
-        || rest.starts_with(b"\xe2\x89\xa5")
-        || rest.starts_with(b"\xe2\x89\xa0")
-    {
-        return "comparisons are written in ASCII: `<=`, `>=`, `!=`";
-    }
-    if rest.starts_with(b"\xc2\xa0") {
-        return "this is a blank that does not break: write a space";
+    for (character, hint) in &FOREIGN {
+        if rest.starts_with(character.as_bytes()) {
+            return *hint;
+        }
     }
     "outside comments a program is ASCII: names are of letters, digits and `_`"
 }
@@ -102,7 +112,7 @@ fn byte_hint(text: &[u8], at: usize) -> &'static str {
     match rest.first() {
         Some(b'!') => "`not A` is 1 where A is 0, and `!=` compares",
         Some(b'.') => dot_hint(before(text, at)),
-        Some(b'"' | b'\'' | b'`') => "names and numbers stand without quotes",
+        Some(b'"' | b'\'' | b'`') => QUOTES,
         Some(b'{' | b'}' | b'[' | b']') => "brackets are round: (A + B)",
         Some(b',') => comma_hint(before(text, at)),
         Some(b'_') => "a name begins with a letter",
@@ -123,47 +133,54 @@ fn is_digit(text: &[u8], at: usize) -> bool {
     }
 }
 
-/// What is told of a mark at the beginning of a file that says how it is encoded.
-fn mark_text(alloc: Global, text: &[u8]) -> Result<Option<(String, String)>, AllocError> {
+/// The mark at the beginning of a file that says how it is encoded.
+fn mark(text: &[u8]) -> Option<&'static str> {
     if text.starts_with(b"\xef\xbb\xbf") {
-        let what = String::from_str(alloc, "found a byte order mark, which cannot be seen")?;
-        let hint = String::from_str(alloc, "save the file as UTF-8 without a byte order mark")?;
-        return Ok(Some((what, hint)));
+        return Some("found a byte order mark, which cannot be seen");
     }
     if text.starts_with(b"\xff\xfe") || text.starts_with(b"\xfe\xff") {
-        let what = String::from_str(alloc, "found the byte order mark of UTF-16")?;
-        let hint = String::from_str(alloc, "save the file as UTF-8 without a byte order mark")?;
-        return Ok(Some((what, hint)));
+        return Some("found the byte order mark of UTF-16");
     }
-    Ok(None)
+    None
 }
 
-/// What is wrong at the byte at which no token begins, and what to do.
-fn lexical_text(alloc: Global, text: &[u8], at: usize) -> Result<(String, String), AllocError> {
-    if at == 0 {
-        if let Some(told) = mark_text(alloc, text)? {
-            return Ok(told);
-        }
-    }
+/// What is wrong at a byte, and what to do, where both are told in words of their own: a mark at the beginning, or a
+/// number that is too large.
+fn plain_text(text: &[u8], at: usize) -> Option<(&'static str, &'static str)> {
     if is_digit(text, at) {
-        let what = String::from_str(alloc, "the number is above 4294967295")?;
-        return Ok((
-            what,
-            String::from_str(alloc, "numbers go from 0 to 4294967295")?,
+        return Some((
+            "the number is above 4294967295",
+            "numbers go from 0 to 4294967295",
         ));
     }
-    let found = front_text(alloc, &text[at.min(text.len())..])?;
-    let what = format!(in alloc; "found {found}, with which nothing begins")?;
-    Ok((what, String::from_str(alloc, byte_hint(text, at))?))
+    if at > 0 {
+        return None;
+    }
+    Some((
+        mark(text)?,
+        "save the file as UTF-8 without a byte order mark",
+    ))
+}
+
+/// What is wrong at a byte with which nothing begins.
+fn what_text(alloc: Global, rest: &[u8]) -> Result<String, AllocError> {
+    let found = front_text(alloc, rest)?;
+    format!(in alloc; "found {found}, with which nothing begins")
 }
 
 /// What is told of a program's text in which no token begins at a byte.
 pub(crate) fn tell_lexical(alloc: Global, text: &[u8], at: usize) -> Result<Told, AllocError> {
-    let (what, hint) = lexical_text(alloc, text, at)?;
+    let (what, hint) = match plain_text(text, at) {
+        Some((what, hint)) => (String::from_str(alloc, what)?, hint),
+        None => (
+            what_text(alloc, &text[at.min(text.len())..])?,
+            byte_hint(text, at),
+        ),
+    };
     Ok(Told {
         part: Some(Part::Program),
         at: Some(at),
         what,
-        hint,
+        hint: String::from_str(alloc, hint)?,
     })
 }

@@ -92,62 +92,63 @@ fn entry_at_fault(
     }
 }
 
-/// What is wrong with the keys and the shapes of their values.
-fn shape_text(
+/// What is wrong, where it is told in words of its own.
+fn plain_text(cause: &NetCause) -> Option<&str> {
+    match cause {
+        NetCause::NotToml { message, .. } => Some(message.as_str()),
+        NetCause::NodesMissing => Some("the key `nodes` is missing"),
+        NetCause::NodesShape => Some("`nodes` is no whole number"),
+        NetCause::LinksMissing => Some("the key `links` is missing at the top"),
+        NetCause::LinksShape => Some("`links` is no array"),
+        NetCause::PhaseShape => Some("`phase` is no whole number"),
+        NetCause::SetShape => Some("`set` is no table"),
+        _ => None,
+    }
+}
+
+/// What is wrong with a link by itself.
+fn link_fault(cause: &NetCause) -> &'static str {
+    match cause {
+        NetCause::LinkShape { .. } => "is no array of two or three whole numbers",
+        NetCause::BadLink { .. } => "has an end that is no node",
+        NetCause::SelfLink { .. } => "joins a node with itself",
+        NetCause::BadWeight { .. } => "has no weight from 0 to 4294967295",
+        _ => "",
+    }
+}
+
+/// What is wrong with a link.
+fn link_text(
     alloc: Global,
+    bytes: &[u8],
     cause: &NetCause,
+    link: usize,
     entry_text: &str,
-) -> Result<Option<String>, AllocError> {
-    let text = match cause {
-        NetCause::NotToml { message, .. } => String::from_str(alloc, message.as_str()),
+) -> Result<String, AllocError> {
+    if let NetCause::LinkTwice { earlier, .. } = cause {
+        let other = entry_of(alloc, bytes, "", "links", *earlier)?.text;
+        return format!(in alloc;
+            "link {link}, {entry_text}, joins the same nodes as link {earlier}, {other}"
+        );
+    }
+    let fault = link_fault(cause);
+    format!(in alloc; "link {link}, {entry_text}, {fault}")
+}
+
+/// What is wrong with keys and with numbers.
+fn number_text(alloc: Global, cause: &NetCause, entry_text: &str) -> Result<String, AllocError> {
+    match cause {
         NetCause::UnknownKey { key } => format!(in alloc; "there is no key `{key}`"),
-        NetCause::NodesMissing => String::from_str(alloc, "the key `nodes` is missing"),
-        NetCause::NodesShape => String::from_str(alloc, "`nodes` is no whole number"),
-        NetCause::LinksMissing => String::from_str(alloc, "the key `links` is missing at the top"),
-        NetCause::LinksShape => String::from_str(alloc, "`links` is no array"),
-        NetCause::LinkShape { link } => format!(in alloc;
-            "link {link}, {entry_text}, is no array of two or three whole numbers"
-        ),
-        NetCause::PhaseShape => String::from_str(alloc, "`phase` is no whole number"),
-        NetCause::SetShape => String::from_str(alloc, "`set` is no table"),
         NetCause::SetValueShape { key } => format!(in alloc; "`{key}` in `set` is no array"),
         NetCause::PairShape { key, entry } => format!(in alloc;
             "entry {entry} of `{key}` in `set`, {entry_text}, is no array of two whole numbers"
         ),
-        _ => return Ok(None),
-    };
-    Ok(Some(text?))
-}
-
-/// What is wrong with the numbers.
-fn number_text(
-    alloc: Global,
-    bytes: &[u8],
-    cause: &NetCause,
-    entry_text: &str,
-) -> Result<String, AllocError> {
-    match cause {
         NetCause::NodeCount { nodes } => format!(in alloc; "there are {nodes} nodes"),
-        NetCause::BadLink { link } => format!(in alloc;
-            "link {link}, {entry_text}, has an end that is no node"
-        ),
-        NetCause::SelfLink { link } => format!(in alloc;
-            "link {link}, {entry_text}, joins a node with itself"
-        ),
-        NetCause::LinkTwice { link, earlier } => {
-            let other = entry_of(alloc, bytes, "", "links", *earlier)?.text;
-            format!(in alloc;
-                "link {link}, {entry_text}, joins the same nodes as link {earlier}, {other}"
-            )
-        }
         NetCause::TooManyLinks { links } => format!(in alloc; "there are {links} links"),
         NetCause::TooManyNeighbours { node, neighbours } => format!(in alloc;
             "node {node} has {neighbours} neighbours"
         ),
         NetCause::BadPhase { phase } => format!(in alloc; "the phase is {phase}"),
-        NetCause::BadWeight { link } => format!(in alloc;
-            "link {link}, {entry_text}, has no weight from 0 to 4294967295"
-        ),
         _ => Ok(String::new(alloc)),
     }
 }
@@ -159,9 +160,12 @@ fn what_text(
     cause: &NetCause,
     entry_text: &str,
 ) -> Result<String, AllocError> {
-    match shape_text(alloc, cause, entry_text)? {
-        Some(text) => Ok(text),
-        None => number_text(alloc, bytes, cause, entry_text),
+    if let Some(text) = plain_text(cause) {
+        return String::from_str(alloc, text);
+    }
+    match link_of(cause) {
+        Some(link) => link_text(alloc, bytes, cause, link, entry_text),
+        None => number_text(alloc, cause, entry_text),
     }
 }
 

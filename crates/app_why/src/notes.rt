@@ -50,14 +50,18 @@ fn is_large(expr: &Expr) -> bool {
     }
 }
 
+/// Whether the operator is `&` or `|`, and one part a test and the other a number above 1.
+fn mixes_parts(op: &Op, left: &Expr, right: &Expr) -> bool {
+    if !matches!(op, Op::BitAnd | Op::BitOr) {
+        return false;
+    }
+    is_test(left) && is_large(right) || is_large(left) && is_test(right)
+}
+
 /// Whether `&` or `|` stands between a test and a number above 1.
 fn mixes(expr: &Expr) -> bool {
     match expr {
-        Expr::Infix(op, left, right) => {
-            let here = matches!(op, Op::BitAnd | Op::BitOr)
-                && (is_test(left) && is_large(right) || is_large(left) && is_test(right));
-            here || mixes(left) || mixes(right)
-        }
+        Expr::Infix(op, left, right) => mixes_parts(op, left, right) || mixes(left) || mixes(right),
         Expr::Not(part) | Expr::Over(_, part) => mixes(part),
         Expr::Choice(test, yes, no) => mixes(test) || mixes(yes) || mixes(no),
         _ => false,
