@@ -1,14 +1,15 @@
 -- How many parts are left, and what is told where they run out.
-use Rattle.std.proofs.Common.{◌≡◌, ◌<◌, ◌≤◌, ℕ, ◌+◌, List, refl, sym, ap, ◌∙◌, subst, arith}
-use Rattle.std.specs.Prelude.{Bool, true, false, Option, Some, None, nat_lt, Result, Ok, Err, IfErr, OnOk, ◌≢◌}
+use Rattle.std.proofs.Common.{◌≡◌, ◌<◌, ◌≤◌, ℕ, ◌+◌, List, refl, sym, ap, ◌∙◌, subst, arith, [], ◌∷◌, ◌++◌}
+use Rattle.std.specs.Prelude.{Bool, true, false, Option, Some, None, nat_lt, Result, Ok, Err, IfErr, OnOk, ◌≢◌, slice_get}
 use Rattle.std.specs.Option.{option_or}
+use Rattle.std.proofs.lemmas.List.Sums.{sum_by-append}
 use Rattle.model_rules.specs.declared.fault.Cause.{Cause}
 use Rattle.model_rules.specs.declared.fault.Cause.TheVariants as cause
 use Rattle.model_rules.specs.declared.fault.ExpandFault.{ExpandFault}
 use Rattle.model_rules.specs.declared.fault.ExpandFault.TheVariants as fault
 use Rattle.model_rules.specs.Terms.{TermTree, NumberTerm, OwnTerm, IdTerm, DegreeTerm, RoundTerm, ParameterTerm, NearTerm, NearIdTerm, NearWeightTerm, InfixTerm, NotTerm, OverTerm, ChoiceTerm, seen_near}
 use Rattle.model_rules.specs.FirstFaults.{IsFirst, told_at}
-use Rattle.model_rules.specs.Parts.{size, filled_parts, unless_wrong, bounded_fault}
+use Rattle.model_rules.specs.Parts.{size, size_put, put_parts, filled_parts, unless_wrong, bounded_fault}
 
 -- a term has a part at least, also with terms put in, and as seen from a neighbour
 pub size_some : (t : TermTree) → 0 < size t
@@ -27,22 +28,23 @@ size_some (OverTerm agg e) = omega arith
 size_some (ChoiceTerm a b c) = omega arith
 
 pub filled_some : (ts : List TermTree) (t : TermTree) → 0 < filled_parts ts t
-filled_some ts (NumberTerm n) = omega arith
-filled_some ts (OwnTerm name) = omega arith
-filled_some ts IdTerm = omega arith
-filled_some ts DegreeTerm = omega arith
-filled_some ts RoundTerm = omega arith
-filled_some ts (ParameterTerm k) = omega arith
-filled_some ts (NearTerm name) = omega arith
-filled_some ts NearIdTerm = omega arith
-filled_some ts NearWeightTerm = omega arith
-filled_some ts (InfixTerm op a b) = omega arith
-filled_some ts (NotTerm e) = omega arith
-filled_some ts (OverTerm agg e) = omega arith
-filled_some ts (ChoiceTerm a b c) = omega arith
+filled_some ts t = omega (arith, size_some t)
 
 pub seen_some : (t : TermTree) → 0 < size (seen_near t)
 seen_some t = size_some (seen_near t)
+
+-- the parts of what is put in nowhere, once, and at places behind others
+pub put_none : (ts : List TermTree) → put_parts ts [] ≡ 0
+unfolding put_parts
+put_none ts = refl
+
+pub put_one : (ts : List TermTree) (k : ℕ) → put_parts ts (k ∷ []) ≡ size_put (slice_get ts k)
+unfolding put_parts
+put_one ts k = grind arith
+
+pub put_both : (ts : List TermTree) (xs ys : List ℕ) → put_parts ts (xs ++ ys) ≡ put_parts ts xs + put_parts ts ys
+unfolding put_parts
+put_both ts xs ys = sum_by-append (λ n. size_put (slice_get ts n)) xs ys
 
 is_less : (a b : ℕ) → a < b → nat_lt a b ≡ true
 is_less a b h = grind arith

@@ -1,5 +1,5 @@
 -- How many parts are made for an expression of a model, of which an item has 65,536 at most.
-use Rattle.std.specs.Prelude.{ℕ, ◌+◌, nat_lt, Bool, true, ◌||◌, List, [], ◌∷◌, length, Option, Some, None, if◌then◌else◌, slice_get}
+use Rattle.std.specs.Prelude.{ℕ, ◌+◌, nat_lt, Bool, true, ◌||◌, List, [], ◌∷◌, ◌++◌, length, sum_by, Option, Some, None, if◌then◌else◌, slice_get}
 use Rattle.std.specs.List.{list_any}
 use Rattle.rule_check.specs.WellFormed.{is_among}
 use Rattle.model_text.specs.Tree.{Tree, NumberTree, NothingTree, NameTree, IdTree, DegreeTree, RoundTree, NearTree, NearIdTree, NearWeightTree, InfixTree, NotTree, ParensTree, IfTree, CasesTree, CallTree, ApplyTree, ChanceTree, ChanceOfTree, ArmTree, OneArm, ElseArm, ArgumentTree, NoArgument, OneArgument}
@@ -37,21 +37,29 @@ abbrev pub size_put : Option TermTree → ℕ
 size_put None = 0
 size_put (Some t) = size t
 
+-- the places of the parameters that stand in a term, once for each time
+abbrev pub parameters_in : TermTree → List ℕ
+parameters_in (NumberTerm n) = []
+parameters_in (OwnTerm name) = []
+parameters_in IdTerm = []
+parameters_in DegreeTerm = []
+parameters_in RoundTerm = []
+parameters_in (ParameterTerm k) = k ∷ []
+parameters_in (NearTerm name) = []
+parameters_in NearIdTerm = []
+parameters_in NearWeightTerm = []
+parameters_in (InfixTerm op a b) = parameters_in a ++ parameters_in b
+parameters_in (NotTerm e) = parameters_in e
+parameters_in (OverTerm agg e) = parameters_in e
+parameters_in (ChoiceTerm a b c) = parameters_in a ++ (parameters_in b ++ parameters_in c)
+
+-- the parts of what is put in at these places
+unfoldable pub put_parts : List TermTree → List ℕ → ℕ
+put_parts terms places = sum_by (λ k. size_put (slice_get terms k)) places
+
 -- the parts of a term with these in place of its parameters: each of its own, and each of what is put in, once for each time
 abbrev pub filled_parts : List TermTree → TermTree → ℕ
-filled_parts terms (NumberTerm n) = 1
-filled_parts terms (OwnTerm name) = 1
-filled_parts terms IdTerm = 1
-filled_parts terms DegreeTerm = 1
-filled_parts terms RoundTerm = 1
-filled_parts terms (ParameterTerm k) = 1 + size_put (slice_get terms k)
-filled_parts terms (NearTerm name) = 1
-filled_parts terms NearIdTerm = 1
-filled_parts terms NearWeightTerm = 1
-filled_parts terms (InfixTerm op a b) = 1 + (filled_parts terms a + filled_parts terms b)
-filled_parts terms (NotTerm e) = 1 + filled_parts terms e
-filled_parts terms (OverTerm agg e) = 1 + filled_parts terms e
-filled_parts terms (ChoiceTerm a b c) = 1 + (filled_parts terms a + (filled_parts terms b + filled_parts terms c))
+filled_parts terms t = size t + put_parts terms (parameters_in t)
 
 -- what is made behind something that may be wrong: nothing where it is
 abbrev pub unless_wrong : {A : Type 0} → Option A → ℕ → ℕ

@@ -83,7 +83,7 @@ fn argument(
 
 /// The term with the arguments in place of its parameters.
 #[cycle(filling)]
-#[tactic(auto, using(crate::proofs::Parts::filled_some))]
+#[tactic(auto, using(crate::proofs::Parts::filled_some, crate::proofs::Parts::put_none, crate::proofs::Parts::put_one, crate::proofs::Parts::put_both))]
 pub fn fill(
     term: &Term,
     arguments: &[Term],
