@@ -364,7 +364,7 @@ fn bound_words(cause: Cause) -> CauseWords {
         ),
         _ => of_place(
             "TooLong",
-            "with this item and all lets put in, the program has more than 65536 bytes",
+            "with this item and all lets put in, the program has more than 65536 bytes, or the item more than 65536 parts",
             "each use of a let is its expression once more: keep it in a field, a round earlier",
         ),
     }

@@ -1,5 +1,5 @@
 -- The text of a program that the text of a model is expanded to, and why there is none.
-use Rattle.std.specs.Prelude.{ℕ, List, length, map, true, None, ◌≡◌, ◌≤◌}
+use Rattle.std.specs.Prelude.{ℕ, List, length, map, true, None, Some, Option, ◌≡◌, ◌≤◌}
 use Rattle.rule_lang.specs.Tree.{ItemTree as RuleTree}
 use Rattle.rule_lang.specs.Program.{HasProgram}
 use Rattle.rule_check.specs.declared.state.State.{State}
@@ -8,8 +8,11 @@ use Rattle.rule_check.specs.Value.{Here, next_state, names_of}
 use Rattle.rule_check.specs.Items.{rules_of as program_of}
 use Rattle.model_text.specs.Tree.{ItemTree}
 use Rattle.model_text.specs.Models.{HasModel, IsRefusedAs as IsNoModelAs}
+use Rattle.model_rules.specs.declared.fault.ExpandFault.{ExpandFault}
+use Rattle.model_rules.specs.declared.fault.ExpandFault.TheVariants as expand
 use Rattle.model_rules.specs.Bounds.{IsAccepted}
 use Rattle.model_rules.specs.Models.{GivenTree, draws_of, fields_of, in_states, initials_of, model_next, setting, worths_by}
+use Rattle.model_rules.specs.ModelFaults.{model_fault}
 use Rattle.model_rules.specs.Naming.{naming_fault}
 use Rattle.model_program.specs.declared.fault.ModelProgramFault.{ModelProgramFault}
 use Rattle.model_program.specs.declared.fault.ModelProgramFault.TheVariants.{Text, Expansion, UnknownGiven, Length, Spelling, Memory}
@@ -32,21 +35,30 @@ pub record IsProgramOf (items : List ItemTree) (given : List GivenTree) (rules :
   pub named : naming_fault items given ≡ None
   pub accepted : IsAccepted rules
 
--- The text is a model's, and the bytes are the text of a program that is the model's and that can be read: it is not too long.
+-- The text is that of a model whose first fault is this, or that has none.
+pub record HasFault (text : List ℕ) (given : List GivenTree) (first : Option ExpandFault) : Type 0 where
+  pub items : List ItemTree
+  pub model : HasModel text items
+  pub fault : model_fault items given ≡ first
+
+-- The text is that of a model without a fault, and the bytes are the text of a program that is the model's and that can be read: it
+-- is not too long.
 pub record IsExpanded (text : List ℕ) (given : List GivenTree) (bytes : List ℕ) : Type 0 where
   pub items : List ItemTree
   pub rules : List RuleTree
   pub model : HasModel text items
+  pub faultless : model_fault items given ≡ None
   pub program : HasProgram bytes rules
   pub same : IsProgramOf items given rules
   pub fits : length bytes ≤ 65536
 
--- Why a text has no program: it is no model, for this reason, or it is one, and is not expanded. Running out of memory can come
--- in place of each but a text that is too long.
-abbrev pub IsRefusedAs : List ℕ → ModelProgramFault → Type 0
-IsRefusedAs text (Text fault) = IsNoModelAs text fault
-IsRefusedAs text (Expansion cause at) = (items : List ItemTree) × HasModel text items
-IsRefusedAs text (UnknownGiven place) = (items : List ItemTree) × HasModel text items
-IsRefusedAs text Length = (items : List ItemTree) × HasModel text items
-IsRefusedAs text Spelling = (items : List ItemTree) × HasModel text items
-IsRefusedAs text Memory = length text ≤ 65536
+-- Why a text has no program, where the caller sets these constants: it is no model, for this reason; or it is one, and this is its
+-- first fault; or it is one without a fault, and what is written of it is too long, or does not read back. Running out of memory can
+-- come in place of each but a text that is too long.
+abbrev pub IsRefusedAs : List ℕ → List GivenTree → ModelProgramFault → Type 0
+IsRefusedAs text given (Text fault) = IsNoModelAs text fault
+IsRefusedAs text given (Expansion cause at) = HasFault text given (Some (expand.At cause at))
+IsRefusedAs text given (UnknownGiven place) = HasFault text given (Some (expand.UnknownGiven place))
+IsRefusedAs text given Length = HasFault text given None
+IsRefusedAs text given Spelling = HasFault text given None
+IsRefusedAs text given Memory = length text ≤ 65536

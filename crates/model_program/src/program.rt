@@ -32,7 +32,7 @@ fn text_of(
 /// neighbours are. `ModelProgramFault` says when each error comes.
 pub fn expanded(alloc: Global, text: &[u8], given: &[Given]) -> Result<Vec<u8>, ModelProgramFault>
     ensures program { IfOk result (λ bytes. IsExpanded text.now (givens_of given.now) bytes.items) }
-    ensures refused { IfErr result (IsRefusedAs text.now) }
+    ensures refused { IfErr result (IsRefusedAs text.now (givens_of given.now)) }
 {
     let items = read_model(alloc, text)?;
     let rules = expand_model(&items, given, alloc)?;
