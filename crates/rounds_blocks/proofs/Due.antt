@@ -21,6 +21,15 @@ module _ (P Q : ℕ → Type 0) (task : Task) (first at : ℕ) (weaker : (u : �
   pub due_more : HoldsOfDue Q task first (at + 1)
   due_more i d low high is = due_at i d low high is (cases_lt i at)
 
+-- the batches from one on behind others
+module _ (P Q : ℕ → Type 0) (task : Task) (first at behind : ℕ) (weaker : (u : ℕ) → P u → Q u) (before : HoldsOfDue P task first at) (next : HoldsOfDue Q task at behind) where
+  joined_at : (i : ℕ) (d : Batch) → first ≤ i → i < behind → IsDue task.due.now i → ((i < at) ⊎ (at ≤ i)) → All Q (slice_index_or task.batches.now i d).nodes
+  joined_at i d low high is (inl h) = All-weaker P Q weaker (slice_index_or task.batches.now i d).nodes (before i d low h is)
+  joined_at i d low high is (inr h) = next i d h high is
+
+  pub due_joined : HoldsOfDue Q task first behind
+  due_joined i d low high is = joined_at i d low high is (cases_lt i at)
+
 -- fewer batches
 pub due_fewer : (P : ℕ → Type 0) (task : Task) (first at behind : ℕ) → behind ≤ at → HoldsOfDue P task first at → HoldsOfDue P task first behind
 due_fewer P task first at behind few all = λ i d low high is. all i d low (omega (arith, high, few)) is

@@ -16,3 +16,4 @@ pub mod Homes
 pub mod Turns
 pub mod OneByOne
 pub mod Hubs
+pub mod Together

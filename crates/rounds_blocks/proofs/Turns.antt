@@ -13,6 +13,8 @@ use Rattle.rounds_blocks.specs.declared.share.Share.{Share}
 use Rattle.rounds_blocks.specs.declared.task.Task.{Task}
 use Rattle.rounds_blocks.specs.Nears.{HaveNear, IsDue, SleepNear, Sleeps}
 use Rattle.rounds_blocks.specs.Rounds.{HaveWords, IsNext, round_from}
+use Rattle.rounds_blocks.specs.declared.spans.Span.{Span}
+use Rattle.rounds_blocks.specs.Spans.{HaveSpans}
 use Rattle.rounds_blocks.specs.Walks.{AreShares, HasNext, HoldsOfDue, HasMoved, IsAsBefore, IsShare, IsShared, IsWalk, SleepersRest}
 use Rattle.rounds_blocks.proofs.Walks.{all_next, mark_cases, same_all, still_rest}
 
@@ -39,8 +41,8 @@ some_batch : (batches : List Batch) (i : ℕ) → i < length batches → Batch
 some_batch [] i inside = absurd (omega (arith, inside))
 some_batch (x ∷ xs) i inside = x
 
-module _ (rules : Rules) (network : Neighbours) (batches : List Batch) (active next : Activity) (shares : List Share) (round : ℕ) (from old new : List (Vec ℕ)) (moved : Bool)
-    (walk : IsWalk rules network batches active shares from old) (written : IsWritten rules network batches active.due.items round from old new) (looked : IsLookedAt batches active next from new moved) where
+module _ (rules : Rules) (network : Neighbours) (batches : List Batch) (active next : Activity) (shares : List Share) (spans : List Span) (round : ℕ) (from old new : List (Vec ℕ)) (moved : Bool)
+    (walk : IsWalk rules network batches active shares spans from old) (written : IsWritten rules network batches active.due.items round from old new) (looked : IsLookedAt batches active next from new moved) where
   -- all nodes are one round on
   pub walked_next : (u : ℕ) → u < length network → state_at new u ≡ round_from rules network round (state_at from) u
   walked_next = all_next rules network batches active.due.items round from old new walk.few walk.next_wide written.wide walk.layout walk.rest written.done written.kept
@@ -72,12 +74,13 @@ module _ (rules : Rules) (network : Neighbours) (batches : List Batch) (active n
   sleepers (inr reads) = λ i d h not. absurd (let e : true ≡ false = sym (looked.all reads i h) ∙ not in cc)
 
   -- the walk behind the round
-  pub walked : IsWalk rules network batches next shares new from
+  pub walked : IsWalk rules network batches next shares spans new from
   walked = record {
     whole = walk.whole;
     layout = walk.layout;
     few = walk.few;
     shared = walk.shared;
+    together = walk.together;
     active = record {
       near = subst (HaveNear network batches) (sym looked.nears) walk.active.near;
       flags = looked.flags;
@@ -149,14 +152,15 @@ looked_as batches old new from from_seen to to_seen moved from_is to_is looked =
     subst (λ (columns : List (Vec ℕ)). IsLookedAt batches old new columns to moved) from_is
     (subst (λ (columns : List (Vec ℕ)). IsLookedAt batches old new from_seen columns moved) to_is looked)
 
--- other shares
-pub with_shares : (rules : Rules) (network : Neighbours) (batches : List Batch) (active : Activity) (old new : List Share) (from to : List (Vec ℕ)) → IsWalk rules network batches active old from to
-    → AreShares rules (length network) (length batches) new → IsWalk rules network batches active new from to
-with_shares rules network batches active old new from to walk shared = record {
+-- other shares and spans
+pub with_shares : (rules : Rules) (network : Neighbours) (batches : List Batch) (active : Activity) (old new : List Share) (old_spans spans : List Span) → HaveSpans (length network) batches spans
+    → (from to : List (Vec ℕ)) → IsWalk rules network batches active old old_spans from to → AreShares rules (length network) (length batches) new → IsWalk rules network batches active new spans from to
+with_shares rules network batches active old new old_spans spans together from to walk shared = record {
   whole = walk.whole;
   layout = walk.layout;
   few = walk.few;
   shared = shared;
+  together = together;
   active = walk.active;
   unread = walk.unread;
   settles = walk.settles;

@@ -12,8 +12,10 @@ use Rattle.rounds_blocks.specs.declared.batch.Batch.{Batch}
 use Rattle.rounds_blocks.specs.declared.task.Task.{Task}
 use Rattle.rounds_blocks.specs.declared.share.Share.{Share}
 use Rattle.rounds_blocks.specs.declared.activity.Activity.{Activity}
+use Rattle.rounds_blocks.specs.declared.spans.Span.{Span}
 use Rattle.rounds_blocks.specs.Batches.{IsBatch, IsLayout}
 use Rattle.rounds_blocks.specs.Nears.{HaveNear, IsDue, Sleeps, StandsIn}
+use Rattle.rounds_blocks.specs.Spans.{HaveSpans}
 use Rattle.rounds_blocks.specs.Rounds.{HaveWords, HasWord, IsNext, round_from}
 
 -- a program on a network, and the words of all nodes by fields
@@ -107,11 +109,12 @@ pub record IsActivity (network : Neighbours) (batches : List Batch) (activity : 
   pub all : activity.settles ≡ false → (i : ℕ) → i < length batches → IsDue activity.due.items i
 
 -- a program's states on the batches of a network, and how far each round has to look
-pub record IsWalk (rules : Rules) (network : Neighbours) (batches : List Batch) (activity : Activity) (shares : List Share) (from to : List (Vec ℕ)) : Type 0 where
+pub record IsWalk (rules : Rules) (network : Neighbours) (batches : List Batch) (activity : Activity) (shares : List Share) (spans : List Span) (from to : List (Vec ℕ)) : Type 0 where
   pub whole : AreRows network
   pub layout : IsLayout network batches
   pub few : length rules.fields ≤ 8
   pub shared : AreShares rules (length network) (length batches) shares
+  pub together : HaveSpans (length network) batches spans
   pub active : IsActivity network batches activity
   pub unread : activity.settles ≡ true → reads_round rules ≡ false
   pub settles : reads_round rules ≡ false → activity.settles ≡ true

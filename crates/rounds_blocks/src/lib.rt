@@ -18,6 +18,7 @@ mod packed;
 mod round;
 mod share;
 mod sharing;
+mod spans;
 mod task;
 mod walk;
 

@@ -38,7 +38,7 @@ fn settle(homes: &mut [usize], nodes: &[u32], batch: usize)
 }
 
 /// For each of so many nodes the batch in which it stands.
-fn homes_of(alloc: Global, nodes: usize, batches: &[Batch]) -> Result<Vec<usize>, AllocError>
+pub fn homes_of(alloc: Global, nodes: usize, batches: &[Batch]) -> Result<Vec<usize>, AllocError>
     requires within { All (λ batch. All (λ u. u < nodes) batch.nodes) batches.now }
     requires once { IsPermutation (numbers_below nodes) (nodes_of batches.now) }
     ensures count { IfOk result (λ homes. length homes.items ≡ nodes) }

@@ -16,6 +16,7 @@ use crate::packed::PackedStates;
 use crate::round::step_due;
 use crate::share::Share;
 use crate::sharing::{Costs, cost_all, saved_by, shares_of, work_all};
+use crate::spans::{Span, spans_of};
 use crate::task::Task;
 use link_net::NetRows;
 use rounds_code::{Block, RowCode};
@@ -38,6 +39,8 @@ pub struct Walk<'a> {
     block: Block<'a>,
     costs: Costs,
     shares: Vec<Share<'a>>,
+    /// Where there are shares: what of the shares' words is copied at once.
+    spans: Vec<Span>,
     activity: Activity<'a>,
     from: Vec<Vec<u32>>,
     to: Vec<Vec<u32>>,
@@ -55,7 +58,7 @@ impl<'a> Model for Walk<'a> {
 
     ghost view = { λ walk. record { rules = walk.block.rules; network = walk.network.now; words = column_words walk.from.items } };
 
-    ghost invariant = { λ walk. IsWalk walk.block.rules walk.network.now walk.batches.now walk.activity walk.shares.items walk.from.items walk.to.items };
+    ghost invariant = { λ walk. IsWalk walk.block.rules walk.network.now walk.batches.now walk.activity walk.shares.items walk.spans.items walk.from.items walk.to.items };
 }
 
 impl<'a> Walk<'a> {
@@ -91,6 +94,7 @@ impl<'a> Walk<'a> {
                 least_saving: 0,
             },
             shares: Vec::new(alloc),
+            spans: Vec::new(alloc),
             activity,
             from,
             to,
@@ -112,7 +116,9 @@ impl<'a> Walk<'a> {
         let all = cost_all(self.batches, &costs);
         let work = (all / (threads.max(1) as u64)).saturating_add(1);
         let shares = shares_of(alloc, code, &self.from, self.batches, &costs, work)?;
+        let spans = spans_of(alloc, self.network.nodes() as usize, self.batches)?;
         self.shares = shares;
+        self.spans = spans;
         self.costs = costs;
         Ok(())
     }
@@ -162,7 +168,7 @@ impl<'a> Walk<'a> {
             from: &self.from,
         };
         work_all(rt, &task, &mut self.shares);
-        copy_shares(rt, &task, &self.shares, &mut self.to);
+        copy_shares(rt, &task, &self.shares, &self.spans, &mut self.to);
         let moved = self.activity.look(self.batches, &self.from, &self.to);
         mem::swap(&mut self.from, &mut self.to);
         moved

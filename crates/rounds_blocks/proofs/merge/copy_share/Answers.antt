@@ -1,22 +1,27 @@
-use Rattle.std.proofs.Common.{◌≤◌, arith}
+use Rattle.std.proofs.Common.{◌≤◌, ℕ, arith}
 use Rattle.rounds_blocks.specs.Rounds.{HasWord}
-use Rattle.rounds_blocks.proofs.Due.{due_more, due_fewer}
+use Rattle.rounds_blocks.specs.Walks.{HoldsOfDue}
+use Rattle.rounds_blocks.proofs.Due.{due_joined, due_fewer}
 use Rattle.rounds_blocks.proofs.merge.copy_share.Goals as goal
 
 pub loop-at-preserved : goal.loop-at-preserved
 loop-at-preserved c =
     let a = c.args in
+    let task = a.task.now in
+    let share = a.share.now in
     let l = c.loop-at in
-    let copy = c.copy_where in
-    let low : a.share.now.first ≤ l.at = l.auto.at in
+    let copy = c.copy_next-at in
+    let from : share.first ≤ l.at = l.invariant.from in
+    let left : (word : ℕ → ℕ) → HoldsOfDue (HasWord word a.source.now) task share.first share.behind → HoldsOfDue (HasWord word a.source.now) task l.at share.behind =
+    λ word all i d low high is. all i d (omega (arith, from, low)) high is in
     record {
+      from = omega (arith, from, copy.ensures.some);
       copied = λ word all.
-          due_more (HasWord word l.column) (HasWord word copy.new.column) a.task.now a.share.now.first l.at
-          (λ u. copy.ensures.kept word u (λ is d. all l.at d low c.loop-at-test.true is))
+          due_joined (HasWord word l.column) (HasWord word copy.new.column) task share.first l.at copy.result
+          (λ u. copy.ensures.kept word u (left word all))
           (l.invariant.copied word all)
-          (λ d is. copy.ensures.copied word d is (all l.at d low c.loop-at-test.true is));
-      kept = λ word u all here.
-          copy.ensures.kept word u (λ is d. all l.at d low c.loop-at-test.true is) (l.invariant.kept word u all here);
+          (copy.ensures.copied word (left word all));
+      kept = λ word u all here. copy.ensures.kept word u (left word all) (l.invariant.kept word u all here);
     }
 
 pub returns-clause-copied : goal.returns-clause-copied

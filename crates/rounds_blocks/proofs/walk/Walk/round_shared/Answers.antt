@@ -57,8 +57,8 @@ looked : (g : Over) (c : goal.After-swap g) → IsLookedAt c.self.inside.batches
 looked g c =
     let s = c.self.inside in
     let e = c.look-moved.ensures in
-    let made : c.deref-7.result.now ≡ c.copy_shares.new.to = c.deref-7.ensures.value ∙ refilled s.to.len c.copy_shares.new.to s.to.items (c.copy_shares.auto.to ∙ c.deref_mut-2.ensures.len) in
-    looked_as s.batches.now s.activity c.look-moved.new.self s.from.items c.deref-6.result.now c.copy_shares.new.to c.deref-7.result.now c.look-moved.result c.deref-6.ensures.value made
+    let made : c.deref-8.result.now ≡ c.copy_shares.new.to = c.deref-8.ensures.value ∙ refilled s.to.len c.copy_shares.new.to s.to.items (c.copy_shares.auto.to ∙ c.deref_mut-2.ensures.len) in
+    looked_as s.batches.now s.activity c.look-moved.new.self s.from.items c.deref-7.result.now c.copy_shares.new.to c.deref-8.result.now c.look-moved.result c.deref-7.ensures.value made
     (record { nears = e.nears; settles = e.settles; flags = e.flags; changes = e.changes; all = e.all; noted = e.noted; awake = e.awake; some = e.some; none = e.none })
 
 pub invariant_of-self : goal.invariant_of-self
@@ -69,11 +69,11 @@ invariant_of-self g c =
     let shares = c.work_all.new.shares in
     let made = refilled s.shares.len shares s.shares.items (c.work_all.auto.shares ∙ c.deref_mut.ensures.len) in
     let shared = shares_after rules (length s.network.now) (length s.batches.now) c.deref_mut.result.now shares c.work_all.auto.shares c.work_all.ensures.first c.work_all.ensures.behind (were g c) (each_is g c) in
-    subst (λ (kept : List Share). IsWalk rules s.network.now s.batches.now next kept c.swap.new.x.items c.swap.new.y.items) (sym made)
-    (subst (λ (from : List (Vec ℕ)). IsWalk rules s.network.now s.batches.now next shares from c.swap.new.y.items) (sym (new_is g c))
-    (subst (λ (to : List (Vec ℕ)). IsWalk rules s.network.now s.batches.now next shares c.copy_shares.new.to to) (sym (old_is g c))
-    (with_shares rules s.network.now s.batches.now next s.shares.items shares c.copy_shares.new.to s.from.items
-    (walked rules s.network.now s.batches.now s.activity next s.shares.items c.args.round s.from.items s.to.items c.copy_shares.new.to c.look-moved.result c.self.invariant (written g c) (looked g c))
+    subst (λ (kept : List Share). IsWalk rules s.network.now s.batches.now next kept s.spans.items c.swap.new.x.items c.swap.new.y.items) (sym made)
+    (subst (λ (from : List (Vec ℕ)). IsWalk rules s.network.now s.batches.now next shares s.spans.items from c.swap.new.y.items) (sym (new_is g c))
+    (subst (λ (to : List (Vec ℕ)). IsWalk rules s.network.now s.batches.now next shares s.spans.items c.copy_shares.new.to to) (sym (old_is g c))
+    (with_shares rules s.network.now s.batches.now next s.shares.items shares s.spans.items s.spans.items c.self.invariant.together c.copy_shares.new.to s.from.items
+    (walked rules s.network.now s.batches.now s.activity next s.shares.items s.spans.items c.args.round s.from.items s.to.items c.copy_shares.new.to c.look-moved.result c.self.invariant (written g c) (looked g c))
     shared)))
 
 pub returns-clause-next : goal.returns-clause-next
@@ -82,7 +82,7 @@ returns-clause-next g c = λ u inside.
     let view = c.self.view_is in
     let network_is : s.network.now ≡ c.args.self.now.network = ap (λ (w : Walked). w.network) view in
     ap (λ (columns : List (Vec ℕ)). state_at columns u) (new_is g c)
-    ∙ walked_next s.block.rules s.network.now s.batches.now s.activity c.look-moved.new.self s.shares.items c.args.round s.from.items s.to.items c.copy_shares.new.to c.look-moved.result c.self.invariant (written g c) (looked g c)
+    ∙ walked_next s.block.rules s.network.now s.batches.now s.activity c.look-moved.new.self s.shares.items s.spans.items c.args.round s.from.items s.to.items c.copy_shares.new.to c.look-moved.result c.self.invariant (written g c) (looked g c)
     u (omega (arith, inside, ap length network_is))
     ∙ ap (λ (w : Walked). round_from w.rules w.network c.args.round (state_by w.words) u) view
 
@@ -92,7 +92,7 @@ returns-clause-rests g c = λ still u inside.
     let view = c.self.view_is in
     let network_is : s.network.now ≡ c.args.self.now.network = ap (λ (w : Walked). w.network) view in
     ap (λ (columns : List (Vec ℕ)). state_at columns u) (new_is g c)
-    ∙ walked_rests s.block.rules s.network.now s.batches.now s.activity c.look-moved.new.self s.shares.items c.args.round s.from.items s.to.items c.copy_shares.new.to c.look-moved.result c.self.invariant (written g c) (looked g c)
+    ∙ walked_rests s.block.rules s.network.now s.batches.now s.activity c.look-moved.new.self s.shares.items s.spans.items c.args.round s.from.items s.to.items c.copy_shares.new.to c.look-moved.result c.self.invariant (written g c) (looked g c)
     still u (omega (arith, inside, ap length network_is))
     ∙ ap (λ (w : Walked). state_by w.words u) view
 
@@ -102,7 +102,7 @@ returns-clause-moves g c = λ moved unread.
     let view = c.self.view_is in
     let network_is : s.network.now ≡ c.args.self.now.network = ap (λ (w : Walked). w.network) view in
     let rules_are : s.block.rules ≡ c.args.self.now.rules = ap (λ (w : Walked). w.rules) view in
-    let found = walked_moves s.block.rules s.network.now s.batches.now s.activity c.look-moved.new.self s.shares.items c.args.round s.from.items s.to.items c.copy_shares.new.to c.look-moved.result c.self.invariant (written g c) (looked g c)
+    let found = walked_moves s.block.rules s.network.now s.batches.now s.activity c.look-moved.new.self s.shares.items s.spans.items c.args.round s.from.items s.to.items c.copy_shares.new.to c.look-moved.result c.self.invariant (written g c) (looked g c)
     moved (ap (λ (r : Rules). reads_round r) rules_are ∙ unread) in (
       found.0,
       omega (arith, found.1, ap length network_is),
