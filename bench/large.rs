@@ -1,6 +1,11 @@
 //! Loops written by hand over a binary network file: `large FILE PROGRAM ROUNDS THREADS REPORT` prints the seconds of the rounds and a sum of the
-//! states after them; they begin with the field s of the report. One field, plain rows; threads share the nodes by their neighbours and start anew in each round.
+//! words of the first field after them; they begin with the field s of the report. One field, two of PageRank and eight of the heavy program, which
+//! heavy.py makes (HEAVY names its file); plain rows; threads share the nodes by their neighbours and start anew in each round.
 use std::time::Instant;
+
+const M: u32 = u32::MAX;
+
+include!(env!("HEAVY"));
 
 struct Network {
     offsets: Vec<usize>,
@@ -29,25 +34,45 @@ fn parts(network: &Network, threads: usize) -> Vec<usize> {
     parts
 }
 
-fn round<F: Fn(u32, &[u32], &[u32]) -> u32 + Sync>(network: &Network, parts: &[usize], from: &[u32], to: &mut [u32], next: &F) {
-    let step = |first: usize, part: &mut [u32]| {
-        for (k, word) in part.iter_mut().enumerate() {
+/// The next words of the nodes of a network by those before: `next` gives those of a node by its number, its row and the columns.
+fn round<const F: usize, N>(network: &Network, parts: &[usize], from: &[Vec<u32>; F], to: &mut [Vec<u32>; F], next: &N)
+where
+    N: Fn(usize, &[u32], &[&[u32]; F]) -> [u32; F] + Sync,
+{
+    let from: [&[u32]; F] = from.each_ref().map(|column| column.as_slice());
+    let step = |first: usize, nodes: usize, columns: [&mut [u32]; F]| {
+        for k in 0..nodes {
             let u = first + k;
-            *word = next(from[u], &network.neighbours[network.offsets[u]..network.offsets[u + 1]], from);
+            let words = next(u, &network.neighbours[network.offsets[u]..network.offsets[u + 1]], &from);
+            for f in 0..F {
+                columns[f][k] = words[f];
+            }
         }
     };
+    let mut rest: [&mut [u32]; F] = to.each_mut().map(|column| column.as_mut_slice());
     if parts.len() == 2 {
-        return step(0, to);
+        return step(0, parts[1], rest);
     }
     std::thread::scope(|scope| {
-        let mut rest = to;
         for pair in parts.windows(2) {
-            let (part, others) = rest.split_at_mut(pair[1] - pair[0]);
+            let nodes = pair[1] - pair[0];
+            let (part, others) = split(rest, nodes);
             rest = others;
             let step = &step;
-            scope.spawn(move || step(pair[0], part));
+            scope.spawn(move || step(pair[0], nodes, part));
         }
     });
+}
+
+/// The first words of columns, and all others.
+fn split<const F: usize>(columns: [&mut [u32]; F], count: usize) -> ([&mut [u32]; F], [&mut [u32]; F]) {
+    let mut others = Vec::new();
+    let fronts = columns.map(|column| {
+        let (front, back) = column.split_at_mut(count);
+        others.push(back);
+        front
+    });
+    (fronts, others.try_into().unwrap_or_else(|_| unreachable!()))
 }
 
 /// The field s of each node, which stands first in the lines of a report.
@@ -56,7 +81,10 @@ fn states(path: &str) -> Vec<u32> {
     text.lines().skip(1).map(|line| line.split_once("s=").unwrap().1.split(' ').next().unwrap().parse().unwrap()).collect()
 }
 
-fn run<F: Fn(u32, &[u32], &[u32]) -> u32 + Sync>(network: &Network, rounds: usize, threads: usize, open: Vec<u32>, next: F) {
+fn run<const F: usize, N>(network: &Network, rounds: usize, threads: usize, open: [Vec<u32>; F], next: N)
+where
+    N: Fn(usize, &[u32], &[&[u32]; F]) -> [u32; F] + Sync,
+{
     let mut from = open;
     let mut to = from.clone();
     let parts = parts(network, threads);
@@ -66,25 +94,31 @@ fn run<F: Fn(u32, &[u32], &[u32]) -> u32 + Sync>(network: &Network, rounds: usiz
         std::mem::swap(&mut from, &mut to);
     }
     let seconds = start.elapsed().as_secs_f64();
-    println!("{seconds:.4} {}", from.iter().map(|word| *word as u64).sum::<u64>());
+    println!("{seconds:.4} {}", from[0].iter().map(|word| *word as u64).sum::<u64>());
 }
 
 fn main() {
     let words: Vec<String> = std::env::args().collect();
     let network = read(&words[1]);
+    let nodes = network.offsets.len() - 1;
     let (rounds, threads) = (words[3].parse().unwrap(), words[4].parse().unwrap());
-    let open = states(&words[5]);
+    let open = || states(&words[5]);
     match words[2].as_str() {
-        "distance" => run(&network, rounds, threads, open, |own, row, at| {
-            row.iter().fold(own, |least, w| least.min(at[*w as usize].saturating_add(1)))
+        "distance" => run(&network, rounds, threads, [open()], |u, row, [at]| {
+            [row.iter().fold(at[u], |least, w| least.min(at[*w as usize].saturating_add(1)))]
         }),
-        "majority" => run(&network, rounds, threads, open, |_, row, at| {
+        "majority" => run(&network, rounds, threads, [open()], |_, row, [at]| {
             let ones = row.iter().fold(0u32, |sum, w| sum.saturating_add(at[*w as usize]));
-            (ones.saturating_add(ones) > row.len() as u32) as u32
+            [(ones.saturating_add(ones) > row.len() as u32) as u32]
         }),
-        _ => run(&network, rounds, threads, open, |own, row, at| {
+        "life" => run(&network, rounds, threads, [open()], |u, row, [at]| {
             let living = row.iter().filter(|w| at[**w as usize] != 0).count();
-            (living == 3 || (living == 2 && own != 0)) as u32
+            [(living == 3 || (living == 2 && at[u] != 0)) as u32]
         }),
+        "pagerank" => run(&network, rounds, threads, [open(), vec![0; nodes]], |u, row, [rank, share]| {
+            let sum = row.iter().fold(0u32, |sum, w| sum.saturating_add(share[*w as usize]));
+            [15_000u32.saturating_add(sum.saturating_mul(85) / 100), rank[u] / (row.len() as u32).max(1)]
+        }),
+        _ => run(&network, rounds, threads, std::array::from_fn(|k| vec![k as u32; nodes]), |u, row, now: &[&[u32]; 8]| heavy_node(u, row, now)),
     }
 }
