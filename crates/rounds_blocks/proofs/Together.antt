@@ -62,7 +62,8 @@ module _ (nodes : ℕ) (batches : List Batch) (old new : List Span) (span : Span
   pub spans_more : HaveSpans nodes batches new
   spans_more i d high = span_at i d high (cases_lt i n)
 
-some_batch : (batches : List Batch) (i : ℕ) → i < length batches → Batch
+-- a batch of a list that has one
+pub some_batch : (batches : List Batch) (i : ℕ) → i < length batches → Batch
 some_batch [] i inside = absurd (omega (arith, inside))
 some_batch (x ∷ xs) i inside = x
 

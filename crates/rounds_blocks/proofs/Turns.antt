@@ -16,6 +16,7 @@ use Rattle.rounds_blocks.specs.Rounds.{HaveWords, IsNext, round_from}
 use Rattle.rounds_blocks.specs.declared.spans.Span.{Span}
 use Rattle.rounds_blocks.specs.Spans.{HaveSpans}
 use Rattle.rounds_blocks.specs.Walks.{AreShares, HasNext, HoldsOfDue, HasMoved, IsAsBefore, IsShare, IsShared, IsWalk, SleepersRest}
+use Rattle.rounds_blocks.proofs.Together.{some_batch}
 use Rattle.rounds_blocks.proofs.Walks.{all_next, mark_cases, same_all, still_rest}
 
 -- what a round writes: the next words of the nodes of marked batches, and it keeps those that stand there
@@ -36,10 +37,6 @@ pub record IsLookedAt (batches : List Batch) (old new : Activity) (from to : Lis
   pub awake : old.settles ≡ true → (i : ℕ) (d : Near) → i < length batches → Sleeps new.due.items i → SleepNear new.changed.items (slice_index_or old.nears.now i d)
   pub some : moved ≡ true → old.settles ≡ true → HasMoved batches from to
   pub none : moved ≡ false → (old.settles ≡ true) × ((i : ℕ) → i < length batches → Sleeps new.changed.items i)
-
-some_batch : (batches : List Batch) (i : ℕ) → i < length batches → Batch
-some_batch [] i inside = absurd (omega (arith, inside))
-some_batch (x ∷ xs) i inside = x
 
 module _ (rules : Rules) (network : Neighbours) (batches : List Batch) (active next : Activity) (shares : List Share) (spans : List Span) (round : ℕ) (from old new : List (Vec ℕ)) (moved : Bool)
     (walk : IsWalk rules network batches active shares spans from old) (written : IsWritten rules network batches active.due.items round from old new) (looked : IsLookedAt batches active next from new moved) where

@@ -19,7 +19,7 @@ const LANES: usize = 256;
 const FEWEST_ALONE: usize = 8;
 
 /// The second of these degrees, or 0 where there is none.
-fn second_degree(degrees: &[u32]) -> u32
+pub fn second_degree(degrees: &[u32]) -> u32
     ensures exact { result ≡ slice_index degrees.now 1 }
 {
     if degrees.len() < 2 {

@@ -40,7 +40,7 @@ fn copy_where(task: &Task<'_>, at: usize, source: &[u32], column: &mut [u32])
 /// Whether all these batches were computed.
 fn are_due(due: &[bool], first: usize, behind: usize) -> bool
     requires inside { behind ≤ length due.now }
-    ensures exact { IsTrue result → (i : ℕ) → first ≤ i → i < behind → IsDue due.now i }
+    ensures due { IsTrue result → (i : ℕ) → first ≤ i → i < behind → IsDue due.now i }
 {
     for at in first..behind {
         if !due[at] {

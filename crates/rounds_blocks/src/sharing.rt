@@ -5,6 +5,7 @@ ghost use Rattle.rule_check.specs.Value.{Rules};
 ghost use Rattle.rounds_blocks.specs.Rounds.{HaveWords};
 ghost use Rattle.rounds_blocks.specs.Walks.{IsTask, IsShare, IsShared, AreShares, HasNext, HoldsOfDue};
 
+use crate::alone::second_degree;
 use crate::batch::Batch;
 use crate::line::each_in_line;
 use crate::share::{Share, work};
@@ -29,6 +30,18 @@ pub struct Costs {
 /// that are as long as those beside them share their rows.
 const SLOT: u64 = 4;
 
+/// What a node takes beside the program's instructions, as many of these: its words are read and written.
+const NODE_READ: u64 = 24;
+
+/// What a neighbour takes that lies anywhere.
+const READ: u64 = 16;
+
+/// What a neighbour takes that is read with those before and behind it.
+const READ_IN_RUN: u64 = 4;
+
+/// What a slot takes, however few neighbours stand in it.
+const SLOT_READ: u64 = 256;
+
 /// What it costs to compute a batch.
 fn cost_of(batch: &Batch, costs: &Costs) -> u64 {
     let nodes = batch.nodes.count() as u64;
@@ -39,11 +52,37 @@ fn cost_of(batch: &Batch, costs: &Costs) -> u64 {
         .saturating_add(ends.saturating_mul(costs.end))
 }
 
-/// What it costs to compute all of these batches.
-pub fn cost_all(batches: &[Batch], costs: &Costs) -> u64 {
+/// What the neighbours in a batch's slots take to be read. Those of a node that has more than all others are read side by side, not
+/// slot by slot.
+fn reading_of(batch: &Batch) -> u64 {
+    let slots = second_degree(&batch.degrees) as u64;
+    let mut sum = slots.saturating_mul(SLOT_READ);
+    for slot in &batch.slots {
+        let count = slot.neighbours.count() as u64;
+        let each = if slot.neighbours.are_in_runs() {
+            READ_IN_RUN
+        } else {
+            READ
+        };
+        sum = sum.saturating_add(count.saturating_mul(each));
+    }
+    sum
+}
+
+/// How long it takes to compute a batch: what its instructions cost, and what it takes to read and write words, as many instructions. The
+/// numbers were fitted to times of batches at random and on a power law (bench/history.md).
+fn time_of(batch: &Batch, costs: &Costs) -> u64 {
+    let nodes = batch.nodes.count() as u64;
+    cost_of(batch, costs)
+        .saturating_add(nodes.saturating_mul(NODE_READ))
+        .saturating_add(reading_of(batch))
+}
+
+/// How long it takes to compute all of these batches.
+pub fn time_of_all(batches: &[Batch], costs: &Costs) -> u64 {
     let mut sum: u64 = 0;
     for batch in batches {
-        sum = sum.saturating_add(cost_of(batch, costs));
+        sum = sum.saturating_add(time_of(batch, costs));
     }
     sum
 }
@@ -77,16 +116,16 @@ pub fn saved_by(batches: &[Batch], due: &[bool], shares: &[Share<'_>], costs: &C
     all.saturating_sub(most)
 }
 
-/// The end of the shortest share from this batch on that costs as much as this, or else the end of the batches.
-fn end_of(batches: &[Batch], first: usize, costs: &Costs, work: u64) -> usize
+/// The end of the shortest share from this batch on that takes as long as this, or else the end of the batches.
+fn end_of(batches: &[Batch], first: usize, costs: &Costs, time: u64) -> usize
     requires some { first < length batches.now }
     ensures some { first < result }
     ensures few { result ≤ length batches.now }
 {
     let mut sum: u64 = 0;
     for at in first..batches.len() {
-        sum = sum.saturating_add(cost_of(&batches[at], costs));
-        if sum >= work {
+        sum = sum.saturating_add(time_of(&batches[at], costs));
+        if sum >= time {
             return at + 1;
         }
     }
@@ -128,14 +167,14 @@ fn share_of<'a>(
     })
 }
 
-/// These batches in shares, each with as much work as this.
+/// These batches in shares, each of which takes as long as this.
 pub fn shares_of<'a>(
     alloc: Global,
     code: &'a RowCode<'a>,
     columns: &[Vec<u32>],
     batches: &[Batch],
     costs: &Costs,
-    work: u64,
+    time: u64,
 ) -> Result<Vec<Share<'a>>, AllocError>
     requires fields { length columns.now ≡ length code.now.fields }
     ensures shares { IfOk result (λ shares. (nodes : ℕ) → HaveWords nodes columns.now → AreShares code.now nodes (length batches.now) shares.items) }
@@ -143,7 +182,7 @@ pub fn shares_of<'a>(
     let mut shares = Vec::new(alloc);
     let mut first = 0;
     while first < batches.len() {
-        let behind = end_of(batches, first, costs, work);
+        let behind = end_of(batches, first, costs, time);
         shares.push(share_of(alloc, code, columns, first, behind)?)?;
         first = behind;
     }

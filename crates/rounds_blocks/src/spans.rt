@@ -28,7 +28,7 @@ const NOTHING: Span = Span {
 
 /// Whether these nodes are in the range.
 fn are_inside(nodes: &[u32], low: usize, high: usize) -> bool
-    ensures exact { IsTrue result → All (IsInside low high) nodes.now }
+    ensures within { IsTrue result → All (IsInside low high) nodes.now }
 {
     for node in nodes {
         let place = *node as usize;
@@ -42,7 +42,7 @@ fn are_inside(nodes: &[u32], low: usize, high: usize) -> bool
 /// Whether the nodes of these batches are in the range.
 fn batches_inside(batches: &[Batch], first: usize, behind: usize, low: usize, high: usize) -> bool
     requires inside { behind ≤ length batches.now }
-    ensures exact { IsTrue result → (i : ℕ) (d : Batch) → first ≤ i → i < behind → All (IsInside low high) (slice_index_or batches.now i d).nodes }
+    ensures within { IsTrue result → (i : ℕ) (d : Batch) → first ≤ i → i < behind → All (IsInside low high) (slice_index_or batches.now i d).nodes }
 {
     for at in first..behind {
         if !are_inside(batches[at].nodes.as_slice(), low, high) {
@@ -55,7 +55,7 @@ fn batches_inside(batches: &[Batch], first: usize, behind: usize, low: usize, hi
 /// Whether the nodes of the range stand in these batches.
 fn homes_inside(homes: &[usize], low: usize, high: usize, first: usize, behind: usize) -> bool
     requires inside { high ≤ length homes.now }
-    ensures exact { IsTrue result → (u : ℕ) → low ≤ u → u < high → IsInside first behind (slice_index homes.now u) }
+    ensures within { IsTrue result → (u : ℕ) → low ≤ u → u < high → IsInside first behind (slice_index homes.now u) }
 {
     for node in low..high {
         let home = homes[node];
@@ -69,7 +69,7 @@ fn homes_inside(homes: &[usize], low: usize, high: usize, first: usize, behind: 
 /// Whether a span from this batch on says what is so.
 fn is_span(batches: &[Batch], homes: &[usize], first: usize, span: &Span) -> bool
     requires homes { AreHomes batches.now (length homes.now) homes.now }
-    ensures exact { IsTrue result → IsSpan (length homes.now) batches.now first span.now }
+    ensures span { IsTrue result → IsSpan (length homes.now) batches.now first span.now }
 {
     if span.behind > batches.len() {
         return false;

@@ -15,7 +15,7 @@ use crate::merge::copy_shares;
 use crate::packed::PackedStates;
 use crate::round::step_due;
 use crate::share::Share;
-use crate::sharing::{Costs, cost_all, saved_by, shares_of, work_all};
+use crate::sharing::{Costs, saved_by, shares_of, time_of_all, work_all};
 use crate::spans::{Span, spans_of};
 use crate::task::Task;
 use link_net::NetRows;
@@ -101,7 +101,7 @@ impl<'a> Walk<'a> {
         })
     }
 
-    /// Gives each of so many threads a share of the batches of a round, with about as much work by these costs: a hub
+    /// Gives each of so many threads a share of the batches of a round, which takes about as long by these costs: a hub
     /// counts by its neighbours.
     pub fn share(
         &mut self,
@@ -113,9 +113,9 @@ impl<'a> Walk<'a> {
         requires code { code.now ≡ self.old.rules }
         ensures same { self.new ≡ self.old }
     {
-        let all = cost_all(self.batches, &costs);
-        let work = (all / (threads.max(1) as u64)).saturating_add(1);
-        let shares = shares_of(alloc, code, &self.from, self.batches, &costs, work)?;
+        let all = time_of_all(self.batches, &costs);
+        let time = (all / (threads.max(1) as u64)).saturating_add(1);
+        let shares = shares_of(alloc, code, &self.from, self.batches, &costs, time)?;
         let spans = spans_of(alloc, self.network.nodes() as usize, self.batches)?;
         self.shares = shares;
         self.spans = spans;
