@@ -10,12 +10,10 @@ use Rattle.rounds_blocks.specs.declared.activity.Activity.{Activity}
 use Rattle.rounds_blocks.specs.declared.batch.Batch.{Batch}
 use Rattle.rounds_blocks.specs.declared.near.Near.{Near}
 use Rattle.rounds_blocks.specs.declared.share.Share.{Share}
-use Rattle.rounds_blocks.specs.declared.task.Task.{Task}
+use Rattle.rounds_blocks.specs.declared.share.Shares.{Shares}
 use Rattle.rounds_blocks.specs.Nears.{HaveNear, IsDue, SleepNear, Sleeps}
 use Rattle.rounds_blocks.specs.Rounds.{HaveWords, IsNext, round_from}
-use Rattle.rounds_blocks.specs.declared.spans.Span.{Span}
-use Rattle.rounds_blocks.specs.Spans.{HaveSpans}
-use Rattle.rounds_blocks.specs.Walks.{AreShares, HasNext, HoldsOfDue, HasMoved, IsAsBefore, IsShare, IsShared, IsWalk, SleepersRest}
+use Rattle.rounds_blocks.specs.Walks.{AreGiven, AreShares, HasMoved, IsAsBefore, IsShare, IsShared, IsWalk, SleepersRest}
 use Rattle.rounds_blocks.proofs.Together.{some_batch}
 use Rattle.rounds_blocks.proofs.Walks.{all_next, mark_cases, same_all, still_rest}
 
@@ -38,8 +36,8 @@ pub record IsLookedAt (batches : List Batch) (old new : Activity) (from to : Lis
   pub some : moved ≡ true → old.settles ≡ true → HasMoved batches from to
   pub none : moved ≡ false → (old.settles ≡ true) × ((i : ℕ) → i < length batches → Sleeps new.changed.items i)
 
-module _ (rules : Rules) (network : Neighbours) (batches : List Batch) (active next : Activity) (shares : List Share) (spans : List Span) (round : ℕ) (from old new : List (Vec ℕ)) (moved : Bool)
-    (walk : IsWalk rules network batches active shares spans from old) (written : IsWritten rules network batches active.due.items round from old new) (looked : IsLookedAt batches active next from new moved) where
+module _ (rules : Rules) (network : Neighbours) (batches : List Batch) (active next : Activity) (shares : Shares) (round : ℕ) (from old new : List (Vec ℕ)) (moved : Bool)
+    (walk : IsWalk rules network batches active shares from old) (written : IsWritten rules network batches active.due.items round from old new) (looked : IsLookedAt batches active next from new moved) where
   -- all nodes are one round on
   pub walked_next : (u : ℕ) → u < length network → state_at new u ≡ round_from rules network round (state_at from) u
   walked_next = all_next rules network batches active.due.items round from old new walk.few walk.next_wide written.wide walk.layout walk.rest written.done written.kept
@@ -71,13 +69,12 @@ module _ (rules : Rules) (network : Neighbours) (batches : List Batch) (active n
   sleepers (inr reads) = λ i d h not. absurd (let e : true ≡ false = sym (looked.all reads i h) ∙ not in cc)
 
   -- the walk behind the round
-  pub walked : IsWalk rules network batches next shares spans new from
+  pub walked : IsWalk rules network batches next shares new from
   walked = record {
     whole = walk.whole;
     layout = walk.layout;
     few = walk.few;
     shared = walk.shared;
-    together = walk.together;
     active = record {
       near = subst (HaveNear network batches) (sym looked.nears) walk.active.near;
       flags = looked.flags;
@@ -116,48 +113,25 @@ module _ (rules : Rules) (nodes batches : ℕ) (before after : List Share) (coun
     covered = λ some i inside. covered_after (omega (arith, some, count)) i inside;
   }
 
-some_share : (shares : List Share) (s : ℕ) → s < length shares → Share
+pub some_share : (shares : List Share) (s : ℕ) → s < length shares → Share
 some_share [] s inside = absurd (omega (arith, inside))
 some_share (x ∷ xs) s inside = x
 
--- what shares that have each batch write
-pub written_shared : (rules : Rules) (task : Task) (shares : List Share) (old new : List (Vec ℕ)) → length new ≡ length rules.fields → HaveWords (length task.network.now) new
-    → ((i : ℕ) → i < length task.batches.now → (s : ℕ) × IsShared shares i s)
-    → All (λ share. HoldsOfDue (HasNext rules task new) task share.first share.behind) shares
-    → ((u : ℕ) → HasNext rules task old u → HasNext rules task new u)
-    → IsWritten rules task.network.now task.batches.now task.due.now task.round task.from.now old new
-written_shared rules task shares old new wide long covered copied kept = record {
-  wide = wide;
-  long = long;
-  done = λ i d h is.
-      let found = covered i h in
-      let share = some_share shares found.0 found.1.there in
-      copied found.0 share found.1.there i d (found.1.from_first share) (found.1.before_end share) is;
-  kept = kept;
-}
-
--- the same with other names for the marks and the states before
-pub written_as : (rules : Rules) (network : Neighbours) (batches : List Batch) (due due_seen : List Bool) (round : ℕ) (from from_seen old new : List (Vec ℕ)) → due_seen ≡ due → from_seen ≡ from
-    → IsWritten rules network batches due_seen round from_seen old new → IsWritten rules network batches due round from old new
-written_as rules network batches due due_seen round from from_seen old new due_is from_is written =
-    subst (λ (marks : List Bool). IsWritten rules network batches marks round from old new) due_is
-    (subst (λ (columns : List (Vec ℕ)). IsWritten rules network batches due_seen round columns old new) from_is written)
-
+-- the same with other names for the states before and after
 pub looked_as : (batches : List Batch) (old new : Activity) (from from_seen to to_seen : List (Vec ℕ)) (moved : Bool) → from_seen ≡ from → to_seen ≡ to
     → IsLookedAt batches old new from_seen to_seen moved → IsLookedAt batches old new from to moved
 looked_as batches old new from from_seen to to_seen moved from_is to_is looked =
     subst (λ (columns : List (Vec ℕ)). IsLookedAt batches old new columns to moved) from_is
     (subst (λ (columns : List (Vec ℕ)). IsLookedAt batches old new from_seen columns moved) to_is looked)
 
--- other shares and spans
-pub with_shares : (rules : Rules) (network : Neighbours) (batches : List Batch) (active : Activity) (old new : List Share) (old_spans spans : List Span) → HaveSpans (length network) batches spans
-    → (from to : List (Vec ℕ)) → IsWalk rules network batches active old old_spans from to → AreShares rules (length network) (length batches) new → IsWalk rules network batches active new spans from to
-with_shares rules network batches active old new old_spans spans together from to walk shared = record {
+-- other shares
+pub with_shares : (rules : Rules) (network : Neighbours) (batches : List Batch) (active : Activity) (old new : Shares) (from to : List (Vec ℕ)) → IsWalk rules network batches active old from to
+    → AreGiven rules (length network) batches new → IsWalk rules network batches active new from to
+with_shares rules network batches active old new from to walk shared = record {
   whole = walk.whole;
   layout = walk.layout;
   few = walk.few;
   shared = shared;
-  together = together;
   active = walk.active;
   unread = walk.unread;
   settles = walk.settles;

@@ -1,5 +1,5 @@
 -- A round over states that stand in columns.
-use Rattle.std.specs.Prelude.{ℕ, ◌≡◌, ◌<◌, List, length, slice_index, All}
+use Rattle.std.specs.Prelude.{ℕ, ◌≡◌, ◌<◌, ◌≤◌, ◌-◌, List, length, slice_index, All}
 use Rattle.std.specs.Global.{Vec}
 use Rattle.rule_check.specs.Value.{Rules}
 use Rattle.link_net.specs.Neighbours.{Neighbours}
@@ -23,3 +23,11 @@ HasWord word column u = slice_index column u ≡ word u
 -- the columns have these words for a node, field by field
 abbrev pub HasWords : (ℕ → ℕ → ℕ) → List (Vec ℕ) → ℕ → Type 0
 HasWords words columns u = (k : ℕ) → k < length columns → lane (column_words columns) u k ≡ words u k
+
+-- the word of a node's first field one round after the states of columns
+abbrev pub next_word : Rules → Neighbours → ℕ → List (Vec ℕ) → ℕ → ℕ
+next_word rules network round from u = slice_index (round_from rules network round (state_at from) u).words 0
+
+-- a part of a column, which begins with the node `low`, has this word for a node that is not before that one
+abbrev pub HasWordFrom : ℕ → (ℕ → ℕ) → List ℕ → ℕ → Type 0
+HasWordFrom low word part u = low ≤ u → slice_index part (u - low) ≡ word u

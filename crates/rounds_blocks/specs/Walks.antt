@@ -1,5 +1,5 @@
 -- Rounds in which only some batches are computed.
-use Rattle.std.specs.Prelude.{ℕ, ◌≡◌, ◌≢◌, ◌<◌, ◌≤◌, List, length, map, All, Bool, true, false, slice_index_or}
+use Rattle.std.specs.Prelude.{ℕ, ◌≡◌, ◌≢◌, ◌<◌, ◌≤◌, List, [], ◌∷◌, length, map, All, Bool, true, false, slice_index_or}
 use Rattle.std.specs.Global.{Vec}
 use Rattle.std.specs.List.{range_with_len}
 use Rattle.rule_check.specs.declared.state.State.{State}
@@ -11,12 +11,13 @@ use Rattle.rounds_code.specs.Block.{state_at}
 use Rattle.rounds_blocks.specs.declared.batch.Batch.{Batch}
 use Rattle.rounds_blocks.specs.declared.task.Task.{Task}
 use Rattle.rounds_blocks.specs.declared.share.Share.{Share}
+use Rattle.rounds_blocks.specs.declared.share.Shares.{Shares}
 use Rattle.rounds_blocks.specs.declared.activity.Activity.{Activity}
 use Rattle.rounds_blocks.specs.declared.spans.Span.{Span}
 use Rattle.rounds_blocks.specs.Batches.{IsBatch, IsLayout}
 use Rattle.rounds_blocks.specs.Nears.{HaveNear, IsDue, Sleeps, StandsIn}
-use Rattle.rounds_blocks.specs.Spans.{HaveSpans}
-use Rattle.rounds_blocks.specs.Rounds.{HaveWords, HasWord, IsNext, round_from}
+use Rattle.rounds_blocks.specs.Spans.{IsInside, HaveSpans}
+use Rattle.rounds_blocks.specs.Rounds.{HaveWords, HasWord, HasWordFrom, IsNext, next_word, round_from}
 
 -- a program on a network, and the words of all nodes by fields
 pub record Walked : Type 0 where
@@ -84,6 +85,67 @@ pub record AreShares (rules : Rules) (nodes batches : ℕ) (shares : List Share)
   pub each : All (IsShare rules nodes batches) shares
   pub covered : 0 < length shares → (i : ℕ) → i < batches → (s : ℕ) × IsShared shares i s
 
+-- a thread's part of each round whose nodes are in a range of numbers
+pub record IsRange (rules : Rules) (batches : List Batch) (share : Share) : Type 0 where
+  pub inside : share.behind ≤ length batches
+  pub computes : share.block.rules ≡ rules
+  pub only : (i : ℕ) (d : Batch) → share.first ≤ i → i < share.behind → All (IsInside share.low share.high) (slice_index_or batches i d).nodes
+
+-- ranges that follow one another, from one number on and not beyond another
+abbrev pub LineUp : ℕ → List Share → ℕ → Type 0
+LineUp low [] high = low ≤ high
+LineUp low (share ∷ shares) high = (share.low ≡ low) × (low ≤ share.high) × LineUp share.high shares high
+
+-- shares whose nodes are ranges that follow one another; where there are some, each batch is in one of them
+pub record AreInRanges (rules : Rules) (nodes : ℕ) (batches : List Batch) (shares : List Share) : Type 0 where
+  pub each : All (IsRange rules batches) shares
+  pub line : LineUp 0 shares nodes
+  pub covered : 0 < length shares → (i : ℕ) → i < length batches → (s : ℕ) × IsShared shares i s
+
+-- what threads share: where the shares are no ranges, each has columns of its own, and where they are, the program has one field
+pub record AreGiven (rules : Rules) (nodes : ℕ) (batches : List Batch) (shares : Shares) : Type 0 where
+  pub apart : shares.in_ranges ≡ false → AreShares rules nodes (length batches) shares.all.items
+  pub ranged : shares.in_ranges ≡ true → AreInRanges rules nodes batches shares.all.items
+  pub one : shares.in_ranges ≡ true → length rules.fields ≡ 1
+  pub together : HaveSpans nodes batches shares.spans.items
+
+-- the batches from one on to the one before the range's end have only nodes of the range, which begins with this number
+pub record HasRange (nodes : ℕ) (batches : List Batch) (first low : ℕ) (range : Span) : Type 0 where
+  pub there : range.behind ≤ length batches
+  pub begins : range.low ≡ low
+  pub order : low ≤ range.high
+  pub inside : range.high ≤ nodes
+  pub only : (i : ℕ) (d : Batch) → first ≤ i → i < range.behind → All (IsInside low range.high) (slice_index_or batches i d).nodes
+
+-- the same share, whatever its block computed
+pub record IsSameShare (old new : Share) : Type 0 where
+  pub first : new.first ≡ old.first
+  pub behind : new.behind ≡ old.behind
+  pub low : new.low ≡ old.low
+  pub high : new.high ≡ old.high
+  pub computes : new.block.rules ≡ old.block.rules
+
+-- a part of the one column, which begins with the node `low`, before and after: it has the next words of the nodes of those of the shares' batches that
+-- had to be computed, and keeps next words that stood there
+pub record IsPartWritten (rules : Rules) (task : Task) (shares : List Share) (low : ℕ) (before after : List ℕ) : Type 0 where
+  pub done : All (λ share. HoldsOfDue (HasWordFrom low (next_word rules task.network.now task.round task.from.now) after) task share.first share.behind) shares
+  pub kept : (u : ℕ) → HasWordFrom low (next_word rules task.network.now task.round task.from.now) before u
+      → HasWordFrom low (next_word rules task.network.now task.round task.from.now) after u
+
+-- A part of the one column, which begins with a share's range, before and after: it has the next words of the nodes of those of the share's batches that
+-- had to be computed, and keeps next words that stood there.
+pub record IsWrittenBy (task : Task) (share : Share) (before after : List ℕ) : Type 0 where
+  pub done : HoldsOfDue (HasWordFrom share.low (next_word share.block.rules task.network.now task.round task.from.now) after) task share.first share.behind
+  pub kept : (u : ℕ) → HasWordFrom share.low (next_word share.block.rules task.network.now task.round task.from.now) before u
+      → HasWordFrom share.low (next_word share.block.rules task.network.now task.round task.from.now) after u
+
+-- what threads left of shares whose nodes are ranges, and of a part of the one column, which begins with the node `low`
+pub record IsLeft (task : Task) (low : ℕ) (old new : List Share) (before after : List ℕ) : Type 0 where
+  pub many : length new ≡ length old
+  pub long : length after ≡ length before
+  pub same : (s : ℕ) (d : Share) → s < length old → IsSameShare (slice_index_or old s d) (slice_index_or new s d)
+  pub written : (rules : Rules) → All (IsRange rules task.batches.now) old → IsPartWritten rules task old low before after
+
 -- a field's column before and after: it has the words that the shares' columns have for the nodes of those of their batches that had to be computed, and keeps all others
 pub record IsCopied (task : Task) (shares : List Share) (field : ℕ) (before after : List ℕ) : Type 0 where
   pub long : length after ≡ length before
@@ -109,12 +171,11 @@ pub record IsActivity (network : Neighbours) (batches : List Batch) (activity : 
   pub all : activity.settles ≡ false → (i : ℕ) → i < length batches → IsDue activity.due.items i
 
 -- a program's states on the batches of a network, and how far each round has to look
-pub record IsWalk (rules : Rules) (network : Neighbours) (batches : List Batch) (activity : Activity) (shares : List Share) (spans : List Span) (from to : List (Vec ℕ)) : Type 0 where
+pub record IsWalk (rules : Rules) (network : Neighbours) (batches : List Batch) (activity : Activity) (shares : Shares) (from to : List (Vec ℕ)) : Type 0 where
   pub whole : AreRows network
   pub layout : IsLayout network batches
   pub few : length rules.fields ≤ 8
-  pub shared : AreShares rules (length network) (length batches) shares
-  pub together : HaveSpans (length network) batches spans
+  pub shared : AreGiven rules (length network) batches shares
   pub active : IsActivity network batches activity
   pub unread : activity.settles ≡ true → reads_round rules ≡ false
   pub settles : reads_round rules ≡ false → activity.settles ≡ true

@@ -17,7 +17,7 @@ use link_net::NetRows;
 use rounds_code::Block;
 
 /// Gathers the aggregates of a batch's nodes over all their neighbours.
-fn gather(
+pub fn gather(
     network: &NetRows<'_>,
     batch: &Batch,
     block: &mut Block<'_>,

@@ -3,12 +3,15 @@ ghost use Rattle.std.specs.Prelude.{◌≡◌, ◌<◌, ◌≤◌, ℕ, All, IfO
 ghost use denote.Param.Send.{IsSync};
 ghost use Rattle.rule_check.specs.Value.{Rules};
 ghost use Rattle.rounds_blocks.specs.Rounds.{HaveWords};
-ghost use Rattle.rounds_blocks.specs.Walks.{IsTask, IsShare, IsShared, AreShares, HasNext, HoldsOfDue};
+ghost use Rattle.rounds_blocks.specs.Spans.{HaveSpans};
+ghost use Rattle.rounds_blocks.specs.Walks.{AreGiven, IsTask, IsShare, IsShared, AreShares, HasNext, HoldsOfDue};
 
 use crate::alone::second_degree;
 use crate::batch::Batch;
 use crate::line::each_in_line;
-use crate::share::{Share, work};
+use crate::node_ranges::ranges_of;
+use crate::share::{Share, Shares, work};
+use crate::spans::Span;
 use crate::task::Task;
 use rounds_code::{Block, RowCode};
 use std::alloc::{AllocError, Global};
@@ -162,13 +165,15 @@ fn share_of<'a>(
     Ok(Share {
         first,
         behind,
+        low: 0,
+        high: 0,
         block,
         columns,
     })
 }
 
 /// These batches in shares, each of which takes as long as this.
-pub fn shares_of<'a>(
+fn shares_of<'a>(
     alloc: Global,
     code: &'a RowCode<'a>,
     columns: &[Vec<u32>],
@@ -187,6 +192,41 @@ pub fn shares_of<'a>(
         first = behind;
     }
     Ok(shares)
+}
+
+/// Shares of these batches of a network of so many nodes, each of which takes about as long as this: in ranges where the program has one
+/// field and there are such.
+pub fn all_shares<'a>(
+    alloc: Global,
+    code: &'a RowCode<'a>,
+    columns: &[Vec<u32>],
+    nodes: usize,
+    batches: &[Batch],
+    spans: Vec<Span>,
+    costs: &Costs,
+    time: u64,
+) -> Result<Shares<'a>, AllocError>
+    requires fields { length columns.now ≡ length code.now.fields }
+    requires long { HaveWords nodes columns.now }
+    requires spans { HaveSpans nodes batches.now spans.items }
+    ensures shares { IfOk result (AreGiven code.now nodes batches.now) }
+{
+    if columns.len() == 1 {
+        let all = ranges_of(alloc, code, nodes, batches, &spans, costs, time)?;
+        if !all.is_empty() {
+            return Ok(Shares {
+                all,
+                in_ranges: true,
+                spans,
+            });
+        }
+    }
+    let all = shares_of(alloc, code, columns, batches, costs, time)?;
+    Ok(Shares {
+        all,
+        in_ranges: false,
+        spans,
+    })
 }
 
 /// Computes the next states of the nodes of all shares' batches, as far as these have to be computed, in threads.

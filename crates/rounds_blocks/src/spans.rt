@@ -20,7 +20,7 @@ pub struct Span {
 }
 
 /// A span of no batches.
-const NOTHING: Span = Span {
+pub const NOTHING: Span = Span {
     behind: 0,
     low: 0,
     high: 0,

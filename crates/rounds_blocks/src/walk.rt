@@ -11,12 +11,12 @@ use crate::activity::{Activity, all_due};
 use crate::batch::Batch;
 use crate::columns::{are_same, columns_of, states_of};
 use crate::layout::Layout;
-use crate::merge::copy_shares;
 use crate::packed::PackedStates;
 use crate::round::step_due;
-use crate::share::Share;
-use crate::sharing::{Costs, saved_by, shares_of, time_of_all, work_all};
-use crate::spans::{Span, spans_of};
+use crate::share::Shares;
+use crate::shared_round::step_shared;
+use crate::sharing::{Costs, all_shares, saved_by, time_of_all};
+use crate::spans::spans_of;
 use crate::task::Task;
 use link_net::NetRows;
 use rounds_code::{Block, RowCode};
@@ -38,9 +38,7 @@ pub struct Walk<'a> {
     batches: &'a [Batch],
     block: Block<'a>,
     costs: Costs,
-    shares: Vec<Share<'a>>,
-    /// Where there are shares: what of the shares' words is copied at once.
-    spans: Vec<Span>,
+    shares: Shares<'a>,
     activity: Activity<'a>,
     from: Vec<Vec<u32>>,
     to: Vec<Vec<u32>>,
@@ -58,7 +56,7 @@ impl<'a> Model for Walk<'a> {
 
     ghost view = { λ walk. record { rules = walk.block.rules; network = walk.network.now; words = column_words walk.from.items } };
 
-    ghost invariant = { λ walk. IsWalk walk.block.rules walk.network.now walk.batches.now walk.activity walk.shares.items walk.spans.items walk.from.items walk.to.items };
+    ghost invariant = { λ walk. IsWalk walk.block.rules walk.network.now walk.batches.now walk.activity walk.shares walk.from.items walk.to.items };
 }
 
 impl<'a> Walk<'a> {
@@ -93,8 +91,11 @@ impl<'a> Walk<'a> {
                 end: 0,
                 least_saving: 0,
             },
-            shares: Vec::new(alloc),
-            spans: Vec::new(alloc),
+            shares: Shares {
+                all: Vec::new(alloc),
+                in_ranges: false,
+                spans: Vec::new(alloc),
+            },
             activity,
             from,
             to,
@@ -115,10 +116,18 @@ impl<'a> Walk<'a> {
     {
         let all = time_of_all(self.batches, &costs);
         let time = (all / (threads.max(1) as u64)).saturating_add(1);
-        let shares = shares_of(alloc, code, &self.from, self.batches, &costs, time)?;
-        let spans = spans_of(alloc, self.network.nodes() as usize, self.batches)?;
-        self.shares = shares;
-        self.spans = spans;
+        let nodes = self.network.nodes() as usize;
+        let spans = spans_of(alloc, nodes, self.batches)?;
+        self.shares = all_shares(
+            alloc,
+            code,
+            &self.from,
+            nodes,
+            self.batches,
+            spans,
+            &costs,
+            time,
+        )?;
         self.costs = costs;
         Ok(())
     }
@@ -156,8 +165,13 @@ impl<'a> Walk<'a> {
         ensures unread { result ≡ false → reads_round self.old.rules ≡ false }
         ensures moves { result ≡ true → reads_round self.old.rules ≡ false → (u : ℕ) × (u < length self.old.network) × (state_by self.new.words u ≢ state_by self.old.words u) }
     {
-        let saved = saved_by(self.batches, &self.activity.due, &self.shares, &self.costs);
-        if self.shares.is_empty() || saved < self.costs.least_saving {
+        let saved = saved_by(
+            self.batches,
+            &self.activity.due,
+            &self.shares.all,
+            &self.costs,
+        );
+        if self.shares.all.is_empty() || saved < self.costs.least_saving {
             return self.round(round);
         }
         let task = Task {
@@ -167,8 +181,7 @@ impl<'a> Walk<'a> {
             round,
             from: &self.from,
         };
-        work_all(rt, &task, &mut self.shares);
-        copy_shares(rt, &task, &self.shares, &self.spans, &mut self.to);
+        step_shared(rt, &task, &mut self.shares, &mut self.to);
         let moved = self.activity.look(self.batches, &self.from, &self.to);
         mem::swap(&mut self.from, &mut self.to);
         moved

@@ -65,10 +65,10 @@ pub invariant_of-self : goal.invariant_of-self
 invariant_of-self c =
     let s = c.self.inside in
     let next = c.look-moved.new.self in
-    subst (λ (rules : Rules). IsWalk rules s.network.now s.batches.now next s.shares.items s.spans.items c.swap.new.x.items c.swap.new.y.items) (sym c.step_due.ensures.rules)
-    (subst (λ (from : List (Vec ℕ)). IsWalk s.block.rules s.network.now s.batches.now next s.shares.items s.spans.items from c.swap.new.y.items) (sym (new_is c))
-    (subst (λ (to : List (Vec ℕ)). IsWalk s.block.rules s.network.now s.batches.now next s.shares.items s.spans.items c.step_due.new.to to) (sym (old_is c))
-    (walked s.block.rules s.network.now s.batches.now s.activity next s.shares.items s.spans.items c.args.round s.from.items s.to.items c.step_due.new.to c.look-moved.result c.self.invariant (written c) (looked c))))
+    subst (λ (rules : Rules). IsWalk rules s.network.now s.batches.now next s.shares c.swap.new.x.items c.swap.new.y.items) (sym c.step_due.ensures.rules)
+    (subst (λ (from : List (Vec ℕ)). IsWalk s.block.rules s.network.now s.batches.now next s.shares from c.swap.new.y.items) (sym (new_is c))
+    (subst (λ (to : List (Vec ℕ)). IsWalk s.block.rules s.network.now s.batches.now next s.shares c.step_due.new.to to) (sym (old_is c))
+    (walked s.block.rules s.network.now s.batches.now s.activity next s.shares c.args.round s.from.items s.to.items c.step_due.new.to c.look-moved.result c.self.invariant (written c) (looked c))))
 
 pub returns-clause-next : goal.returns-clause-next
 returns-clause-next c = λ u inside.
@@ -76,7 +76,7 @@ returns-clause-next c = λ u inside.
     let view = c.self.view_is in
     let network_is : s.network.now ≡ c.args.self.now.network = ap (λ (w : Walked). w.network) view in
     ap (λ (columns : List (Vec ℕ)). state_at columns u) (new_is c)
-    ∙ walked_next s.block.rules s.network.now s.batches.now s.activity c.look-moved.new.self s.shares.items s.spans.items c.args.round s.from.items s.to.items c.step_due.new.to c.look-moved.result c.self.invariant (written c) (looked c)
+    ∙ walked_next s.block.rules s.network.now s.batches.now s.activity c.look-moved.new.self s.shares c.args.round s.from.items s.to.items c.step_due.new.to c.look-moved.result c.self.invariant (written c) (looked c)
     u (omega (arith, inside, ap length network_is))
     ∙ ap (λ (w : Walked). round_from w.rules w.network c.args.round (state_by w.words) u) view
 
@@ -86,7 +86,7 @@ returns-clause-rests c = λ still u inside.
     let view = c.self.view_is in
     let network_is : s.network.now ≡ c.args.self.now.network = ap (λ (w : Walked). w.network) view in
     ap (λ (columns : List (Vec ℕ)). state_at columns u) (new_is c)
-    ∙ walked_rests s.block.rules s.network.now s.batches.now s.activity c.look-moved.new.self s.shares.items s.spans.items c.args.round s.from.items s.to.items c.step_due.new.to c.look-moved.result c.self.invariant (written c) (looked c)
+    ∙ walked_rests s.block.rules s.network.now s.batches.now s.activity c.look-moved.new.self s.shares c.args.round s.from.items s.to.items c.step_due.new.to c.look-moved.result c.self.invariant (written c) (looked c)
     still u (omega (arith, inside, ap length network_is))
     ∙ ap (λ (w : Walked). state_by w.words u) view
 
@@ -96,7 +96,7 @@ returns-clause-moves c = λ moved unread.
     let view = c.self.view_is in
     let network_is : s.network.now ≡ c.args.self.now.network = ap (λ (w : Walked). w.network) view in
     let rules_are : s.block.rules ≡ c.args.self.now.rules = ap (λ (w : Walked). w.rules) view in
-    let found = walked_moves s.block.rules s.network.now s.batches.now s.activity c.look-moved.new.self s.shares.items s.spans.items c.args.round s.from.items s.to.items c.step_due.new.to c.look-moved.result c.self.invariant (written c) (looked c)
+    let found = walked_moves s.block.rules s.network.now s.batches.now s.activity c.look-moved.new.self s.shares c.args.round s.from.items s.to.items c.step_due.new.to c.look-moved.result c.self.invariant (written c) (looked c)
     moved (ap (λ (r : Rules). reads_round r) rules_are ∙ unread) in (
       found.0,
       omega (arith, found.1, ap length network_is),
