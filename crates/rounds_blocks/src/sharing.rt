@@ -13,7 +13,7 @@ use crate::node_ranges::ranges_of;
 use crate::share::{Share, Shares, work};
 use crate::spans::Span;
 use crate::task::Task;
-use rounds_code::{Block, RowCode};
+use rounds_code::{Block, RowCode, Slot};
 use std::alloc::{AllocError, Global};
 use std::thread::Threads;
 
@@ -29,8 +29,8 @@ pub struct Costs {
     pub least_saving: u64,
 }
 
-/// As how many neighbours of a node a slot of a batch counts, beside those that stand in it. They are few, since slots
-/// that are as long as those beside them share their rows.
+/// As how many neighbours of a node a slot of several nodes counts, beside those that stand in it. They are few, since
+/// slots that are as long as those beside them share their rows.
 const SLOT: u64 = 4;
 
 /// What a node takes beside the program's instructions, as many of these: its words are read and written.
@@ -42,25 +42,35 @@ const READ: u64 = 16;
 /// What a neighbour takes that is read with those before and behind it.
 const READ_IN_RUN: u64 = 4;
 
-/// What a slot takes, however few neighbours stand in it.
-const SLOT_READ: u64 = 256;
+/// What a slot of several nodes takes, however few neighbours stand in it.
+const SLOT_READ: u64 = 128;
+
+/// How far behind the neighbour that was read before, in words, one may lie to take as long as one in a run: what lies
+/// there has been fetched by the time that it is read.
+const NEAR: u32 = 256;
+
+/// In how many of a batch's slots several nodes have neighbours. In all others its first node stands alone.
+fn common_slots(batch: &Batch) -> usize
+    ensures few { result ≤ length batch.now.slots.items }
+{
+    let second = second_degree(&batch.degrees) as usize;
+    second.min(batch.slots.len())
+}
 
 /// What it costs to compute a batch.
 fn cost_of(batch: &Batch, costs: &Costs) -> u64 {
     let nodes = batch.nodes.count() as u64;
-    let slots = (batch.slots.len() as u64).saturating_mul(SLOT);
+    let slots = (common_slots(batch) as u64).saturating_mul(SLOT);
     let ends = batch.ends.saturating_add(slots);
     nodes
         .saturating_mul(costs.node)
         .saturating_add(ends.saturating_mul(costs.end))
 }
 
-/// What the neighbours in a batch's slots take to be read. Those of a node that has more than all others are read side by side, not
-/// slot by slot.
-fn reading_of(batch: &Batch) -> u64 {
-    let slots = second_degree(&batch.degrees) as u64;
-    let mut sum = slots.saturating_mul(SLOT_READ);
-    for slot in &batch.slots {
+/// What the neighbours in slots of several nodes take to be read.
+fn reading_in_slots(slots: &[Slot]) -> u64 {
+    let mut sum = (slots.len() as u64).saturating_mul(SLOT_READ);
+    for slot in slots {
         let count = slot.neighbours.count() as u64;
         let each = if slot.neighbours.are_in_runs() {
             READ_IN_RUN
@@ -72,13 +82,43 @@ fn reading_of(batch: &Batch) -> u64 {
     sum
 }
 
-/// How long it takes to compute a batch: what its instructions cost, and what it takes to read and write words, as many instructions. The
-/// numbers were fitted to times of batches at random and on a power law (bench/history.md).
+/// What neighbours take that are read one after another, behind one that was read before. The last of them.
+fn reading_behind(before: u32, neighbours: &[u32]) -> (u64, u32) {
+    let mut sum: u64 = 0;
+    let mut last = before;
+    for neighbour in neighbours {
+        let each = if neighbour.wrapping_sub(last) < NEAR {
+            READ_IN_RUN
+        } else {
+            READ
+        };
+        sum = sum.saturating_add(each);
+        last = *neighbour;
+    }
+    (sum, last)
+}
+
+/// What the neighbours in slots of one node take to be read: they are read where they stand in the network, side by side.
+fn reading_alone(slots: &[Slot]) -> u64 {
+    let mut sum: u64 = 0;
+    let mut last = 0;
+    for slot in slots {
+        let (more, neighbour) = reading_behind(last, slot.neighbours.as_slice());
+        sum = sum.saturating_add(more);
+        last = neighbour;
+    }
+    sum
+}
+
+/// How long it takes to compute a batch: what its instructions cost, and what it takes to read and write words, as many
+/// instructions. The numbers were fitted to times of batches at random and on a power law (bench/history.md).
 fn time_of(batch: &Batch, costs: &Costs) -> u64 {
     let nodes = batch.nodes.count() as u64;
+    let (common, alone) = batch.slots.split_at(common_slots(batch));
     cost_of(batch, costs)
         .saturating_add(nodes.saturating_mul(NODE_READ))
-        .saturating_add(reading_of(batch))
+        .saturating_add(reading_in_slots(common))
+        .saturating_add(reading_alone(alone))
 }
 
 /// How long it takes to compute all of these batches.
