@@ -19,3 +19,4 @@ pub mod Turns
 pub mod OneByOne
 pub mod Hubs
 pub mod Together
+pub mod Pieces

@@ -1,5 +1,5 @@
 -- A round over states that stand in columns.
-use Rattle.std.specs.Prelude.{ℕ, ◌≡◌, ◌<◌, ◌≤◌, ◌-◌, List, length, slice_index, All}
+use Rattle.std.specs.Prelude.{ℕ, ◌≡◌, ◌<◌, ◌≤◌, ◌+◌, ◌-◌, List, length, slice_index, All}
 use Rattle.std.specs.Global.{Vec}
 use Rattle.rule_check.specs.Value.{Rules}
 use Rattle.link_net.specs.Neighbours.{Neighbours}
@@ -31,3 +31,7 @@ next_word rules network round from u = slice_index (round_from rules network rou
 -- a part of a column, which begins with the node `low`, has this word for a node that is not before that one
 abbrev pub HasWordFrom : ℕ → (ℕ → ℕ) → List ℕ → ℕ → Type 0
 HasWordFrom low word part u = low ≤ u → slice_index part (u - low) ≡ word u
+
+-- a part of a column, which begins with the node `low`, has this word for a node, if the node is in the part
+abbrev pub HasWordInside : ℕ → (ℕ → ℕ) → List ℕ → ℕ → Type 0
+HasWordInside low word part u = low ≤ u → u < low + length part → slice_index part (u - low) ≡ word u

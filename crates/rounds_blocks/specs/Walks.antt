@@ -17,7 +17,7 @@ use Rattle.rounds_blocks.specs.declared.spans.Span.{Span}
 use Rattle.rounds_blocks.specs.Batches.{IsBatch, IsLayout}
 use Rattle.rounds_blocks.specs.Nears.{HaveNear, IsDue, Sleeps, StandsIn}
 use Rattle.rounds_blocks.specs.Spans.{IsInside, HaveSpans}
-use Rattle.rounds_blocks.specs.Rounds.{HaveWords, HasWord, HasWordFrom, IsNext, next_word, round_from}
+use Rattle.rounds_blocks.specs.Rounds.{HaveWords, HasWord, HasWordFrom, HasWordInside, IsNext, next_word, round_from}
 
 -- a program on a network, and the words of all nodes by fields
 pub record Walked : Type 0 where
@@ -146,13 +146,22 @@ pub record IsLeft (task : Task) (low : ℕ) (old new : List Share) (before after
   pub same : (s : ℕ) (d : Share) → s < length old → IsSameShare (slice_index_or old s d) (slice_index_or new s d)
   pub written : (rules : Rules) → All (IsRange rules task.batches.now) old → IsPartWritten rules task old low before after
 
--- a field's column before and after: it has the words that the shares' columns have for the nodes of those of their batches that had to be computed, and keeps all others
-pub record IsCopied (task : Task) (shares : List Share) (field : ℕ) (before after : List ℕ) : Type 0 where
+-- what threads computed of a round in columns of their own, which are as long as the network
+pub record IsComputed (task : Task) (shares : Shares) : Type 0 where
+  pub each : All (IsBatch task.network.now) task.batches.now
+  pub flags : length task.due.now ≡ length task.batches.now
+  pub spans : HaveSpans (length task.network.now) task.batches.now shares.spans.items
+  pub inside : All (λ share. share.behind ≤ length task.batches.now) shares.all.items
+  pub long : All (λ share. HaveWords (length task.network.now) share.columns.items) shares.all.items
+
+-- a part of a field's column, which begins with the node `low`, before and after: it has the words that the shares' columns have for the nodes of those of their batches
+-- that had to be computed, and keeps all others
+pub record IsCopied (task : Task) (shares : List Share) (field low : ℕ) (before after : List ℕ) : Type 0 where
   pub long : length after ≡ length before
   pub copied : (word : ℕ → ℕ) (d : Vec ℕ) → All (λ share. HoldsOfDue (HasWord word (slice_index_or share.columns.items field d).items) task share.first share.behind) shares
-      → All (λ share. HoldsOfDue (HasWord word after) task share.first share.behind) shares
+      → All (λ share. HoldsOfDue (HasWordInside low word after) task share.first share.behind) shares
   pub kept : (word : ℕ → ℕ) (d : Vec ℕ) (u : ℕ) → All (λ share. HoldsOfDue (HasWord word (slice_index_or share.columns.items field d).items) task share.first share.behind) shares
-      → HasWord word before u → HasWord word after u
+      → HasWordInside low word before u → HasWordInside low word after u
 
 -- a node that the next round leaves as it is, and whose next words stand there already
 pub record Rests (rules : Rules) (network : Neighbours) (from to : List (Vec ℕ)) (u : ℕ) : Type 0 where

@@ -5,6 +5,7 @@ mod activity;
 mod alone;
 mod batch;
 mod columns;
+mod copying;
 mod costs;
 mod group;
 mod in_ranges;

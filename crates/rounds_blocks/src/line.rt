@@ -27,7 +27,7 @@ fn in_turn<T, F: Fn(usize, &mut T)>(f: &F, from: usize, s: &mut [T])
 }
 
 /// How many of so many items the first of some threads takes.
-fn part_of(items: usize, threads: usize) -> usize
+pub fn part_of(items: usize, threads: usize) -> usize
     requires some { 0 < items }
     requires threads { 0 < threads }
     ensures some { 0 < result }

@@ -1,214 +1,153 @@
-//! Words of nodes copied from columns to columns.
-ghost use Rattle.std.specs.Prelude.{◌≡◌, ◌<◌, ◌≤◌, ◌⊎◌, ℕ, All, IfSome, IsTrue, List, length, slice_index, slice_index_or};
+//! Words of nodes copied from the columns of shares to those of all nodes, in threads.
+ghost use Rattle.std.specs.Prelude.{◌≡◌, ◌<◌, ◌≤◌, ◌+◌, ℕ, All, length, slice_index_or};
 ghost use Rattle.std.specs.Global.{Vec};
 ghost use denote.Param.Send.{IsSync};
-ghost use Rattle.rounds_blocks.specs.declared.batch.Batch.{Batch};
-ghost use Rattle.rounds_blocks.specs.Batches.{IsBatch};
-ghost use Rattle.rounds_blocks.specs.Nears.{IsDue};
-ghost use Rattle.rounds_blocks.specs.Rounds.{HaveWords, HasWord, HasWords};
-ghost use Rattle.rounds_blocks.specs.Spans.{IsSpan, HaveSpans};
-ghost use Rattle.rounds_blocks.specs.Walks.{HoldsOfDue, IsCopied};
+ghost use Rattle.rounds_blocks.specs.Rounds.{HaveWords, HasWords};
+ghost use Rattle.rounds_blocks.specs.Walks.{HoldsOfDue, IsComputed, IsCopied};
 
-use crate::line::each_in_line;
-use crate::share::Share;
-use crate::spans::Span;
+use crate::copying::copy_part;
+use crate::line::{each_in_line, part_of};
+use crate::share::Shares;
 use crate::task::Task;
-use std::thread::Threads;
+use std::marker::Sync;
+use std::thread::{Threads, join_mut};
 
 /// From how many words on they are copied in threads: to start these costs as much as to copy so many words.
 const LEAST_WORDS: usize = 131_072;
 
-/// Copies a field's words of the nodes of a batch, where it was computed.
-fn copy_where(task: &Task<'_>, at: usize, source: &[u32], column: &mut [u32])
-    requires each { All (IsBatch task.now.network.now) task.now.batches.now }
-    requires flags { length task.now.due.now ≡ length task.now.batches.now }
-    requires there { at < length task.now.batches.now }
-    requires long { length column.old ≡ length task.now.network.now }
-    requires long_source { length source.now ≡ length task.now.network.now }
-    ensures copied { (word : ℕ → ℕ) (d : Batch) → IsDue task.now.due.now at
-        → All (HasWord word source.now) (slice_index_or task.now.batches.now at d).nodes
-        → All (HasWord word column.new) (slice_index_or task.now.batches.now at d).nodes }
-    ensures kept { (word : ℕ → ℕ) (u : ℕ)
-        → (IsDue task.now.due.now at → (d : Batch) → All (HasWord word source.now) (slice_index_or task.now.batches.now at d).nodes)
-        → HasWord word column.old u → HasWord word column.new u }
-{
-    if task.due[at] {
-        task.batches[at].nodes.copy(column, source);
-    }
+/// What threads computed of a round in columns of their own.
+#[derive(Drop)]
+struct Computed<'a, 'b, 'c> {
+    task: &'a Task<'b>,
+    shares: &'a Shares<'c>,
 }
 
-/// Whether all these batches were computed.
-fn are_due(due: &[bool], first: usize, behind: usize) -> bool
-    requires inside { behind ≤ length due.now }
-    ensures due { IsTrue result → (i : ℕ) → first ≤ i → i < behind → IsDue due.now i }
-{
-    for at in first..behind {
-        if !due[at] {
-            return false;
-        }
-    }
-    true
+/// How many threads copy columns.
+#[derive(Drop)]
+struct Copiers {
+    /// How many take columns of their own.
+    columns: usize,
+    /// In how many each of these shares a column.
+    ranges: usize,
 }
 
-/// The span from this batch on, where it ends before another one and all its batches were computed.
-fn whole_span(due: &[bool], spans: &[Span], at: usize, behind: usize) -> Option<Span>
-    requires inside { behind ≤ length due.now }
-    ensures there { IfSome result (λ span. (at < span.behind) × (span.behind ≤ behind)) }
-    ensures due { IfSome result (λ span. (i : ℕ) → at ≤ i → i < span.behind → IsDue due.now i) }
-    ensures span { (nodes : ℕ) (batches : List Batch) → HaveSpans nodes batches spans.now → IfSome result (IsSpan nodes batches at) }
-{
-    if at >= spans.len() {
-        return None;
-    }
-    let span = spans[at];
-    if at < span.behind && span.behind <= behind && are_due(due, at, span.behind) {
-        Some(span)
-    } else {
-        None
-    }
-}
-
-/// Copies the words from one place on to the one before another.
-fn copy_words(source: &[u32], low: usize, high: usize, column: &mut [u32])
-    requires order { low ≤ high }
-    requires inside { high ≤ length column.old }
-    requires inside_source { high ≤ length source.now }
-    ensures copied { (u : ℕ) → low ≤ u → u < high → slice_index column.new u ≡ slice_index source.now u }
-    ensures kept { (u : ℕ) → (u < low) ⊎ (high ≤ u) → slice_index column.new u ≡ slice_index column.old u }
-{
-    column[low..high].copy_from_slice(&source[low..high]);
-}
-
-/// Copies a field's words of the nodes of the next batches, as far as these were computed: of all of a span at once where there is one,
-/// or else of one batch. The batch behind those.
-fn copy_next(
-    task: &Task<'_>,
-    spans: &[Span],
-    at: usize,
-    behind: usize,
-    source: &[u32],
-    column: &mut [u32],
-) -> usize
-    requires each { All (IsBatch task.now.network.now) task.now.batches.now }
-    requires flags { length task.now.due.now ≡ length task.now.batches.now }
-    requires spans { HaveSpans (length task.now.network.now) task.now.batches.now spans.now }
-    requires there { at < behind }
-    requires inside { behind ≤ length task.now.batches.now }
-    requires long { length column.old ≡ length task.now.network.now }
-    requires long_source { length source.now ≡ length task.now.network.now }
-    ensures some { at < result }
-    ensures few { result ≤ behind }
-    ensures copied { (word : ℕ → ℕ) → HoldsOfDue (HasWord word source.now) task.now at behind → HoldsOfDue (HasWord word column.new) task.now at result }
-    ensures kept { (word : ℕ → ℕ) (u : ℕ) → HoldsOfDue (HasWord word source.now) task.now at behind → HasWord word column.old u → HasWord word column.new u }
-{
-    if let Some(span) = whole_span(task.due, spans, at, behind) {
-        copy_words(source, span.low, span.high, column);
-        return span.behind;
-    }
-    copy_where(task, at, source, column);
-    at + 1
-}
-
-/// Copies a field's words of the nodes of a share's batches, as far as these were computed.
-fn copy_share(
-    task: &Task<'_>,
-    share: &Share<'_>,
-    spans: &[Span],
-    source: &[u32],
-    column: &mut [u32],
-)
-    requires each { All (IsBatch task.now.network.now) task.now.batches.now }
-    requires flags { length task.now.due.now ≡ length task.now.batches.now }
-    requires spans { HaveSpans (length task.now.network.now) task.now.batches.now spans.now }
-    requires inside { share.now.behind ≤ length task.now.batches.now }
-    requires long { length column.old ≡ length task.now.network.now }
-    requires long_source { length source.now ≡ length task.now.network.now }
-    ensures copied { (word : ℕ → ℕ) → HoldsOfDue (HasWord word source.now) task.now share.now.first share.now.behind
-        → HoldsOfDue (HasWord word column.new) task.now share.now.first share.now.behind }
-    ensures kept { (word : ℕ → ℕ) (u : ℕ) → HoldsOfDue (HasWord word source.now) task.now share.now.first share.now.behind
-        → HasWord word column.old u → HasWord word column.new u }
-{
-    let mut at = share.first;
-    while at < share.behind {
-        at = copy_next(task, spans, at, share.behind, source, column);
-    }
-}
-
-/// Copies a field's words of the nodes of all shares' batches, as far as these were computed.
-fn copy_column(
-    task: &Task<'_>,
-    shares: &[Share<'_>],
-    spans: &[Span],
-    field: usize,
-    column: &mut [u32],
-)
-    requires each { All (IsBatch task.now.network.now) task.now.batches.now }
-    requires flags { length task.now.due.now ≡ length task.now.batches.now }
-    requires spans { HaveSpans (length task.now.network.now) task.now.batches.now spans.now }
-    requires shares { All (λ share. (share.behind ≤ length task.now.batches.now) × (field < length share.columns.items) × HaveWords (length task.now.network.now) share.columns.items) shares.now }
-    requires long { length column.old ≡ length task.now.network.now }
-    ensures copied { IsCopied task.now shares.now field column.old column.new }
-{
-    for share in shares {
-        copy_share(task, share, spans, &share.columns[field], column);
-    }
-}
-
-/// Copies the words of the nodes of all shares' batches, as far as these were computed, field by field, in so many threads.
-fn copy_columns(
-    rt: &(impl Threads + Sync),
+/// Copies a field's words of the nodes of all shares' batches, as far as these were computed, to a part of a column, which begins with
+/// the node `low`, in so many threads, of which this is one.
+#[cycle(copies)]
+fn copy_from<R: Threads + Sync>(
+    rt: &R,
     threads: usize,
-    task: &Task<'_>,
-    shares: &[Share<'_>],
-    spans: &[Span],
+    computed: &Computed<'_, '_, '_>,
+    field: usize,
+    low: usize,
+    part: &mut [u32],
+)
+    requires computed { IsComputed computed.now.task.now computed.now.shares.now }
+    requires wide { All (λ share. field < length share.columns.items) computed.now.shares.now.all.items }
+    requires inside { low + length part.old ≤ length computed.now.task.now.network.now }
+    ensures copied { IsCopied computed.now.task.now computed.now.shares.now.all.items field low part.old part.new }
+{
+    if threads < 2 || part.len() < 2 {
+        copy_part(computed.task, computed.shares, field, low, part);
+        return;
+    }
+    let (front, others) = part.split_at_mut(part_of(part.len(), threads));
+    beside(rt, threads - 1, computed, field, low, front, others);
+}
+
+/// Copies to the first part of a column in a new thread, and to the one behind it from this thread on.
+#[cycle(copies)]
+fn beside<R: Threads + Sync>(
+    rt: &R,
+    threads: usize,
+    computed: &Computed<'_, '_, '_>,
+    field: usize,
+    low: usize,
+    front: &mut [u32],
+    others: &mut [u32],
+)
+    requires computed { IsComputed computed.now.task.now computed.now.shares.now }
+    requires wide { All (λ share. field < length share.columns.items) computed.now.shares.now.all.items }
+    requires inside { low + length front.old + length others.old ≤ length computed.now.task.now.network.now }
+    ensures front { IsCopied computed.now.task.now computed.now.shares.now.all.items field low front.old front.new }
+    ensures others { IsCopied computed.now.task.now computed.now.shares.now.all.items field (low + length front.old) others.old others.new }
+{
+    // For the proof: what holds of every network.
+    let _nodes = computed.task.network.nodes();
+    let next = low + front.len();
+    let mut in_thread = ||
+        requires { IsComputed computed.now.task.now computed.now.shares.now × All (λ share. field < length share.columns.items) computed.now.shares.now.all.items
+            × (low + length front.now ≤ length computed.now.task.now.network.now) }
+        ensures { IsCopied computed.entry.now.task.now computed.entry.now.shares.now.all.items field low front.entry.now front.exit.now }
+    { copy_part(computed.task, computed.shares, field, low, front) };
+    let mut here = ||
+        requires { IsSync R.row × IsComputed computed.now.task.now computed.now.shares.now × All (λ share. field < length share.columns.items) computed.now.shares.now.all.items
+            × (next + length others.now ≤ length computed.now.task.now.network.now) }
+        ensures { IsCopied computed.entry.now.task.now computed.entry.now.shares.now.all.items field next others.entry.now others.exit.now }
+    { copy_from(rt, threads, computed, field, next, others) };
+    join_mut(rt, &mut in_thread, &mut here);
+}
+
+/// Copies the words of the nodes of all shares' batches, as far as these were computed, in so many threads.
+fn copy_columns<R: Threads + Sync>(
+    rt: &R,
+    copiers: &Copiers,
+    computed: &Computed<'_, '_, '_>,
     to: &mut [Vec<u32>],
 )
-    requires each { All (IsBatch task.now.network.now) task.now.batches.now }
-    requires flags { length task.now.due.now ≡ length task.now.batches.now }
-    requires spans { HaveSpans (length task.now.network.now) task.now.batches.now spans.now }
-    requires shares { All (λ share. (share.behind ≤ length task.now.batches.now) × (length share.columns.items ≡ length to.old) × HaveWords (length task.now.network.now) share.columns.items) shares.now }
-    requires long { HaveWords (length task.now.network.now) to.old }
-    ensures copied { (k : ℕ) (d : Vec ℕ) → k < length to.old → IsCopied task.now shares.now k (slice_index_or to.old k d).items (slice_index_or to.new k d).items }
+    requires computed { IsComputed computed.now.task.now computed.now.shares.now }
+    requires wide { All (λ share. length share.columns.items ≡ length to.old) computed.now.shares.now.all.items }
+    requires long { HaveWords (length computed.now.task.now.network.now) to.old }
+    ensures copied { (k : ℕ) (d : Vec ℕ) → k < length to.old
+        → IsCopied computed.now.task.now computed.now.shares.now.all.items k 0 (slice_index_or to.old k d).items (slice_index_or to.new k d).items }
 {
+    let ranges = copiers.ranges;
     each_in_line(
         rt,
         to,
-        threads,
+        copiers.columns,
         &|field: usize, column: &mut Vec<u32>|
-            requires { All (IsBatch task.now.network.now) task.now.batches.now × (length task.now.due.now ≡ length task.now.batches.now)
-                × HaveSpans (length task.now.network.now) task.now.batches.now spans.now
-                × All (λ share. (share.behind ≤ length task.now.batches.now) × (field < length share.columns.items) × HaveWords (length task.now.network.now) share.columns.items) shares.now
-                × (length column.now.items ≡ length task.now.network.now) }
-            ensures { IsCopied task.entry.now shares.entry.now field column.entry.now.items column.exit.now.items }
-        { copy_column(task, shares, spans, field, column) },
+            requires { IsSync R.row × IsComputed computed.now.task.now computed.now.shares.now
+                × All (λ share. field < length share.columns.items) computed.now.shares.now.all.items
+                × (length column.now.items ≡ length computed.now.task.now.network.now) }
+            ensures { IsCopied computed.entry.now.task.now computed.entry.now.shares.now.all.items field 0 column.entry.now.items column.exit.now.items }
+        { copy_from(rt, ranges, computed, field, 0, column) },
     );
 }
 
-/// How many threads copy these columns: one for each share, or this thread alone where there are few words.
-fn copiers(shares: &[Share<'_>], columns: &[Vec<u32>], nodes: u32) -> usize {
-    let words = columns.len().saturating_mul(nodes as usize);
-    if words < LEAST_WORDS { 1 } else { shares.len() }
+/// How many threads copy so many columns of so many words each: where the columns are long, as many as there are shares for ranges of one
+/// column after another; where they are short and have many words together, as many for whole columns; or else this thread alone.
+fn copiers_of(shares: usize, columns: usize, nodes: usize) -> Copiers {
+    if nodes >= LEAST_WORDS {
+        return Copiers {
+            columns: 1,
+            ranges: shares,
+        };
+    }
+    let many = columns.saturating_mul(nodes) >= LEAST_WORDS;
+    Copiers {
+        columns: if many { shares } else { 1 },
+        ranges: 1,
+    }
 }
 
 /// Copies the words of the nodes of all shares' batches, as far as these were computed, in threads where there are many.
 pub fn copy_shares(
     rt: &(impl Threads + Sync),
     task: &Task<'_>,
-    shares: &[Share<'_>],
-    spans: &[Span],
+    shares: &Shares<'_>,
     to: &mut [Vec<u32>],
 )
-    requires each { All (IsBatch task.now.network.now) task.now.batches.now }
-    requires flags { length task.now.due.now ≡ length task.now.batches.now }
-    requires spans { HaveSpans (length task.now.network.now) task.now.batches.now spans.now }
-    requires shares { All (λ share. (share.behind ≤ length task.now.batches.now) × (length share.columns.items ≡ length to.old) × HaveWords (length task.now.network.now) share.columns.items) shares.now }
+    requires computed { IsComputed task.now shares.now }
+    requires wide { All (λ share. length share.columns.items ≡ length to.old) shares.now.all.items }
     requires long { HaveWords (length task.now.network.now) to.old }
     ensures long { HaveWords (length task.now.network.now) to.new }
-    ensures copied { (words : ℕ → ℕ → ℕ) → All (λ share. HoldsOfDue (HasWords words share.columns.items) task.now share.first share.behind) shares.now
-        → All (λ share. HoldsOfDue (HasWords words to.new) task.now share.first share.behind) shares.now }
-    ensures kept { (words : ℕ → ℕ → ℕ) (u : ℕ) → All (λ share. HoldsOfDue (HasWords words share.columns.items) task.now share.first share.behind) shares.now
+    ensures copied { (words : ℕ → ℕ → ℕ) → All (λ share. HoldsOfDue (HasWords words share.columns.items) task.now share.first share.behind) shares.now.all.items
+        → All (λ share. HoldsOfDue (HasWords words to.new) task.now share.first share.behind) shares.now.all.items }
+    ensures kept { (words : ℕ → ℕ → ℕ) (u : ℕ) → All (λ share. HoldsOfDue (HasWords words share.columns.items) task.now share.first share.behind) shares.now.all.items
         → HasWords words to.old u → HasWords words to.new u }
 {
-    let threads = copiers(shares, to, task.network.nodes());
-    copy_columns(rt, threads, task, shares, spans, to);
+    let copiers = copiers_of(shares.all.len(), to.len(), task.network.nodes() as usize);
+    let computed = Computed { task, shares };
+    copy_columns(rt, &copiers, &computed, to);
 }

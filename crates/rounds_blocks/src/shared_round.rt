@@ -38,6 +38,6 @@ pub fn step_shared(
         work_ranges(rt, task, &mut shares.all, &mut to[0]);
     } else {
         work_all(rt, task, &mut shares.all);
-        copy_shares(rt, task, &shares.all, &shares.spans, to);
+        copy_shares(rt, task, shares, to);
     }
 }

@@ -60,10 +60,10 @@ made g c =
     refilled all.len c.work_all.new.shares all.items (c.work_all.auto.shares ∙ c.deref_mut-else-shares.ensures.len)
 
 worked : (g : Over) (c : goal.After-to-else-shares-1 g) (rules : Rules) → AreGiven rules (length c.args.task.now.network.now) c.args.task.now.batches.now c.args.shares.now
-    → All (λ share. HoldsOfDue (HasNext rules c.args.task.now share.columns.items) c.args.task.now share.first share.behind) c.deref.result.now
+    → All (λ share. HoldsOfDue (HasNext rules c.args.task.now share.columns.items) c.args.task.now share.first share.behind) (with_items c.args.shares.now.all c.work_all.new.shares).items
 worked g c rules given =
     let task = c.args.task.now in
-    subst (All (λ (share : Share). HoldsOfDue (HasNext rules task share.columns.items) task share.first share.behind)) (sym (c.deref.ensures.value ∙ made g c)) (c.work_all.ensures.done rules (were g c rules given).each)
+    subst (All (λ (share : Share). HoldsOfDue (HasNext rules task share.columns.items) task share.first share.behind)) (sym (made g c)) (c.work_all.ensures.done rules (were g c rules given).each)
 
 pub returns-else-shares-clause-shares : goal.returns-else-shares-clause-shares
 returns-else-shares-clause-shares g c = λ rules given.
@@ -90,7 +90,7 @@ returns-else-shares-clause-done g c = λ rules given i d inside is.
     let after = c.work_all.new.shares in
     let new = c.copy_shares.new.to in
     let words = λ (u k : ℕ). slice_index (round_from rules task.network.now task.round (state_at task.from.now) u).words k in
-    let copied = subst (All (λ (share : Share). HoldsOfDue (HasNext rules task new) task share.first share.behind)) (c.deref.ensures.value ∙ made g c) (c.copy_shares.ensures.copied words (worked g c rules given)) in
+    let copied = subst (All (λ (share : Share). HoldsOfDue (HasNext rules task new) task share.first share.behind)) (made g c) (c.copy_shares.ensures.copied words (worked g c rules given)) in
     let some : 0 < length before = omega (arith, c.requires.some, ap length c.deref_mut-else-shares.ensures.value) in
     let found = covered_after rules n many before after c.work_all.auto.shares c.work_all.ensures.first c.work_all.ensures.behind (were g c rules given) some i inside in
     let share = some_share after found.0 found.1.there in
