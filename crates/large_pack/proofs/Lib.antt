@@ -15,3 +15,4 @@ mod Unrepeated
 mod Keying
 mod KeyRows
 mod Readings
+mod Halving

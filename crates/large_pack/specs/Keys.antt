@@ -1,5 +1,5 @@
 -- Internal: arcs as single numbers. No public clause cites it.
-use Rattle.std.specs.Prelude.{◌≡◌, ℕ, ◌*◌, ◌+◌, ◌/◌, ◌%◌, ◌==◌, ◌<◌, ◌≤◌, Bool, false, ◌||◌, List, [], ◌∷◌, map, length, slice_index_or, Option, Result, Ok, IfSome}
+use Rattle.std.specs.Prelude.{◌≡◌, ℕ, ◌*◌, ◌+◌, ◌/◌, ◌%◌, ◌==◌, ◌<◌, ◌≤◌, Bool, false, ◌||◌, List, [], ◌∷◌, map, length, slice_index_or, Option, Result, Ok, Err, IfSome, MatchResult}
 use Rattle.std.specs.Option.{unwrap_or}
 use Rattle.link_net.specs.Arcs.{Arc}
 use Rattle.large_pack.specs.declared.edge_line.EdgeLine.{EdgeLine}
@@ -9,6 +9,7 @@ use Rattle.large_pack.specs.declared.options.SelfLoops.TheVariants.{Refuse as Re
 use Rattle.large_pack.specs.declared.fault.PackFault.{PackFault}
 use Rattle.large_pack.specs.declared.keys.KeyedEdges.{KeyedEdges}
 use Rattle.large_pack.specs.declared.survey.Reading.{Reading}
+use Rattle.large_pack.specs.Lines.{edges_in}
 use Rattle.large_pack.specs.Sound.{is_loop}
 use Rattle.large_pack.specs.Packing.{arcs_of, straight_edges}
 use Rattle.large_pack.specs.Surveys.{survey_in}
@@ -59,3 +60,8 @@ pub record AreKeyed (options : PackOptions) (edges : List EdgeLine) (keyed : Key
 pub record IsRead (options : PackOptions) (defined : Result (List EdgeLine) PackFault) (reading : Reading) : Type 0 where
   pub survey : survey_in options defined ≡ Ok reading.survey
   pub keyed : (es : List EdgeLine) → defined ≡ Ok es → IfSome reading.keyed (λ keyed. AreKeyed options es keyed)
+
+-- what was read of these lines, or the fault of the first that says no edge
+abbrev pub IsReadOf : PackOptions → List (ℕ × List ℕ) → Result Reading PackFault → Type 0
+IsReadOf options lines result =
+    MatchResult result (IsRead options (edges_in options.factor lines)) (λ fault. edges_in options.factor lines ≡ Err fault)

@@ -10,6 +10,7 @@ mod options;
 mod pack;
 mod ranked;
 mod rows;
+mod shared;
 mod survey;
 
 pub use edge_line::{EdgeLine, line_edge};

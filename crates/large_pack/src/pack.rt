@@ -1,6 +1,7 @@
 //! Lists of edges packed into networks.
 ghost use Rattle.std.specs.Prelude.{◌≡◌, ◌≢◌, ◌<◌, ◌≤◌, ◌&&◌, ◌||◌, List, true, length, map, IfErr, IfSome, Ok, Err, MatchResult};
 ghost use Rattle.std.specs.List.{flat_map};
+ghost use Rattle.std.specs.List.Sorted.{IsPermutation, IsNonDecreasing};
 ghost use Rattle.link_net.specs.Limits.{most_rows};
 ghost use Rattle.link_net.specs.Links.{AllWithin};
 ghost use Rattle.large_pack.specs.declared.edge_line.EdgeLine.{EdgeLine};
@@ -19,9 +20,14 @@ use crate::merging::{settle, straighten};
 use crate::options::{PackOptions, Parallel};
 use crate::ranked::{Ranked, arcs, ranked_edges};
 use crate::rows::network_of_arcs;
-use crate::survey::{count_nodes, edge_lines, read_edges};
+use crate::shared::read_shared;
+use crate::survey::{count_nodes, edge_lines};
 use large_net::LargeNetwork;
+use rayon::current_num_threads;
+use rayon::prelude::*;
 use std::alloc::Global;
+use std::marker::Sync;
+use std::thread::Threads;
 
 /// The most neighbours that all nodes have together.
 const MOST_ARCS: usize = 4_294_967_295;
@@ -102,9 +108,18 @@ fn is_unsettled(parallel: Parallel, keys: &[u64]) -> bool
     }
 }
 
+/// Sorts the numbers by threads.
+fn sort_keys(rt: &(impl Threads + Sync), keys: &mut Vec<u64>)
+    ensures permutation { IsPermutation keys.old.items keys.new.items }
+    ensures rising { IsNonDecreasing keys.new.items }
+{
+    par_sort_unstable(rt, keys.as_mut_slice());
+}
+
 /// What edges are packed into whose arcs stand as single numbers: none where they do not, or where some of them lead alike
 /// and do not all stay.
 fn pack_keyed(
+    rt: &(impl Threads + Sync),
     alloc: Global,
     nodes: u32,
     keyed: Option<KeyedEdges>,
@@ -118,7 +133,7 @@ fn pack_keyed(
         return Ok(None);
     };
     let mut keys = keyed.keys;
-    keys.sort_unstable();
+    sort_keys(rt, &mut keys);
     if is_unsettled(options.parallel, keys.as_slice()) {
         return Ok(None);
     }
@@ -159,13 +174,19 @@ fn pack_anew(
 ///
 /// Where several things are wrong the fault is the first in the order of [`PackFault`]. `BadLine`, `NoNode`,
 /// `NodeOutside` and `SelfLoop` come whether memory runs out or not; `Memory` comes only where it does.
-pub fn pack_edges(alloc: Global, text: &[u8], options: &PackOptions) -> Result<Packed, PackFault>
+pub fn pack_edges(
+    rt: &(impl Threads + Sync),
+    alloc: Global,
+    text: &[u8],
+    options: &PackOptions,
+) -> Result<Packed, PackFault>
     ensures answer { IsAnswer (packing_of options.now text.now) result }
     ensures refused { IfErr (sound_of options.now text.now) (λ fault. result ≡ Err fault) }
 {
-    let reading = read_edges(alloc, edge_lines(text, options.header), options)?;
+    let lines = edge_lines(text, options.header);
+    let reading = read_shared(rt, alloc, current_num_threads(rt), lines, options)?;
     let nodes = count_nodes(&reading.survey, options)?;
-    if let Some(packed) = pack_keyed(alloc, nodes, reading.keyed, options)? {
+    if let Some(packed) = pack_keyed(rt, alloc, nodes, reading.keyed, options)? {
         return Ok(packed);
     }
     pack_anew(alloc, nodes, text, options)

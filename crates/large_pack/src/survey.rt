@@ -1,10 +1,10 @@
 //! What a list of edges tells before it is kept.
-ghost use Rattle.std.specs.Prelude.{◌≡◌, ◌+◌, ◌<◌, ◌≤◌, ◌^◌, length, Err, MatchResult};
+ghost use Rattle.std.specs.Prelude.{◌≡◌, ◌+◌, ◌<◌, ◌≤◌, ◌^◌, length};
 ghost use Rattle.import_lines.specs.Texts.{told_from};
-ghost use Rattle.large_pack.specs.Lines.{edge_lines, edges_in, most_node};
+ghost use Rattle.large_pack.specs.Lines.{edge_lines, most_node};
 ghost use Rattle.large_pack.specs.Sound.{outside_fault, loop_fault};
 ghost use Rattle.large_pack.specs.Surveys.{with_edge, count_in};
-ghost use Rattle.large_pack.specs.Keys.{IsRead};
+ghost use Rattle.large_pack.specs.Keys.{IsReadOf};
 
 use crate::edge_line::{EdgeLine, read_line};
 use crate::fault::PackFault;
@@ -17,11 +17,11 @@ use std::alloc::Global;
 #[derive(Clone, Copy)]
 pub(crate) struct Survey {
     /// The least number above those of all ends.
-    reach: u32,
+    pub reach: u32,
     /// The fault of the first edge with an end that is no node.
-    outside: Option<PackFault>,
+    pub outside: Option<PackFault>,
     /// The fault of the first self-loop that is refused.
-    self_loop: Option<PackFault>,
+    pub self_loop: Option<PackFault>,
 }
 
 /// The fault of an edge with an end that is not below the number of nodes, where that is given.
@@ -85,7 +85,7 @@ pub(crate) fn read_edges(
     options: &PackOptions,
 ) -> Result<Reading, PackFault>
     requires room { from.passed + length from.bytes.now < 2 ^ 64 }
-    ensures { MatchResult result (λ reading. IsRead options.now (edges_in options.now.factor (told_from (from.entry.passed + 1) from.entry.bytes.now)) reading) (λ fault. edges_in options.now.factor (told_from (from.entry.passed + 1) from.entry.bytes.now) ≡ Err fault) }
+    ensures { IsReadOf options.now (told_from (from.entry.passed + 1) from.entry.bytes.now) result }
 {
     let mut lines = from;
     let mut survey = Survey {

@@ -73,7 +73,7 @@ fn run(rt: &HostRuntime, threads: &(impl Threads + Sync)) -> Result<u8, Ending> 
         return Err(no_command(rt));
     };
     match Task::named(command.as_str()) {
-        Some(Task::Pack) => pack_network(rt, &words[1..]),
+        Some(Task::Pack) => pack_network(rt, threads, &words[1..]),
         Some(Task::Large) => run_large(rt, threads, &words[1..]),
         _ => Err(no_command(rt)),
     }

@@ -13,6 +13,7 @@ use large_random::{LargeRandom, LargeRandomFault, large_random};
 use large_shapes::{LargeShape, LargeShapeFault, large_shape};
 use net_names::list_text;
 use std::alloc::{AllocError, Global};
+use std::thread::Threads;
 
 /// How many edges were dropped or merged; nothing where none were.
 fn notes_text(alloc: Global, packed: &Packed) -> Result<String, AllocError> {
@@ -48,9 +49,14 @@ fn packed_output(alloc: Global, packed: &Packed) -> Result<Output, Ending> {
 }
 
 /// The binary file of the list of edges at a path.
-fn edges_at(rt: &HostRuntime, path: &str, options: &PackOptions) -> Result<Output, Ending> {
+fn edges_at(
+    rt: &HostRuntime,
+    threads: &(impl Threads + Sync),
+    path: &str,
+    options: &PackOptions,
+) -> Result<Output, Ending> {
     let text = bytes_at(rt, path)?;
-    match pack_edges(rt.alloc(), &text, options) {
+    match pack_edges(threads, rt.alloc(), &text, options) {
         Ok(packed) => packed_output(rt.alloc(), &packed),
         Err(fault) => Err(Ending::refused(refusal(rt.alloc(), name_at(path), fault))),
     }
@@ -144,13 +150,17 @@ fn random_of(alloc: Global, wanted: LargeRandom, seed: u32) -> Result<Output, En
 }
 
 /// The binary file that is asked for.
-fn output_for(rt: &HostRuntime, asked: &PackRequest) -> Result<Output, Ending> {
+fn output_for(
+    rt: &HostRuntime,
+    threads: &(impl Threads + Sync),
+    asked: &PackRequest,
+) -> Result<Output, Ending> {
     match asked {
         PackRequest::Edges {
             path,
             options,
             names: None,
-        } => edges_at(rt, path.as_str(), options),
+        } => edges_at(rt, threads, path.as_str(), options),
         PackRequest::Edges {
             path,
             options,
@@ -173,9 +183,13 @@ fn put_output(rt: &HostRuntime, output: &Output) -> Result<u8, Ending> {
 }
 
 /// Prints the binary file of a network, once the names of its nodes are written where that is asked. The status with which the program ends.
-pub(crate) fn pack_network(rt: &HostRuntime, words: &[String]) -> Result<u8, Ending> {
+pub(crate) fn pack_network(
+    rt: &HostRuntime,
+    threads: &(impl Threads + Sync),
+    words: &[String],
+) -> Result<u8, Ending> {
     let asked = PackRequest::parse(rt.alloc(), words)?;
     check_output(rt)?;
-    let output = output_for(rt, &asked)?;
+    let output = output_for(rt, threads, &asked)?;
     put_output(rt, &output)
 }
