@@ -32,7 +32,7 @@ fn no_network(alloc: Global, path: &str, fault: LargeFault) -> Ending {
 /// The network of the binary file at a path.
 pub(crate) fn network_at(rt: &HostRuntime, path: &str) -> Result<LargeNetwork, Ending> {
     let bytes = bytes_at(rt, path)?;
-    match read_large(rt.alloc(), &bytes) {
+    match read_large(rt, rt.alloc(), &bytes) {
         Ok(network) => Ok(network),
         Err(fault) => Err(no_network(rt.alloc(), path, fault)),
     }
