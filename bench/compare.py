@@ -4,11 +4,13 @@ import subprocess
 import sys
 import time
 
+from slices import Call, in_slices
+
 top, work, worlds = sys.argv[1:4]
 KINDS = ("random", "torus", "path", "hubs")
 LAST_ROUND = 1_000_000_000
 # So many turns at most have calls that are compared, and fewer where those before took so many seconds.
-TURNS = 5
+TURNS = 3
 ENOUGH = 30.0
 ROUNDS = {"distance": 1000, "rule_110": 1000, "majority": 1000, "heavy": 40}
 # Each program has, where a one is wanted, this word, which reads the round: so no round is left out where states stay as they are.
@@ -94,22 +96,24 @@ def rounds_of(job, program, network, rounds):
     return taken - seconds_of(job, program, network, 0)[0], answer
 
 
-def interleaved(*calls):
-    """What each of these calls prints in each turn, and its seconds. Interleaved, all have the same share of what disturbs the machine."""
+def in_turns(*calls):
+    """What each of these calls prints, and its seconds in the mean of some turns, in each of which all of them run in slices."""
     start, turns = time.perf_counter(), []
     while len(turns) < TURNS and (not turns or time.perf_counter() - start < ENOUGH):
-        turns.append([called(call)[:2] for call in calls])
-    return list(zip(*turns))
+        turns.append([Call(call, f"{work}/call{at}") for at, call in enumerate(calls)])
+        in_slices(turns[-1])
+    return [(made[0].out.read_bytes(), sum(call.seconds for call in made) / len(made)) for made in zip(*turns)]
+
+
+def interleaved(*calls):
+    """What each of these calls prints, and its least seconds of five turns, in each of which one is called after the other."""
+    turns = [[called(call)[:2] for call in calls] for _ in range(5)]
+    return [(made[0][0], min(seconds for _, seconds in made)) for made in zip(*turns)]
 
 
 def ours(program, network, rounds):
     """The calls of the product for sequential rounds, for rounds by threads, and for none."""
     return [[worlds, way, program, network, str(stop), "0"] for way, stop in (("rounds", rounds), ("parallel", rounds), ("rounds", 0))]
-
-
-def least(made):
-    """The least seconds of a call in its turns."""
-    return min(seconds for _, seconds in made)
 
 
 def network_of(kind, sets):
@@ -135,13 +139,12 @@ def long(seconds):
 
 
 def beside(job, name, kind, network, program, rounds):
-    """Sequential rounds and rounds by threads, beside a loop that is written by hand and tells its own seconds, all interleaved: the cells of a line."""
-    by_hand, one, shared, none = interleaved([f"{work}/loops", job, name, network, str(rounds)], *ours(program, network, rounds))
-    told = [output.split() for output, _ in by_hand]
-    if not int(told[0][1]) == int(one[0][0]) == int(shared[0][0]):
+    """Sequential rounds and rounds by threads, beside a loop that is written by hand, all in slices: the cells of a line."""
+    loops = [[f"{work}/loops", job, name, network, str(stop)] for stop in (rounds, 0)]
+    by_hand, no_round, one, shared, none = in_turns(*loops, *ours(program, network, rounds))
+    if not int(by_hand[0].split()[1]) == int(one[0]) == int(shared[0]):
         sys.exit(f"{name} on {kind}: the product and the loop differ")
-    loop = min(float(seconds) for seconds, _, _ in told)
-    seconds, seconds_shared = least(one) - least(none), least(shared) - least(none)
+    loop, seconds, seconds_shared = by_hand[1] - no_round[1], one[1] - none[1], shared[1] - none[1]
     ratios = f"{seconds / loop:.2f}", f"{seconds_shared / seconds:.2f}"
     return name, kind, f"{rounds:,}", long(loop), long(seconds), ratios[0], long(seconds_shared), ratios[1]
 
@@ -180,15 +183,15 @@ def processors():
 
 
 def small():
-    """Sequential rounds and rounds by threads, interleaved, where a round is small."""
+    """Sequential rounds and rounds by threads, interleaved, where a round is small: these calls end within a slice."""
     table("program", "nodes", "rounds", "sequential", "threads", "to sequential")
     for name in ("distance", "heavy"):
         for side, rounds in ((16, 4000), (32, 2000), (64, 1000), (96, 500)):
             network = written("small.toml", torus(side))
             one, shared, none = interleaved(*ours(f"{work}/{name}.rules", network, rounds))
-            if one[0][0] != shared[0][0]:
+            if one[0] != shared[0]:
                 sys.exit(f"{name} on {side * side} nodes: threads differ")
-            seconds, seconds_shared = least(one) - least(none), least(shared) - least(none)
+            seconds, seconds_shared = one[1] - none[1], shared[1] - none[1]
             line(name, f"{side * side:,}", f"{rounds}", long(seconds), long(seconds_shared), f"{seconds_shared / seconds:.2f}")
 
 
