@@ -5,6 +5,7 @@ use app_files::{Ending, print_out};
 use large_net::LargeNetwork;
 use link_net::NetRows;
 use std::alloc::{AllocError, Global};
+use std::thread::Threads;
 
 /// The least and the greatest of some numbers.
 #[derive(Clone, Copy)]
@@ -82,8 +83,12 @@ fn lines_of(alloc: Global, network: &LargeNetwork) -> Result<String, AllocError>
 }
 
 /// Prints what one wants to know of the network at a path. The status with which the program ends.
-pub(crate) fn show_info(rt: &HostRuntime, path: &str) -> Result<u8, Ending> {
-    let network = network_at(rt, path)?;
+pub(crate) fn show_info(
+    rt: &HostRuntime,
+    threads: &impl Threads,
+    path: &str,
+) -> Result<u8, Ending> {
+    let network = network_at(rt, threads, path)?;
     let lines = lines_of(rt.alloc(), &network)?;
     print_out(rt, lines.as_bytes())
 }

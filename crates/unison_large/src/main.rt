@@ -33,7 +33,7 @@ fn serve_large(
     asked: &LargeRequest,
 ) -> Result<u8, Ending> {
     match asked {
-        LargeRequest::Info { network } => show_info(rt, network.as_str()),
+        LargeRequest::Info { network } => show_info(rt, threads, network.as_str()),
         LargeRequest::Lockstep {
             texts,
             rounds,

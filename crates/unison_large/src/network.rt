@@ -3,6 +3,7 @@
 use app_files::{Ending, bytes_at, name_at};
 use large_net::{LargeFault, LargeNetwork, read_large};
 use std::alloc::Global;
+use std::thread::Threads;
 
 /// The name of a fault, as docs/formats.md has it.
 fn name_of(fault: LargeFault) -> &'static str {
@@ -30,9 +31,13 @@ fn no_network(alloc: Global, path: &str, fault: LargeFault) -> Ending {
 }
 
 /// The network of the binary file at a path.
-pub(crate) fn network_at(rt: &HostRuntime, path: &str) -> Result<LargeNetwork, Ending> {
+pub(crate) fn network_at(
+    rt: &HostRuntime,
+    threads: &impl Threads,
+    path: &str,
+) -> Result<LargeNetwork, Ending> {
     let bytes = bytes_at(rt, path)?;
-    match read_large(rt, rt.alloc(), &bytes) {
+    match read_large(threads, rt.alloc(), &bytes) {
         Ok(network) => Ok(network),
         Err(fault) => Err(no_network(rt.alloc(), path, fault)),
     }

@@ -278,7 +278,7 @@ pub(crate) fn report_round(
     rounds: u32,
     view: &StatesView,
 ) -> Result<u8, Ending> {
-    let start = start_at(rt, texts)?;
+    let start = start_at(rt, threads, texts)?;
     let show = Show::of(rt, &start.program, view)?;
     let count = threads_for(threads, texts);
     report_from(rt, threads, start, rounds, show, count)

@@ -97,7 +97,7 @@ pub(crate) fn settle_rounds(
     limit: u32,
     is_reported: bool,
 ) -> Result<u8, Ending> {
-    let start = start_at(rt, texts)?;
+    let start = start_at(rt, threads, texts)?;
     let count = threads_for(threads, texts);
     let text = text_of(rt.alloc(), threads, &start, limit, count, is_reported)?;
     print_out(rt, &text)

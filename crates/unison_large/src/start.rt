@@ -15,6 +15,7 @@ use large_rounds::{openings, set_all_values, set_value};
 use net_initial::Chosen;
 use rule_check::{Program, State};
 use std::alloc::{AllocError, Global};
+use std::thread::Threads;
 
 /// A program, a network that it is run on, and the state of each node at the round with which it begins.
 #[derive(Drop)]
@@ -276,11 +277,12 @@ fn check_paths(alloc: Global, texts: &LargeTexts) -> Result<(), Ending> {
 /// What rounds of a program, whose values have these names, begin with by these words.
 fn start_with(
     rt: &HostRuntime,
+    threads: &impl Threads,
     texts: &LargeTexts,
     program: Program,
     names: Vec<Vec<String>>,
 ) -> Result<Start, Ending> {
-    let network = network_at(rt, texts.network.as_str())?;
+    let network = network_at(rt, threads, texts.network.as_str())?;
     let opening = opening_for(rt, &program, &network, texts)?;
     Ok(Start {
         program,
@@ -291,10 +293,14 @@ fn start_with(
 }
 
 /// What rounds begin with by these words.
-pub(crate) fn start_at(rt: &HostRuntime, texts: &LargeTexts) -> Result<Start, Ending> {
+pub(crate) fn start_at(
+    rt: &HostRuntime,
+    threads: &impl Threads,
+    texts: &LargeTexts,
+) -> Result<Start, Ending> {
     check_paths(rt.alloc(), texts)?;
     let named = named_program_at(rt, texts.program.as_str(), &texts.constants)?;
     let program = program_in(rt.alloc(), &named.text)?;
     let NamedProgram { names, .. } = named;
-    start_with(rt, texts, program, names)
+    start_with(rt, threads, texts, program, names)
 }

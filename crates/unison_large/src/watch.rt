@@ -213,7 +213,7 @@ pub(crate) fn watch_rounds(
     span: &Span,
     view: &RoundsView,
 ) -> Result<u8, Ending> {
-    let start = start_at(rt, texts)?;
+    let start = start_at(rt, threads, texts)?;
     check_span(&start, span)?;
     print_view(rt, threads, &start, span, view, threads_for(threads, texts))
 }
