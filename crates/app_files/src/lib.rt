@@ -9,6 +9,7 @@ mod fields;
 mod files;
 mod lines;
 mod model_hints;
+mod model_notes;
 mod model_told;
 mod networks;
 mod node_calls;
@@ -27,8 +28,9 @@ pub use files::{
     Text, bytes_at, bytes_where, name_at, path_in, read_once, text_at, text_where, unserved,
 };
 pub use lines::{put_note, put_place, weight_told, words_told};
+pub use model_notes::{model_slips, slips_in};
 pub use model_told::{ModelRefusal, refusal_of};
-pub use networks::file_at;
+pub use networks::{file_at, is_packed, packed_ending};
 pub use node_calls::{NodeCalls, list_path, listed_nodes};
 pub use output::{check_new, make_folder, print_out, write_file, write_new, write_out};
 pub use programs::{
@@ -36,5 +38,5 @@ pub use programs::{
     names_of_field, program_at, program_name, state_names,
 };
 pub use settling::{not_settled, settled_round, settling_line};
-pub use texts::{Told, edges_told, matrix_told, on_line, put_matrix_detail};
+pub use texts::{Told, edges_told, heading_told, matrix_told, on_line, put_matrix_detail};
 pub use told::{print_ending, print_fault};

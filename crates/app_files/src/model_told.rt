@@ -1,10 +1,10 @@
 //! What is told of a model that has no program.
 
-use crate::model_hints::{Sought, near_hint, parameters_of};
-use app_why::{Named, shown_in};
+use crate::model_hints::{Sought, near_hint, outside_hint, parameters_of, text_hint};
+use app_why::{Named, model_word_hint, shown_in};
 use model_program::ModelProgramFault;
 use model_rules::{Cause, Given};
-use model_text::{Expected, ModelFault, expected_words, hint};
+use model_text::{Expected, ModelFault, expected_words};
 use std::alloc::{AllocError, Global};
 use std::str;
 
@@ -52,7 +52,7 @@ fn is_word_byte(byte: u8) -> bool {
 }
 
 /// The word at the front of these bytes: letters, digits and `_`.
-fn front_word(bytes: &[u8]) -> &str {
+pub(crate) fn front_word(bytes: &[u8]) -> &str {
     let end = bytes
         .iter()
         .position(|byte| !is_word_byte(*byte))
@@ -166,7 +166,7 @@ fn text_refusal(alloc: Global, text: &[u8], fault: ModelFault) -> Result<ModelRe
         kind,
         at,
         what,
-        hint: String::from_str(alloc, hint(text, fault).unwrap_or(""))?,
+        hint: text_hint(alloc, text, fault)?,
     })
 }
 
@@ -215,12 +215,6 @@ fn name_words(cause: Cause) -> CauseWords {
             "no field and no let is called ",
             ".",
             "behind `n.` stands the name of a field or a let, `id` or `weight`",
-        ),
-        Cause::NameTwice => of_name(
-            "NameTwice",
-            "something is called ",
-            " already",
-            "each name stands once: take another one",
         ),
         Cause::UnknownStates => of_name(
             "UnknownStates",
@@ -301,7 +295,12 @@ fn value_words(cause: Cause) -> CauseWords {
             " is given a value that is no constant",
             "a constant is made of numbers and constants by + - * / %, or is chance(..)",
         ),
-        Cause::TooManyStates => of_name("TooManyStates", "", " has more than 256 states", ""),
+        Cause::TooManyStates => of_name(
+            "TooManyStates",
+            "",
+            " is the 257th state of its item, which has 256 at most",
+            "what has more values is a field of numbers: field NAME = NUMBER;",
+        ),
         Cause::NoState => of_name(
             "NoState",
             "the field ",
@@ -309,6 +308,24 @@ fn value_words(cause: Cause) -> CauseWords {
             "the first state is 0, the second one 1, and so on",
         ),
         cause => bound_words(cause),
+    }
+}
+
+/// What is told of a name that is there twice, by the name.
+fn twice_words(name: &str) -> CauseWords {
+    match name {
+        "seed" => of_name(
+            "NameTwice",
+            "something is called ",
+            " already",
+            "each model has the constant `seed`, of which its random numbers are made: take another name",
+        ),
+        _ => of_name(
+            "NameTwice",
+            "something is called ",
+            " already",
+            "each name stands once: take another one",
+        ),
     }
 }
 
@@ -340,6 +357,7 @@ fn range_words(name: &str) -> CauseWords {
 fn words_of(cause: Cause, name: &str) -> CauseWords {
     match cause {
         Cause::OutOfRange => range_words(name),
+        Cause::NameTwice => twice_words(name),
         cause => name_words(cause),
     }
 }
@@ -399,6 +417,14 @@ fn count_hint(
     }
 }
 
+/// What to do about a name that nothing has: a word of another language, or nearly the name of something.
+fn unknown_hint(alloc: Global, text: &[u8], word: &str) -> Result<Option<String>, AllocError> {
+    match model_word_hint(word) {
+        Some(hint) => Ok(Some(String::from_str(alloc, hint)?)),
+        None => near_hint(alloc, text, Sought::Any, word),
+    }
+}
+
 /// What to do that hangs on the names of the model.
 fn name_hint(
     alloc: Global,
@@ -408,10 +434,14 @@ fn name_hint(
     word: &str,
 ) -> Result<Option<String>, AllocError> {
     match cause {
-        Cause::UnknownName => near_hint(alloc, text, Sought::Any, word),
+        Cause::UnknownName => unknown_hint(alloc, text, word),
         Cause::UnknownNear => near_hint(alloc, text, Sought::Near, word),
         Cause::NoField => near_hint(alloc, text, Sought::Field, word),
         Cause::UnknownStates => near_hint(alloc, text, Sought::States, word),
+        Cause::NeighbourOutside => match outside_hint(text, at as usize) {
+            Some(hint) => Ok(Some(String::from_str(alloc, hint)?)),
+            None => Ok(None),
+        },
         Cause::WrongCount => count_hint(alloc, text, at, word),
         Cause::WrongArguments => Ok(Some(String::from_str(alloc, function_hint(word))?)),
         _ => Ok(None),

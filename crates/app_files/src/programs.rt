@@ -102,18 +102,21 @@ pub struct NamedProgram {
     /// For each field of a model, in order, the names of its values, 0 and so on; none where a field has no states, and of
     /// a program that is no model.
     pub names: Vec<Vec<String>>,
+    /// The text of the model, where the program is one.
+    pub model: Option<Vec<u8>>,
 }
 
 /// The program of the model of this text, where these constants are given values.
 fn named_model(
     alloc: Global,
     name: &str,
-    model: &[u8],
+    model: Vec<u8>,
     constants: &[Given],
 ) -> Result<NamedProgram, Ending> {
-    let text = expanded_text(alloc, name, model, constants)?;
-    let names = state_names(alloc, name, model)?;
-    Ok(NamedProgram { text, names })
+    let text = expanded_text(alloc, name, &model, constants)?;
+    let names = state_names(alloc, name, &model)?;
+    let model = Some(model);
+    Ok(NamedProgram { text, names, model })
 }
 
 /// The program at a path, `-` for standard input: its text, of a model that to which it is expanded, where these constants
@@ -126,10 +129,14 @@ pub fn named_program_at(
     check_constants(rt.alloc(), path, constants)?;
     let text = bytes_at(rt, path)?;
     if is_model(path) {
-        return named_model(rt.alloc(), path, &text, constants);
+        return named_model(rt.alloc(), path, text, constants);
     }
     let names = Vec::new(rt.alloc());
-    Ok(NamedProgram { text, names })
+    Ok(NamedProgram {
+        text,
+        names,
+        model: None,
+    })
 }
 
 /// The text of the same program alone.

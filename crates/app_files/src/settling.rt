@@ -1,18 +1,25 @@
 //! How it is told from which round on nothing changes, or all states come again.
 
 use crate::ending::Ending;
+use crate::programs::is_model;
 use app_jobs::ServeFault;
 use rounds_plan::RoundFault;
 use run_settle::{SettleFault, Settling};
 use std::alloc::{AllocError, Global};
 
-/// The ending where it is not told.
-pub fn not_settled(alloc: Global, fault: SettleFault) -> Ending {
+/// What is told of a program, or of a model, whose rules hang on the round.
+fn reads_round(path: &str) -> &'static str {
+    if is_model(path) {
+        "program ReadsRound\nthe model draws random numbers or reads `round`, so equal states need not be followed by equal ones, and no round tells that it settles; unison count and watch show its rounds, and count --until none:FIELD=STATE ends where no node has a state any more"
+    } else {
+        "program ReadsRound\nthe program reads `round`, so equal states need not be followed by equal ones, and no round tells that it settles; run it with lockstep or watch"
+    }
+}
+
+/// The ending where it is not told of the program at a path.
+pub fn not_settled(alloc: Global, path: &str, fault: SettleFault) -> Ending {
     match fault {
-        SettleFault::ReadsRound => Ending::refused(String::from_str(
-            alloc,
-            "program ReadsRound\nthe program reads `round`, so equal states need not be followed by equal ones, and no round tells that it settles; run it with lockstep or watch",
-        )),
+        SettleFault::ReadsRound => Ending::refused(String::from_str(alloc, reads_round(path))),
         SettleFault::LimitBelowStart => {
             Ending::Served(ServeFault::Round(RoundFault::RoundsBelowStart))
         }

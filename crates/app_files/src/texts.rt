@@ -14,17 +14,35 @@ pub fn on_line(line: u64, told: (&'static str, &'static str)) -> Told {
     (Some(line), told.0, told.1)
 }
 
+/// What is told of headings over numbers.
+pub fn heading_told() -> (&'static str, &'static str) {
+    (
+        "Heading",
+        "names stand over numbers here, as headings do (--header passes over this line, --columns 1,2 takes it for an edge)",
+    )
+}
+
+/// What is wrong with a line of a list of edges.
+fn edge_line_told(fault: LineFault) -> (&'static str, &'static str) {
+    match fault {
+        LineFault::Heading => heading_told(),
+        LineFault::Words(fault) => words_told(fault),
+        LineFault::EmptyPlace => (
+            "EmptyPlace",
+            "a place between commas is empty (--delimiter any takes any number of blanks and commas as one)",
+        ),
+        LineFault::NoColumn => (
+            "NoColumn",
+            "the line has fewer words than --columns asks for",
+        ),
+        LineFault::Weight(fault) => weight_told(fault),
+    }
+}
+
 /// What is wrong with a list of edges.
 pub fn edges_told(fault: EdgeFault) -> Told {
     match fault {
-        EdgeFault::BadLine {
-            line,
-            fault: LineFault::Words(fault),
-        } => on_line(line, words_told(fault)),
-        EdgeFault::BadLine {
-            line,
-            fault: LineFault::Weight(fault),
-        } => on_line(line, weight_told(fault)),
+        EdgeFault::BadLine { line, fault } => on_line(line, edge_line_told(fault)),
         EdgeFault::Memory => (None, "Memory", ""),
     }
 }

@@ -3,12 +3,19 @@ use Rattle.std.specs.Prelude.{◌≤◌, length}
 use Rattle.rounds_plan.specs.Configs.{most_rounds}
 use Rattle.run_counts.specs.Ensembles.{most_runs}
 use Rattle.unison_trace.specs.Histories.{most_steps}
+use Rattle.app_requests.specs.declared.arguments.GridWidth.{GridWidth}
+use Rattle.app_requests.specs.declared.arguments.GridWidth.TheVariants.{Given, Shown}
 use Rattle.app_requests.specs.declared.constants.Varied.{Varied}
 use Rattle.app_requests.specs.declared.page.PageRun.{PageRun}
 use Rattle.app_requests.specs.declared.page.PageRun.TheVariants.{Rounds, Steps}
 use Rattle.app_requests.specs.declared.schedule.Limits.{Limits}
 use Rattle.app_requests.specs.declared.schedule.ScheduleRequest.{ScheduleRequest}
 use Rattle.app_requests.specs.declared.schedule.ScheduleRequest.TheVariants as request
+
+-- a grid whose width is given has as many nodes in a row as a network may have, one at least
+abbrev pub IsWidthWithin : GridWidth → Type 0
+IsWidthWithin (Given width) = (1 ≤ width) × (width ≤ 65536)
+IsWidthWithin Shown = Unit {0}
 
 -- the run of a page stops at a round
 abbrev pub IsRunWithin : PageRun → Type 0

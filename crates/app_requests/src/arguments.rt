@@ -1,4 +1,6 @@
 //! Arguments that several commands have, and what they give.
+ghost use Rattle.std.specs.Prelude.{IfSome};
+ghost use Rattle.app_requests.specs.Requests.{IsWidthWithin};
 
 use crate::constants::constants_in;
 use app_table::{Argument, Kind, OPTION, Reading, Value, WordsFault, number};
@@ -6,6 +8,7 @@ use link_net::MOST_NODES;
 use model_rules::Given;
 use rounds_plan::MOST_ROUNDS;
 use run_watch::Span;
+use std::alloc::{AllocError, Global};
 
 /// A round, counted from round 0.
 pub(crate) const ROUND: Value = Value::Number {
@@ -127,6 +130,84 @@ pub(crate) const FIELD: Argument = Argument {
 
 /// `FIELD`, as it is read.
 pub(crate) static FIELD_ARGUMENT: Argument = FIELD;
+
+pub(crate) const QUIET: Argument = Argument {
+    name: "quiet",
+    help: "Leave out notes on what is accepted and may not be meant",
+    ..FLAG
+};
+
+/// `QUIET`, as it is read.
+pub(crate) static QUIET_ARGUMENT: Argument = QUIET;
+
+/// How many nodes stand in a row of a grid.
+#[derive(Clone, Copy)]
+pub enum GridWidth {
+    /// So many.
+    Given(u32),
+    /// As many as the links of the network show.
+    Shown,
+}
+
+impl GridWidth {
+    /// The number of a grid for which one is given, and else 0.
+    pub fn number(grid: Option<GridWidth>) -> u32 {
+        match grid {
+            Some(GridWidth::Given(width)) => width,
+            _ => 0,
+        }
+    }
+}
+
+/// The width that a word gives; an empty one stands where `--grid` has no value.
+fn width_in(reading: &mut Reading, word: &str) -> GridWidth
+    ensures within { IsWidthWithin result }
+{
+    if word.is_empty() {
+        return GridWidth::Shown;
+    }
+    match number(word, 1, MOST_NODES) {
+        Some(width) => GridWidth::Given(width),
+        None => {
+            reading.refuse_as(format!(in reading.alloc();
+                "--grid: expected a whole number from 1 to {MOST_NODES}, or no value where the links show it, found `{word}`"
+            ));
+            GridWidth::Shown
+        }
+    }
+}
+
+/// How many nodes stand in a row of the grid, where an option asks for one.
+pub(crate) fn grid_in(reading: &mut Reading, argument: &Argument) -> Option<GridWidth>
+    ensures within { IfSome result IsWidthWithin }
+{
+    let word = reading.text(argument)?;
+    Some(width_in(reading, word.as_str()))
+}
+
+/// The words of a command line in which an option that stands alone, with no value behind it, has an empty one.
+pub(crate) fn with_lone(
+    alloc: Global,
+    line: &[String],
+    option: &str,
+) -> Result<Vec<String>, AllocError> {
+    let mut words = Vec::new(alloc);
+    for (place, word) in line.iter().enumerate() {
+        words.push(word.clone()?)?;
+        if word.as_str() == option && !has_value(line, place) {
+            words.push(String::new(alloc))?;
+        }
+    }
+    Ok(words)
+}
+
+/// Whether a word stands behind the one at a place that may be a value.
+fn has_value(line: &[String], place: usize) -> bool {
+    match line.get(place.saturating_add(1)) {
+        Some(next) => !next.as_str().starts_with('-'),
+        None => false,
+    }
+}
 
 /// The paths of the texts that a plan is made of.
 #[derive(Drop)]

@@ -1,7 +1,7 @@
 //! `cells`: the states of a report as a pattern of cells.
 ghost use Rattle.std.specs.Prelude.{◌≤◌, IfOk};
 
-use crate::arguments::{FILE, WIDTH};
+use crate::arguments::{FILE, QUIET, QUIET_ARGUMENT, WIDTH};
 use app_table::{Argument, Choice, Command, Kind, OPTION, Reading, Value, WordsFault};
 use link_net::MOST_NODES;
 use std::alloc::Global;
@@ -58,6 +58,16 @@ const FORMAT: Argument = Argument {
 /// `FORMAT`, as it is read.
 static FORMAT_ARGUMENT: Argument = FORMAT;
 
+const RULE: Argument = Argument {
+    name: "rule",
+    value_name: "RULE",
+    help: "Write this rule into the header of runs, as Golly asks for it where there are more than two states: B3/S23, WireWorld, 345/3/6 and others",
+    ..OPTION
+};
+
+/// `RULE`, as it is read.
+static RULE_ARGUMENT: Argument = RULE;
+
 /// `cells` and what it takes.
 static CELLS: Command = Command {
     name: "cells",
@@ -65,7 +75,7 @@ static CELLS: Command = Command {
     called: "unison cells",
     about: "Print the states of a report on a grid as a pattern of cells",
     notes: "Prints a pattern as Golly reads it, and init --cells: runs (RLE) of two states where all values are 0 and 1, else of many, or rows of plain text.\nAn example: unison lockstep examples/life.rules examples/glider.toml --rounds 8 | unison cells - --width 8 > later.rle\n",
-    arguments: &[REPORT, GRID_WIDTH, FIELD, FORMAT],
+    arguments: &[REPORT, GRID_WIDTH, FIELD, FORMAT, RULE, QUIET],
     subcommands: &[],
 };
 
@@ -93,6 +103,10 @@ pub struct CellsRequest {
     /// The field whose values are the states, where one is named.
     pub field: Option<String>,
     pub format: CellsFormat,
+    /// The rule that is written into the header of runs, where one is.
+    pub rule: Option<String>,
+    /// Whether notes are left out.
+    pub quiet: bool,
 }
 
 /// The form in which they are written.
@@ -103,12 +117,32 @@ fn format_in(reading: &mut Reading) -> CellsFormat {
     }
 }
 
+/// Whether a word can stand behind `rule =` in the header of runs, which it does not end.
+fn is_rule(word: &str) -> bool {
+    !word.is_empty() && word.bytes().all(|byte| byte.is_ascii_graphic())
+}
+
+/// The rule that is written, where one is: only into runs.
+fn rule_in(reading: &mut Reading, format: CellsFormat) -> Option<String> {
+    let rule = reading.text(&RULE_ARGUMENT)?;
+    if !is_rule(rule.as_str()) {
+        reading.refuse_as(format!(in reading.alloc();
+            "--rule: expected a rule as Golly names it, one word of printed characters, found `{rule}`"
+        ));
+    }
+    if format == CellsFormat::Text {
+        reading.refuse_words("--rule: rows of plain text name no rule; --format rle does");
+    }
+    Some(rule)
+}
+
 /// What plain words ask for.
 fn request_in(reading: &mut Reading) -> CellsRequest
     ensures width { (1 ≤ result.width) × (result.width ≤ MOST_NODES) }
 {
     let width = reading.number_or(&GRID_WIDTH_ARGUMENT, 1);
     let format = format_in(reading);
+    let rule = rule_in(reading, format);
     let field = reading.text(&FIELD_ARGUMENT);
     let report = reading.needed_text(&REPORT_ARGUMENT);
     CellsRequest {
@@ -116,6 +150,8 @@ fn request_in(reading: &mut Reading) -> CellsRequest
         width,
         field,
         format,
+        rule,
+        quiet: reading.has(&QUIET_ARGUMENT),
     }
 }
 

@@ -3,11 +3,12 @@ ghost use Rattle.std.specs.Prelude.{IfOk, IfSome};
 ghost use Rattle.app_requests.specs.Requests.{HasRuns};
 
 use crate::arguments::{
-    EVERY, FIELD, FIELD_ARGUMENT, FLAG, FROM, NETWORK, PROGRAM, PlanPaths, ROUNDS, span_in,
+    EVERY, FIELD, FIELD_ARGUMENT, FLAG, FROM, NETWORK, PROGRAM, PlanPaths, QUIET, QUIET_ARGUMENT,
+    ROUNDS, span_in,
 };
 use crate::constants::{RunConstants, VARIED, Varied, run_constants_in};
 use app_table::{Argument, Choice, Command, Kind, OPTION, Reading, Value, WordsFault, number};
-use run_counts::{CountFormat, FigureKind};
+use run_counts::{CountFormat, FigureKind, Holders};
 use run_watch::Span;
 use std::alloc::Global;
 
@@ -18,8 +19,8 @@ const COUNTED: Argument = Argument {
 
 const UNTIL: Argument = Argument {
     name: "until",
-    value_name: "FIELD=VALUE",
-    help: "End behind the first shown round in which no node has this value in this field: a number, or the name of a state",
+    value_name: "none:FIELD=VALUE",
+    help: "End behind the first shown round in which no node has this value in this field, or with all:FIELD=VALUE every node: a number, or the name of a state; FIELD=VALUE alone is none:FIELD=VALUE",
     ..OPTION
 };
 
@@ -82,7 +83,7 @@ static FORMAT_ARGUMENT: Argument = FORMAT;
 
 const MEAN: Argument = Argument {
     name: "mean",
-    help: "In place of each run the means of them all, where --const gives a constant several values: for each round how many runs are counted in it, and for each column the mean and the standard deviation of the sample",
+    help: "In place of each run the means of them all, where --const gives a constant several values: for each round how many runs there are, with --until how many of them go on to it, and for each column the mean and the standard deviation of the sample; a run that has ended keeps its last numbers",
     ..FLAG
 };
 
@@ -95,10 +96,10 @@ static COUNT: Command = Command {
     aliases: &[],
     called: "unison count",
     about: "Count how many nodes have each value, round by round, with sums and extremes",
-    notes: "Prints, for the rounds FIRST, FIRST + K, FIRST + 2 K and so on, up to LAST, how many nodes have each value of a field: a column for each value that occurs, or lines of round, value and nodes where there are more than 64.\nAn example: unison count examples/life.rules examples/glider.toml --rounds 0..4\nAnother one: unison count examples/distance.rules examples/path.toml --rounds 0..9 --until dist=4294967295\nThree runs of a model, with one of its constants at three values: unison count examples/models/pagerank.model examples/cookbook/pagerank.toml --rounds 100..100 --field rank --most rank --const passed_on=80,85,90\n",
+    notes: "Prints, for the rounds FIRST, FIRST + K, FIRST + 2 K and so on, up to LAST, how many nodes have each value of a field: a column for each state of the field, and for each value that occurs, or lines of round, value and nodes where there are more than 64.\nAn example: unison count examples/life.rules examples/glider.toml --rounds 0..4\nAnother one: unison count examples/distance.rules examples/path.toml --rounds 0..9 --until none:dist=4294967295\nThree runs of a model, with one of its constants at three values: unison count examples/models/pagerank.model examples/cookbook/pagerank.toml --rounds 100..100 --field rank --most rank --const passed_on=80,85,90\n",
     arguments: &[
         PROGRAM, NETWORK, ROUNDS, EVERY, COUNTED, UNTIL, SUM, LEAST, MOST, FORMAT, MEAN, FROM,
-        VARIED,
+        VARIED, QUIET,
     ],
     subcommands: &[],
 };
@@ -123,9 +124,11 @@ pub enum ValueWord {
     Name(String),
 }
 
-/// A word of `--until FIELD=VALUE`.
+/// A word of `--until`: `none:FIELD=VALUE`, `all:FIELD=VALUE`, or `FIELD=VALUE`, which is the first of them.
 #[derive(Drop)]
 pub struct UntilWord {
+    /// At which nodes the value is to stand, where the word says it.
+    pub holders: Option<Holders>,
     pub field: String,
     pub value: ValueWord,
 }
@@ -156,6 +159,8 @@ pub struct CountRequest {
     pub until: Option<UntilWord>,
     /// The form of the text.
     pub format: CountFormat,
+    /// Whether notes are left out.
+    pub quiet: bool,
 }
 
 /// Whether a word begins with a letter.
@@ -177,12 +182,28 @@ fn value_word(reading: &mut Reading, word: &str) -> Option<ValueWord> {
     None
 }
 
+/// At which nodes a value is to stand by a word of `--until`, where the word says it, and what stands behind that.
+fn holders_in(word: &str) -> (Option<Holders>, &str) {
+    if let Some(rest) = word.strip_prefix("none:") {
+        return (Some(Holders::NoNode), rest);
+    }
+    match word.strip_prefix("all:") {
+        Some(rest) => (Some(Holders::EveryNode), rest),
+        None => (None, word),
+    }
+}
+
 /// The parts of a word of `--until`: what stands before the first `=`, and the value behind it.
 fn until_parts(reading: &mut Reading, word: &str) -> Option<UntilWord> {
-    let (field, value) = word.split_once('=')?;
+    let (holders, rest) = holders_in(word);
+    let (field, value) = rest.split_once('=')?;
     let value = value_word(reading, value)?;
     let field = reading.copied(field);
-    Some(UntilWord { field, value })
+    Some(UntilWord {
+        holders,
+        field,
+        value,
+    })
 }
 
 /// The word of `--until`, which has its parts where it is read.
@@ -190,7 +211,7 @@ fn until_word(reading: &mut Reading, word: &str) -> Option<UntilWord> {
     let until = until_parts(reading, word);
     if until.is_none() {
         reading.refuse_as(format!(in reading.alloc();
-            "--until: expected FIELD=VALUE, with a whole number from 0 to 4294967295 or the name of a state behind the first =, found `{word}`"
+            "--until: expected none:FIELD=VALUE or all:FIELD=VALUE, with a whole number from 0 to 4294967295 or the name of a state behind the first =, found `{word}`"
         ));
     }
     until
@@ -302,6 +323,7 @@ fn request_in(reading: &mut Reading) -> Option<CountRequest>
         figures,
         until,
         format,
+        quiet: reading.has(&QUIET_ARGUMENT),
     })
 }
 

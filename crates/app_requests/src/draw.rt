@@ -1,24 +1,23 @@
 //! `image` and `dot`: rounds as pictures, and networks for Graphviz.
 ghost use Rattle.std.specs.Prelude.{◌≤◌, IfOk, IfSome};
+ghost use Rattle.app_requests.specs.Requests.{IsWidthWithin};
 ghost use Rattle.rounds_plan.specs.Configs.{most_rounds};
 
 use crate::arguments::{
-    EVERY, FIELD, FIELD_ARGUMENT, FILE_OPTION, FLAG, FROM, NAMES, NAMES_ARGUMENT, NETWORK, PROGRAM,
-    PlanPaths, ROUND, ROUNDS, WIDTH, span_in,
+    EVERY, FIELD, FIELD_ARGUMENT, FILE_OPTION, FLAG, FROM, GridWidth, NAMES, NAMES_ARGUMENT,
+    NETWORK, PROGRAM, PlanPaths, ROUND, ROUNDS, grid_in, span_in, with_lone,
 };
 use crate::colours::{COLOURS, colours_in};
 use crate::constants::CONSTANT;
 use app_table::{Argument, Command, Kind, OPTION, Reading, Value, WordsFault};
-use link_net::MOST_NODES;
 use run_picture::ValueColour;
 use run_watch::Span;
 use std::alloc::Global;
 
 const GRID: Argument = Argument {
     name: "grid",
-    value: WIDTH,
     value_name: "WIDTH",
-    help: "Show the nodes of one round as cells, so many across, node 0 first: 1 to 65536",
+    help: "Show the nodes of one round as cells, so many across, node 0 first: 1 to 65536; with no WIDTH as many as the links show",
     ..OPTION
 };
 
@@ -97,7 +96,7 @@ static IMAGE: Command = Command {
     aliases: &[],
     called: "unison image",
     about: "Make a picture of rounds, nodes across and rounds down, of one round as a grid or a network, or of counts as curves",
-    notes: "Prints an SVG picture: nodes across and rounds down, with --grid the nodes of one round as cells, with --links the network of one round, with --animate too that of each round in turn, or with --counts a curve for each value that occurs, of how many nodes have it. Where more than 64 values occur, the curves are refused; count prints the numbers. With --frames FOLDER the picture of each round goes into a file of its own, all in the same colours, and one line tells which were written.\nAn example: unison image examples/rule_110.rules examples/row.toml --rounds 0..30 > run.svg\nAnother one: unison image examples/life.rules examples/glider.toml --rounds 8..8 --grid 8 > frame.svg\nA third one: unison image examples/distance.rules examples/karate.toml --rounds 0..5 --counts > curves.svg\nOne that moves: unison image examples/life.rules examples/glider.toml --rounds 0..31 --grid 8 --animate --colours 1:teal > glider.svg\nA network that moves: unison image examples/distance.rules examples/karate.toml --rounds 0..5 --links --animate --frame-time 500 > karate.svg\nA file for each round: unison image examples/life.rules examples/glider.toml --rounds 0..31 --grid 8 --frames glider\n",
+    notes: "Prints an SVG picture: nodes across and rounds down, with --grid the nodes of one round as cells, with --links the network of one round, with --animate too that of each round in turn, or with --counts a curve for each state of the field, and each value that occurs, of how many nodes have it. Where more than 64 values occur, the curves are refused; count prints the numbers. With --frames FOLDER the picture of each round goes into a file of its own, all in the same colours, and one line tells which were written.\nAn example: unison image examples/rule_110.rules examples/row.toml --rounds 0..30 > run.svg\nAnother one: unison image examples/life.rules examples/glider.toml --rounds 8..8 --grid 8 > frame.svg\nA third one: unison image examples/distance.rules examples/karate.toml --rounds 0..5 --counts > curves.svg\nOne that moves: unison image examples/life.rules examples/glider.toml --rounds 0..31 --grid 8 --animate --colours 1:teal > glider.svg\nA network that moves: unison image examples/distance.rules examples/karate.toml --rounds 0..5 --links --animate --frame-time 500 > karate.svg\nA file for each round: unison image examples/life.rules examples/glider.toml --rounds 0..31 --grid 8 --frames glider\n",
     arguments: &[
         PROGRAM, NETWORK, ROUNDS, EVERY, FIELD, COUNTS, GRID, LINKS, ANIMATE, SHOWN_FOR, FRAMES,
         COLOURS, FROM, CONSTANT,
@@ -146,8 +145,8 @@ pub struct ImageRequest {
     pub field: Option<String>,
     /// Whether curves are drawn, of how many nodes have each value.
     pub counts: bool,
-    /// How many cells a line of the grid has; 0 for none.
-    pub grid: u32,
+    /// How many nodes stand in a row of the grid, where there is one.
+    pub grid: Option<GridWidth>,
     /// Whether the network is drawn, by nodes and links; there is no grid then.
     pub links: bool,
     /// For how many milliseconds each round is shown, where the grid or the network moves.
@@ -176,8 +175,8 @@ pub struct DotRequest {
 #[derive(Clone, Copy)]
 struct Manner {
     counts: bool,
-    /// How many cells a line of the grid has; 0 for none.
-    grid: u32,
+    /// Whether there is a grid.
+    grid: bool,
     links: bool,
     /// Whether each round has a file of its own.
     in_files: bool,
@@ -186,13 +185,13 @@ struct Manner {
 impl Manner {
     /// Whether the nodes of single rounds are drawn.
     fn shows_single_rounds(self) -> bool {
-        self.grid > 0 || self.links
+        self.grid || self.links
     }
 }
 
 /// Refuses two kinds of pictures at once.
 fn check_kind(reading: &mut Reading, manner: Manner) {
-    if manner.counts && manner.grid > 0 {
+    if manner.counts && manner.grid {
         reading.refuse_words(
             "--counts draws curves over rounds, and --grid the cells of one round: one of them is wanted",
         );
@@ -202,7 +201,7 @@ fn check_kind(reading: &mut Reading, manner: Manner) {
             "--counts draws curves over rounds, and --links the network of one round: one of them is wanted",
         );
     }
-    if manner.grid > 0 && manner.links {
+    if manner.grid && manner.links {
         reading.refuse_words(
             "--grid draws nodes as cells, and --links as circles with their links: one of them is wanted",
         );
@@ -269,15 +268,15 @@ fn check_manner(reading: &mut Reading, span: &Span, manner: Manner, frame_time: 
 
 /// What plain words ask for, where they name rounds.
 fn image_in(reading: &mut Reading) -> Option<ImageRequest>
-    ensures within { IfSome result (λ r. r.grid ≤ MOST_NODES) }
+    ensures within { IfSome result (λ r. IfSome r.grid IsWidthWithin) }
 {
-    let grid = reading.number_or(&GRID_ARGUMENT, 0);
+    let grid = grid_in(reading, &GRID_ARGUMENT);
     let counts = reading.has(&COUNTS_ARGUMENT);
     let links = reading.has(&LINKS_ARGUMENT);
     let frames = reading.text(&FRAMES_ARGUMENT);
     let manner = Manner {
         counts,
-        grid,
+        grid: grid.is_some(),
         links,
         in_files: frames.is_some(),
     };
@@ -321,9 +320,10 @@ fn dot_in(reading: &mut Reading) -> DotRequest
 impl ImageRequest {
     /// What the words ask for, the command's name first.
     pub fn parse(alloc: Global, line: &[String]) -> Result<ImageRequest, WordsFault>
-        ensures within { IfOk result (λ r. r.grid ≤ MOST_NODES) }
+        ensures within { IfOk result (λ r. IfSome r.grid IsWidthWithin) }
     {
-        let mut reading = Reading::of(alloc, image(), line)?;
+        let words = with_lone(alloc, line, "--grid")?;
+        let mut reading = Reading::of(alloc, image(), &words)?;
         let asked = image_in(&mut reading);
         reading.end_some(asked)
     }

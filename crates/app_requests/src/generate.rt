@@ -2,11 +2,11 @@
 ghost use Rattle.std.specs.Prelude.{◌≤◌, IfOk, IfSome};
 
 use crate::arguments::{FLAG, NUMBER};
-use crate::decimals::{Portion, billionths_of, percent_of};
-use app_table::{Argument, Command, Kind, OPTION, Reading, Subcommand, WordsFault, number};
+use crate::decimals::{Portion, billionths_of, percent_of, share_of};
+use app_table::{Argument, Command, Draft, Kind, OPTION, Reading, Subcommand, WordsFault, number};
 use net_random::RandomNetwork;
 use net_shapes::Shape;
-use std::alloc::Global;
+use std::alloc::{AllocError, Global};
 
 /// What a number at its place is made from.
 const SIZE: Argument = Argument {
@@ -169,8 +169,8 @@ pub(crate) static NEAR_ARGUMENT: Argument = NEAR;
 pub(crate) const REWIRE: Argument = Argument {
     name: "rewire",
     kind: Kind::Required,
-    value_name: "PERCENT",
-    help: "How many of a hundred links are led to another node, 0 to 100, with six decimals at most",
+    value_name: "SHARE",
+    help: "The share of links that are led to another node, as 5%: from 0% to 100%, with six decimals at most",
     ..OPTION
 };
 
@@ -181,7 +181,7 @@ const PROBABILITY: Argument = Argument {
     name: "probability",
     kind: Kind::Required,
     value_name: "P",
-    help: "The chance with which each pair of nodes is linked, 0 to 1, with nine decimals at most",
+    help: "The chance with which each pair of nodes is linked, from 0 to 1 with nine decimals at most, or as 5%",
     ..OPTION
 };
 
@@ -346,6 +346,59 @@ static GENERATE: Command = Command {
     subcommands: &SHAPES,
 };
 
+/// What networks are called elsewhere, and the name that they have here.
+const OTHER_NAMES: [(&str, &str); 21] = [
+    ("ba", "preferential"),
+    ("barabasi-albert", "preferential"),
+    ("scale-free", "preferential"),
+    ("binomial", "gnp"),
+    ("er", "gnp"),
+    ("erdos-renyi", "gnp"),
+    ("gilbert", "gnp"),
+    ("gnm", "random"),
+    ("circle", "ring"),
+    ("circular", "ring"),
+    ("cycle", "ring"),
+    ("clique", "complete"),
+    ("full", "complete"),
+    ("chain", "path"),
+    ("line", "path"),
+    ("lattice", "grid"),
+    ("cube", "hypercube"),
+    ("random-regular", "regular"),
+    ("hexagonal", "hex"),
+    ("watts-strogatz", "small-world"),
+    ("ws", "small-world"),
+];
+
+/// The name here of a network that is called so elsewhere, where the command has it.
+fn name_here(command: &Command, word: &str) -> Option<&'static str> {
+    for (other, name) in OTHER_NAMES {
+        if other == word && command.subcommands.iter().any(|row| row.name == name) {
+            return Some(name);
+        }
+    }
+    None
+}
+
+/// Refuses a word by which a network is called elsewhere, and tells its name here.
+pub(crate) fn check_name(
+    alloc: Global,
+    command: &Command,
+    line: &[String],
+) -> Result<(), WordsFault> {
+    let Some(word) = line.get(1) else {
+        return Ok(());
+    };
+    let called = command.called;
+    match name_here(command, word.as_str()) {
+        Some(name) => Err(WordsFault::told(format!(in alloc;
+            "{called}: `{word}` is called {name} here: {called} {name} --help tells its numbers"
+        ))),
+        None => Ok(()),
+    }
+}
+
 /// The table of `generate`.
 pub(crate) fn generate() -> &'static Command {
     &GENERATE
@@ -461,20 +514,68 @@ fn shape_in(reading: &mut Reading) -> Shape {
     }
 }
 
-/// Notes that a text is no number of percents.
-fn refuse_percent(reading: &mut Reading, found: &str) {
-    reading.refuse_as(format!(in reading.alloc();
-        "--rewire: expected a number of percents from 0 to 100, with six decimals at most, found `{found}`"
-    ));
+/// One percent, in millionths of a percent.
+const ONE_PERCENT: u32 = 1_000_000;
+
+/// Adds millionths of a percent as a number of percents, without zeros at its end.
+fn put_percents(draft: &mut Draft, millionths: u32) {
+    draft.put_count((millionths / ONE_PERCENT) as u64);
+    let mut left = millionths % ONE_PERCENT;
+    for unit in [100_000, 10_000, 1_000, 100, 10, 1] {
+        if left == 0 {
+            return;
+        }
+        draft.put(if unit == 100_000 { "." } else { "" });
+        draft.put_count(left.checked_div(unit).unwrap_or(0) as u64);
+        left = left.checked_rem(unit).unwrap_or(0);
+    }
+}
+
+/// What is told of a number without `%`: how it is written where it is percents, and where it is a share from 0 to 1.
+fn bare_share(alloc: Global, found: &str, millionths: u32) -> Result<String, AllocError> {
+    let mut draft = Draft::new(alloc);
+    draft.put("--rewire: percents have % behind them, so that `");
+    draft.put(found);
+    draft.put("` is not taken for another share: write ");
+    draft.put(found);
+    draft.put("%");
+    if millionths <= ONE_PERCENT {
+        draft.put(", or ");
+        put_percents(&mut draft, millionths.saturating_mul(100));
+        draft.put("% for the share ");
+        draft.put(found);
+    }
+    draft.end()
+}
+
+/// What is told of a text that is no share.
+fn no_share(alloc: Global, found: &str) -> Result<String, AllocError> {
+    if let Some(millionths) = share_of(found) {
+        return bare_share(alloc, found, millionths);
+    }
+    format!(in alloc;
+        "--rewire: expected a share from 0% to 100%, with six decimals at most, found `{found}`"
+    )
+}
+
+/// The share that percents write; where `%` is left out, 0 alone.
+fn rewired_of(word: &str) -> Option<Portion> {
+    if let Some(percents) = word.strip_suffix('%') {
+        return percent_of(percents);
+    }
+    match percent_of(word) {
+        Some(Portion { times: 0, of }) => Some(Portion { times: 0, of }),
+        _ => None,
+    }
 }
 
 /// The share of links that are led elsewhere. Where the words name none, an invalid argument is noted.
 pub(crate) fn rewire_in(reading: &mut Reading) -> Portion {
     let found = reading.needed_text(&REWIRE_ARGUMENT);
-    match percent_of(found.as_str()) {
+    match rewired_of(found.as_str()) {
         Some(share) => share,
         None => {
-            refuse_percent(reading, found.as_str());
+            reading.refuse_as(no_share(reading.alloc(), found.as_str()));
             Portion { times: 0, of: 1 }
         }
     }
@@ -495,15 +596,23 @@ fn small_world_in(reading: &mut Reading, nodes: u32) -> RandomNetwork {
 /// Notes that a text is no chance.
 fn refuse_chance(reading: &mut Reading, found: &str) {
     reading.refuse_as(format!(in reading.alloc();
-        "--probability: expected a decimal from 0 to 1, with nine decimals at most, found `{found}`"
+        "--probability: expected a decimal from 0 to 1, with nine decimals at most, or percents as 5%, found `{found}`"
     ));
+}
+
+/// The billionths that a decimal from 0 to 1 writes, or a number of percents with `%` behind it.
+fn chance_of(word: &str) -> Option<u32> {
+    match word.strip_suffix('%') {
+        Some(percents) => share_of(percents)?.checked_mul(10),
+        None => billionths_of(word),
+    }
 }
 
 /// A network each of whose pairs is linked with a chance. Where the words name none, an invalid argument is noted.
 fn chance_in(reading: &mut Reading) -> Topology {
     let nodes = size(reading, &NODES_ARGUMENT);
     let found = reading.needed_text(&PROBABILITY_ARGUMENT);
-    let chance = billionths_of(found.as_str());
+    let chance = chance_of(found.as_str());
     if chance.is_none() {
         refuse_chance(reading, found.as_str());
     }
@@ -598,6 +707,7 @@ impl GenerateRequest {
     pub fn parse(alloc: Global, line: &[String]) -> Result<GenerateRequest, WordsFault>
         ensures ordered { IfOk result (λ r. IfSome r.weights (λ w. w.low ≤ w.high)) }
     {
+        check_name(alloc, generate(), line)?;
         let mut reading = Reading::of(alloc, generate(), line)?;
         let asked = request_in(&mut reading);
         reading.end(asked)

@@ -2,10 +2,15 @@
 ghost use Rattle.std.specs.Prelude.{◌≤◌, IfOk, IfSome};
 
 use crate::arguments::{FILE, FILE_OPTION, FLAG};
-use app_table::{Argument, Choice, Command, OPTION, Reading, Subcommand, Value, WordsFault};
+use app_table::{
+    Argument, Choice, Command, OPTION, Reading, Subcommand, Value, WordsFault, number,
+};
 use import_links::{Kept, Mending, ParallelLinks, SelfLoops};
 use import_table::Separator;
 use std::alloc::Global;
+
+/// The greatest number of a column: a line has 65,536 bytes at most.
+const MOST_COLUMN: u32 = 65_536;
 
 pub(crate) const TEXT: Argument = Argument {
     name: "file",
@@ -91,25 +96,40 @@ const NUMBERS: Argument = Argument {
 /// `NUMBERS`, as it is read.
 static NUMBERS_ARGUMENT: Argument = NUMBERS;
 
-const SEPARATOR: Argument = Argument {
-    name: "separator",
+const DELIMITER: Argument = Argument {
+    name: "delimiter",
+    aliases: &["separator"],
     value: Value::Choice(&[
+        Choice {
+            name: "comma",
+            aliases: &["csv"],
+        },
         Choice {
             name: "tab",
             aliases: &[],
         },
         Choice {
-            name: "comma",
-            aliases: &["csv"],
+            name: "any",
+            aliases: &["blank", "blanks"],
         },
     ]),
     value_name: "SIGN",
-    help: "What alone parts names and weights, so that blanks stand in names: tab, or comma, where a name may stand in double quotes, as in CSV",
+    help: "What parts names and weights: comma, as in CSV, where a name may stand in double quotes; tab; or any, which is blanks, tabs and commas, as many as there are. Where it is left out, comma for a file whose name ends in .csv",
     ..OPTION
 };
 
-/// `SEPARATOR`, as it is read.
-static SEPARATOR_ARGUMENT: Argument = SEPARATOR;
+/// `DELIMITER`, as it is read.
+static DELIMITER_ARGUMENT: Argument = DELIMITER;
+
+const COLUMNS: Argument = Argument {
+    name: "columns",
+    value_name: "FROM,TO[,WEIGHT]",
+    help: "Which columns are the two ends and the weight: their numbers, from 1, or their names in a line of headings, which is passed over then; other columns are passed over, too",
+    ..OPTION
+};
+
+/// `COLUMNS`, as it is read.
+static COLUMNS_ARGUMENT: Argument = COLUMNS;
 
 pub(crate) const UNDIRECTED: Argument = Argument {
     name: "undirected",
@@ -126,7 +146,7 @@ const FORMATS: [Subcommand; 4] = [
         about: "Lines of two names and a weight, which may be left out; blanks, tabs or commas between, comments behind # or %",
         notes: "",
         arguments: &[
-            TEXT, SCALE, DROP_LOOPS, PARALLEL, NAMES, HEADER, NUMBERS, SEPARATOR,
+            TEXT, SCALE, DROP_LOOPS, PARALLEL, NAMES, HEADER, NUMBERS, COLUMNS, DELIMITER,
         ],
     },
     Subcommand {
@@ -155,7 +175,7 @@ static IMPORT: Command = Command {
     aliases: &["take"],
     called: "unison import",
     about: "Import a network from a list of edges, a Matrix Market file, a graph of Graphviz or JSON",
-    notes: "Prints a network file; nodes are numbered by the first appearance of their names.\nAn example: unison import edges friends.txt --names friends.names > friends.toml\nAnother one: unison import matrix-market road.mtx --undirected --parallel min > road.toml\n",
+    notes: "Prints a network file; nodes are numbered by the first appearance of their names.\nAn example: unison import edges friends.txt --names friends.names > friends.toml\nAnother one: unison import edges friends.csv --columns source,target > friends.toml\nAnother one: unison import matrix-market road.mtx --undirected --parallel min > road.toml\n",
     arguments: &[],
     subcommands: &FORMATS,
 };
@@ -200,6 +220,34 @@ impl Format {
     }
 }
 
+/// A column of a text that is named.
+#[derive(Drop)]
+pub enum ColumnWord {
+    /// By its number, counted from 1.
+    Number(u32),
+    /// By its name in a line of headings.
+    Name(String),
+}
+
+/// The columns of the ends of edges, and of their weights where one has them.
+#[derive(Drop)]
+pub struct ColumnWords {
+    pub first: ColumnWord,
+    pub second: ColumnWord,
+    pub weight: Option<ColumnWord>,
+}
+
+/// What parts the words of a line.
+#[derive(Clone, Copy)]
+pub enum Delimiter {
+    /// This sign alone.
+    Sign(Separator),
+    /// Blanks, tabs and commas, as many as there are.
+    Any,
+    /// Blanks, tabs and commas, of which no two commas stand side by side: where nothing is said.
+    Unsaid,
+}
+
 /// What `import` is asked for.
 #[derive(Drop)]
 pub struct ImportRequest {
@@ -213,8 +261,10 @@ pub struct ImportRequest {
     pub header: bool,
     /// Whether the names are the numbers of the nodes.
     pub numbers: bool,
-    /// What alone parts the fields of a line, where that is said.
-    pub separator: Option<Separator>,
+    /// What parts the words of a line.
+    pub delimiter: Delimiter,
+    /// Which columns are meant, where that is said.
+    pub columns: Option<ColumnWords>,
     /// Whether directed edges are taken as undirected ones.
     pub undirected: bool,
     /// What weights are multiplied by, where they are.
@@ -241,13 +291,88 @@ fn parallel_in(reading: &mut Reading) -> ParallelLinks {
     }
 }
 
-/// What alone parts the fields of a line.
-fn separator_in(reading: &mut Reading) -> Option<Separator> {
-    match reading.choice(&SEPARATOR_ARGUMENT) {
-        None => None,
-        Some("tab") => Some(Separator::Tab),
-        Some(_) => Some(Separator::Comma),
+/// Whether the name of a file ends in `.csv`, in letters of either case.
+fn is_csv(path: &str) -> bool {
+    matches!(
+        path.as_bytes(),
+        [.., b'.', b'c' | b'C', b's' | b'S', b'v' | b'V']
+    )
+}
+
+/// What parts the words of the text at a path.
+fn delimiter_in(reading: &mut Reading, path: &str) -> Delimiter {
+    match reading.choice(&DELIMITER_ARGUMENT) {
+        Some("tab") => Delimiter::Sign(Separator::Tab),
+        Some("comma") => Delimiter::Sign(Separator::Comma),
+        Some(_) => Delimiter::Any,
+        None => {
+            if is_csv(path) {
+                Delimiter::Sign(Separator::Comma)
+            } else {
+                Delimiter::Unsaid
+            }
+        }
     }
+}
+
+/// The column that a word names, where it names one.
+fn column_of(reading: &mut Reading, word: &str) -> Option<ColumnWord> {
+    if word.is_empty() {
+        return None;
+    }
+    if !word.bytes().all(|byte| byte.is_ascii_digit()) {
+        return Some(ColumnWord::Name(reading.copied(word)));
+    }
+    match number(word, 1, MOST_COLUMN) {
+        Some(column) => Some(ColumnWord::Number(column)),
+        None => None,
+    }
+}
+
+/// The columns of the ends that two words name, where they do.
+fn columns_of(
+    reading: &mut Reading,
+    first: &str,
+    second: &str,
+    weight: Option<ColumnWord>,
+) -> Option<ColumnWords> {
+    let first = column_of(reading, first)?;
+    let second = column_of(reading, second)?;
+    Some(ColumnWords {
+        first,
+        second,
+        weight,
+    })
+}
+
+/// The columns that a text names, where it names two or three.
+fn columns_among(reading: &mut Reading, text: &str) -> Option<ColumnWords> {
+    let (first, rest) = text.split_once(',')?;
+    match rest.split_once(',') {
+        Some((second, weight)) if !weight.contains(',') => {
+            let weight = column_of(reading, weight)?;
+            columns_of(reading, first, second, Some(weight))
+        }
+        Some(_) => None,
+        None => columns_of(reading, first, rest, None),
+    }
+}
+
+/// Notes that a text names no columns.
+fn refuse_columns(reading: &mut Reading, found: &str) {
+    reading.refuse_as(format!(in reading.alloc();
+        "--columns: expected FROM,TO or FROM,TO,WEIGHT, each the number of a column, from 1, or its name in a line of headings, found `{found}`"
+    ));
+}
+
+/// The columns that are meant, where that is said.
+fn columns_in(reading: &mut Reading) -> Option<ColumnWords> {
+    let found = reading.text(&COLUMNS_ARGUMENT)?;
+    let columns = columns_among(reading, found.as_str());
+    if columns.is_none() {
+        refuse_columns(reading, found.as_str());
+    }
+    columns
 }
 
 /// What becomes of loops.
@@ -275,16 +400,18 @@ fn request_in(reading: &mut Reading) -> ImportRequest
     check_names(reading);
     let factor = factor_in(reading);
     let parallel = parallel_in(reading);
-    let separator = separator_in(reading);
+    let columns = columns_in(reading);
     let names = reading.text(&NAMES_ARGUMENT);
     let path = reading.needed_text(&TEXT_ARGUMENT);
+    let delimiter = delimiter_in(reading, path.as_str());
     ImportRequest {
         format: Format::named(reading.subcommand()),
         path,
         names,
         header: reading.has(&HEADER_ARGUMENT),
         numbers: reading.has(&NUMBERS_ARGUMENT),
-        separator,
+        delimiter,
+        columns,
         undirected: reading.has(&UNDIRECTED_ARGUMENT),
         factor,
         mending: Mending {

@@ -2,7 +2,8 @@
 ghost use Rattle.std.specs.Prelude.{◌≤◌, IfOk, IfSome};
 
 use crate::arguments::{
-    FILE_OPTION, FLAG, NAMES, NAMES_ARGUMENT, NETWORK, NETWORK_ARGUMENT, NUMBER, WIDTH,
+    FILE_OPTION, FLAG, NAMES, NAMES_ARGUMENT, NETWORK, NETWORK_ARGUMENT, NUMBER, QUIET,
+    QUIET_ARGUMENT, WIDTH,
 };
 use crate::decimals::share_of;
 use app_table::{Argument, Choice, Command, Kind, OPTION, Reading, Value, WordsFault, number};
@@ -143,7 +144,7 @@ static INIT: Command = Command {
     notes: "Prints the network with other initial values; where several give one to the same field and node, the last one counts; --set counts over --cells, that over --set-random, and that over --random.\nAn example: unison init examples/path.toml --set 'dist=*:9' --set dist=0:0 > start.toml\nAnother: unison init examples/path.toml --set state=0..1:2 --set-random state=1:33.3% --seed 7 > start.toml\n",
     arguments: &[
         NETWORK, SET, SET_RANDOM, OVERLAP, RANDOM, DRAWS_SEED, CELLS, GRID_WIDTH, CLEAR, NAMES,
-        PHASE,
+        PHASE, QUIET,
     ],
     subcommands: &[],
 };
@@ -223,6 +224,8 @@ pub struct InitRequest {
     pub seed: u32,
     /// The phase in which all nodes open; where there is none, that of the file.
     pub phase: Option<u8>,
+    /// Whether notes are left out.
+    pub quiet: bool,
 }
 
 /// The parts of a word of `--set`: what stands before the first `=`, what follows up to the last colon, and the number
@@ -489,6 +492,7 @@ fn request_in(reading: &mut Reading) -> InitRequest
         width,
         seed,
         phase,
+        quiet: reading.has(&QUIET_ARGUMENT),
     }
 }
 

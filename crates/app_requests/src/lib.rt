@@ -26,7 +26,7 @@ mod settle;
 mod verify;
 mod watch;
 
-pub use arguments::PlanPaths;
+pub use arguments::{GridWidth, PlanPaths};
 pub use cells::{CellsFormat, CellsRequest};
 pub use commands::{GROUPS, Group, Task, check_completion, check_manual};
 pub use constants::{Varied, constants_among};
@@ -37,7 +37,7 @@ pub use draw::{DotRequest, ImageRequest};
 pub use expand::ExpandRequest;
 pub use explain::ExplainRequest;
 pub use generate::{GenerateRequest, Topology, Weights};
-pub use import::{Format, ImportRequest};
+pub use import::{ColumnWord, ColumnWords, Delimiter, Format, ImportRequest};
 pub use info::InfoRequest;
 pub use init::{CellsWord, InitRequest, RandomWord, RangeWord, SetWord, amounts_of};
 pub use large::{

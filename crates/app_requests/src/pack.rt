@@ -7,7 +7,7 @@ use crate::generate::{
     DIAGONALS, DIAGONALS_ARGUMENT, GRID_HEIGHT, GRID_HEIGHT_ARGUMENT, GRID_WIDTH,
     GRID_WIDTH_ARGUMENT, LINKS, LINKS_ARGUMENT, LINKS_EACH, LINKS_EACH_ARGUMENT, NEAR,
     NEAR_ARGUMENT, NODES, NODES_ARGUMENT, REWIRE, RING_NODES, SEED, SEED_ARGUMENT, TORUS_HEIGHT,
-    TORUS_WIDTH, rewire_in,
+    TORUS_WIDTH, check_name, rewire_in,
 };
 use crate::import::{DROP_LOOPS, HEADER, SCALE, TEXT, UNDIRECTED, factor_in};
 use app_table::{Argument, Choice, Command, OPTION, Reading, Subcommand, Value, WordsFault};
@@ -76,12 +76,22 @@ static COUNT_ARGUMENT: Argument = COUNT;
 
 const DIRECTED: Argument = Argument {
     name: "directed",
-    help: "An edge a b gives a the neighbour b alone; else it gives b the neighbour a, too",
+    help: "An edge a b gives a the neighbour b alone, so that a reads b; else it gives b the neighbour a, too",
     ..FLAG
 };
 
 /// `DIRECTED`, as it is read.
 static DIRECTED_ARGUMENT: Argument = DIRECTED;
+
+const REVERSE: Argument = Argument {
+    name: "reverse",
+    help: "Turn each edge round: an edge a b gives b the neighbour a, so that b reads a",
+    needs: Some("directed"),
+    ..FLAG
+};
+
+/// `REVERSE`, as it is read.
+static REVERSE_ARGUMENT: Argument = REVERSE;
 
 const PARALLEL: Argument = Argument {
     name: "parallel",
@@ -123,7 +133,7 @@ const FORMATS: [Subcommand; 10] = [
         about: "Lines of two numbers of nodes, from 0, or with --names of two names, and a weight, which may be left out; blanks, tabs or commas between, comments behind # or %",
         notes: "",
         arguments: &[
-            EDGES, COUNT, DIRECTED, SCALE, DROP_LOOPS, KEEP_LOOPS, PARALLEL, HEADER, NAMES,
+            EDGES, COUNT, DIRECTED, REVERSE, SCALE, DROP_LOOPS, KEEP_LOOPS, PARALLEL, HEADER, NAMES,
         ],
     },
     Subcommand {
@@ -272,6 +282,7 @@ fn options_in(reading: &mut Reading) -> PackOptions
     PackOptions {
         nodes,
         is_directed: reading.has(&DIRECTED_ARGUMENT),
+        reverse: reading.has(&REVERSE_ARGUMENT),
         factor,
         header: reading.has(&HEADER_ARGUMENT),
         self_loops,
@@ -394,6 +405,7 @@ impl PackRequest {
     /// What the words ask for, the command's name first. Words that no format has, `--keep-loops` beside
     /// `--drop-loops`, and `--nodes` beside `--names` are `Usage`.
     pub fn parse(alloc: Global, line: &[String]) -> Result<PackRequest, WordsFault> {
+        check_name(alloc, pack(), line)?;
         let mut reading = Reading::of(alloc, pack(), line)?;
         let asked = request_in(&mut reading);
         reading.end(asked)

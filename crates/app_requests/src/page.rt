@@ -1,14 +1,13 @@
 //! `page`: an HTML page on which a run is stepped through.
 ghost use Rattle.std.specs.Prelude.{◌≤◌, IfOk, IfSome};
-ghost use Rattle.app_requests.specs.Requests.{IsRunWithin};
+ghost use Rattle.app_requests.specs.Requests.{IsRunWithin, IsWidthWithin};
 
 use crate::arguments::{
-    EVERY, EVERY_ARGUMENT, FILE_OPTION, FLAG, FROM, NAMES, NAMES_ARGUMENT, NETWORK, ONLY, PROGRAM,
-    PlanPaths, ROUND, ROUNDS, WIDTH, only_in, span_in,
+    EVERY, EVERY_ARGUMENT, FILE_OPTION, FLAG, FROM, GridWidth, NAMES, NAMES_ARGUMENT, NETWORK,
+    ONLY, PROGRAM, PlanPaths, ROUND, ROUNDS, grid_in, only_in, span_in, with_lone,
 };
 use crate::constants::CONSTANT;
 use app_table::{Argument, Command, Kind, OPTION, Reading, WordsFault};
-use link_net::MOST_NODES;
 use run_watch::Span;
 use std::alloc::Global;
 
@@ -52,9 +51,8 @@ static NAIVE_ARGUMENT: Argument = NAIVE;
 
 const GRID: Argument = Argument {
     name: "grid",
-    value: WIDTH,
     value_name: "WIDTH",
-    help: "Draw the nodes as cells, so many across, node 0 first: 1 to 65536",
+    help: "Draw the nodes as cells, so many across, node 0 first: 1 to 65536; with no WIDTH as many as the links show",
     ..OPTION
 };
 
@@ -137,8 +135,8 @@ pub struct PageView {
     pub names: Option<String>,
     /// The fields whose values are shown by the names of the nodes.
     pub node_fields: Vec<String>,
-    /// How many cells a line of the grid has; 0 for none.
-    pub grid: u32,
+    /// How many nodes stand in a row of the grid, where there is one.
+    pub grid: Option<GridWidth>,
 }
 
 /// What `page` is asked for.
@@ -221,9 +219,9 @@ fn node_fields_in(reading: &mut Reading) -> Vec<String> {
 
 /// How the run is shown.
 fn view_in(reading: &mut Reading) -> PageView
-    ensures within { result.grid ≤ MOST_NODES }
+    ensures within { IfSome result.grid IsWidthWithin }
 {
-    let grid = reading.number_or(&GRID_ARGUMENT, 0);
+    let grid = grid_in(reading, &GRID_ARGUMENT);
     let only = only_in(reading);
     let names = reading.text(&NAMES_ARGUMENT);
     let node_fields = node_fields_in(reading);
@@ -248,7 +246,7 @@ fn viewer_in(reading: &mut Reading) -> String {
 /// What plain words ask for, where they name a run.
 fn request_in(reading: &mut Reading) -> Option<PageRequest>
     ensures run { IfSome result (λ r. IsRunWithin r.run) }
-    ensures grid { IfSome result (λ r. r.view.grid ≤ MOST_NODES) }
+    ensures grid { IfSome result (λ r. IfSome r.view.grid IsWidthWithin) }
 {
     let run = run_in(reading)?;
     let view = view_in(reading);
@@ -266,9 +264,10 @@ impl PageRequest {
     /// What the words ask for, the command's name first.
     pub fn parse(alloc: Global, line: &[String]) -> Result<PageRequest, WordsFault>
         ensures run { IfOk result (λ r. IsRunWithin r.run) }
-        ensures grid { IfOk result (λ r. r.view.grid ≤ MOST_NODES) }
+        ensures grid { IfOk result (λ r. IfSome r.view.grid IsWidthWithin) }
     {
-        let mut reading = Reading::of(alloc, page(), line)?;
+        let words = with_lone(alloc, line, "--grid")?;
+        let mut reading = Reading::of(alloc, page(), &words)?;
         let asked = request_in(&mut reading);
         reading.end_some(asked)
     }

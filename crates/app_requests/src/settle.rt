@@ -2,7 +2,7 @@
 ghost use Rattle.std.specs.Prelude.{◌≤◌, IfOk};
 ghost use Rattle.rounds_plan.specs.Configs.{most_rounds};
 
-use crate::arguments::{FLAG, FROM, NETWORK, PROGRAM, PlanPaths, ROUND};
+use crate::arguments::{FLAG, FROM, NETWORK, PROGRAM, PlanPaths, QUIET, QUIET_ARGUMENT, ROUND};
 use crate::constants::CONSTANT;
 use app_table::{Argument, Command, OPTION, Reading, WordsFault};
 use std::alloc::Global;
@@ -37,7 +37,7 @@ static SETTLE: Command = Command {
     called: "unison settle",
     about: "Tell from which round on nothing changes, or all states come again",
     notes: "Prints `settles R` where nothing changes after round R, the first such one; `repeats R P` where from round R on all states come again every P rounds, both the least; `open T` where neither is so up to round T.\nAn example: unison settle examples/distance.rules examples/path.toml --report\n",
-    arguments: &[PROGRAM, NETWORK, LIMIT, REPORT, FROM, CONSTANT],
+    arguments: &[PROGRAM, NETWORK, LIMIT, REPORT, FROM, CONSTANT, QUIET],
     subcommands: &[],
 };
 
@@ -54,6 +54,8 @@ pub struct SettleRequest {
     pub limit: u32,
     /// Whether the report of the round that is found is printed too.
     pub report: bool,
+    /// Whether notes are left out.
+    pub quiet: bool,
 }
 
 /// What plain words ask for.
@@ -66,6 +68,7 @@ fn request_in(reading: &mut Reading) -> SettleRequest
         plan,
         limit,
         report: reading.has(&REPORT_ARGUMENT),
+        quiet: reading.has(&QUIET_ARGUMENT),
     }
 }
 

@@ -1,8 +1,8 @@
 //! `watch`: all rounds from one to another.
 
 use crate::arguments::{
-    EVERY, FLAG, FROM, NAMES, NAMES_ARGUMENT, NETWORK, ONLY, PROGRAM, PlanPaths, ROUNDS, only_in,
-    span_in,
+    EVERY, FLAG, FROM, NAMES, NAMES_ARGUMENT, NETWORK, ONLY, PROGRAM, PlanPaths, QUIET,
+    QUIET_ARGUMENT, ROUNDS, only_in, span_in,
 };
 use crate::constants::CONSTANT;
 use app_table::{Argument, Choice, Command, OPTION, Reading, Value, WordsFault};
@@ -65,6 +65,7 @@ static WATCH: Command = Command {
         TABLE_NAMES,
         FROM,
         CONSTANT,
+        QUIET,
     ],
     subcommands: &[],
 };
@@ -93,6 +94,8 @@ pub struct WatchRequest {
     /// The rounds that are watched.
     pub span: Span,
     pub view: View,
+    /// Whether notes are left out.
+    pub quiet: bool,
 }
 
 /// The form of the text.
@@ -132,7 +135,12 @@ fn request_in(reading: &mut Reading) -> Option<WatchRequest> {
     let view = view_in(reading);
     let span = span_in(reading)?;
     let plan = PlanPaths::of(reading);
-    Some(WatchRequest { plan, span, view })
+    Some(WatchRequest {
+        plan,
+        span,
+        view,
+        quiet: reading.has(&QUIET_ARGUMENT),
+    })
 }
 
 impl WatchRequest {

@@ -7,7 +7,7 @@ use link_net::Network;
 use rule_cuts::{
     Bounds, Operand, Operation, can_be_cut, greatest_uncut, operation_places, operations_in,
 };
-use rule_lang::{Expr, Item};
+use rule_lang::{Expr, Item, read_program};
 use rule_ranges::only_value;
 use std::alloc::{AllocError, Global};
 
@@ -113,6 +113,14 @@ fn put_total(out: &mut String, degree: u32, of_network: bool) -> Result<(), Allo
     )
 }
 
+/// What an operation is called.
+fn kind_of(operation: Operation<'_>) -> &'static str {
+    match operation {
+        Operation::Product(_, _) => "product",
+        Operation::Total(_) => "total",
+    }
+}
+
 /// Adds the place of an operation, and what it is.
 fn put_place(
     out: &mut String,
@@ -124,10 +132,7 @@ fn put_place(
     let place = place_at(program.text, at);
     let line = place.line;
     let column = place.column;
-    let kind = match operation {
-        Operation::Product(_, _) => "product",
-        Operation::Total(_) => "total",
-    };
+    let kind = kind_of(operation);
     write!(
         out,
         "note: {name}:{line}:{column}: the {kind} can be cut at 4294967295: "
@@ -146,6 +151,82 @@ fn put_limit(
         Operation::Total(_) => put_total(out, bounds.degree, of_network)?,
     }
     out.push_str("; unison cuts tells whether a run does\n")
+}
+
+/// The products and totals that can be cut, as they are told of in one line.
+#[derive(Clone, Copy)]
+struct Cuttable<'a> {
+    /// The first of them, and the byte at which it stands.
+    first: (Operation<'a>, usize),
+    /// How many there are besides.
+    others: usize,
+}
+
+/// The operations that can be cut, where there are some.
+fn first_cuttable<'a>(
+    operations: &[Operation<'a>],
+    places: &[usize],
+    bounds: Bounds,
+) -> Option<Cuttable<'a>> {
+    let mut found: Option<Cuttable<'a>> = None;
+    for (operation, at) in operations.iter().zip(places) {
+        if can_be_cut(*operation, bounds) {
+            found = match found {
+                None => Some(Cuttable {
+                    first: (*operation, *at),
+                    others: 0,
+                }),
+                Some(known) => Some(Cuttable {
+                    first: known.first,
+                    others: known.others.saturating_add(1),
+                }),
+            };
+        }
+    }
+    found
+}
+
+/// Adds how many operations there are besides, where there are some.
+fn put_others(out: &mut String, others: usize) -> Result<(), AllocError> {
+    match others {
+        0 => Ok(()),
+        1 => out.push_str(", and one more"),
+        others => write!(out, ", and {others} more"),
+    }
+}
+
+/// What is told of operations that can be cut, in one line.
+fn line_of(alloc: Global, program: Named<'_>, found: Cuttable<'_>) -> Result<String, AllocError> {
+    let (operation, at) = found.first;
+    let place = place_at(program.text, at);
+    let (line, column) = (place.line, place.column);
+    let kind = kind_of(operation);
+    let name = program.name;
+    let mut out = format!(in alloc; "{name}:{line}:{column}: the {kind} can be cut at 4294967295")?;
+    put_others(&mut out, found.others)?;
+    out.push_str(
+        ": unison cuts tells whether a run does and where, unison why from which values on; --quiet leaves this out",
+    )?;
+    Ok(out)
+}
+
+/// A note, in one line, where products or totals of a program can be cut on a network: where the first of them stands, and
+/// how to see more. None where none can be, as `why` tells.
+pub fn cut_note(
+    alloc: Global,
+    program: Named<'_>,
+    network: &Network,
+) -> Result<Option<String>, AllocError> {
+    let Ok(source) = read_program(alloc, program.text) else {
+        return Err(AllocError);
+    };
+    let bounds = bounds_of(network);
+    let operations = operations_in(alloc, source.items(), bounds)?;
+    let places = operation_places(alloc, program.text)?;
+    match first_cuttable(&operations, &places, bounds) {
+        Some(found) => line_of(alloc, program, found).map(Some),
+        None => Ok(None),
+    }
 }
 
 /// Adds a note for each product and each total of a program that can be cut: on the network, or on some network where

@@ -1,4 +1,5 @@
-//! Texts that seem to be of another kind than the one that is wanted: a program for a network, or the other way round.
+//! Texts that seem to be of another kind than the one that is wanted: a program for a network, or the other way round, or a
+//! model.
 
 use crate::told::{Part, Texts, Told};
 use std::alloc::{AllocError, Global};
@@ -36,6 +37,21 @@ fn seems_network(text: &[u8]) -> bool {
     line.starts_with(b"[") || begins && !line.ends_with(b";")
 }
 
+/// Whether a line begins as an item of a model does, and none of a program.
+fn begins_model_item(line: &[u8]) -> bool {
+    matches!(first_word(line.trim_ascii()), b"const" | b"states" | b"let")
+}
+
+/// Whether a text seems to be a model: one of its lines begins as an item of a model does.
+fn seems_model(text: &[u8]) -> bool {
+    for line in text.split(|byte| *byte == b'\n') {
+        if begins_model_item(line) {
+            return true;
+        }
+    }
+    false
+}
+
 /// What to do where the text of this part seems to be of another kind.
 fn kind_hint(texts: &Texts, part: Part) -> Option<&'static str> {
     let network = match texts.network {
@@ -43,6 +59,9 @@ fn kind_hint(texts: &Texts, part: Part) -> Option<&'static str> {
         None => &[],
     };
     match part {
+        Part::Program if seems_model(texts.program.text) => Some(
+            "this reads like a model: give the file a name that ends in .model, and it is expanded to a program",
+        ),
         Part::Program if !seems_network(texts.program.text) => None,
         Part::Program if seems_program(network) => Some(
             "the program and the network seem to be exchanged: the program comes first, then the network",

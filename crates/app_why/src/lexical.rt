@@ -84,8 +84,8 @@ fn last_word(front: &[u8]) -> &[u8] {
     &front[before.min(front.len())..]
 }
 
-/// The word before the brackets in which the bytes end.
-fn called_word(front: &[u8]) -> Option<&str> {
+/// The word before the brackets in which the bytes end: that of a function or an aggregate.
+pub fn called_word(front: &[u8]) -> Option<&str> {
     let at = open_bracket(front)?;
     str::from_utf8(last_word(before(front, at))).ok()
 }

@@ -153,6 +153,11 @@ fn number_text(alloc: Global, cause: &NetCause, entry_text: &str) -> Result<Stri
     }
 }
 
+/// Whether the bytes are a packed network, which begins so.
+fn is_packed(bytes: &[u8], cause: &NetCause) -> bool {
+    matches!(cause, NetCause::NotToml { .. }) && bytes.starts_with(b"UNISONW1")
+}
+
 /// What is wrong.
 fn what_text(
     alloc: Global,
@@ -160,6 +165,9 @@ fn what_text(
     cause: &NetCause,
     entry_text: &str,
 ) -> Result<String, AllocError> {
+    if is_packed(bytes, cause) {
+        return String::from_str(alloc, "this is a packed network, no network file");
+    }
     if let Some(text) = plain_text(cause) {
         return String::from_str(alloc, text);
     }
@@ -214,6 +222,10 @@ fn hint(cause: &NetCause) -> &'static str {
 /// What to do, in a text of its own.
 fn hint_text(alloc: Global, bytes: &[u8], cause: &NetCause) -> Result<String, AllocError> {
     match cause {
+        NetCause::NotToml { .. } if is_packed(bytes, cause) => String::from_str(
+            alloc,
+            "unison large reads it: unison large lockstep PROGRAM NETWORK --rounds T",
+        ),
         NetCause::UnknownKey { key } => key_hint(alloc, key.as_str()),
         NetCause::LinksMissing => links_hint(alloc, bytes),
         _ => String::from_str(alloc, hint(cause)),

@@ -1,6 +1,6 @@
 //! Why a token cannot stand at its place.
 
-use crate::foreign::{pair_hint, value_hint, word_hint};
+use crate::foreign::{near_degree_hint, pair_hint, value_hint, word_hint};
 use crate::found::{index_at, is_operator, is_sign, keyword, token, token_before, token_text};
 use crate::items::{declares, is_aggregate};
 use crate::near::nearest;
@@ -166,8 +166,7 @@ fn expression_hint(around: &Around) -> &'static str {
 /// What to do where a neighbour's word is none.
 fn near_hint(around: &Around) -> &'static str {
     match around.found {
-        Some(Token::Near("degree")) =>
-            "a neighbour has its fields, n.id and n.weight: keep its degree in a field, as in: next deg = degree;",
+        Some(Token::Near("degree")) => near_degree_hint(),
         _ => "a neighbour has its fields, n.id and n.weight",
     }
 }

@@ -1,1 +1,2 @@
 mod EdgeSteps
+mod PlaceCuts

@@ -9,10 +9,20 @@ use thiserror::Error;
 /// What is wrong with a line. Where several things are, the first in this order.
 #[derive(Clone, Copy, Debug, PartialEq, Eq, Error)]
 pub enum LineFault {
-    /// The line is not two or three words that may be shown.
+    /// The line is the first, and looks like headings: neither of its first two words is a whole number, and both of the
+    /// next line's are.
+    #[error("Heading")]
+    Heading,
+    /// The line may not be shown; or, which comes behind `EmptyPlace`, it is not two or three words.
     #[error("{0}")]
     Words(WordsFault),
-    /// The third word says no weight.
+    /// A place between commas is empty, and a word stands behind it.
+    #[error("EmptyPlace")]
+    EmptyPlace,
+    /// The line has fewer words than the columns of its ends ask for.
+    #[error("NoColumn")]
+    NoColumn,
+    /// The word of the weight says none.
     #[error("{0}")]
     Weight(WeightFault),
 }

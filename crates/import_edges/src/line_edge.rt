@@ -3,8 +3,11 @@ ghost use Rattle.std.specs.Prelude.{◌≡◌, IfOk};
 ghost use Rattle.std.specs.Option.{option_copied};
 ghost use Rattle.import_edges.specs.Edges.{weight_in, edge_in, edge_of};
 
+use crate::columns::edge_parts;
 use crate::fault::{EdgeFault, LineFault};
-use import_lines::{Edge, Weight, WeightFault, line_parts, line_text, read_weight};
+use crate::places::has_gap;
+use crate::reader::Reading;
+use import_lines::{Edge, Weight, WeightFault, line_text, read_weight};
 
 /// The weight of an edge, 1 times the factor where no word says it.
 fn part_weight(word: Option<&str>, factor: Option<u32>) -> Result<Weight, WeightFault>
@@ -20,23 +23,27 @@ fn part_weight(word: Option<&str>, factor: Option<u32>) -> Result<Weight, Weight
 }
 
 /// The edge that a line says.
-fn line_edge(number: u64, line: &[u8], factor: Option<u32>) -> Result<Edge<'_>, LineFault>
-    ensures edge { result ≡ edge_in factor number line.now }
+fn line_edge<'a>(number: u64, line: &'a [u8], reading: &Reading) -> Result<Edge<'a>, LineFault>
+    ensures edge { result ≡ edge_in reading.now number line.now }
     ensures line { IfOk result (λ edge. edge.line ≡ number) }
 {
     let text = line_text(line).map_err(LineFault::Words)?;
-    let parts = line_parts(text).map_err(LineFault::Words)?;
-    let weight = part_weight(parts.third, factor).map_err(LineFault::Weight)?;
+    if !reading.gaps && has_gap(text) {
+        return Err(LineFault::EmptyPlace);
+    }
+    let parts = edge_parts(text, reading.columns)?;
+    let weight = part_weight(parts.third, reading.factor).map_err(LineFault::Weight)?;
     Ok(Edge::new(parts.first, parts.second, weight, number))
 }
 
 /// The edge that the line of this number says: `a b` or `a b weight`, as `read_edges` reads it; or what is wrong with it,
-/// as `BadLine` with its number. It is the fault that comes first in the order of [`LineFault`].
-pub fn read_line(number: u64, line: &[u8], factor: Option<u32>) -> Result<Edge<'_>, EdgeFault>
-    ensures edge { result ≡ edge_of factor (number, line.now) }
+/// as `BadLine` with its number. It is the fault that comes first in the order of [`LineFault`], of which none is
+/// `Heading`.
+pub fn read_line<'a>(number: u64, line: &'a [u8], reading: &Reading) -> Result<Edge<'a>, EdgeFault>
+    ensures edge { result ≡ edge_of reading.now (number, line.now) }
     ensures line { IfOk result (λ edge. edge.line ≡ number) }
 {
-    match line_edge(number, line, factor) {
+    match line_edge(number, line, reading) {
         Ok(edge) => Ok(edge),
         Err(fault) => Err(EdgeFault::BadLine {
             line: number,

@@ -1,3 +1,4 @@
 mod DotSteps
 mod JoinFaults
 mod JsonSteps
+mod TableSteps

@@ -3,8 +3,9 @@ use Rattle.std.specs.Prelude.{◌≡◌, ◌+◌, ℕ, Bool, not, List, [], leng
 use Rattle.link_net.specs.Reading.{reading_of}
 use Rattle.net_text.specs.Listing.{Listing, described}
 use Rattle.import_lines.specs.Named.{NamedEdge}
+use Rattle.import_edges.specs.declared.reader.Reading.{Reading}
 use Rattle.import_edges.specs.Edges.{edges_of}
-use Rattle.import_table.specs.declared.fields.Separator.{Separator}
+use Rattle.import_table.specs.declared.reader.TableReading.{TableReading}
 use Rattle.import_table.specs.Tables.{table_edges}
 use Rattle.import_links.specs.Joining.{names_in, names_with, links_of}
 use Rattle.import_links.specs.Numbering.{links_in, nodes_of}
@@ -33,23 +34,23 @@ abbrev pub numbered_draft : List NamedEdge → Result Draft TakeFault
 numbered_draft edges = and_then (told_as number_fault (links_in edges)) (λ links. Ok (record { nodes = nodes_of links; links = links }))
 
 -- what a text says, a list of edges whose ends are numbers of nodes
-abbrev pub numbers_draft : Bool → Option ℕ → List ℕ → Result Draft TakeFault
-numbers_draft header factor text = and_then (told_as edge_fault (edges_of header factor text)) numbered_draft
+abbrev pub numbers_draft : Reading → List ℕ → Result Draft TakeFault
+numbers_draft reading text = and_then (told_as edge_fault (edges_of reading text)) numbered_draft
 
 -- what edges say whose ends are names: nodes have the names that are given, and others are numbered behind them, in the order of their first appearance
 abbrev pub named_draft : List (List ℕ) → List NamedEdge → Draft
 named_draft names edges = record { nodes = length (names_with names edges); links = links_of names edges }
 
 -- what a text says, a list of edges whose ends are names
-abbrev pub edges_draft : Bool → Option ℕ → List ℕ → Result Draft TakeFault
-edges_draft header factor text = and_then (told_as edge_fault (edges_of header factor text)) (λ edges. Ok (named_draft [] edges))
+abbrev pub edges_draft : Reading → List ℕ → Result Draft TakeFault
+edges_draft reading text = and_then (told_as edge_fault (edges_of reading text)) (λ edges. Ok (named_draft [] edges))
 
 -- what a table of edges says whose ends are names, and one whose ends are numbers of nodes
-abbrev pub table_draft : Separator → Bool → Option ℕ → List ℕ → Result Draft TakeFault
-table_draft separator header factor text = and_then (told_as table_fault (table_edges separator header factor text)) (λ edges. Ok (named_draft [] edges))
+abbrev pub table_draft : TableReading → List ℕ → Result Draft TakeFault
+table_draft reading text = and_then (told_as table_fault (table_edges reading text)) (λ edges. Ok (named_draft [] edges))
 
-abbrev pub table_numbers_draft : Separator → Bool → Option ℕ → List ℕ → Result Draft TakeFault
-table_numbers_draft separator header factor text = and_then (told_as table_fault (table_edges separator header factor text)) numbered_draft
+abbrev pub table_numbers_draft : TableReading → List ℕ → Result Draft TakeFault
+table_numbers_draft reading text = and_then (told_as table_fault (table_edges reading text)) numbered_draft
 
 -- the names of a graph's nodes, each once, in the order of their first appearance
 abbrev pub graph_names : DotGraph → List (List ℕ)

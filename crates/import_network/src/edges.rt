@@ -42,10 +42,10 @@ pub fn take_edges(
     reading: &Reading,
     mending: Mending,
 ) -> Result<Taken, TakeFault>
-    ensures network { IfOk result (IsTaken mending (edges_draft reading.now.header reading.now.factor text.now)) }
-    ensures names { IfOk result (λ taken. IsNamesOf (edges_of reading.now.header reading.now.factor text.now) taken.names.items) }
-    ensures fault { IfErr result (IsEdgesFault mending (edges_of reading.now.header reading.now.factor text.now)) }
-    ensures refused { IfErr (edges_of reading.now.header reading.now.factor text.now) (λ fault. result ≡ Err (edge_fault fault)) }
+    ensures network { IfOk result (IsTaken mending (edges_draft reading.now text.now)) }
+    ensures names { IfOk result (λ taken. IsNamesOf (edges_of reading.now text.now) taken.names.items) }
+    ensures fault { IfErr result (IsEdgesFault mending (edges_of reading.now text.now)) }
+    ensures refused { IfErr (edges_of reading.now text.now) (λ fault. result ≡ Err (edge_fault fault)) }
 {
     let edges = read_edges(alloc, text, reading)?;
     join_and_finish(alloc, NodeNames::new(alloc), edges.as_slice(), mending)

@@ -43,10 +43,10 @@ pub fn take_numbers(
     reading: &Reading,
     mending: Mending,
 ) -> Result<Taken, TakeFault>
-    ensures network { IfOk result (IsTaken mending (numbers_draft reading.now.header reading.now.factor text.now)) }
+    ensures network { IfOk result (IsTaken mending (numbers_draft reading.now text.now)) }
     ensures names { IfOk result (λ taken. taken.names.items ≡ []) }
-    ensures fault { IfErr result (λ fault. fault ≢ Memory → listing_in mending (numbers_draft reading.now.header reading.now.factor text.now) ≡ Err fault) }
-    ensures refused { IfErr (edges_of reading.now.header reading.now.factor text.now) (λ fault. result ≡ Err (edge_fault fault)) }
+    ensures fault { IfErr result (λ fault. fault ≢ Memory → listing_in mending (numbers_draft reading.now text.now) ≡ Err fault) }
+    ensures refused { IfErr (edges_of reading.now text.now) (λ fault. result ≡ Err (edge_fault fault)) }
 {
     let edges = read_edges(alloc, text, reading)?;
     number_and_finish(alloc, edges.as_slice(), mending)

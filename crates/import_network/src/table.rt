@@ -26,12 +26,12 @@ pub fn take_table(
     reading: &TableReading,
     mending: Mending,
 ) -> Result<Taken, TakeFault>
-    ensures network { IfOk result (IsTaken mending (table_draft reading.now.separator reading.now.header reading.now.factor text.now)) }
-    ensures names { IfOk result (λ taken. IsNamesOf (table_edges reading.now.separator reading.now.header reading.now.factor text.now) taken.names.items) }
-    ensures fault { IfErr result (IsTableFault mending (table_edges reading.now.separator reading.now.header reading.now.factor text.now)) }
+    ensures network { IfOk result (IsTaken mending (table_draft reading.now text.now)) }
+    ensures names { IfOk result (λ taken. IsNamesOf (table_edges reading.now text.now) taken.names.items) }
+    ensures fault { IfErr result (IsTableFault mending (table_edges reading.now text.now)) }
 {
     let rows = read_rows(alloc, text, reading)?;
-    let edges = row_edges(alloc, rows.as_slice(), reading.factor)?;
+    let edges = row_edges(alloc, rows.as_slice(), reading)?;
     join_and_finish(alloc, NodeNames::new(alloc), edges.as_slice(), mending)
 }
 
@@ -46,11 +46,11 @@ pub fn take_table_numbers(
     reading: &TableReading,
     mending: Mending,
 ) -> Result<Taken, TakeFault>
-    ensures network { IfOk result (IsTaken mending (table_numbers_draft reading.now.separator reading.now.header reading.now.factor text.now)) }
+    ensures network { IfOk result (IsTaken mending (table_numbers_draft reading.now text.now)) }
     ensures names { IfOk result (λ taken. taken.names.items ≡ []) }
-    ensures fault { IfErr result (λ fault. fault ≢ Memory → listing_in mending (table_numbers_draft reading.now.separator reading.now.header reading.now.factor text.now) ≡ Err fault) }
+    ensures fault { IfErr result (λ fault. fault ≢ Memory → listing_in mending (table_numbers_draft reading.now text.now) ≡ Err fault) }
 {
     let rows = read_rows(alloc, text, reading)?;
-    let edges = row_edges(alloc, rows.as_slice(), reading.factor)?;
+    let edges = row_edges(alloc, rows.as_slice(), reading)?;
     number_and_finish(alloc, edges.as_slice(), mending)
 }

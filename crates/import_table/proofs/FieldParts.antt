@@ -1,5 +1,6 @@
 -- The parts of records of two or three fields.
-use Rattle.std.proofs.Common.{◌≡◌, ℕ, zero, suc, true, false, List, [], ◌∷◌, get_or, Option, Some, None, Ok, Err, Bor, refl}
+use Rattle.std.proofs.Common.{◌≡◌, ℕ, zero, suc, true, false, List, [], ◌∷◌, get_or, Option, Some, None, Ok, Err, Bor, refl, ◌∙◌}
+use Rattle.std.specs.Prelude.{slice_get}
 use Rattle.std.specs.Option.{option_map, option_copied, is_some}
 use Rattle.csv.specs.Records.{field_at}
 use Rattle.import_lines.specs.Parts.{parts_of}
@@ -55,3 +56,14 @@ unfolding field_at
 field_gone [] place is = refl
 field_gone (f ∷ fields) zero is = cc
 field_gone (f ∷ fields) (suc place) is = field_gone fields place is
+
+field_at_is : (fields : List (List ℕ)) (column : ℕ) → field_at fields column ≡ slice_get fields column
+unfolding field_at
+field_at_is [] column = refl
+field_at_is (f ∷ fields) zero = refl
+field_at_is (f ∷ fields) (suc column) = field_at_is fields column
+
+-- the field in a column, as it is lent
+pub field_lent : (fields : List (List ℕ)) (column : ℕ) (r : Option (Bor (List ℕ))) → lent r ≡ field_at fields column → option_copied r ≡ slice_get fields column
+field_lent fields column None is = is ∙ field_at_is fields column
+field_lent fields column (Some s) is = is ∙ field_at_is fields column

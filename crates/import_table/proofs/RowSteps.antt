@@ -8,6 +8,7 @@ use Rattle.import_edges.specs.Edges.{and_then}
 use Rattle.import_table.specs.declared.row.Row.{Row}
 use Rattle.import_table.specs.declared.fields.Separator.{Separator}
 use Rattle.import_table.specs.declared.fault.TableFault.{TableFault}
+use Rattle.import_table.specs.declared.reader.TableReading.{TableReading}
 use Rattle.import_table.specs.Tables.{fields_in, edge_of, edges_in}
 use Rattle.import_table.specs.View.{row_of}
 
@@ -34,22 +35,22 @@ front_more front e (Ok es) = ap Ok (append_assoc front (e ∷ []) es)
 front_more front e (Err fault) = refl
 
 -- one edge more
-pub edges_more : (factor : Option ℕ) (front later : List NamedEdge) (e : NamedEdge) (row : Row) (rows rest : List Row) → later ≡ front ++ e ∷ [] → rows ≡ row ∷ rest → Ok e ≡ edge_of factor (row.line, fields_of row.fields)
-    → with_front later (edges_in factor (map row_of rest)) ≡ with_front front (edges_in factor (map row_of rows))
-edges_more factor front later e row rows rest is shape said = rw (is, shape, ← said) (front_more front e (edges_in factor (map row_of rest)))
+pub edges_more : (reading : TableReading) (front later : List NamedEdge) (e : NamedEdge) (row : Row) (rows rest : List Row) → later ≡ front ++ e ∷ [] → rows ≡ row ∷ rest → Ok e ≡ edge_of reading (row.line, fields_of row.fields)
+    → with_front later (edges_in reading (map row_of rest)) ≡ with_front front (edges_in reading (map row_of rows))
+edges_more reading front later e row rows rest is shape said = rw (is, shape, ← said) (front_more front e (edges_in reading (map row_of rest)))
 
 -- no row is left
-pub edges_all : (factor : Option ℕ) (front : List NamedEdge) (rows : List Row) (defined : Result (List NamedEdge) TableFault) → rows ≡ [] → with_front front (edges_in factor (map row_of rows)) ≡ defined → defined ≡ Ok front
-edges_all factor front rows defined none is = sym (rw none at is) ∙ ap Ok (append-nil front)
+pub edges_all : (reading : TableReading) (front : List NamedEdge) (rows : List Row) (defined : Result (List NamedEdge) TableFault) → rows ≡ [] → with_front front (edges_in reading (map row_of rows)) ≡ defined → defined ≡ Ok front
+edges_all reading front rows defined none is = sym (rw none at is) ∙ ap Ok (append-nil front)
 
 fault_more : (e : NamedEdge) (read : Result (List NamedEdge) TableFault) → result_err (and_then read (λ es. Ok (e ∷ es))) ≡ result_err read
 fault_more e (Ok es) = refl
 fault_more e (Err fault) = refl
 
 -- a good row does not change the first fault
-pub skip_good : (factor : Option ℕ) (e : NamedEdge) (row : Row) (rows rest : List Row) → rows ≡ row ∷ rest → Ok e ≡ edge_of factor (row.line, fields_of row.fields) → result_err (edges_in factor (map row_of rows)) ≡ result_err (edges_in factor (map row_of rest))
-skip_good factor e row rows rest shape said = rw (shape, ← said) (fault_more e (edges_in factor (map row_of rest)))
+pub skip_good : (reading : TableReading) (e : NamedEdge) (row : Row) (rows rest : List Row) → rows ≡ row ∷ rest → Ok e ≡ edge_of reading (row.line, fields_of row.fields) → result_err (edges_in reading (map row_of rows)) ≡ result_err (edges_in reading (map row_of rest))
+skip_good reading e row rows rest shape said = rw (shape, ← said) (fault_more e (edges_in reading (map row_of rest)))
 
 -- a bad row at the front is the first
-pub stop_bad : (factor : Option ℕ) (fault : TableFault) (row : Row) (rows rest : List Row) → rows ≡ row ∷ rest → Err fault ≡ edge_of factor (row.line, fields_of row.fields) → result_err (edges_in factor (map row_of rows)) ≡ Some fault
-stop_bad factor fault row rows rest shape said = rw (shape, ← said) refl
+pub stop_bad : (reading : TableReading) (fault : TableFault) (row : Row) (rows rest : List Row) → rows ≡ row ∷ rest → Err fault ≡ edge_of reading (row.line, fields_of row.fields) → result_err (edges_in reading (map row_of rows)) ≡ Some fault
+stop_bad reading fault row rows rest shape said = rw (shape, ← said) refl

@@ -9,17 +9,20 @@ use Rattle.csv.specs.declared.parser.Config.{Config}
 use Rattle.csv.specs.declared.parser.State.TheVariants as state
 use Rattle.csv.specs.declared.parser.Terminator.TheVariants as ends
 use Rattle.import_lines.specs.Texts.{is_line_feed}
-use Rattle.import_lines.specs.Parts.{shown, parts_of}
+use Rattle.import_lines.specs.Parts.{shown}
 use Rattle.import_lines.specs.Weights.{weight_of}
 use Rattle.import_lines.specs.Named.{NamedEdge}
 use Rattle.import_lines.specs.declared.weight.Weight.{Weight}
-use Rattle.import_edges.specs.Edges.{and_then, fault_as, edge_lines}
+use Rattle.import_edges.specs.Steps.{and_then, fault_as}
+use Rattle.import_edges.specs.Columns.{parts_in}
+use Rattle.import_edges.specs.Edges.{edge_lines, unsaid_heading, unless_heading}
 use Rattle.import_table.specs.declared.fields.Separator.{Separator}
 use Rattle.import_table.specs.declared.fields.Separator.TheVariants.{Tab, Comma}
 use Rattle.import_table.specs.declared.fault.RowFault.{RowFault}
-use Rattle.import_table.specs.declared.fault.RowFault.TheVariants.{UnclosedQuote, Words as BadWords, Weight as BadWeight}
+use Rattle.import_table.specs.declared.fault.RowFault.TheVariants.{Heading, UnclosedQuote, Words as BadWords, NoColumn, Weight as BadWeight}
 use Rattle.import_table.specs.declared.fault.TableFault.{TableFault}
 use Rattle.import_table.specs.declared.fault.TableFault.TheVariants.{BadRow, Memory}
+use Rattle.import_table.specs.declared.reader.TableReading.{TableReading}
 
 -- ---- the fields of a line
 
@@ -70,29 +73,33 @@ weight_in factor (Some []) = Ok (unsaid factor)
 weight_in factor (Some (b ∷ bytes)) = word_weight factor (b ∷ bytes)
 
 -- the edge that the fields of a line say, or the line's first fault
-abbrev pub edge_in : Option ℕ → ℕ → List (List ℕ) → Result NamedEdge RowFault
-edge_in factor line fields =
+abbrev pub edge_in : TableReading → ℕ → List (List ℕ) → Result NamedEdge RowFault
+edge_in reading line fields =
     and_then (closed fields) (λ whole.
-    and_then (fault_as BadWords (parts_of whole)) (λ parts.
+    and_then (parts_in BadWords NoColumn reading.columns whole) (λ parts.
     and_then (fault_as BadWords (shown parts.0)) (λ first.
     and_then (fault_as BadWords (shown parts.1)) (λ second.
-    and_then (weight_in factor parts.2) (λ weight.
+    and_then (weight_in reading.factor parts.2) (λ weight.
     Ok (record { first = first; second = second; weight = weight.value; exact = weight.exact; line = line }))))))
 
 -- the edge that a row says, or its first fault beside the number of its line
-abbrev pub edge_of : Option ℕ → ℕ × List (List ℕ) → Result NamedEdge TableFault
-edge_of factor row = fault_as (λ fault. BadRow row.0 fault) (edge_in factor row.0 row.1)
+abbrev pub edge_of : TableReading → ℕ × List (List ℕ) → Result NamedEdge TableFault
+edge_of reading row = fault_as (λ fault. BadRow row.0 fault) (edge_in reading row.0 row.1)
 
 -- ---- the edges of a table
 
 -- the edges that rows say, or the fault of the first row that says none
-abbrev pub edges_in : Option ℕ → List (ℕ × List (List ℕ)) → Result (List NamedEdge) TableFault
-edges_in factor [] = Ok []
-edges_in factor (row ∷ rows) = and_then (edge_of factor row) (λ e. and_then (edges_in factor rows) (λ es. Ok (e ∷ es)))
+abbrev pub edges_in : TableReading → List (ℕ × List (List ℕ)) → Result (List NamedEdge) TableFault
+edges_in reading [] = Ok []
+edges_in reading (row ∷ rows) = and_then (edge_of reading row) (λ e. and_then (edges_in reading rows) (λ es. Ok (e ∷ es)))
 
--- the edges of a table, or its first bad row
-abbrev pub table_edges : Separator → Bool → Option ℕ → List ℕ → Result (List NamedEdge) TableFault
-table_edges separator header factor text = edges_in factor (rows_of separator header text)
+-- the edges of all rows; or that the first row looks like headings, or the first bad row
+abbrev pub row_edges : TableReading → List (ℕ × List (List ℕ)) → Result (List NamedEdge) TableFault
+row_edges reading rows = unless_heading (λ line. BadRow line Heading) (unsaid_heading reading.header reading.columns rows) (edges_in reading rows)
+
+-- the edges of a table
+abbrev pub table_edges : TableReading → List ℕ → Result (List NamedEdge) TableFault
+table_edges reading text = row_edges reading (rows_of reading.separator reading.header text)
 
 -- what was returned, seen by view, is the defined result, or stands for running out of memory
 abbrev pub IsAnswer : {A B : Type 0} → (B → A) → Result A TableFault → Result B TableFault → Type 0

@@ -10,13 +10,20 @@ use thiserror::Error;
 /// `LongLine` of a field, which come field by field behind the number of fields.
 #[derive(Clone, Copy, Debug, PartialEq, Eq, Error)]
 pub enum RowFault {
+    /// The row is the first, and looks like headings: neither of its first two fields is a whole number, and both of the
+    /// next row's are.
+    #[error("Heading")]
+    Heading,
     /// A field begins with a quote, and no quote ends it in its line.
     #[error("UnclosedQuote")]
     UnclosedQuote,
     /// There are not two or three fields, which are `OneWord` and `TooManyWords`; or a field may not be shown.
     #[error("{0}")]
     Words(WordsFault),
-    /// The third field says no weight.
+    /// There are fewer fields than the columns of the ends ask for.
+    #[error("NoColumn")]
+    NoColumn,
+    /// The field of the weight says none.
     #[error("{0}")]
     Weight(WeightFault),
 }

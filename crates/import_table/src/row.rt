@@ -6,6 +6,7 @@ ghost use Rattle.import_table.specs.Tables.{weight_in, edge_in, edge_of, unsaid,
 
 use crate::fault::{RowFault, TableFault};
 use crate::parts::{field_parts, is_unclosed};
+use crate::reader::TableReading;
 use csv::ByteRecord;
 use import_lines::{Edge, Weight, line_text, read_weight};
 
@@ -49,26 +50,31 @@ fn field_weight(field: Option<&[u8]>, factor: Option<u32>) -> Result<Weight, Row
 }
 
 /// The edge that the fields of a line say.
-fn fields_edge(line: u64, fields: &ByteRecord, factor: Option<u32>) -> Result<Edge<'_>, RowFault>
-    ensures { result ≡ edge_in factor line (fields_of fields.now) }
+fn fields_edge<'a>(
+    line: u64,
+    fields: &'a ByteRecord,
+    reading: &TableReading,
+) -> Result<Edge<'a>, RowFault>
+    ensures { result ≡ edge_in reading.now line (fields_of fields.now) }
 {
     if is_unclosed(fields) {
         return Err(RowFault::UnclosedQuote);
     }
-    let parts = field_parts(fields).map_err(RowFault::Words)?;
+    let parts = field_parts(fields, reading.columns)?;
     let first = line_text(parts.first).map_err(RowFault::Words)?;
     let second = line_text(parts.second).map_err(RowFault::Words)?;
-    let weight = field_weight(parts.third, factor)?;
+    let weight = field_weight(parts.third, reading.factor)?;
     Ok(Edge::new(first, second, weight, line))
 }
 
 /// The edge that a row says: its first two fields are the ends, as they stand, and the third, where there is one that is
-/// not empty, is the weight, as [`read_weight`] reads it. Else what is wrong with it, as `BadRow` with its line. It is the
-/// fault that comes first in the order of [`RowFault`].
-pub fn row_edge(row: &Row, factor: Option<u32>) -> Result<Edge<'_>, TableFault>
-    ensures { result ≡ edge_of factor (row.now.line, fields_of row.now.fields) }
+/// not empty, is the weight, as [`read_weight`] reads it; where columns are named, the fields in these. Else what is wrong
+/// with it, as `BadRow` with its line. It is the fault that comes first in the order of [`RowFault`], of which none is
+/// `Heading`.
+pub fn row_edge<'a>(row: &'a Row, reading: &TableReading) -> Result<Edge<'a>, TableFault>
+    ensures { result ≡ edge_of reading.now (row.now.line, fields_of row.now.fields) }
 {
-    match fields_edge(row.line, &row.fields, factor) {
+    match fields_edge(row.line, &row.fields, reading) {
         Ok(edge) => Ok(edge),
         Err(fault) => Err(TableFault::BadRow {
             line: row.line,

@@ -32,6 +32,7 @@ abbrev pub packing_options : MatrixOptions → ℕ → Bool → PackOptions
 packing_options options nodes is_directed = record {
   nodes = Some nodes;
   is_directed = is_directed;
+  reverse = false;
   factor = options.factor;
   header = false;
   self_loops = options.self_loops;

@@ -43,6 +43,7 @@ impl MatrixOptions {
         PackOptions {
             nodes: Some(nodes),
             is_directed,
+            reverse: false,
             factor: self.factor,
             header: false,
             self_loops: self.self_loops,

@@ -74,15 +74,15 @@ module _ (options : PackOptions) (text : List ℕ) (es : List NamedEdge) (sound 
   names = names_with [] es
 
   abbrev pub packing : Result Packing PackFault
-  packing = packing_in (named_options options (length (names_with [] es))) (numbered (names_with [] es) es)
+  packing = packing_in (named_options options (length (names_with [] es))) (numbered options.reverse (names_with [] es) es)
 
   -- what is packed by options for as many nodes as there are names is what is defined
-  pub packs_here : (o : PackOptions) (n : ℕ) (found : List (List ℕ)) (items : List Ranked) (r : Result Packed PackFault) → o ≡ named_options options n → n ≡ length found → found ≡ names_with [] es → items ≡ map (ranked options) (numbered (names_with [] es) es)
+  pub packs_here : (o : PackOptions) (n : ℕ) (found : List (List ℕ)) (items : List Ranked) (r : Result Packed PackFault) → o ≡ named_options options n → n ≡ length found → found ≡ names_with [] es → items ≡ map (ranked options) (numbered options.reverse (names_with [] es) es)
       → ((lines : List EdgeLine) → items ≡ map (ranked o) lines → n ≡ node_count o.nodes lines → IsAnswer (packing_in o lines) r) → IsAnswer packing r
   packs_here o n found items r is count named are packs =
       let as_many : n ≡ length names = count ∙ ap length named in
       subst (λ (q : PackOptions). (lines : List EdgeLine) → items ≡ map (ranked q) lines → n ≡ node_count q.nodes lines → IsAnswer (packing_in q lines) r)
-      (is ∙ ap (named_options options) as_many) packs (numbered names es) are as_many
+      (is ∙ ap (named_options options) as_many) packs (numbered options.reverse names es) are as_many
 
   module _ (few : length (names_with [] es) ≤ most_rows) where
     defined_is : packing_of options text ≡ fault_as edges_fault packing

@@ -24,7 +24,8 @@ pub struct NamedNetwork {
 }
 
 /// The network that a list of edges between named nodes makes, and the names of its nodes: each once, in the order in
-/// which they first appear, the first end of an edge before the second. Node k has name k, counted from 0.
+/// which they first appear, the first end of an edge before the second, also where edges are turned round. Node k has
+/// name k, counted from 0.
 ///
 /// A line says an edge as `read_line` says: `a b` or `a b weight`, where a and b are any words. Lines without words, or
 /// whose first word begins with `#` or `%`, are passed over, and so is the first other one where it is a header. An edge

@@ -2,11 +2,12 @@
 ghost use Rattle.std.specs.Prelude.{◌≡◌, ◌+◌, ◌<◌, ◌^◌, length, Ok};
 ghost use Rattle.import_edges.specs.Edges.{and_then, edges_in};
 ghost use Rattle.import_lines.specs.Texts.{told_from};
-ghost use Rattle.large_names.specs.Naming.{loop_of, sound_of};
+ghost use Rattle.large_names.specs.Naming.{loop_of, reading_of, sound_of};
 ghost use Rattle.large_names.specs.Surveys.{survey_of};
 
 use crate::fault::NamesPackFault;
-use import_edges::{EdgeFault, edge_lines, read_line};
+use crate::options::read_edge;
+use import_edges::{EdgeFault, edge_lines};
 use import_lines::{Edge, Lines};
 use large_pack::{PackFault, PackOptions, SelfLoops};
 
@@ -32,7 +33,7 @@ fn loop_of(self_loops: SelfLoops, edge: &Edge) -> Option<PackFault>
 /// What the edges of the lines that are left tell together.
 fn survey_lines(from: Lines<'_>, options: &PackOptions) -> Result<Survey, EdgeFault>
     requires room { from.passed + length from.bytes.now < 2 ^ 64 }
-    ensures { result ≡ and_then (edges_in options.now.factor (told_from (from.entry.passed + 1) from.entry.bytes.now)) (λ es. Ok (survey_of options.now.self_loops es)) }
+    ensures { result ≡ and_then (edges_in (reading_of options.now) (told_from (from.entry.passed + 1) from.entry.bytes.now)) (λ es. Ok (survey_of options.now.self_loops es)) }
 {
     let mut lines = from;
     let mut survey = Survey {
@@ -40,7 +41,7 @@ fn survey_lines(from: Lines<'_>, options: &PackOptions) -> Result<Survey, EdgeFa
         self_loop: None,
     };
     while let Some((number, line)) = lines.next_told() {
-        let edge = read_line(number, line, options.factor)?;
+        let edge = read_edge(number, line, options)?;
         survey = Survey {
             is_empty: false,
             self_loop: survey.self_loop.or(loop_of(options.self_loops, &edge)),

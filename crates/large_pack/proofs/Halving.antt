@@ -172,9 +172,9 @@ with_line : (line : Result EdgeLine PackFault) (x y z : Result (List EdgeLine) P
 with_line (Ok e) x y z is = rw is (behind_one e x y)
 with_line (Err fault) x y z is = refl
 
-edges_both : (factor : Option ℕ) (front back : List (ℕ × List ℕ)) → edges_in factor (front ++ back) ≡ both_of (edges_in factor front) (edges_in factor back)
-edges_both factor [] back = after_nothing (edges_in factor back)
-edges_both factor (l ∷ front) back = with_line (edge_of factor l) (edges_in factor front) (edges_in factor back) (edges_in factor (front ++ back)) (edges_both factor front back)
+edges_both : (o : PackOptions) (front back : List (ℕ × List ℕ)) → edges_in o (front ++ back) ≡ both_of (edges_in o front) (edges_in o back)
+edges_both o [] back = after_nothing (edges_in o back)
+edges_both o (l ∷ front) back = with_line (edge_of o l) (edges_in o front) (edges_in o back) (edges_in o (front ++ back)) (edges_both o front back)
 
 after_good : (o : PackOptions) (a : Reading) (x : Result (List EdgeLine) PackFault) (fault : PackFault) → survey_in o x ≡ Ok a.survey → both_of x (Err fault) ≡ Err fault
 after_good o a (Ok es) fault is = refl
@@ -185,17 +185,17 @@ module _ (o : PackOptions) (front back : List (ℕ × List ℕ)) (first : Result
   pub first_bad : (r : Result Reading PackFault) (fault : PackFault) → first ≡ Err fault → IsErrAnd r (λ e. e ≡ fault) → IsReadOf o front first → IsReadOf o (front ++ back) r
   first_bad (Ok reading) fault was is read = absurd is
   first_bad (Err other) fault was is read =
-      let bad : edges_in o.factor front ≡ Err fault = rw was at read in
-      rw is (edges_both o.factor front back ∙ rw bad refl)
+      let bad : edges_in o front ≡ Err fault = rw was at read in
+      rw is (edges_both o front back ∙ rw bad refl)
 
   -- that of the lines behind is, where those before have none
   pub second_bad : (second r : Result Reading PackFault) (a : Reading) (fault : PackFault) → first ≡ Ok a → second ≡ Err fault → IsErrAnd r (λ e. e ≡ fault)
       → IsReadOf o front first → IsReadOf o back second → IsReadOf o (front ++ back) r
   second_bad second (Ok reading) a fault good was is one two = absurd is
   second_bad second (Err other) a fault good was is one two =
-      let read : IsRead o (edges_in o.factor front) a = rw good at one in
-      let bad : edges_in o.factor back ≡ Err fault = rw was at two in
-      rw is (edges_both o.factor front back ∙ rw bad (after_good o a (edges_in o.factor front) fault read.survey))
+      let read : IsRead o (edges_in o front) a = rw good at one in
+      let bad : edges_in o back ≡ Err fault = rw was at two in
+      rw is (edges_both o front back ∙ rw bad (after_good o a (edges_in o front) fault read.survey))
 
 module _ (o : PackOptions) (a b c : Reading)
     (surveys : (es fs : List EdgeLine) → a.survey ≡ survey_of o es → b.survey ≡ survey_of o fs → c.survey ≡ survey_of o (es ++ fs))
@@ -212,8 +212,8 @@ module _ (o : PackOptions) (a b c : Reading)
 pub both_read : (o : PackOptions) (front back : List (ℕ × List ℕ)) (first second : Result Reading PackFault) (a b c : Reading) → first ≡ Ok a → second ≡ Ok b
     → ((es fs : List EdgeLine) → a.survey ≡ survey_of o es → b.survey ≡ survey_of o fs → c.survey ≡ survey_of o (es ++ fs))
     → ((es fs : List EdgeLine) → IfSome a.keyed (λ k. AreKeyed o es k) → IfSome b.keyed (λ k. AreKeyed o fs k) → IfSome c.keyed (λ k. AreKeyed o (es ++ fs) k))
-    → IsReadOf o front first → IsReadOf o back second → IsRead o (edges_in o.factor (front ++ back)) c
+    → IsReadOf o front first → IsReadOf o back second → IsRead o (edges_in o (front ++ back)) c
 both_read o front back first second a b c good well surveys keyed one two =
-    let x : IsRead o (edges_in o.factor front) a = rw good at one in
-    let y : IsRead o (edges_in o.factor back) b = rw well at two in
-    rw (edges_both o.factor front back) (read_of_both o a b c surveys keyed (edges_in o.factor front) (edges_in o.factor back) x y)
+    let x : IsRead o (edges_in o front) a = rw good at one in
+    let y : IsRead o (edges_in o back) b = rw well at two in
+    rw (edges_both o front back) (read_of_both o a b c surveys keyed (edges_in o front) (edges_in o back) x y)

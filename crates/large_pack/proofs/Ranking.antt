@@ -18,10 +18,10 @@ front_more options front e (Err fault) = refl
 
 -- one edge more
 pub read_more : (options : PackOptions) (front later : List Ranked) (r : Ranked) (e : EdgeLine) (l : ℕ × List ℕ) (lines rest : List (ℕ × List ℕ)) (defined : Result (List Ranked) PackFault)
-    → later ≡ front ++ r ∷ [] → r ≡ ranked options e → lines ≡ l ∷ rest → Ok e ≡ edge_of options.factor l → with_front options front (edges_in options.factor lines) ≡ defined → with_front options later (edges_in options.factor rest) ≡ defined
+    → later ≡ front ++ r ∷ [] → r ≡ ranked options e → lines ≡ l ∷ rest → Ok e ≡ edge_of options l → with_front options front (edges_in options lines) ≡ defined → with_front options later (edges_in options rest) ≡ defined
 read_more options front later r e l lines rest defined is made shape said so_far =
-    rw (is, made, front_more options front e (edges_in options.factor rest)) (sym (rw (shape, ← said) refl) ∙ so_far)
+    rw (is, made, front_more options front e (edges_in options rest)) (sym (rw (shape, ← said) refl) ∙ so_far)
 
 -- no line is left
-pub read_all : (options : PackOptions) (front : List Ranked) (lines : List (ℕ × List ℕ)) (defined : Result (List Ranked) PackFault) → lines ≡ [] → with_front options front (edges_in options.factor lines) ≡ defined → defined ≡ Ok front
+pub read_all : (options : PackOptions) (front : List Ranked) (lines : List (ℕ × List ℕ)) (defined : Result (List Ranked) PackFault) → lines ≡ [] → with_front options front (edges_in options lines) ≡ defined → defined ≡ Ok front
 read_all options front lines defined none is = sym (rw none at is) ∙ ap Ok (append-nil front)

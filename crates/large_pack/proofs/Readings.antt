@@ -47,16 +47,16 @@ from_start o defined keyed are = record { done = []; told = before_all defined; 
 
 -- one edge more
 pub to_next : (o : PackOptions) (defined : Result (List EdgeLine) PackFault) (lines rest : List (ℕ × List ℕ)) (l : ℕ × List ℕ) (e : EdgeLine) (old new : Option KeyedEdges)
-    → ReadTo o defined (edges_in o.factor lines) old → lines ≡ l ∷ rest → Ok e ≡ edge_of o.factor l
-    → ((done : List EdgeLine) → IfSome old (λ k. AreKeyed o done k) → IfSome new (λ k. AreKeyed o (done ++ e ∷ []) k)) → ReadTo o defined (edges_in o.factor rest) new
+    → ReadTo o defined (edges_in o lines) old → lines ≡ l ∷ rest → Ok e ≡ edge_of o l
+    → ((done : List EdgeLine) → IfSome old (λ k. AreKeyed o done k) → IfSome new (λ k. AreKeyed o (done ++ e ∷ []) k)) → ReadTo o defined (edges_in o rest) new
 to_next o defined lines rest l e old new was shape said step = record {
   done = was.done ++ e ∷ [];
-  told = sym (front_more was.done e (edges_in o.factor rest)) ∙ (sym (rw (shape, ← said) refl) ∙ was.told);
+  told = sym (front_more was.done e (edges_in o rest)) ∙ (sym (rw (shape, ← said) refl) ∙ was.told);
   arcs = step was.done was.arcs;
 }
 
 -- no line is left
-pub to_end : (o : PackOptions) (defined : Result (List EdgeLine) PackFault) (lines : List (ℕ × List ℕ)) (keyed : Option KeyedEdges) → ReadTo o defined (edges_in o.factor lines) keyed → lines ≡ []
+pub to_end : (o : PackOptions) (defined : Result (List EdgeLine) PackFault) (lines : List (ℕ × List ℕ)) (keyed : Option KeyedEdges) → ReadTo o defined (edges_in o lines) keyed → lines ≡ []
     → (es : List EdgeLine) → defined ≡ Ok es → IfSome keyed (λ k. AreKeyed o es k)
 to_end o defined lines keyed was none es is =
     let all : Ok (was.done ++ []) ≡ defined = rw none at was.told in
@@ -65,9 +65,9 @@ to_end o defined lines keyed was none es is =
 
 -- a line that is bad
 pub to_fault : (o : PackOptions) (defined : Result (List EdgeLine) PackFault) (lines rest : List (ℕ × List ℕ)) (l : ℕ × List ℕ) (fault : PackFault) (keyed : Option KeyedEdges)
-    → ReadTo o defined (edges_in o.factor lines) keyed → lines ≡ l ∷ rest → Err fault ≡ edge_of o.factor l → defined ≡ Err fault
+    → ReadTo o defined (edges_in o lines) keyed → lines ≡ l ∷ rest → Err fault ≡ edge_of o l → defined ≡ Err fault
 to_fault o defined lines rest l fault keyed was shape said =
-    let here : edges_in o.factor lines ≡ Err fault = rw (shape, ← said) refl in
+    let here : edges_in o lines ≡ Err fault = rw (shape, ← said) refl in
     sym (rw here at was.told)
 
 -- ---- the whole

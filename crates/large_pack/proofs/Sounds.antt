@@ -13,7 +13,7 @@ use Rattle.large_pack.specs.declared.fault.PackFault.TheVariants.{BadLine}
 use Rattle.large_pack.specs.declared.fault.PackFault.{PackFault}
 use Rattle.large_pack.specs.declared.fault.LineFault.{LineFault}
 use Rattle.large_pack.specs.declared.ranked.Ranked.{Ranked}
-use Rattle.large_pack.specs.Lines.{and_then, fault_as, end_in, weight_in, edge_in, edge_of, edges_in, edge_lines, edges_of}
+use Rattle.large_pack.specs.Lines.{and_then, fault_as, end_in, weight_in, edge_in, turned, edge_of, edges_in, edge_lines, edges_of}
 use Rattle.large_pack.specs.Sound.{node_count, outside_fault, loop_fault, first_fault, node_fault, unless, sound_in, sound_of}
 use Rattle.large_pack.specs.Packing.{refuses}
 use Rattle.large_pack.specs.Ranks.{ranked, ranked_in, LinesRise, AreTied, RankedWithin}
@@ -68,17 +68,23 @@ at_text : (text : Result (List ℕ) LineFault) (parts : List ℕ → Result Word
 at_text (Ok t) parts first second weight n e h = at_parts (parts t) first second weight n e h
 at_text (Err fault) parts first second weight n e h = cc
 
-line_is : (factor : Option ℕ) (l : ℕ × List ℕ) (e : EdgeLine) → edge_of factor l ≡ Ok e → e.line ≡ l.0
-line_is factor l e h =
-    at_text (fault_as BadWords (shown l.1)) (λ t. fault_as BadWords (parts_of (words_of t))) (λ p. end_in First p.0) (λ p. end_in Second p.1) (λ p. fault_as BadWeight (weight_in factor p.2)) l.0 e
-    (kind_given (λ fault. BadLine l.0 fault) (edge_in factor l.0 l.1) e h)
+turned_line : (reverse : Bool) (d e : EdgeLine) (n : ℕ) → read_as {E = PackFault} (turned reverse d) ≡ Ok e → d.line ≡ n → e.line ≡ n
+turned_line true d e n is at = let same : turned true d ≡ e = cc in rw (← same) at
+turned_line false d e n is at = let same : d ≡ e = cc in rw (← same) at
 
-lines_are : (factor : Option ℕ) (lines : List (ℕ × List ℕ)) (es : List EdgeLine) → edges_in factor lines ≡ Ok es → map (λ e. e.line) es ≡ numbers lines
-lines_are factor [] es h = let none : [] ≡ es = cc in rw (← none) refl
-lines_are factor (l ∷ ls) es h =
-    let first = step_given (edge_of factor l) _ es h in
-    let rest = step_given (edges_in factor ls) _ es first.2 in
-    joined first.0 rest.0 rest.2 (line_is factor l first.0 first.1) (lines_are factor ls rest.0 rest.1) where
+line_is : (o : PackOptions) (l : ℕ × List ℕ) (e : EdgeLine) → edge_of o l ≡ Ok e → e.line ≡ l.0
+line_is o l e h =
+    let step = step_given (fault_as (λ fault. BadLine l.0 fault) (edge_in o.factor l.0 l.1)) (λ d. read_as {E = PackFault} (turned o.reverse d)) e h in
+    turned_line o.reverse step.0 e l.0 step.2
+    (at_text (fault_as BadWords (shown l.1)) (λ t. fault_as BadWords (parts_of (words_of t))) (λ p. end_in First p.0) (λ p. end_in Second p.1) (λ p. fault_as BadWeight (weight_in o.factor p.2)) l.0 step.0
+    (kind_given (λ fault. BadLine l.0 fault) (edge_in o.factor l.0 l.1) step.0 step.1))
+
+lines_are : (o : PackOptions) (lines : List (ℕ × List ℕ)) (es : List EdgeLine) → edges_in o lines ≡ Ok es → map (λ e. e.line) es ≡ numbers lines
+lines_are o [] es h = let none : [] ≡ es = cc in rw (← none) refl
+lines_are o (l ∷ ls) es h =
+    let first = step_given (edge_of o l) _ es h in
+    let rest = step_given (edges_in o ls) _ es first.2 in
+    joined first.0 rest.0 rest.2 (line_is o l first.0 first.1) (lines_are o ls rest.0 rest.1) where
       joined : (e : EdgeLine) (later : List EdgeLine) → read_as {E = PackFault} (e ∷ later) ≡ Ok es → e.line ≡ l.0 → map (λ x. x.line) later ≡ numbers ls → map (λ x. x.line) es ≡ l.0 ∷ numbers ls
       joined e later is here there = let same : e ∷ later ≡ es = cc in rw (← same, here, there) refl
 
@@ -156,15 +162,15 @@ sound_edges o es n h =
 abbrev pub Known : PackOptions → ℕ → List Ranked → Type 0
 Known o n items = (1 ≤ n) × RankedWithin n items × LinesRise items × (refuses o.parallel ≡ true → AreTied items)
 
-module _ (o : PackOptions) (text : List ℕ) (n : ℕ) (items : List Ranked) (counted : Ok n ≡ and_then (sound_of o text) (λ es. Ok (node_count o.nodes es))) (read : ranked_in o (edges_of o.header o.factor text) ≡ Ok items) where
-  known_of : (r : Result (List EdgeLine) PackFault) → edges_of o.header o.factor text ≡ r → Ok n ≡ and_then (and_then r (sound_in o)) (λ es. Ok (node_count o.nodes es)) → ranked_in o r ≡ Ok items → Known o n items
+module _ (o : PackOptions) (text : List ℕ) (n : ℕ) (items : List Ranked) (counted : Ok n ≡ and_then (sound_of o text) (λ es. Ok (node_count o.nodes es))) (read : ranked_in o (edges_of o text) ≡ Ok items) where
+  known_of : (r : Result (List EdgeLine) PackFault) → edges_of o text ≡ r → Ok n ≡ and_then (and_then r (sound_in o)) (λ es. Ok (node_count o.nodes es)) → ranked_in o r ≡ Ok items → Known o n items
   known_of (Err fault) is c h = cc
   known_of (Ok es) is c h =
       let same : map (ranked o) es ≡ items = cc in
       let sound = sound_edges o es n c in
-      let up : Rise (map (λ e. e.line) es) = rw (lines_are o.factor (edge_lines o.header text) es is) (edge_lines_rise o.header text) in
+      let up : Rise (map (λ e. e.line) es) = rw (lines_are o (edge_lines o.header text) es is) (edge_lines_rise o.header text) in
       rw (← same) (sound.some, ranked_below o n es sound.within, lines_rise o es up, all_tied o es)
 
   -- what is known of the edges that are read
   pub known : Known o n items
-  known = known_of (edges_of o.header o.factor text) refl counted read
+  known = known_of (edges_of o text) refl counted read

@@ -45,13 +45,13 @@ after_one options s e (Err fault) = refl
 
 -- one edge more
 pub told_more : (options : PackOptions) (s later : Survey) (e : EdgeLine) (l : ℕ × List ℕ) (lines rest : List (ℕ × List ℕ)) (defined : Result Survey PackFault)
-    → later ≡ with_edge options s e → lines ≡ l ∷ rest → Ok e ≡ edge_of options.factor l → survey_after options s (edges_in options.factor lines) ≡ defined → survey_after options later (edges_in options.factor rest) ≡ defined
-told_more options s later e l lines rest defined is shape said so_far = rw (is, after_one options s e (edges_in options.factor rest)) (sym (rw (shape, ← said) refl) ∙ so_far)
+    → later ≡ with_edge options s e → lines ≡ l ∷ rest → Ok e ≡ edge_of options l → survey_after options s (edges_in options lines) ≡ defined → survey_after options later (edges_in options rest) ≡ defined
+told_more options s later e l lines rest defined is shape said so_far = rw (is, after_one options s e (edges_in options rest)) (sym (rw (shape, ← said) refl) ∙ so_far)
 
 or_none : (x : Option PackFault) → option_or x None ≡ x
 or_none None = refl
 or_none (Some fault) = refl
 
 -- no line is left
-pub told_all : (options : PackOptions) (s : Survey) (lines : List (ℕ × List ℕ)) (defined : Result Survey PackFault) → lines ≡ [] → survey_after options s (edges_in options.factor lines) ≡ defined → defined ≡ Ok s
+pub told_all : (options : PackOptions) (s : Survey) (lines : List (ℕ × List ℕ)) (defined : Result Survey PackFault) → lines ≡ [] → survey_after options s (edges_in options lines) ≡ defined → defined ≡ Ok s
 told_all options s lines defined none told = sym (rw none at told) ∙ ap Ok (alike_told s.reach _ _ _ _ (or_none s.outside) (or_none s.self_loop))

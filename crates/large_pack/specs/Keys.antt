@@ -64,4 +64,4 @@ pub record IsRead (options : PackOptions) (defined : Result (List EdgeLine) Pack
 -- what was read of these lines, or the fault of the first that says no edge
 abbrev pub IsReadOf : PackOptions → List (ℕ × List ℕ) → Result Reading PackFault → Type 0
 IsReadOf options lines result =
-    MatchResult result (IsRead options (edges_in options.factor lines)) (λ fault. edges_in options.factor lines ≡ Err fault)
+    MatchResult result (IsRead options (edges_in options lines)) (λ fault. edges_in options lines ≡ Err fault)

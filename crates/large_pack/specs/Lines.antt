@@ -14,6 +14,7 @@ use Rattle.large_pack.specs.declared.fault.NodeFault.{NodeFault}
 use Rattle.large_pack.specs.declared.fault.NodeFault.TheVariants.{BadNode, NodeTooLarge}
 use Rattle.large_pack.specs.declared.fault.LineFault.{LineFault}
 use Rattle.large_pack.specs.declared.fault.LineFault.TheVariants.{Words as BadWords, Node as BadEnd, Weight as BadWeight}
+use Rattle.large_pack.specs.declared.options.PackOptions.{PackOptions}
 use Rattle.large_pack.specs.declared.fault.PackFault.{PackFault}
 use Rattle.large_pack.specs.declared.fault.PackFault.TheVariants.{BadLine}
 
@@ -56,19 +57,23 @@ edge_in factor number line =
     and_then (fault_as BadWeight (weight_in factor parts.2)) (λ weight.
     Ok (record { first = first; second = second; weight = weight; line = number }))))))
 
--- the edge that a line with its number says, or its first fault beside that number
-abbrev pub edge_of : Option ℕ → ℕ × List ℕ → Result EdgeLine PackFault
-edge_of factor l = fault_as (λ fault. BadLine l.0 fault) (edge_in factor l.0 l.1)
+-- the edge, or where edges are turned round the one from its second end to its first
+abbrev pub turned : Bool → EdgeLine → EdgeLine
+turned reverse e = if reverse then record { first = e.second; second = e.first; weight = e.weight; line = e.line } else e
+
+-- the edge that a line with its number says, turned round where that is asked, or its first fault beside that number
+abbrev pub edge_of : PackOptions → ℕ × List ℕ → Result EdgeLine PackFault
+edge_of options l = and_then (fault_as (λ fault. BadLine l.0 fault) (edge_in options.factor l.0 l.1)) (λ e. Ok (turned options.reverse e))
 
 -- the edges that the lines say, or the first line's fault that says none
-abbrev pub edges_in : Option ℕ → List (ℕ × List ℕ) → Result (List EdgeLine) PackFault
-edges_in factor [] = Ok []
-edges_in factor (l ∷ ls) = and_then (edge_of factor l) (λ e. and_then (edges_in factor ls) (λ es. Ok (e ∷ es)))
+abbrev pub edges_in : PackOptions → List (ℕ × List ℕ) → Result (List EdgeLine) PackFault
+edges_in options [] = Ok []
+edges_in options (l ∷ ls) = and_then (edge_of options l) (λ e. and_then (edges_in options ls) (λ es. Ok (e ∷ es)))
 
 -- the lines of a text that say edges: those that say something, but for the first where that is a header
 abbrev pub edge_lines : Bool → List ℕ → List (ℕ × List ℕ)
 edge_lines header text = drop (if header then 1 else 0) (told_from 1 text)
 
 -- the edges of a text, or the first bad line
-abbrev pub edges_of : Bool → Option ℕ → List ℕ → Result (List EdgeLine) PackFault
-edges_of header factor text = edges_in factor (edge_lines header text)
+abbrev pub edges_of : PackOptions → List ℕ → Result (List EdgeLine) PackFault
+edges_of options text = edges_in options (edge_lines options.header text)

@@ -58,4 +58,4 @@ sound_in options edges =
 
 -- the edges of a text, or the first fault: a bad line, or one of theirs
 abbrev pub sound_of : PackOptions → List ℕ → Result (List EdgeLine) PackFault
-sound_of options text = and_then (edges_of options.header options.factor text) (sound_in options)
+sound_of options text = and_then (edges_of options text) (sound_in options)

@@ -2,9 +2,10 @@
 ghost use Rattle.std.specs.Prelude.{◌≡◌, ◌≤◌, IfOk};
 ghost use Rattle.std.specs.Option.{option_copied};
 ghost use Rattle.import_lines.specs.Weights.{is_whole};
-ghost use Rattle.large_pack.specs.Lines.{most_node, node_of, end_in, weight_in, edge_in, edge_of};
+ghost use Rattle.large_pack.specs.Lines.{most_node, node_of, end_in, weight_in, edge_in, turned, edge_of};
 
 use crate::fault::{End, LineFault, NodeFault, PackFault};
+use crate::options::PackOptions;
 use import_lines::{WeightFault, all_digits, line_parts, line_text, read_weight};
 
 /// The greatest number of a node.
@@ -91,18 +92,32 @@ pub fn line_edge(number: u64, line: &[u8], factor: Option<u32>) -> Result<EdgeLi
     })
 }
 
-/// The edge that a line says, or its fault with its number.
+/// The edge, or where edges are turned round the one from its second end to its first.
+fn turned(edge: EdgeLine, reverse: bool) -> EdgeLine
+    ensures { result ≡ turned reverse edge }
+{
+    if reverse {
+        return EdgeLine {
+            first: edge.second,
+            second: edge.first,
+            ..edge
+        };
+    }
+    edge
+}
+
+/// The edge that a line says, turned round where that is asked, or its fault with its number.
 pub(crate) fn read_line(
     number: u64,
     line: &[u8],
-    factor: Option<u32>,
+    options: &PackOptions,
 ) -> Result<EdgeLine, PackFault>
-    ensures edge { result ≡ edge_of factor (number, line.now) }
+    ensures edge { result ≡ edge_of options.now (number, line.now) }
     ensures first { IfOk result (λ edge. edge.first ≤ most_node) }
     ensures second { IfOk result (λ edge. edge.second ≤ most_node) }
 {
-    match line_edge(number, line, factor) {
-        Ok(edge) => Ok(edge),
+    match line_edge(number, line, options.factor) {
+        Ok(edge) => Ok(turned(edge, options.reverse)),
         Err(fault) => Err(PackFault::BadLine {
             line: number,
             fault,

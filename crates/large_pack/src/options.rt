@@ -34,6 +34,8 @@ pub struct PackOptions {
     pub nodes: Option<u32>,
     /// Whether an edge `a b` makes b a neighbour of a alone, and not a one of b too.
     pub is_directed: bool,
+    /// Whether each edge is turned round: `a b` is read as `b a`.
+    pub reverse: bool,
     /// What each weight is multiplied by, and whether decimal ones are taken. None: a weight is a whole number. Some: it
     /// is any number, times this, rounded to the nearest whole number.
     pub factor: Option<u32>,

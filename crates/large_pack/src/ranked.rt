@@ -75,12 +75,12 @@ pub(crate) fn ranked_edges(
     options: &PackOptions,
 ) -> Result<Vec<Ranked>, PackFault>
     requires room { from.passed + length from.bytes.now < 2 ^ 64 }
-    ensures { MatchResult result (λ v. ranked_in options.now (edges_in options.now.factor (told_from (from.entry.passed + 1) from.entry.bytes.now)) ≡ Ok v.items) (λ fault. fault ≢ Memory → edges_in options.now.factor (told_from (from.entry.passed + 1) from.entry.bytes.now) ≡ Err fault) }
+    ensures { MatchResult result (λ v. ranked_in options.now (edges_in options.now (told_from (from.entry.passed + 1) from.entry.bytes.now)) ≡ Ok v.items) (λ fault. fault ≢ Memory → edges_in options.now (told_from (from.entry.passed + 1) from.entry.bytes.now) ≡ Err fault) }
 {
     let mut lines = from;
     let mut edges = Vec::new(alloc);
     while let Some((number, line)) = lines.next_told() {
-        let edge = read_line(number, line, options.factor)?;
+        let edge = read_line(number, line, options)?;
         edges.push(rank_edge(&edge, options))?;
     }
     Ok(edges)

@@ -96,7 +96,7 @@ pub(crate) fn read_edges(
     let start = no_edges(alloc, options.parallel);
     let mut keyed = start;
     while let Some((number, line)) = lines.next_told() {
-        let edge = read_line(number, line, options.factor)?;
+        let edge = read_line(number, line, options)?;
         survey = with_edge(survey, &edge, options);
         keyed = with_arcs(keyed, &edge, options);
     }

@@ -1,6 +1,6 @@
 -- The program that a model is expanded to is accepted.
 use Rattle.std.proofs.Common.{◌≡◌, ◌≤◌, ℕ, length, List, [], ◌∷◌, refl, sym, ap, ◌∙◌, subst, arith}
-use Rattle.std.specs.Prelude.{None, false, not, ◌||◌, nat_lt}
+use Rattle.std.specs.Prelude.{None, false, not, ◌||◌, nat_lt, Option, Some}
 use Rattle.std.specs.List.{AllByRecursion, list_any}
 use Rattle.std.specs.Option.{option_or, option_map}
 use Rattle.std.proofs.lemmas.List.{length-map}
@@ -14,7 +14,7 @@ use Rattle.model_rules.specs.declared.fault.ExpandFault.TheVariants.{At, Unknown
 use Rattle.model_rules.specs.declared.fault.Cause.TheVariants as cause
 use Rattle.model_rules.specs.Frames.{Frame}
 use Rattle.model_rules.specs.Models.{GivenTree, bare, fields_of}
-use Rattle.model_rules.specs.Naming.{names_given, names_as, repeat_after, stray, place_at, extra_state, parameter_twice, unknown_given, misnamed, misused, naming_fault}
+use Rattle.model_rules.specs.Naming.{names_given, names_as, repeat_after, stray, place_at, extra_state, parameter_twice, seed_taken, earlier, name_twice, unknown_given, misnamed, misused, naming_fault}
 use Rattle.model_rules.specs.Bounds.{IsFitRule, IsWithin, IsAccepted}
 use Rattle.model_rules.specs.Expansions.{Expands}
 use Rattle.model_rules.proofs.Expanded.{same_fields}
@@ -66,6 +66,12 @@ faultless r a b c d e f g = rw (a, b, c, d, e, f, g) refl
 few_is : (a b : ℕ) → b ≤ a → nat_lt a b ≡ false
 few_is a b h = grind arith
 
+-- where neither of two places is, the first is none
+none_earlier : (left right : Option ℕ) → earlier left right ≡ None → left ≡ None
+none_earlier None right h = refl
+none_earlier (Some a) None h = cc
+none_earlier (Some a) (Some b) h = cc
+
 -- the names of a model in which nothing is wrong
 record Names (items : List ItemTree) : Type 0 where
   few : nat_lt 8 (length (fields_of items)) ≡ false
@@ -77,8 +83,9 @@ well_named : (items : List ItemTree) (given : List GivenTree) → naming_fault i
 well_named items given h =
     let many = option_map (At cause.TooManyFields) (place_at (names_as kind.Field items) 8) in
     let states = option_map (At cause.TooManyStates) (extra_state items) in
-    let twice = option_map (At cause.NameTwice) (repeat_after [] (names_given items)) in
-    let parameters = option_map (At cause.NameTwice) (parameter_twice (bare (names_given items)) items) in
+    let repeats = repeat_after [] (names_given items) in
+    let parameters = parameter_twice (bare (names_given items)) items in
+    let twice = option_map (At cause.NameTwice) (name_twice items) in
     let nexts = option_map (At cause.NextTwice) (repeat_after [] (names_as kind.Target items)) in
     let fields = option_map (At cause.NoField) (stray (bare (names_as kind.Field items)) (names_as kind.Target items)) in
     let used = option_map (At cause.UnknownStates) (stray (bare (names_as kind.States items)) (names_as kind.StatesUsed items)) in
@@ -89,7 +96,7 @@ well_named items given h =
     let size : length (names_as kind.Field items) ≡ length (fields_of items) = sym (length-map (names_as kind.Field items) (λ n. n.name)) ∙ ap length (field_names items) in
     record {
       few = few_is 8 (length (fields_of items)) (subst (λ (k : ℕ). k ≤ 8) size (none_there (names_as kind.Field items) 8 (none_under (At cause.TooManyFields) (place_at (names_as kind.Field items) 8) (none_first many (option_or (misnamed items) (option_or (misused (names_as kind.Field items) items) unknown)) h))));
-      fields = fields_differ items (distinct (names_given items) (none_under (At cause.NameTwice) (repeat_after [] (names_given items)) (none_first twice parameters (none_second states (option_or twice parameters) m))));
+      fields = fields_differ items (distinct (names_given items) (none_earlier repeats parameters (none_earlier (earlier repeats parameters) (seed_taken items) (none_under (At cause.NameTwice) (name_twice items) (none_second states twice m)))));
       targets = distinct (names_as kind.Target items) (none_under (At cause.NextTwice) (repeat_after [] (names_as kind.Target items)) (none_first nexts (option_or fields used) u));
       known =
           subst (λ (ns : List (List ℕ)). list_any (λ x. not (is_among ns x)) (bare (names_as kind.Target items)) ≡ false) (field_names items)

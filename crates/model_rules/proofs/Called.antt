@@ -10,8 +10,8 @@ use Rattle.model_rules.specs.declared.fault.ExpandFault.TheVariants as fault
 use Rattle.model_rules.specs.Terms.{InfixTerm}
 use Rattle.model_rules.specs.Frames.{Frame}
 use Rattle.model_rules.specs.Operators.{is_end}
-use Rattle.model_rules.specs.TermFor.{number_in, first_term, joined_term, term_for, terms_for}
-use Rattle.model_rules.specs.FirstFaults.{told_at, below_cause, bound_cause, only_fault, some_fault, fault_in, faults_in}
+use Rattle.model_rules.specs.TermFor.{first_term, joined_term, term_for, terms_for}
+use Rattle.model_rules.specs.FirstFaults.{told_at, below_cause, bound_cause, only_fault, few_fault, some_fault, fault_in, faults_in}
 use Rattle.model_rules.specs.Parts.{unless_wrong, only_parts, parts_upto, parts_each, parts_in, bounded_fault}
 use Rattle.model_rules.proofs.Parts.{told_plain, told_next}
 
@@ -44,9 +44,9 @@ joined_more f o e NoArgument h = absurd (cc)
 joined_more f o e (OneArgument d es) h = refl
 
 pub bound_first : (f : Frame) (later : List (List ℕ)) (inside : Bool) (at : ℕ) (es : ArgumentTree) → only_fault at (faults_in f later inside es) ≡ None
-    → option_or (only_fault at (faults_in f later inside es)) (told_at at (bound_cause (terms_for f es))) ≡ told_at at (below_cause (number_in (first_term (terms_for f es))))
+    → option_or (only_fault at (faults_in f later inside es)) (told_at at (bound_cause (terms_for f es))) ≡ told_at at (below_cause (first_term (terms_for f es)))
 bound_first f later inside at NoArgument h = absurd (cc)
-bound_first f later inside at (OneArgument e es) h = ap (λ (o : Option ExpandFault). option_or o (told_at at (below_cause (number_in (term_for f e))))) h
+bound_first f later inside at (OneArgument e es) h = ap (λ (o : Option ExpandFault). option_or o (told_at at (below_cause (term_for f e)))) h
 
 -- more arguments than one where one has to stand
 pub more_told : (f : Frame) (later : List (List ℕ)) (inside : Bool) (at : ℕ) (e : Tree) (es : ArgumentTree) (left item : ℕ) (end : ExpandFault) → is_end es ≡ false → end ≡ fault.At cause.WrongArguments at
@@ -62,3 +62,7 @@ rest_told f later inside at e es left now item was end h n t q r =
     let more = parts_upto (faults_in f later inside es) (parts_each f later inside es) in
     subst (λ (o : Option ExpandFault). bounded_fault left (parts_in f later inside e + unless_wrong (fault_in f later inside e) more) item o ≡ Some end) (sym (some_more f later inside at e es h))
     (told_next left now (parts_in f later inside e) more item was (fault_in f later inside e) (some_fault at (faults_in f later inside es)) end n t q r)
+
+-- one argument where one may stand
+pub few_only : (f : Frame) (later : List (List ℕ)) (inside : Bool) (at : ℕ) (es : ArgumentTree) (e : Tree) (rest : ArgumentTree) → es ≡ OneArgument e rest → few_fault at (faults_in f later inside es) ≡ only_fault at (faults_in f later inside es)
+few_only f later inside at es e rest h = rw h refl

@@ -6,7 +6,7 @@ use Rattle.rule_check.specs.WellFormed.{is_among}
 use Rattle.model_rules.specs.declared.fault.Cause.TheVariants as cause
 use Rattle.model_rules.specs.Terms.{OwnTerm, ParameterTerm, NearTerm}
 use Rattle.model_rules.specs.Frames.{Frame}
-use Rattle.model_rules.specs.Refusals.{let_for, apply_cause, name_cause, near_let_cause, near_cause}
+use Rattle.model_rules.specs.Refusals.{let_for, apply_cause, call_cause, name_cause, near_let_cause, near_cause}
 use Rattle.model_rules.specs.Parts.{unless_wrong, let_parts, seen_parts, name_parts, near_parts}
 use Rattle.model_rules.specs.TermFor.{let_term, named_term, near_let_term, near_named_term}
 
@@ -64,3 +64,10 @@ near_term_field f name h = rw h refl
 
 pub near_term_let : (f : Frame) (name : List ℕ) → is_among f.fields name ≡ false → near_named_term f name ≡ near_let_term (let_for f.lets name)
 near_term_let f name h = rw h refl
+
+-- a name with arguments: a parameter or a field, or another
+pub call_alone : (f : Frame) (later : List (List ℕ)) (name : List ℕ) (count : ℕ) (within : Bool) → (is_among f.parameters name || is_among f.fields name) ≡ true → call_cause f later name count within ≡ Some cause.WrongCount
+call_alone f later name count within h = rw h refl
+
+pub call_let : (f : Frame) (later : List (List ℕ)) (name : List ℕ) (count : ℕ) (within : Bool) → (is_among f.parameters name || is_among f.fields name) ≡ false → call_cause f later name count within ≡ apply_cause (let_for f.lets name) later name count within
+call_let f later name count within h = rw h refl

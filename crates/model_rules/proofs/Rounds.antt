@@ -13,7 +13,8 @@ use Rattle.model_rules.specs.Models.{GivenTree, bare, given_or, given_value}
 use Rattle.model_rules.specs.TermFor.{term_for}
 use Rattle.model_rules.specs.Refusals.{let_for}
 use Rattle.model_rules.specs.FirstFaults.{IsFirst}
-use Rattle.model_rules.specs.Amounts.{amount_in, value_fault, body_fault}
+use Rattle.model_rules.specs.Constants.{amount_in}
+use Rattle.model_rules.specs.Amounts.{value_fault, body_fault}
 use Rattle.model_rules.specs.ScopeView.{frame_of, knowns_of, later_of, IsScopeOf}
 use Rattle.model_rules.specs.Definitions.{names_defined, definition_of, frame_in, unless_given, under, told_fault, told_known, fault_by, known_by, unless_known, fault_of, where_none, unless_there, becomes, with_name, known_along, is_ring, stopping, stop_along, last_along, known_after, stop_after, last_after, settled, defining_fault, IsLooked, IsPassed}
 
@@ -29,10 +30,10 @@ fault_same values f g later name (LetTree n ps body) d e l = ap (λ (h : Frame).
 fault_same values f g later name (NextTree n body) d e l = refl
 
 known_same : (values : List GivenTree) (f g : Frame) (name : List ℕ) (item : ItemTree) → f.draws ≡ g.draws → f.fields ≡ g.fields → f.lets ≡ g.lets → told_known values f name item ≡ told_known values g name item
-known_same values f g name (ConstTree n body) d e l = ap (λ (h : Frame). Some (record { name = name; count = 0; term = NumberTerm (given_or (given_value values name) (amount_in (term_for h body))) })) (under_same f g [] d e l)
+known_same values f g name (ConstTree n body) d e l = ap (λ (h : Frame). Some (record { name = name; is_let = false; count = 0; term = NumberTerm (given_or (given_value values name) (amount_in (term_for h body))) })) (under_same f g [] d e l)
 known_same values f g name (StatesTree n members) d e l = refl
 known_same values f g name (FieldTree n states initial) d e l = refl
-known_same values f g name (LetTree n ps body) d e l = ap (λ (h : Frame). Some (record { name = name; count = length ps; term = term_for h body })) (under_same f g (bare ps) d e l)
+known_same values f g name (LetTree n ps body) d e l = ap (λ (h : Frame). Some (record { name = name; is_let = true; count = length ps; term = term_for h body })) (under_same f g (bare ps) d e l)
 known_same values f g name (NextTree n body) d e l = refl
 
 told_in : (items : List ItemTree) (values : List GivenTree) (scope : Scope) (name : List ℕ) (item : ItemTree) → IsScopeOf items scope → told_fault values (frame_of scope) (later_of scope) name item ≡ told_fault values (frame_in items (knowns_of scope.lets.items) []) (names_defined items) name item

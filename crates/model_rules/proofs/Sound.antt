@@ -1,6 +1,6 @@
 -- Lets that are known stay worth what the items tell.
 use Rattle.std.proofs.Common.{◌≡◌, ◌≤◌, ℕ, suc, zero, length, List, [], ◌∷◌, ◌++◌, refl, sym, ap, ◌∙◌, arith, subst}
-use Rattle.std.specs.Prelude.{Option, Some, None, Bool, true, if◌then◌else◌}
+use Rattle.std.specs.Prelude.{Option, Some, None, Bool, true, false, if◌then◌else◌}
 use Rattle.std.proofs.lemmas.List.{length-append}
 use Rattle.std.specs.List.{AllByRecursion}
 use Rattle.rule_lang.specs.Tree.{ItemTree as RuleTree, FieldTree as FieldRule, NextTree as NextRule}
@@ -13,7 +13,7 @@ use Rattle.model_rules.specs.Models.{GivenTree, Setting, names_it, told, told_by
 use Rattle.model_rules.specs.Expansions.{Expands, Finds, IsLeftOut, Tells, AreStable, IsRuleOf}
 
 -- what a let is told to be worth
-pub let_tells : (fs : List (List ℕ)) (ls : List KnownTree) (given : Setting) (name : List ℕ) (n : NameAt) (ps : List NameAt) (body : Tree) (k : ℕ) (t : TermTree) → Means (record { draws = given.draws; fields = fs; lets = ls; parameters = bare ps }) body t → Tells fs ls given name (LetTree n ps body) (record { name = name; count = k; term = t })
+pub let_tells : (fs : List (List ℕ)) (ls : List KnownTree) (given : Setting) (name : List ℕ) (n : NameAt) (ps : List NameAt) (body : Tree) (k : ℕ) (t : TermTree) → Means (record { draws = given.draws; fields = fs; lets = ls; parameters = bare ps }) body t → Tells fs ls given name (LetTree n ps body) (record { name = name; is_let = true; count = k; term = t })
 let_tells fs ls given name n ps body k t h =
     record {
       named = refl;
@@ -21,7 +21,7 @@ let_tells fs ls given name n ps body k t h =
     }
 
 -- and a constant
-pub const_tells : (fs : List (List ℕ)) (ls : List KnownTree) (given : Setting) (name : List ℕ) (n : NameAt) (body : Tree) (v : ℕ) → given_value given.values name ≡ None → Means (record { draws = given.draws; fields = fs; lets = ls; parameters = [] }) body (NumberTerm v) → Tells fs ls given name (ConstTree n body) (record { name = name; count = 0; term = NumberTerm v })
+pub const_tells : (fs : List (List ℕ)) (ls : List KnownTree) (given : Setting) (name : List ℕ) (n : NameAt) (body : Tree) (v : ℕ) → given_value given.values name ≡ None → Means (record { draws = given.draws; fields = fs; lets = ls; parameters = [] }) body (NumberTerm v) → Tells fs ls given name (ConstTree n body) (record { name = name; is_let = false; count = 0; term = NumberTerm v })
 const_tells fs ls given name n body v g h =
     record {
       named = refl;
@@ -29,12 +29,12 @@ const_tells fs ls given name n body v g h =
           ap (λ (o : Option ℕ). given_or o (worth_at given.draws worths [] [] body here)) g ∙ h.same (scene_of given.draws worths [] [] here) (alone here.id here.own) (record { draws = refl; parameters = refl; fields = e; lets = lets });
     }
 
-pub given_tells : (fs : List (List ℕ)) (ls : List KnownTree) (given : Setting) (name : List ℕ) (n : NameAt) (body : Tree) (v : ℕ) → given_value given.values name ≡ Some v → Tells fs ls given name (ConstTree n body) (record { name = name; count = 0; term = NumberTerm v })
+pub given_tells : (fs : List (List ℕ)) (ls : List KnownTree) (given : Setting) (name : List ℕ) (n : NameAt) (body : Tree) (v : ℕ) → given_value given.values name ≡ Some v → Tells fs ls given name (ConstTree n body) (record { name = name; is_let = false; count = 0; term = NumberTerm v })
 given_tells fs ls given name n body v g =
     record { named = refl; same = λ worths lets here xs e. ap (λ (o : Option ℕ). given_or o (worth_at given.draws worths [] [] body here)) g }
 
 -- and a state
-pub state_tells : (fs : List (List ℕ)) (ls : List KnownTree) (given : Setting) (name : List ℕ) (n : NameAt) (ms : List NameAt) (v : ℕ) → v ≡ place (bare ms) name → Tells fs ls given name (StatesTree n ms) (record { name = name; count = 0; term = NumberTerm v })
+pub state_tells : (fs : List (List ℕ)) (ls : List KnownTree) (given : Setting) (name : List ℕ) (n : NameAt) (ms : List NameAt) (v : ℕ) → v ≡ place (bare ms) name → Tells fs ls given name (StatesTree n ms) (record { name = name; is_let = false; count = 0; term = NumberTerm v })
 state_tells fs ls given name n ms v e = record { named = refl; same = λ worths lets here xs i. sym e }
 
 -- the first item is found, where it defines the name
@@ -70,11 +70,11 @@ pub left_out : (items : List ItemTree) (name : List ℕ) → ((given : Setting) 
 left_out items name h = record { same = λ given worths here xs. sym (h given worths here xs) }
 
 -- the seed of a model that does not define it
-seed_at : (items : List ItemTree) (given : Setting) (fs : List (List ℕ)) (name : List ℕ) (v n : ℕ) → IsLeftOut items name → given_or (given_value given.values name) 0 ≡ v → 1 ≤ n → AllByRecursion (IsWorth (worths_by items given n) fs) (record { name = name; count = 0; term = NumberTerm v } ∷ [])
+seed_at : (items : List ItemTree) (given : Setting) (fs : List (List ℕ)) (name : List ℕ) (v n : ℕ) → IsLeftOut items name → given_or (given_value given.values name) 0 ≡ v → 1 ≤ n → AllByRecursion (IsWorth (worths_by items given n) fs) (record { name = name; is_let = false; count = 0; term = NumberTerm v } ∷ [])
 seed_at items given fs name v zero h e b = absurd (omega arith)
 seed_at items given fs name v (suc m) h e b = ((λ here xs i. h.same given (worths_by items given m) here xs ∙ e), tt)
 
-pub seed_stable : (items : List ItemTree) (values : List GivenTree) (draws : List ℕ) (fs : List (List ℕ)) (name : List ℕ) (ks : List KnownTree) → IsLeftOut items name → ks ≡ record { name = name; count = 0; term = NumberTerm (given_or (given_value values name) 0) } ∷ [] → AreStable items (record { values = values; draws = draws }) fs ks
+pub seed_stable : (items : List ItemTree) (values : List GivenTree) (draws : List ℕ) (fs : List (List ℕ)) (name : List ℕ) (ks : List KnownTree) → IsLeftOut items name → ks ≡ record { name = name; is_let = false; count = 0; term = NumberTerm (given_or (given_value values name) 0) } ∷ [] → AreStable items (record { values = values; draws = draws }) fs ks
 seed_stable items values draws fs name ks h e =
     let given : Setting = record { values = values; draws = draws } in
     subst (λ (ls : List KnownTree). AreStable items given fs ls) (sym e)

@@ -27,10 +27,10 @@ use Rattle.model_rules.specs.DrawTerms.{node_draw_term, link_draw_term}
 use Rattle.model_rules.specs.Frames.{KnownTree, Frame, Means, MeansArms, MeansEach, MeansFirst, MeansJoined, MeansDistance, MeansBelow, MeansDrawn, IsFilled, IsMoved, IsAmount, draw_value}
 use Rattle.model_rules.specs.Operators.{kind_of}
 use Rattle.model_rules.specs.ScopeView.{IsLet, IsSeedLet}
-use Rattle.model_rules.specs.Refusals.{let_for, put_cause, seen_cause, apply_cause, name_cause, near_let_cause, near_cause}
+use Rattle.model_rules.specs.Refusals.{let_for, put_cause, seen_cause, apply_cause, call_cause, name_cause, near_let_cause, near_cause}
 use Rattle.model_rules.specs.TermFor.{let_term, near_let_term, named_term, near_named_term, number_in, let_number, drawn_by, draw_term, first_term, second_term, joined_term, bounded_term, call_term, term_for, arms_term, terms_for}
 use Rattle.model_rules.specs.FirstFaults.{told_at, first_of, constant_cause, seed_cause, node_cause, draw_cause, outside_cause, bound_cause, chance_cause, only_fault, some_fault, two_fault, few_fault, call_fault, fault_in, arms_fault, faults_in}
-use Rattle.model_rules.specs.Amounts.{amount_in, operator_cause, amount_cause}
+use Rattle.model_rules.specs.Constants.{amount_in, operator_cause, is_fixed, part_cause, amount_cause}
 use Rattle.model_rules.proofs.Values.{neither}
 use Rattle.model_rules.proofs.Differing.{none_first, none_second, none_under}
 use Rattle.model_rules.proofs.Meanings.{number_means, nothing_means, id_means, degree_means, round_means, near_id_means, near_weight_means, parameter_means, field_means, near_field_means, applied_means, let_means, near_let_means, filled_by, moved_is, parens_means, not_means, if_means, cases_means, arm_means, else_means, none_mean, each_mean, parted_distance, over_means, join_means, difference_means, draw_means, chance_means, chance_of_means, node_drawn, link_drawn, infix_means}
@@ -47,14 +47,15 @@ filled_where known ts n inside h =
     let q = none_put (known.count == n) (looks known.term) (gathers known.term && (inside || list_any looks ts)) h in
     filled_by known.term ts inside q.0 q.1
 
-none_seen : (c d : Bool) → (if c then (if d then Some cause.NotSeen else None) else Some cause.WrongCount) ≡ None → d ≡ false
-none_seen true true h = cc
-none_seen true false h = refl
-none_seen false d h = cc
+none_seen : (l c d : Bool) → (if l then (if c then (if d then Some cause.NotSeen else None) else Some cause.WrongCount) else Some cause.UnknownNear) ≡ None → d ≡ false
+none_seen true true true h = cc
+none_seen true true false h = refl
+none_seen true false d h = cc
+none_seen false c d h = cc
 
 moved_where : (known : KnownTree) → seen_cause known ≡ None → IsMoved known.term (seen_near known.term)
 moved_where known h =
-    let q = neither (knows_degree known.term) (looks known.term) (none_seen (known.count == 0) (knows_degree known.term || looks known.term) h) in
+    let q = neither (knows_degree known.term) (looks known.term) (none_seen known.is_let (known.count == 0) (knows_degree known.term || looks known.term) h) in
     moved_is known.term q.0 q.1
 
 -- no argument names the neighbour, where there is none
@@ -106,6 +107,10 @@ applied_case f later name at inside es ts None e h g = absurd (cc)
 applied_case f later name at inside es ts (Some known) e h g =
     let q = let_found f.lets name known e in
     applied_means f name at known es ts (filled ts known.term) q.0 q.1 (filled_where known ts (length ts) inside h) g
+
+none_called : (b : Bool) (x : Option Cause) → (if b then Some cause.WrongCount else x) ≡ None → x ≡ None
+none_called true x h = absurd (cc)
+none_called false x h = h
 
 -- draws
 number_is : (t : TermTree) (n : ℕ) → number_in t ≡ Some n → t ≡ NumberTerm n
@@ -217,8 +222,8 @@ call_means f later inside c at es (kind.Draw s) q h g w =
     let drawn = told_at at (draw_cause s f inside at) in
     let few = few_fault at (faults_in f later inside es) in
     let bound = told_at at (bound_cause (terms_for f es)) in
-    let d = none_under (λ (x : Cause). fault.At x at) (draw_cause s f inside at) (none_first drawn (option_or few bound) h) in
-    let n = none_first few bound (none_second drawn (option_or few bound) h) in
+    let d = none_under (λ (x : Cause). fault.At x at) (draw_cause s f inside at) (none_second (option_or few bound) drawn h) in
+    let n = none_first few bound (none_first (option_or few bound) drawn h) in
     draw_means f c at s es (bounded_term (draw_term s f at) (terms_for f es)) q
     (below_means f s at es (draw_term s f at) (drawn_means s f inside at d) (g (few_none at (faults_in f later inside es) n)))
 
@@ -252,9 +257,10 @@ mutual
       call_means f later inside c at es (kind_of c) refl h (each_means f later inside es) (each_means f later true es)
   means_of f later inside (ApplyTree name at es) h =
       let faults = first_of (faults_in f later inside es) in
-      let own = apply_cause (let_for f.lets name) later name (length (terms_for f es)) (inside || list_any looks (terms_for f es)) in
+      let own = call_cause f later name (length (terms_for f es)) (inside || list_any looks (terms_for f es)) in
       applied_case f later name at inside es (terms_for f es) (let_for f.lets name) refl
-      (none_under (λ (x : Cause). fault.At x at) own (none_second faults (told_at at own) h))
+      (none_called (is_among f.parameters name || is_among f.fields name) (apply_cause (let_for f.lets name) later name (length (terms_for f es)) (inside || list_any looks (terms_for f es)))
+      (none_under (λ (x : Cause). fault.At x at) own (none_second faults (told_at at own) h)))
       (each_means f later inside es (none_first faults (told_at at own) h))
   means_of f later inside (ChanceTree at p) h = chance_means f at p (chance p.numerator p.places) refl
   means_of f later inside (ChanceOfTree at p) h =
@@ -283,24 +289,31 @@ pub means_by : (f : Frame) (later : List (List ℕ)) (inside : Bool) (tree : Tre
 means_by f later inside tree t h e = subst (λ (x : TermTree). Means f tree x) (sym e) (means_of f later inside tree h)
 
 -- a term of numbers is always worth its number
-pub amount_is : (t : TermTree) → amount_cause t ≡ None → IsAmount t (amount_in t)
-amount_is (NumberTerm n) h = record { same = λ here xs m. refl }
-amount_is (OwnTerm name) h = absurd (cc)
-amount_is IdTerm h = absurd (cc)
-amount_is DegreeTerm h = absurd (cc)
-amount_is RoundTerm h = absurd (cc)
-amount_is (ParameterTerm k) h = absurd (cc)
-amount_is (NearTerm name) h = absurd (cc)
-amount_is NearIdTerm h = absurd (cc)
-amount_is NearWeightTerm h = absurd (cc)
-amount_is (InfixTerm o a b) h =
+part_is : (t : TermTree) → part_cause t ≡ None → IsAmount t (amount_in t)
+part_is (NumberTerm n) h = record { same = λ here xs m. refl }
+part_is (OwnTerm name) h = absurd (cc)
+part_is IdTerm h = absurd (cc)
+part_is DegreeTerm h = absurd (cc)
+part_is RoundTerm h = absurd (cc)
+part_is (ParameterTerm k) h = absurd (cc)
+part_is (NearTerm name) h = absurd (cc)
+part_is NearIdTerm h = absurd (cc)
+part_is NearWeightTerm h = absurd (cc)
+part_is (InfixTerm o a b) h =
     let own = operator_cause o (amount_in a) (amount_in b) in
-    let x = amount_is a (none_first (amount_cause a) (option_or (amount_cause b) own) h) in
-    let y = amount_is b (none_first (amount_cause b) own (none_second (amount_cause a) (option_or (amount_cause b) own) h)) in
+    let x = part_is a (none_first (part_cause a) (option_or (part_cause b) own) h) in
+    let y = part_is b (none_first (part_cause b) own (none_second (part_cause a) (option_or (part_cause b) own) h)) in
     record { same = λ here xs m. ap (λ v. operate o v (term_value here xs b m)) (x.same here xs m) ∙ ap (operate o (amount_in a)) (y.same here xs m) }
-amount_is (NotTerm e) h = absurd (cc)
-amount_is (OverTerm agg e) h = absurd (cc)
-amount_is (ChoiceTerm a b c) h = absurd (cc)
+part_is (NotTerm e) h = absurd (cc)
+part_is (OverTerm agg e) h = absurd (cc)
+part_is (ChoiceTerm a b c) h = absurd (cc)
+
+none_fixed : (b : Bool) (x : Option Cause) → (if b then x else Some cause.NotConstant) ≡ None → x ≡ None
+none_fixed true x h = h
+none_fixed false x h = absurd (cc)
+
+pub amount_is : (t : TermTree) → amount_cause t ≡ None → IsAmount t (amount_in t)
+amount_is t h = part_is t (none_fixed (is_fixed t) (part_cause t) h)
 
 -- the value of a constant
 pub value_by : (f : Frame) (later : List (List ℕ)) (inside : Bool) (tree : Tree) (v : ℕ) → fault_in f later inside tree ≡ None → amount_cause (term_for f tree) ≡ None → v ≡ amount_in (term_for f tree) → Means f tree (NumberTerm v)

@@ -17,7 +17,8 @@ use Rattle.model_rules.specs.Models.{GivenTree, bare, given_or, given_value, nam
 use Rattle.model_rules.specs.TermFor.{term_for}
 use Rattle.model_rules.specs.Refusals.{let_for}
 use Rattle.model_rules.specs.FirstFaults.{told_at}
-use Rattle.model_rules.specs.Amounts.{amount_in, value_fault, body_fault}
+use Rattle.model_rules.specs.Constants.{amount_in}
+use Rattle.model_rules.specs.Amounts.{value_fault, body_fault}
 
 -- the names that an item defines: a constant or a let its own, an item of states each state
 abbrev pub defined_by : ItemTree → List (List ℕ)
@@ -53,7 +54,7 @@ member_fault members name at = if is_among members name then told_at at (member_
 
 abbrev pub member_known : List (List ℕ) → List ℕ → Option KnownTree
 member_known members name =
-    if is_among members name then Some (record { name = name; count = 0; term = NumberTerm (place members name) }) else None
+    if is_among members name then Some (record { name = name; is_let = false; count = 0; term = NumberTerm (place members name) }) else None
 
 -- what is known, with these parameters in place of others
 abbrev pub under : Frame → List (List ℕ) → Frame
@@ -62,7 +63,7 @@ under frame parameters = record { draws = frame.draws; fields = frame.fields; le
 -- a let, with all that it uses put in
 abbrev pub known_let : Frame → List ℕ → List NameAt → Tree → KnownTree
 known_let frame name parameters body =
-    record { name = name; count = length parameters; term = term_for (under frame (bare parameters)) body }
+    record { name = name; is_let = true; count = length parameters; term = term_for (under frame (bare parameters)) body }
 
 -- The first fault of what an item tells a name to be worth, where this is known: that of the expression of a constant that the caller
 -- does not set, or of a let.
@@ -79,7 +80,7 @@ told_fault values frame later name (NextTree n body) = None
 -- expression is; a state its place; a let its expression with all that it uses put in
 abbrev pub told_known : List GivenTree → Frame → List ℕ → ItemTree → Option KnownTree
 told_known values frame name (ConstTree n body) =
-    Some (record { name = name; count = 0; term = NumberTerm (given_or (given_value values name) (amount_in (term_for (under frame []) body))) })
+    Some (record { name = name; is_let = false; count = 0; term = NumberTerm (given_or (given_value values name) (amount_in (term_for (under frame []) body))) })
 told_known values frame name (StatesTree n members) = member_known (bare members) name
 told_known values frame name (FieldTree n states initial) = None
 told_known values frame name (LetTree n parameters body) = Some (known_let frame name parameters body)
@@ -176,7 +177,7 @@ unless_defined (Some item) lets = []
 
 abbrev pub seed_first : List ItemTree → List GivenTree → List KnownTree
 seed_first items values =
-    unless_defined (definition_of items seed_name) (record { name = seed_name; count = 0; term = NumberTerm (given_or (given_value values seed_name) 0) } ∷ [])
+    unless_defined (definition_of items seed_name) (record { name = seed_name; is_let = false; count = 0; term = NumberTerm (given_or (given_value values seed_name) 0) } ∷ [])
 
 -- What is known and wrong once a name has been looked at where these lets were known: this is known now, this fault was found, and it
 -- stops nothing.

@@ -12,7 +12,8 @@ use Rattle.model_rules.specs.Frames.{Frame}
 use Rattle.model_rules.specs.Models.{is_state}
 use Rattle.model_rules.specs.TermFor.{term_for}
 use Rattle.model_rules.specs.FirstFaults.{told_at}
-use Rattle.model_rules.specs.Amounts.{amount_in, value_fault, body_fault}
+use Rattle.model_rules.specs.Constants.{amount_in}
+use Rattle.model_rules.specs.Amounts.{value_fault, body_fault}
 use Rattle.model_rules.specs.Bounds.{form_cause, size_cause}
 
 -- the place of the name with which an item begins

@@ -1,5 +1,5 @@
 -- What is wrong with an expression of a model: the first fault, in the order of the text.
-use Rattle.std.specs.Prelude.{ℕ, ◌≡◌, ◌≢◌, ◌==◌, nat_lt, Bool, true, ◌||◌, List, [], ◌∷◌, length, Option, Some, None, if◌then◌else◌}
+use Rattle.std.specs.Prelude.{ℕ, ◌≡◌, ◌≢◌, ◌==◌, ◌^◌, nat_lt, Bool, true, ◌||◌, List, [], ◌∷◌, length, Option, Some, None, if◌then◌else◌}
 use Rattle.std.specs.List.{list_any}
 use Rattle.std.specs.Option.{option_map, option_or}
 use Rattle.model_text.specs.declared.tree.Decimal.{Decimal}
@@ -13,10 +13,11 @@ use Rattle.model_rules.specs.declared.operators.CallKind.TheVariants as kind
 use Rattle.model_rules.specs.declared.operators.Source.{Source}
 use Rattle.model_rules.specs.declared.operators.Source.TheVariants as source
 use Rattle.model_rules.specs.Terms.{TermTree, looks}
-use Rattle.model_rules.specs.Meaning.{chance, seed_name, draw_number}
+use Rattle.model_rules.specs.Meaning.{seed_name, draw_number}
 use Rattle.model_rules.specs.Operators.{kind_of}
 use Rattle.model_rules.specs.Frames.{KnownTree, Frame}
-use Rattle.model_rules.specs.Refusals.{let_for, name_cause, near_cause, apply_cause}
+use Rattle.model_rules.specs.Refusals.{let_for, name_cause, near_cause, call_cause}
+use Rattle.model_rules.specs.Constants.{is_fixed, part_cause, amount_in}
 use Rattle.model_rules.specs.TermFor.{number_in, terms_for}
 
 -- this fault is told where this is the first, unless memory is out
@@ -55,18 +56,21 @@ abbrev pub draw_cause : Source → Frame → Bool → ℕ → Option Cause
 draw_cause source.Node frame inside at = node_cause frame at
 draw_cause source.Link frame inside at = option_or (outside_cause inside) (node_cause frame at)
 
--- a number below which a draw is to be, if it is a constant, is from 1 to 65536
-abbrev pub below_cause : Option ℕ → Option Cause
-below_cause None = None
-below_cause (Some k) = if k == 0 || nat_lt 65536 k then Some cause.OutOfRange else None
+-- a number that is none from 1 to 65536
+abbrev pub small_cause : ℕ → Option Cause
+small_cause k = if k == 0 || nat_lt 65536 k then Some cause.OutOfRange else None
+
+-- a number below which a draw is to be, where it is a constant: it is in range as one, and from 1 to 65536
+abbrev pub below_cause : TermTree → Option Cause
+below_cause t = if is_fixed t then option_or (part_cause t) (small_cause (amount_in t)) else None
 
 abbrev pub bound_cause : List TermTree → Option Cause
 bound_cause [] = None
-bound_cause (t ∷ ts) = below_cause (number_in t)
+bound_cause (t ∷ ts) = below_cause t
 
 -- a decimal with more than nine digits behind its point, or a chance above 1
 abbrev pub chance_cause : Decimal → Option Cause
-chance_cause p = if nat_lt 9 p.places || nat_lt 65536 (chance p.numerator p.places) then Some cause.OutOfRange else None
+chance_cause p = if nat_lt 9 p.places || nat_lt (10 ^ p.places) p.numerator then Some cause.OutOfRange else None
 
 -- a function with one argument, where the arguments have these faults
 abbrev pub only_fault : ℕ → List (Option ExpandFault) → Option ExpandFault
@@ -96,7 +100,7 @@ call_fault (kind.Gather agg) frame inside at terms here within = if inside then 
 call_fault (kind.Join o) frame inside at terms here within = some_fault at here
 call_fault kind.Distance frame inside at terms here within = two_fault at here
 call_fault (kind.Draw s) frame inside at terms here within =
-    option_or (told_at at (draw_cause s frame inside at)) (option_or (few_fault at here) (told_at at (bound_cause terms)))
+    option_or (option_or (few_fault at here) (told_at at (bound_cause terms))) (told_at at (draw_cause s frame inside at))
 
 -- The first fault of an expression, which stands inside of an aggregate or outside, where this is known, and these are the names
 -- of all constants, states and lets.
@@ -121,7 +125,7 @@ abbrev mutual
       call_fault (kind_of f) frame inside at (terms_for frame es) (faults_in frame later inside es) (faults_in frame later true es)
   fault_in frame later inside (ApplyTree name at es) =
       option_or (first_of (faults_in frame later inside es))
-      (told_at at (apply_cause (let_for frame.lets name) later name (length (terms_for frame es)) (inside || list_any looks (terms_for frame es))))
+      (told_at at (call_cause frame later name (length (terms_for frame es)) (inside || list_any looks (terms_for frame es))))
   fault_in frame later inside (ChanceTree at p) = told_at at (chance_cause p)
   fault_in frame later inside (ChanceOfTree at p) = told_at at (option_or (chance_cause p) (node_cause frame at))
 

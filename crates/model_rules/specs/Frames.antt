@@ -1,5 +1,5 @@
 -- What is known where an expression of a model is expanded, and what its term has to be worth.
-use Rattle.std.specs.Prelude.{ℕ, ◌≡◌, List, [], map, slice_index}
+use Rattle.std.specs.Prelude.{ℕ, ◌≡◌, Bool, List, [], map, slice_index}
 use Rattle.std.specs.List.{AllByRecursion}
 use Rattle.rule_check.specs.declared.state.Near.{Near}
 use Rattle.rule_check.specs.Value.{Here, alone}
@@ -10,9 +10,10 @@ use Rattle.model_rules.specs.Terms.{TermTree, term_value}
 use Rattle.rule_lang.specs.declared.tree.Op.{Op}
 use Rattle.model_rules.specs.Meaning.{Worths, Scene, meaning, arms_meaning, meanings, joined, distance, beside, node_draw, link_draw, bounded}
 
--- a let whose term is known: its name, how many parameters it has, and its term
+-- a let, a constant or a state whose term is known: its name, whether it is a let, how many parameters it has, and its term
 pub record KnownTree : Type 0 where
   pub name : List ℕ
+  pub is_let : Bool
   pub count : ℕ
   pub term : TermTree
 

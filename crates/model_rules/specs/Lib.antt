@@ -8,6 +8,7 @@ pub mod ScopeView
 pub mod Operators
 pub mod Refusals
 pub mod TermFor
+pub mod Constants
 pub mod FirstFaults
 pub mod Faults
 pub mod Amounts

@@ -1,5 +1,5 @@
 -- What is wrong with the names of a model.
-use Rattle.std.specs.Prelude.{ℕ, ◌+◌, ◌||◌, List, [], ◌∷◌, ◌++◌, Option, Some, None, if◌then◌else◌, slice_get, codes}
+use Rattle.std.specs.Prelude.{ℕ, ◌+◌, min, ◌||◌, List, [], ◌∷◌, ◌++◌, Option, Some, None, if◌then◌else◌, slice_get, codes}
 use Rattle.std.specs.List.{flat_map, filter_map}
 use Rattle.std.specs.Str.{bytes_eq}
 use Rattle.std.specs.Option.{option_map, option_or}
@@ -89,6 +89,36 @@ parameter_twice names (FieldTree n states initial ∷ items) = parameter_twice n
 parameter_twice names (LetTree n parameters body ∷ items) = option_or (repeat_after names parameters) (parameter_twice names items)
 parameter_twice names (NextTree n body ∷ items) = parameter_twice names items
 
+-- the place of the first of these names that is `seed`
+abbrev pub seed_in : List NameAt → Option ℕ
+seed_in [] = None
+seed_in (n ∷ ns) = if bytes_eq n.name (codes "seed") then Some n.at else seed_in ns
+
+-- the place of the first state, or of the let, of an item that is called so
+abbrev pub seed_by : ItemTree → Option ℕ
+seed_by (ConstTree n body) = None
+seed_by (StatesTree n members) = seed_in members
+seed_by (FieldTree n states initial) = None
+seed_by (LetTree n parameters body) = seed_in (n ∷ [])
+seed_by (NextTree n body) = None
+
+-- the place of the first state or let that is called `seed`, as the constant that each model has
+abbrev pub seed_taken : List ItemTree → Option ℕ
+seed_taken [] = None
+seed_taken (item ∷ items) = option_or (seed_by item) (seed_taken items)
+
+-- of two places the first in the text
+abbrev pub earlier : Option ℕ → Option ℕ → Option ℕ
+earlier None right = right
+earlier (Some a) None = Some a
+earlier (Some a) (Some b) = Some (min a b)
+
+-- the place of the first name that is there twice: one that a name before has, a parameter with the name of an item or a state or of a
+-- parameter before it, a state or a let called `seed`
+abbrev pub name_twice : List ItemTree → Option ℕ
+name_twice items =
+    earlier (earlier (repeat_after [] (names_given items)) (parameter_twice (bare (names_given items)) items)) (seed_taken items)
+
 -- of the constants that the caller sets, the place in their list of the first that the model does not have, counted from
 -- this number; each model has the constant `seed`
 abbrev pub unknown_given : List (List ℕ) → ℕ → List GivenTree → Option ℕ
@@ -99,8 +129,7 @@ unknown_given names k (g ∷ gs) = if bytes_eq g.name (codes "seed") || is_among
 abbrev pub misnamed : List ItemTree → Option ExpandFault
 misnamed items =
     option_or (option_map (At cause.TooManyStates) (extra_state items))
-    (option_or (option_map (At cause.NameTwice) (repeat_after [] (names_given items)))
-    (option_map (At cause.NameTwice) (parameter_twice (bare (names_given items)) items)))
+    (option_map (At cause.NameTwice) (name_twice items))
 
 -- what is wrong with the next values and the states of these fields: the first in this order
 abbrev pub misused : List NameAt → List ItemTree → Option ExpandFault

@@ -12,9 +12,9 @@ use Rattle.model_rules.specs.Terms.{TermTree, NumberTerm, OwnTerm, IdTerm, Degre
 use Rattle.model_rules.specs.Frames.{KnownTree, Frame}
 use Rattle.model_rules.specs.Operators.{kind_of}
 use Rattle.model_rules.specs.declared.room.Room.{Room}
-use Rattle.model_rules.specs.Refusals.{item_at, parts_left, let_for, name_cause, near_cause, apply_cause}
+use Rattle.model_rules.specs.Refusals.{item_at, parts_left, let_for, name_cause, near_cause, call_cause}
 use Rattle.model_rules.specs.TermFor.{terms_for, first_term, second_term}
-use Rattle.model_rules.specs.FirstFaults.{draw_cause, first_of, two_fault, fault_in, faults_in}
+use Rattle.model_rules.specs.FirstFaults.{first_of, two_fault, fault_in, faults_in}
 
 -- the parts of a term: each of its forms
 abbrev pub size : TermTree → ℕ
@@ -108,7 +108,7 @@ call_parts (kind.Gather agg) frame inside at terms faults here within = if insid
 call_parts (kind.Join o) frame inside at terms faults here within = parts_upto faults here
 call_parts kind.Distance frame inside at terms faults here within =
     two_parts faults here + unless_wrong (two_fault at faults) (size (first_term terms) + size (second_term terms))
-call_parts (kind.Draw s) frame inside at terms faults here within = unless_wrong (draw_cause s frame inside at) (only_parts here)
+call_parts (kind.Draw s) frame inside at terms faults here within = only_parts here
 
 -- The parts that are made for an expression below its own form, up to its first fault: each form, and each part of a let or of an
 -- argument, once for each time that it is put in.
@@ -136,7 +136,7 @@ abbrev mutual
   parts_below frame later inside (ApplyTree name at es) =
       parts_upto (faults_in frame later inside es) (parts_each frame later inside es)
       + unless_wrong (first_of (faults_in frame later inside es))
-      (unless_wrong (apply_cause (let_for frame.lets name) later name (length (terms_for frame es)) (inside || list_any looks (terms_for frame es)))
+      (unless_wrong (call_cause frame later name (length (terms_for frame es)) (inside || list_any looks (terms_for frame es)))
       (let_parts (let_for frame.lets name) (terms_for frame es)))
   parts_below frame later inside (ChanceTree at p) = 0
   parts_below frame later inside (ChanceOfTree at p) = 0

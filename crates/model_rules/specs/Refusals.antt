@@ -39,16 +39,24 @@ put_cause known count within =
     (if looks known.term then Some cause.NeighbourOutside else (if gathers known.term && within then Some cause.NestedAggregate else None))
     else Some cause.WrongCount
 
--- A let behind `n.` is refused where it has parameters, or where a neighbour does not know it: its degree, an aggregate or
--- a neighbour of its own.
+-- Behind `n.` stands no constant and no state. A let is refused there where it has parameters, or where a neighbour does not know it:
+-- its degree, an aggregate or a neighbour of its own.
 abbrev pub seen_cause : KnownTree → Option Cause
 seen_cause known =
-    if known.count == 0 then (if knows_degree known.term || looks known.term then Some cause.NotSeen else None) else Some cause.WrongCount
+    if known.is_let then
+    (if known.count == 0 then (if knows_degree known.term || looks known.term then Some cause.NotSeen else None) else Some cause.WrongCount)
+    else Some cause.UnknownNear
 
 -- the let that a name is applied as, if there is one
 abbrev pub apply_cause : Option KnownTree → List (List ℕ) → List ℕ → ℕ → Bool → Option Cause
 apply_cause None later name count within = Some (unknown_cause later name cause.UnknownName)
 apply_cause (Some known) later name count within = put_cause known count within
+
+-- A name with so many arguments: a let; a parameter and a field take none, and stand without brackets.
+abbrev pub call_cause : Frame → List (List ℕ) → List ℕ → ℕ → Bool → Option Cause
+call_cause frame later name count within =
+    if is_among frame.parameters name || is_among frame.fields name then Some cause.WrongCount
+    else apply_cause (let_for frame.lets name) later name count within
 
 -- a name by itself: a parameter, a field, or a let without arguments
 abbrev pub name_cause : Frame → List (List ℕ) → List ℕ → Bool → Option Cause

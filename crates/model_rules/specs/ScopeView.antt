@@ -16,7 +16,7 @@ use Rattle.model_rules.specs.Definitions.{names_defined}
 
 -- a let whose term is known
 abbrev pub known_of : Known → KnownTree
-known_of known = record { name = string_bytes known.name; count = known.count; term = term_of known.term }
+known_of known = record { name = string_bytes known.name; is_let = known.is_let; count = known.count; term = term_of known.term }
 
 abbrev pub knowns_of : List Known → List KnownTree
 knowns_of lets = map known_of lets

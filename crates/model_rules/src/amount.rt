@@ -1,10 +1,10 @@
 //! The values of constants.
 
-ghost use Rattle.std.specs.Prelude.{◌≡◌, Some, None, IfErr, IfOk, OnOk};
+ghost use Rattle.std.specs.Prelude.{◌≡◌, true, Some, None, IfErr, IfOk, OnOk};
 ghost use Rattle.rule_check.specs.Table.{operate};
 ghost use Rattle.model_rules.specs.declared.fault.Cause.TheVariants.{OutOfRange};
 ghost use Rattle.model_rules.specs.declared.fault.ExpandFault.TheVariants.{At};
-ghost use Rattle.model_rules.specs.Amounts.{amount_in, operator_cause, amount_cause};
+ghost use Rattle.model_rules.specs.Constants.{amount_in, operator_cause, is_plain, is_fixed, part_cause, amount_cause};
 ghost use Rattle.model_rules.specs.FirstFaults.{told_at};
 ghost use Rattle.model_rules.specs.TermView.{term_of};
 
@@ -49,17 +49,58 @@ fn computed(op: Op, left: u32, right: u32, at: u32) -> Result<u32, ExpandFault>
     }
 }
 
-/// The value of a term that is made of numbers alone, at a place of the text.
-pub fn amount(term: &Term, at: u32) -> Result<u32, ExpandFault>
+/// Whether the operator is one of `+ - * / %`.
+fn is_plain(op: Op) -> bool
+    ensures exact { result ≡ is_plain op }
+{
+    match op {
+        Op::Plus | Op::Minus | Op::Times | Op::Quot | Op::Rem => true,
+        Op::BitAnd
+        | Op::BitOr
+        | Op::BitXor
+        | Op::Equal
+        | Op::Differ
+        | Op::Less
+        | Op::LessEq
+        | Op::Greater
+        | Op::GreaterEq
+        | Op::Min
+        | Op::Max => false,
+    }
+}
+
+/// Whether the term is made of numbers by `+ - * / %` alone: a constant.
+pub fn is_fixed(term: &Term) -> bool
+    ensures exact { result ≡ is_fixed (term_of term.now) }
+{
+    match term {
+        Term::Number(_) => true,
+        Term::Infix(op, left, right) => is_plain(*op) && is_fixed(left) && is_fixed(right),
+        Term::Own(_)
+        | Term::Id
+        | Term::Degree
+        | Term::Round
+        | Term::Parameter(_)
+        | Term::Near(_)
+        | Term::NearId
+        | Term::NearWeight
+        | Term::Not(_)
+        | Term::Over(_, _)
+        | Term::Choice(_, _, _) => false,
+    }
+}
+
+/// The number that a term is worth, part by part from the left, at a place of the text.
+fn worked_out(term: &Term, at: u32) -> Result<u32, ExpandFault>
     ensures exact { IfOk result (λ v. v ≡ amount_in (term_of term.now)) }
-    ensures faultless { OnOk result (amount_cause (term_of term.now) ≡ None) }
-    ensures refused { IfErr result (λ fault. told_at at (amount_cause (term_of term.now)) ≡ Some fault) }
+    ensures faultless { OnOk result (part_cause (term_of term.now) ≡ None) }
+    ensures refused { IfErr result (λ fault. told_at at (part_cause (term_of term.now)) ≡ Some fault) }
 {
     match term {
         Term::Number(value) => Ok(*value),
         Term::Infix(op, left, right) => {
-            let left = amount(left, at)?;
-            let right = amount(right, at)?;
+            let left = worked_out(left, at)?;
+            let right = worked_out(right, at)?;
             let value = computed(*op, left, right, at)?;
             Ok(value)
         }
@@ -75,4 +116,17 @@ pub fn amount(term: &Term, at: u32) -> Result<u32, ExpandFault>
         | Term::Over(_, _)
         | Term::Choice(_, _, _) => Err(wrong(Cause::NotConstant, at)),
     }
+}
+
+/// The value of a constant, at a place of the text.
+pub fn amount(term: &Term, at: u32) -> Result<u32, ExpandFault>
+    ensures exact { IfOk result (λ v. v ≡ amount_in (term_of term.now)) }
+    ensures fixed { OnOk result (is_fixed (term_of term.now) ≡ true) }
+    ensures faultless { OnOk result (amount_cause (term_of term.now) ≡ None) }
+    ensures refused { IfErr result (λ fault. told_at at (amount_cause (term_of term.now)) ≡ Some fault) }
+{
+    if !is_fixed(term) {
+        return Err(wrong(Cause::NotConstant, at));
+    }
+    worked_out(term, at)
 }

@@ -1,6 +1,6 @@
 //! Constants, states and lets, in an order in which each uses those before it.
 
-ghost use Rattle.std.specs.Prelude.{◌≡◌, ◌∷◌, [], IfErr, IfOk, IfSome, IsNone, OnOk, None, Some, is_some, List, ℕ, map, string_bytes};
+ghost use Rattle.std.specs.Prelude.{◌≡◌, ◌∷◌, [], IfErr, IfOk, IfSome, IsNone, OnOk, false, None, Some, is_some, List, ℕ, map, string_bytes};
 ghost use Rattle.std.specs.Option.{option_map};
 ghost use Rattle.model_rules.specs.Refusals.{let_for};
 ghost use Rattle.model_rules.specs.Definitions.{IsLooked, IsPassed, definition_of, names_defined, fault_of, stopping, is_ring, stop_along, settled, defining_fault, seed_first};
@@ -207,13 +207,14 @@ fn seed_given(given: &[Given]) -> u32
 /// The seed as a let without parameters, alone.
 fn seed_let(given: &[Given], alloc: Global) -> Result<Vec<Known>, AllocError>
     ensures known { IfOk result (λ lets. knowns_of lets.items
-        ≡ record { name = seed_name; count = 0; term = NumberTerm (given_or (given_value (givens_of given.now) seed_name) 0) } ∷ []) }
+        ≡ record { name = seed_name; is_let = false; count = 0; term = NumberTerm (given_or (given_value (givens_of given.now) seed_name) 0) } ∷ []) }
 {
     let name = String::from_str(alloc, "seed")?;
     let term = Term::Number(seed_given(given));
     let mut lets = Vec::new(alloc);
     lets.push(Known {
         name,
+        is_let: false,
         count: 0,
         term,
     })?;

@@ -13,6 +13,7 @@ ghost use Rattle.model_rules.specs.TermFor.{draw_term, let_number, number_in};
 ghost use Rattle.model_rules.specs.TermView.{term_of};
 ghost use Rattle.model_rules.specs.Terms.{NumberTerm, InfixTerm};
 
+use crate::amount::{amount, is_fixed};
 use crate::draw::{at_node, on_link};
 use crate::fault::{Cause, ExpandFault, wrong};
 use crate::names::inside_only;
@@ -117,20 +118,19 @@ pub fn random_term(
     }
 }
 
-/// A number below which a draw is to be, if it is a constant, is from 1 to 65536.
+/// A number below which a draw is to be, where it is a constant, is from 1 to 65536.
 pub fn check_bound(bound: &Term, at: u32) -> Result<(), ExpandFault>
-    ensures faultless { OnOk result (below_cause (number_in (term_of bound.now)) ≡ None) }
-    ensures refused { IfErr result (λ fault. told_at at (below_cause (number_in (term_of bound.now))) ≡ Some fault) }
+    ensures faultless { OnOk result (below_cause (term_of bound.now) ≡ None) }
+    ensures refused { IfErr result (λ fault. told_at at (below_cause (term_of bound.now)) ≡ Some fault) }
 {
-    match bound {
-        Term::Number(k) => {
-            if *k == 0 || *k > 65536 {
-                return Err(wrong(Cause::OutOfRange, at));
-            }
-            Ok(())
-        }
-        _ => Ok(()),
+    if !is_fixed(bound) {
+        return Ok(());
     }
+    let k = amount(bound, at)?;
+    if k == 0 || k > 65536 {
+        return Err(wrong(Cause::OutOfRange, at));
+    }
+    Ok(())
 }
 
 /// Ten to a number of places, of 9 at most.
@@ -163,10 +163,10 @@ pub fn chance_of(decimal: &Decimal, at: u32) -> Result<u32, ExpandFault>
     let Some(unit) = unit(decimal.places) else {
         return Err(wrong(Cause::OutOfRange, at));
     };
-    let value = (u64::from(decimal.numerator) * 131_072 + unit) / (2 * unit);
-    if value > 65536 {
+    if u64::from(decimal.numerator) > unit {
         return Err(wrong(Cause::OutOfRange, at));
     }
+    let value = (u64::from(decimal.numerator) * 131_072 + unit) / (2 * unit);
     Ok(value as u32)
 }
 

@@ -8,7 +8,7 @@ ghost use Rattle.model_rules.specs.declared.fault.ExpandFault.TheVariants.{At};
 ghost use Rattle.model_text.specs.View.{tree_of, arms_of, arguments_of};
 ghost use Rattle.model_rules.specs.FirstFaults.{IsFirst, told_at, first_of, fault_in, arms_fault, faults_in, only_fault, some_fault, two_fault, few_fault, call_fault, draw_cause, bound_cause};
 ghost use Rattle.model_rules.specs.Operators.{kind_of};
-ghost use Rattle.model_rules.specs.Refusals.{item_at, parts_left, let_for, apply_cause};
+ghost use Rattle.model_rules.specs.Refusals.{item_at, parts_left, let_for, call_cause};
 ghost use Rattle.model_rules.specs.Parts.{size, unless_wrong, let_parts, parts_upto, only_parts, two_parts, call_parts, parts_below, arms_parts, parts_each, parts_in, bounded};
 ghost use Rattle.model_rules.specs.ScopeView.{frame_of, knowns_of, later_of};
 ghost use Rattle.model_rules.specs.TermFor.{term_for, arms_term, terms_for, let_term, first_term, second_term, joined_term, bounded_term, draw_term, call_term};
@@ -18,7 +18,7 @@ ghost use Rattle.model_rules.specs.Terms.{NotTerm, OverTerm, looks, parted};
 use crate::draw::scaled;
 use crate::drawing::{chance_of, chance_term, check_bound, random_term};
 use crate::fault::{Cause, ExpandFault, wrong};
-use crate::names::{applied, name_term, near_term};
+use crate::names::{called, name_term, near_term};
 use crate::near::{near_id, near_weight};
 use crate::operators::{
     CallKind, Source, between, call_kind, choice, distance, ends, infix_term, over_term,
@@ -214,13 +214,13 @@ fn application(
     room: &mut Room,
 ) -> Result<Term, ExpandFault>
     ensures exact { IfOk result (λ t. term_of t ≡ let_term (let_for (knowns_of scope.now.lets.items) name.now) (terms_for (frame_of scope.now) (arguments_of arguments.now))) }
-    ensures faultless { OnOk result (option_or (first_of (faults_in (frame_of scope.now) (later_of scope.now) inside (arguments_of arguments.now))) (told_at at (apply_cause (let_for (knowns_of scope.now.lets.items) name.now) (later_of scope.now) name.now (length (terms_for (frame_of scope.now) (arguments_of arguments.now))) (inside || list_any looks (terms_for (frame_of scope.now) (arguments_of arguments.now))))) ≡ None) }
+    ensures faultless { OnOk result (option_or (first_of (faults_in (frame_of scope.now) (later_of scope.now) inside (arguments_of arguments.now))) (told_at at (call_cause (frame_of scope.now) (later_of scope.now) name.now (length (terms_for (frame_of scope.now) (arguments_of arguments.now))) (inside || list_any looks (terms_for (frame_of scope.now) (arguments_of arguments.now))))) ≡ None) }
     ensures item { item_at room.new ≡ item_at room.old }
-    ensures taken { OnOk result (parts_left room.new + (parts_upto (faults_in (frame_of scope.now) (later_of scope.now) inside (arguments_of arguments.now)) (parts_each (frame_of scope.now) (later_of scope.now) inside (arguments_of arguments.now)) + unless_wrong (first_of (faults_in (frame_of scope.now) (later_of scope.now) inside (arguments_of arguments.now))) (unless_wrong (apply_cause (let_for (knowns_of scope.now.lets.items) name.now) (later_of scope.now) name.now (length (terms_for (frame_of scope.now) (arguments_of arguments.now))) (inside || list_any looks (terms_for (frame_of scope.now) (arguments_of arguments.now)))) (let_parts (let_for (knowns_of scope.now.lets.items) name.now) (terms_for (frame_of scope.now) (arguments_of arguments.now))))) ≡ parts_left room.old) }
-    ensures refused { IfErr result (IsFirst (bounded room.old (parts_upto (faults_in (frame_of scope.now) (later_of scope.now) inside (arguments_of arguments.now)) (parts_each (frame_of scope.now) (later_of scope.now) inside (arguments_of arguments.now)) + unless_wrong (first_of (faults_in (frame_of scope.now) (later_of scope.now) inside (arguments_of arguments.now))) (unless_wrong (apply_cause (let_for (knowns_of scope.now.lets.items) name.now) (later_of scope.now) name.now (length (terms_for (frame_of scope.now) (arguments_of arguments.now))) (inside || list_any looks (terms_for (frame_of scope.now) (arguments_of arguments.now)))) (let_parts (let_for (knowns_of scope.now.lets.items) name.now) (terms_for (frame_of scope.now) (arguments_of arguments.now))))) (option_or (first_of (faults_in (frame_of scope.now) (later_of scope.now) inside (arguments_of arguments.now))) (told_at at (apply_cause (let_for (knowns_of scope.now.lets.items) name.now) (later_of scope.now) name.now (length (terms_for (frame_of scope.now) (arguments_of arguments.now))) (inside || list_any looks (terms_for (frame_of scope.now) (arguments_of arguments.now)))))))) }
+    ensures taken { OnOk result (parts_left room.new + (parts_upto (faults_in (frame_of scope.now) (later_of scope.now) inside (arguments_of arguments.now)) (parts_each (frame_of scope.now) (later_of scope.now) inside (arguments_of arguments.now)) + unless_wrong (first_of (faults_in (frame_of scope.now) (later_of scope.now) inside (arguments_of arguments.now))) (unless_wrong (call_cause (frame_of scope.now) (later_of scope.now) name.now (length (terms_for (frame_of scope.now) (arguments_of arguments.now))) (inside || list_any looks (terms_for (frame_of scope.now) (arguments_of arguments.now)))) (let_parts (let_for (knowns_of scope.now.lets.items) name.now) (terms_for (frame_of scope.now) (arguments_of arguments.now))))) ≡ parts_left room.old) }
+    ensures refused { IfErr result (IsFirst (bounded room.old (parts_upto (faults_in (frame_of scope.now) (later_of scope.now) inside (arguments_of arguments.now)) (parts_each (frame_of scope.now) (later_of scope.now) inside (arguments_of arguments.now)) + unless_wrong (first_of (faults_in (frame_of scope.now) (later_of scope.now) inside (arguments_of arguments.now))) (unless_wrong (call_cause (frame_of scope.now) (later_of scope.now) name.now (length (terms_for (frame_of scope.now) (arguments_of arguments.now))) (inside || list_any looks (terms_for (frame_of scope.now) (arguments_of arguments.now)))) (let_parts (let_for (knowns_of scope.now.lets.items) name.now) (terms_for (frame_of scope.now) (arguments_of arguments.now))))) (option_or (first_of (faults_in (frame_of scope.now) (later_of scope.now) inside (arguments_of arguments.now))) (told_at at (call_cause (frame_of scope.now) (later_of scope.now) name.now (length (terms_for (frame_of scope.now) (arguments_of arguments.now))) (inside || list_any looks (terms_for (frame_of scope.now) (arguments_of arguments.now)))))))) }
 {
     let terms = each(arguments, scope, inside, alloc, room)?;
-    applied(name, at, &terms, scope, inside, alloc, room)
+    called(name, at, &terms, scope, inside, alloc, room)
 }
 
 /// The terms of the arguments of a let, in order.
@@ -346,16 +346,16 @@ fn random(
     room: &mut Room,
 ) -> Result<Term, ExpandFault>
     ensures exact { IfOk result (λ t. term_of t ≡ bounded_term (draw_term source (frame_of scope.now) at) (terms_for (frame_of scope.now) (arguments_of arguments.now))) }
-    ensures faultless { OnOk result (option_or (told_at at (draw_cause source (frame_of scope.now) inside at)) (option_or (few_fault at (faults_in (frame_of scope.now) (later_of scope.now) inside (arguments_of arguments.now))) (told_at at (bound_cause (terms_for (frame_of scope.now) (arguments_of arguments.now))))) ≡ None) }
+    ensures faultless { OnOk result (option_or (option_or (few_fault at (faults_in (frame_of scope.now) (later_of scope.now) inside (arguments_of arguments.now))) (told_at at (bound_cause (terms_for (frame_of scope.now) (arguments_of arguments.now))))) (told_at at (draw_cause source (frame_of scope.now) inside at)) ≡ None) }
     ensures item { item_at room.new ≡ item_at room.old }
-    ensures taken { OnOk result (parts_left room.new + unless_wrong (draw_cause source (frame_of scope.now) inside at) (only_parts (parts_each (frame_of scope.now) (later_of scope.now) inside (arguments_of arguments.now))) ≡ parts_left room.old) }
-    ensures refused { IfErr result (IsFirst (bounded room.old (unless_wrong (draw_cause source (frame_of scope.now) inside at) (only_parts (parts_each (frame_of scope.now) (later_of scope.now) inside (arguments_of arguments.now)))) (option_or (told_at at (draw_cause source (frame_of scope.now) inside at)) (option_or (few_fault at (faults_in (frame_of scope.now) (later_of scope.now) inside (arguments_of arguments.now))) (told_at at (bound_cause (terms_for (frame_of scope.now) (arguments_of arguments.now)))))))) }
+    ensures taken { OnOk result (parts_left room.new + only_parts (parts_each (frame_of scope.now) (later_of scope.now) inside (arguments_of arguments.now)) ≡ parts_left room.old) }
+    ensures refused { IfErr result (IsFirst (bounded room.old (only_parts (parts_each (frame_of scope.now) (later_of scope.now) inside (arguments_of arguments.now))) (option_or (option_or (few_fault at (faults_in (frame_of scope.now) (later_of scope.now) inside (arguments_of arguments.now))) (told_at at (bound_cause (terms_for (frame_of scope.now) (arguments_of arguments.now))))) (told_at at (draw_cause source (frame_of scope.now) inside at))))) }
 {
-    let draw = random_term(source, scope, inside, at, alloc)?;
     match arguments {
-        Arguments::End => Ok(draw),
+        Arguments::End => random_term(source, scope, inside, at, alloc),
         Arguments::Argument { .. } => {
             let limit = bound(arguments, at, scope, inside, alloc, room)?;
+            let draw = random_term(source, scope, inside, at, alloc)?;
             Ok(scaled(draw, limit, alloc)?)
         }
     }

@@ -15,8 +15,8 @@ pub enum Cause {
     TooManyFields,
     /// The 257th state.
     TooManyStates,
-    /// An item or a state with the name of an earlier one, or a parameter with the name of any of them or of a parameter
-    /// before it.
+    /// An item or a state with the name of an earlier one, a parameter with the name of any of them or of a parameter
+    /// before it, or a state or a let called `seed`, as the constant that each model has.
     NameTwice,
     /// A `next` item for a field that has one already.
     NextTwice,
@@ -26,9 +26,9 @@ pub enum Cause {
     UnknownStates,
     /// A name that no constant, state, field, let or parameter has.
     UnknownName,
-    /// Behind `n.` the name of no field and no let.
+    /// Behind `n.` the name of no field and no let, as that of a constant or a state.
     UnknownNear,
-    /// A let that takes another number of arguments.
+    /// A let that takes another number of arguments, or a field or a parameter with brackets.
     WrongCount,
     /// A function of the notation that takes another number of arguments.
     WrongArguments,
@@ -42,7 +42,8 @@ pub enum Cause {
     Ring,
     /// What is no constant, where a constant has to stand.
     NotConstant,
-    /// A constant above 4,294,967,295 or below 0, or divided by 0.
+    /// A constant above 4,294,967,295 or below 0, or divided by 0; a constant below which a draw is to be and that is not
+    /// from 1 to 65,536; a chance above 1.
     OutOfRange,
     /// A field whose initial value is none of its states.
     NoState,

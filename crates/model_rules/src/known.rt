@@ -7,7 +7,8 @@ ghost use Rattle.model_rules.specs.Models.{GivenTree, Setting, bare, given_value
 ghost use Rattle.model_rules.specs.Frames.{KnownTree, Means};
 ghost use Rattle.model_rules.specs.Expansions.{Tells};
 ghost use Rattle.model_rules.specs.ScopeView.{frame_of, known_of, knowns_of, givens_of, later_of, setting_in};
-ghost use Rattle.model_rules.specs.Amounts.{amount_in, expression_fault, value_fault, body_fault};
+ghost use Rattle.model_rules.specs.Constants.{amount_in};
+ghost use Rattle.model_rules.specs.Amounts.{expression_fault, value_fault, body_fault};
 ghost use Rattle.std.specs.Option.{option_map};
 ghost use Rattle.model_rules.specs.Definitions.{member_fault, member_known, known_let, under, told_fault, told_known};
 ghost use Rattle.model_rules.specs.FirstFaults.{IsFirst, fault_in};
@@ -116,6 +117,7 @@ fn state_let(
     let text = String::from_str(alloc, name)?;
     Ok(Some(Known {
         name: text,
+        is_let: false,
         count: 0,
         term: Term::Number(k as u32),
     }))
@@ -142,6 +144,7 @@ fn constant_known(
     match given_for(given, name) {
         Some(value) => Ok(Known {
             name: text,
+            is_let: false,
             count: 0,
             term: Term::Number(value),
         }),
@@ -149,6 +152,7 @@ fn constant_known(
             let value = value_of(body, own.at, scope, alloc)?;
             Ok(Known {
                 name: text,
+                is_let: false,
                 count: 0,
                 term: Term::Number(value),
             })
@@ -181,6 +185,7 @@ fn let_known(
     let text = String::from_str(alloc, name)?;
     Ok(Known {
         name: text,
+        is_let: true,
         count: parameters.len(),
         term,
     })

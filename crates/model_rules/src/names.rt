@@ -1,6 +1,6 @@
 //! Terms of names.
 
-ghost use Rattle.std.specs.Prelude.{◌≡◌, ◌+◌, ◌&&◌, ◌||◌, IfErr, IfOk, OnOk, Some, None, Err, true, false, length};
+ghost use Rattle.std.specs.Prelude.{◌≡◌, ◌+◌, ◌&&◌, ◌||◌, IfErr, IfOk, OnOk, Some, None, Err, true, false, length, map, string_bytes};
 ghost use Rattle.std.specs.List.{list_any};
 ghost use Rattle.model_rules.specs.TermView.{term_of, terms_of};
 ghost use Rattle.model_rules.specs.Terms.{looks, gathers, filled, seen_near};
@@ -11,7 +11,8 @@ ghost use Rattle.model_rules.specs.declared.fault.Cause.TheVariants.{NeighbourOu
 ghost use Rattle.model_rules.specs.declared.fault.ExpandFault.TheVariants.{At};
 ghost use Rattle.model_rules.specs.FirstFaults.{IsFirst, told_at};
 ghost use Rattle.model_rules.specs.Parts.{size, filled_parts, let_parts, name_parts, near_parts, unless_wrong, bounded};
-ghost use Rattle.model_rules.specs.Refusals.{item_at, parts_left, let_for, unknown_cause, put_cause, seen_cause, apply_cause, name_cause, near_cause};
+ghost use Rattle.model_rules.specs.Refusals.{item_at, parts_left, let_for, unknown_cause, put_cause, seen_cause, apply_cause, call_cause, name_cause, near_cause};
+ghost use Rattle.rule_check.specs.WellFormed.{is_among};
 
 use crate::fault::{Cause, ExpandFault, wrong};
 use crate::fill::fill;
@@ -131,10 +132,13 @@ pub fn name_term(
     }
 }
 
-/// Why a let is not seen at a neighbour, if it is not.
+/// Why a let, a constant or a state is not seen at a neighbour, if it is not.
 fn seen_let_cause(known: &Known) -> Option<Cause>
     ensures exact { result ≡ seen_cause (known_of known.now) }
 {
+    if !known.is_let {
+        return Some(Cause::UnknownNear);
+    }
     if known.count != 0 {
         return Some(Cause::WrongCount);
     }
@@ -189,9 +193,9 @@ pub fn near_term(
     }
 }
 
-/// The term of a let with arguments, by its name.
+/// The term of a let with arguments, by its name, which no parameter and no field has.
 #[tactic(auto, using(crate::proofs::Parts::told_unput))]
-pub fn applied(
+fn applied(
     name: &str,
     at: u32,
     arguments: &[Term],
@@ -211,4 +215,35 @@ pub fn applied(
         Some(known) => put_in(known, arguments, at, inside, alloc, room),
         None => Err(unknown(name, at, scope, Cause::UnknownName)),
     }
+}
+
+/// Whether the name is that of a parameter or of a field, which stand without brackets.
+fn stands_alone(name: &str, scope: &Scope) -> bool
+    ensures exact { result ≡ (is_among (map string_bytes scope.now.parameters.items) name.now || is_among (map string_bytes scope.now.fields.items) name.now) }
+{
+    place_of(&scope.parameters, name).is_some() || place_of(&scope.fields, name).is_some()
+}
+
+/// The term of a name with arguments.
+#[tactic(auto, using(crate::proofs::Refused::call_alone, crate::proofs::Refused::call_let, crate::proofs::Parts::told_unput))]
+pub fn called(
+    name: &str,
+    at: u32,
+    arguments: &[Term],
+    scope: &Scope,
+    inside: bool,
+    alloc: Global,
+    room: &mut Room,
+) -> Result<Term, ExpandFault>
+    ensures exact { IfOk result (λ t. term_of t ≡ let_term (let_for (knowns_of scope.now.lets.items) name.now) (terms_of arguments.now)) }
+    ensures item { item_at room.new ≡ item_at room.old }
+    ensures at_once { (cause : Cause) → call_cause (frame_of scope.now) (later_of scope.now) name.now (length arguments.now) (inside || list_any looks (terms_of arguments.now)) ≡ Some cause → result ≡ Err (At cause at) }
+    ensures faultless { OnOk result (call_cause (frame_of scope.now) (later_of scope.now) name.now (length arguments.now) (inside || list_any looks (terms_of arguments.now)) ≡ None) }
+    ensures taken { OnOk result (parts_left room.new + unless_wrong (call_cause (frame_of scope.now) (later_of scope.now) name.now (length arguments.now) (inside || list_any looks (terms_of arguments.now))) (let_parts (let_for (knowns_of scope.now.lets.items) name.now) (terms_of arguments.now)) ≡ parts_left room.old) }
+    ensures refused { IfErr result (IsFirst (bounded room.old (unless_wrong (call_cause (frame_of scope.now) (later_of scope.now) name.now (length arguments.now) (inside || list_any looks (terms_of arguments.now))) (let_parts (let_for (knowns_of scope.now.lets.items) name.now) (terms_of arguments.now))) (told_at at (call_cause (frame_of scope.now) (later_of scope.now) name.now (length arguments.now) (inside || list_any looks (terms_of arguments.now)))))) }
+{
+    if stands_alone(name, scope) {
+        return Err(wrong(Cause::WrongCount, at));
+    }
+    applied(name, at, arguments, scope, inside, alloc, room)
 }

@@ -9,7 +9,7 @@ ghost use Rattle.model_rules.specs.declared.fault.ExpandFault.TheVariants.{At, U
 ghost use Rattle.model_rules.specs.declared.fault.Cause.TheVariants as cause;
 ghost use Rattle.model_rules.specs.declared.naming.NameKind.TheVariants as kind;
 ghost use Rattle.model_rules.specs.Models.{bare};
-ghost use Rattle.model_rules.specs.Naming.{given_by, names_given, name_as, names_as, repeat_after, stray, place_at, extra_state, parameter_twice, unknown_given, naming_fault, misnamed, misused};
+ghost use Rattle.model_rules.specs.Naming.{given_by, names_given, name_as, names_as, repeat_after, stray, place_at, extra_state, parameter_twice, seed_in, seed_by, seed_taken, earlier, name_twice, unknown_given, naming_fault, misnamed, misused};
 ghost use Rattle.model_rules.specs.ScopeView.{named, givens_of};
 
 use crate::fault::{Cause, ExpandFault, wrong};
@@ -22,6 +22,9 @@ const MOST_FIELDS: usize = 8;
 
 /// The most states that may share a name.
 pub const MOST_STATES: usize = 256;
+
+/// The constant that each model has.
+const SEED: &str = "seed";
 
 /// Which names of items are meant.
 #[derive(Clone, Copy)]
@@ -224,11 +227,71 @@ fn given_stray(constants: &[&Name], given: &[Given]) -> Option<usize>
     ensures exact { result ≡ unknown_given (bare (named constants.now)) 0 (givens_of given.now) }
 {
     for (k, one) in given.iter().enumerate() {
-        if !(one.name.as_str() == "seed" || has_name(constants, &one.name)) {
+        if !(one.name.as_str() == SEED || has_name(constants, &one.name)) {
             return Some(k);
         }
     }
     None
+}
+
+/// The place of the first of these names that is that of the seed.
+fn seed_in(names: &[Name]) -> Option<u32>
+    ensures exact { result ≡ seed_in (map name_of names.now) }
+{
+    for name in names {
+        if name.name.as_str() == SEED {
+            return Some(name.at);
+        }
+    }
+    None
+}
+
+/// The place of the first state, or of the let, of an item that has the name of the seed.
+fn seed_by(item: &Item) -> Option<u32>
+    ensures exact { result ≡ seed_by (item_of item.now) }
+{
+    match item {
+        Item::States { members, .. } => seed_in(members),
+        Item::Let { name, .. } => {
+            if name.name.as_str() == SEED {
+                return Some(name.at);
+            }
+            None
+        }
+        Item::Const { .. } | Item::Field { .. } | Item::Next { .. } => None,
+    }
+}
+
+/// The place of the first state or let that has the name of the seed.
+fn seed_taken(items: &[Item]) -> Option<u32>
+    ensures exact { result ≡ seed_taken (items_of items.now) }
+{
+    for item in items {
+        if let Some(at) = seed_by(item) {
+            return Some(at);
+        }
+    }
+    None
+}
+
+/// Of two places the first in the text.
+fn earlier(left: Option<u32>, right: Option<u32>) -> Option<u32>
+    ensures exact { result ≡ earlier left right }
+{
+    match (left, right) {
+        (Some(left), Some(right)) => Some(left.min(right)),
+        (Some(left), None) => Some(left),
+        (None, right) => right,
+    }
+}
+
+/// The place of the first name that is there twice.
+fn name_twice(items: &[Item], alloc: Global) -> Result<Option<u32>, AllocError>
+    ensures exact { IfOk result (λ at. at ≡ name_twice (items_of items.now)) }
+{
+    let names = all_names(items, alloc)?;
+    let repeat = earlier(first_repeat(&names), repeated_parameter(&names, items));
+    Ok(earlier(repeat, seed_taken(items)))
 }
 
 /// What is wrong with the names that items give.
@@ -238,11 +301,7 @@ fn given_fault(items: &[Item], alloc: Global) -> Result<Option<ExpandFault>, All
     if let Some(at) = state_too_many(items) {
         return Ok(Some(wrong(Cause::TooManyStates, at)));
     }
-    let names = all_names(items, alloc)?;
-    if let Some(at) = first_repeat(&names) {
-        return Ok(Some(wrong(Cause::NameTwice, at)));
-    }
-    match repeated_parameter(&names, items) {
+    match name_twice(items, alloc)? {
         Some(at) => Ok(Some(wrong(Cause::NameTwice, at))),
         None => Ok(None),
     }

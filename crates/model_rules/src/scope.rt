@@ -21,11 +21,13 @@ pub struct Given {
     pub value: u32,
 }
 
-/// A let whose term is known; a constant or a state is one without parameters.
+/// A let, a constant or a state whose term is known.
 #[derive(Drop)]
 pub struct Known {
     /// Its name.
     pub name: String,
+    /// Whether it is a let, which alone may stand behind `n.`.
+    pub is_let: bool,
     /// How many parameters it has.
     pub count: usize,
     /// What it is worth.

@@ -1,14 +1,14 @@
 -- Items: what is read is spelled so, and what is spelled so is read.
-use Rattle.std.proofs.Common.{◌≡◌, ℕ, zero, suc, ◌≤◌, ◌<◌, List, [], ◌∷◌, ◌++◌, Option, Some, None, refl, sym, ap, subst, ◌∙◌, arith, length, append_assoc, append-nil}
+use Rattle.std.proofs.Common.{◌≡◌, ℕ, ◌+◌, drop, ◌≤◌, ◌<◌, List, [], ◌∷◌, ◌++◌, Option, Some, None, refl, sym, ap, subst, ◌∙◌, arith, length, append_assoc, append-nil}
 use Rattle.model_text.specs.declared.keyword.Keyword.TheVariants as word
 use Rattle.model_text.specs.declared.token.Sign.{Sign}
 use Rattle.model_text.specs.declared.token.Sign.TheVariants as sign
 use Rattle.model_text.specs.declared.expect.Ending.{Ending}
 use Rattle.model_text.specs.declared.expect.Ending.TheVariants as ending
-use Rattle.model_text.specs.Tokens.{KeywordTok, SignTok, Placed, placed}
+use Rattle.model_text.specs.Tokens.{KeywordTok, NameTok, SignTok, Placed, placed}
 use Rattle.model_text.specs.Tree.{Tree, NameAt, ItemTree, ConstTree, StatesTree, FieldTree, LetTree, NextTree}
 use Rattle.model_text.specs.Grammar.{Comes, SpellsName, SpellsNames, SpellsList, SpellsBody, SpellsStates, SpellsParameters, SpellsItem}
-use Rattle.model_text.specs.Reading.{◌>>=◌, name_at, assign_at, semicolon_at, comma_at, brace_open_at, ending_at, listed_by, no_more, names_at, list_at, expr_at, body_at, states_at, parameters_at, const_item_at, states_item_at, field_item_at, let_item_at, next_item_at, item_at}
+use Rattle.model_text.specs.Reading.{◌>>=◌, name_at, assign_at, semicolon_at, comma_at, brace_open_at, close_at, brace_close_at, ending_at, another_by, another_at, names_at, list_at, expr_at, body_at, states_at, parameters_at, const_item_at, states_item_at, field_item_at, let_item_at, next_item_at, item_at}
 use Rattle.model_text.proofs.SingleTokens.{name_is, name_reads, assign_is, assign_reads, semicolon_is, semicolon_reads, comma_is, comma_reads, brace_open_is, brace_open_reads, close_is, close_reads, brace_close_is, brace_close_reads, semicolon_closes}
 use Rattle.model_text.proofs.Sound.{some_of, all_sound}
 use Rattle.model_text.proofs.Complete.{expr_begins, part}
@@ -29,67 +29,114 @@ ending_reads ending.Round ts rest h = close_reads ts rest h
 ending_reads ending.Brace ts rest h = brace_close_reads ts rest h
 
 -- names were read behind names
-pub record Listed (room : ℕ) (e : Ending) (names : List NameAt) (ts : List Placed) (all : List NameAt) (rest : List Placed) : Type 0 where
+pub record Listed (e : Ending) (names : List NameAt) (ts : List Placed) (all : List NameAt) (rest : List Placed) : Type 0 where
   pub more : List NameAt
   pub is : all ≡ names ++ more
   pub spelled : SpellsNames (end_sign e) more ts rest
-  pub few : length more ≤ room
 
-ended_listed : (room : ℕ) (e : Ending) (names : List NameAt) (ts : List Placed) (x : List NameAt × List Placed) → (ending_at e ts >>= λ rest. Some (names, rest)) ≡ Some x → Listed room e names ts x.0 x.1
-ended_listed room e names ts x h =
+ended_listed : (e : Ending) (names : List NameAt) (ts : List Placed) (x : List NameAt × List Placed) → (ending_at e ts >>= λ rest. Some (names, rest)) ≡ Some x → Listed e names ts x.0 x.1
+ended_listed e names ts x h =
     let r = some_of (ending_at e ts) _ x h in
     let q : (names, r.0) ≡ x = (let z = r.2 in cc) in
-    subst (λ y. Listed room e names ts y.0 y.1) q (record { more = []; is = sym (append-nil names); spelled = ending_is e ts r.0 r.1; few = omega arith })
+    subst (λ y. Listed e names ts y.0 y.1) q (record { more = []; is = sym (append-nil names); spelled = ending_is e ts r.0 r.1 })
 
-longer_listed : (room at : ℕ) (e : Ending) (names : List NameAt) (n : NameAt) (ts a rest : List Placed) (all : List NameAt) → SpellsName n ts a → Listed room e (names ++ n ∷ []) a all rest → Listed (suc room) e names (placed (SignTok sign.Comma) at ∷ ts) all rest
-longer_listed room at e names n ts a rest all s l = record {
+longer_listed : (at : ℕ) (e : Ending) (names : List NameAt) (n : NameAt) (ts a rest : List Placed) (all : List NameAt) → SpellsName n ts a → Listed e (names ++ n ∷ []) a all rest → Listed e names (placed (SignTok sign.Comma) at ∷ ts) all rest
+longer_listed at e names n ts a rest all s l = record {
   more = n ∷ l.more;
   is = l.is ∙ append_assoc names (n ∷ []) l.more;
   spelled = (ts, a, (at, refl), s, l.spelled);
-  few = let k = l.few in omega arith;
 }
 
--- how names are read soundly
-abbrev SoundNames : ℕ → Ending → (List NameAt → List Placed → Option (List NameAt × List Placed)) → Type 0
-SoundNames room e more = (names : List NameAt) (ts : List Placed) (x : List NameAt × List Placed) → more names ts ≡ Some x → Listed room e names ts x.0 x.1
-
-none_sound : (e : Ending) (names : List NameAt) (ts : List Placed) (o : Option (List Placed)) → comma_at ts ≡ o → (x : List NameAt × List Placed) → listed_by no_more e names o ts ≡ Some x → Listed zero e names ts x.0 x.1
-none_sound e names ts None q x h = ended_listed zero e names ts x h
-none_sound e names ts (Some rest) q x h = absurd (let n = some_of (name_at rest) _ x h in let c : None ≡ Some x = n.2 in cc)
-
-more_sound : (room : ℕ) (e : Ending) (more : List NameAt → List Placed → Option (List NameAt × List Placed)) → SoundNames room e more → (names : List NameAt) (ts : List Placed) (o : Option (List Placed)) → comma_at ts ≡ o → (x : List NameAt × List Placed) → listed_by more e names o ts ≡ Some x → Listed (suc room) e names ts x.0 x.1
-more_sound room e more snd names ts None q x h = ended_listed (suc room) e names ts x h
-more_sound room e more snd names ts (Some rest) q x h =
-    let c = comma_is ts rest q in
-    let n = some_of (name_at rest) _ x h in
-    rw c.1 (longer_listed room c.0 e names n.0.0 rest n.0.1 x.1 x.0 (name_is rest n.0.1 n.0.0 n.1) (snd (names ++ n.0.0 ∷ []) n.0.1 x n.2))
-
-pub names_sound : (room : ℕ) (e : Ending) → SoundNames room e (names_at room e)
+pub names_sound : (e : Ending) (names : List NameAt) (ts : List Placed) (x : List NameAt × List Placed) → names_at e names ts ≡ Some x → Listed e names ts x.0 x.1
 unfolding names_at
-names_sound zero e names ts x h = none_sound e names ts (comma_at ts) refl x h
-names_sound (suc room) e names ts x h = more_sound room e (names_at room e) (names_sound room e) names ts (comma_at ts) refl x h
+names_sound e names (placed (SignTok sign.Comma) at ∷ placed (NameTok w) place ∷ ts) x h =
+    let n : NameAt = record { name = w; at = place } in
+    longer_listed at e names n (placed (NameTok w) place ∷ ts) ts x.1 x.0 refl (names_sound e (names ++ n ∷ []) ts x h)
+names_sound e names ts x h = ended_listed e names ts x h
 
 -- where the closing bracket stands, the list ends
-no_comma : (e : Ending) (ts rest : List Placed) → Comes (SignTok (end_sign e)) ts rest → comma_at ts ≡ None
-unfolding comma_at
-no_comma ending.Round ts rest c = rw c.1 refl
-no_comma ending.Brace ts rest c = rw c.1 refl
+ended_read : (e : Ending) (names : List NameAt) (ts rest : List Placed) → Comes (SignTok (end_sign e)) ts rest → names_at e names ts ≡ Some (names, rest)
+unfolding names_at ending_at close_at brace_close_at
+ended_read ending.Round names ts rest c = rw c.1 refl
+ended_read ending.Brace names ts rest c = rw c.1 refl
 
-ended_read : (room : ℕ) (e : Ending) (names : List NameAt) (ts rest : List Placed) → Comes (SignTok (end_sign e)) ts rest → names_at room e names ts ≡ Some (names, rest)
+-- where a comma and a name stand, it goes on
+pub longer_read : (e : Ending) (names : List NameAt) (n : NameAt) (ts a b : List Placed) → Comes (SignTok sign.Comma) ts a → SpellsName n a b → names_at e names ts ≡ names_at e (names ++ n ∷ []) b
 unfolding names_at
-ended_read zero e names ts rest c = rw (no_comma e ts rest c) (rw (ending_reads e ts rest c) refl)
-ended_read (suc room) e names ts rest c = rw (no_comma e ts rest c) (rw (ending_reads e ts rest c) refl)
+longer_read e names n ts a b c s = rw (c.1, s) refl
 
-longer_read : (room : ℕ) (e : Ending) (names : List NameAt) (n : NameAt) (ts a b : List Placed) → comma_at ts ≡ Some a → name_at a ≡ Some (n, b) → names_at (suc room) e names ts ≡ names_at room e (names ++ n ∷ []) b
-unfolding names_at
-longer_read room e names n ts a b c f = rw (c, f) refl
+-- nothing is read behind what is not
+unread : (o : Option (NameAt × List Placed)) → (o >>= λ n. Some (Some n.0)) ≡ None → o ≡ None
+unread None h = refl
+unread (Some x) h = absurd (cc)
 
-pub names_complete : (more : List NameAt) (room : ℕ) (e : Ending) (names : List NameAt) (ts rest : List Placed) → length more ≤ room → SpellsNames (end_sign e) more ts rest → names_at room e names ts ≡ Some (names ++ more, rest)
-names_complete [] room e names ts rest h s = ended_read room e names ts rest s ∙ ap (λ l. Some (l, rest)) (sym (append-nil names))
-names_complete (n ∷ more) zero e names ts rest h s = absurd (omega arith)
-names_complete (n ∷ more) (suc room) e names ts rest h s =
-    longer_read room e names n ts s.0 s.1 (comma_reads ts s.0 s.2) (name_reads s.0 s.1 n s.3)
-    ∙ names_complete more room e (names ++ n ∷ []) s.1 rest (omega arith) s.4
+-- one name more, none more, and what is no name
+pub record More (n : NameAt) (ts : List Placed) : Type 0 where
+  pub a : List Placed
+  pub b : List Placed
+  pub comma : Comes (SignTok sign.Comma) ts a
+  pub name : SpellsName n a b
+
+more_by : (ts : List Placed) (o : Option (List Placed)) (n : NameAt) → comma_at ts ≡ o → another_by o ≡ Some (Some n) → More n ts
+more_by ts None n q h = absurd (cc)
+more_by ts (Some a) n q h =
+    let x = some_of (name_at a) _ (Some n) h in
+    let r : x.0.0 ≡ n = (let z = x.2 in cc) in
+    record { a = a; b = x.0.1; comma = comma_is ts a q; name = subst (λ m. SpellsName m a x.0.1) r (name_is a x.0.1 x.0.0 x.1) }
+
+more_is : (n : NameAt) (ts : List Placed) → another_at ts ≡ Some (Some n) → More n ts
+unfolding another_at
+more_is n ts h = more_by ts (comma_at ts) n refl h
+
+two_front : (ts a b : List Placed) (s t : Placed) → ts ≡ s ∷ a → a ≡ t ∷ b → (drop 2 ts ≡ b) × (length ts ≡ length b + 2)
+two_front ts a b s t c d = rw (c, d) (refl, omega arith)
+
+pub more_read : (e : Ending) (names : List NameAt) (n : NameAt) (ts : List Placed) → another_at ts ≡ Some (Some n) → names_at e names ts ≡ names_at e (names ++ n ∷ []) (drop 2 ts)
+more_read e names n ts h =
+    let m = more_is n ts h in
+    longer_read e names n ts m.a m.b m.comma m.name ∙ ap (names_at e (names ++ n ∷ [])) (sym (two_front ts m.a m.b _ _ m.comma.1 m.name).0)
+
+pub more_long : (n : NameAt) (ts : List Placed) → another_at ts ≡ Some (Some n) → 2 ≤ length ts
+more_long n ts h =
+    let m = more_is n ts h in
+    let l = (two_front ts m.a m.b _ _ m.comma.1 m.name).1 in
+    omega arith
+
+no_name : (e : Ending) (names : List NameAt) (at : ℕ) (a : List Placed) → name_at a ≡ None → names_at e names (placed (SignTok sign.Comma) at ∷ a) ≡ None
+unfolding names_at name_at ending_at close_at brace_close_at
+no_name ending.Round names at (placed (NameTok w) place ∷ ts) h = absurd (cc)
+no_name ending.Brace names at (placed (NameTok w) place ∷ ts) h = absurd (cc)
+no_name ending.Round names at a h = refl
+no_name ending.Brace names at a h = refl
+
+none_by : (e : Ending) (names : List NameAt) (ts : List Placed) (o : Option (List Placed)) → comma_at ts ≡ o → another_by o ≡ None → names_at e names ts ≡ None
+none_by e names ts None q h = absurd (cc)
+none_by e names ts (Some a) q h =
+    let c = comma_is ts a q in
+    rw c.1 (no_name e names c.0 a (unread (name_at a) h))
+
+pub none_read : (e : Ending) (names : List NameAt) (ts : List Placed) → another_at ts ≡ None → names_at e names ts ≡ None
+unfolding another_at
+none_read e names ts h = none_by e names ts (comma_at ts) refl h
+
+no_comma : (e : Ending) (names : List NameAt) (ts : List Placed) → comma_at ts ≡ None → names_at e names ts ≡ (ending_at e ts >>= λ rest. Some (names, rest))
+unfolding names_at comma_at
+no_comma e names (placed (SignTok sign.Comma) at ∷ ts) h = absurd (cc)
+no_comma e names ts h = refl
+
+last_by : (ts : List Placed) (o : Option (List Placed)) → comma_at ts ≡ o → another_by o ≡ Some None → comma_at ts ≡ None
+last_by ts None q h = q
+last_by ts (Some a) q h = absurd (let x = some_of (name_at a) _ None h in let z = x.2 in cc)
+
+pub last_read : (e : Ending) (names : List NameAt) (ts : List Placed) → another_at ts ≡ Some None → names_at e names ts ≡ (ending_at e ts >>= λ rest. Some (names, rest))
+unfolding another_at
+last_read e names ts h = no_comma e names ts (last_by ts (comma_at ts) refl h)
+
+pub names_complete : (more : List NameAt) (e : Ending) (names : List NameAt) (ts rest : List Placed) → SpellsNames (end_sign e) more ts rest → names_at e names ts ≡ Some (names ++ more, rest)
+names_complete [] e names ts rest s = ended_read e names ts rest s ∙ ap (λ l. Some (l, rest)) (sym (append-nil names))
+names_complete (n ∷ more) e names ts rest s =
+    longer_read e names n ts s.0 s.1 s.2 s.3
+    ∙ names_complete more e (names ++ n ∷ []) s.1 rest s.4
     ∙ ap (λ l. Some (l, rest)) (append_assoc names (n ∷ []) more)
 
 -- a whole list, without its opening bracket
@@ -100,18 +147,17 @@ pub record Whole (e : Ending) (ts : List Placed) (all : List NameAt) (rest : Lis
   pub is : all ≡ first ∷ more
   pub name : SpellsName first ts a
   pub names : SpellsNames (end_sign e) more a rest
-  pub few : length more < 256
 
 list_sound : (e : Ending) (ts : List Placed) (x : List NameAt × List Placed) → list_at e ts ≡ Some x → Whole e ts x.0 x.1
 unfolding list_at
 list_sound e ts x h =
     let n = some_of (name_at ts) _ x h in
-    let l = names_sound 255 e (n.0.0 ∷ []) n.0.1 x n.2 in
-    record { first = n.0.0; more = l.more; a = n.0.1; is = l.is; name = name_is ts n.0.1 n.0.0 n.1; names = l.spelled; few = (let k = l.few in omega arith) }
+    let l = names_sound e (n.0.0 ∷ []) n.0.1 x n.2 in
+    record { first = n.0.0; more = l.more; a = n.0.1; is = l.is; name = name_is ts n.0.1 n.0.0 n.1; names = l.spelled }
 
-list_complete : (e : Ending) (n : NameAt) (more : List NameAt) (ts a rest : List Placed) → SpellsName n ts a → SpellsNames (end_sign e) more a rest → length more < 256 → list_at e ts ≡ Some (n ∷ more, rest)
+list_complete : (e : Ending) (n : NameAt) (more : List NameAt) (ts a rest : List Placed) → SpellsName n ts a → SpellsNames (end_sign e) more a rest → list_at e ts ≡ Some (n ∷ more, rest)
 unfolding list_at
-list_complete e n more ts a rest s t h = rw (name_reads ts a n s) (names_complete more 255 e (n ∷ []) a rest (omega arith) t)
+list_complete e n more ts a rest s t = rw (name_reads ts a n s) (names_complete more e (n ∷ []) a rest t)
 
 -- `=`, an expression and `;`
 body_sound : (ts : List Placed) (x : Tree × List Placed) → body_at ts ≡ Some x → SpellsBody x.0 ts x.1
@@ -149,13 +195,13 @@ parameters_sound : (ts : List Placed) (x : List NameAt × List Placed) → param
 unfolding parameters_at
 parameters_sound (placed (SignTok sign.Open) at ∷ ts) x h =
     let l = list_sound ending.Round ts x h in
-    subst (λ y. SpellsParameters y (placed (SignTok sign.Open) at ∷ ts) x.1) (sym l.is) (ts, l.a, (at, refl), l.name, l.names, l.few)
+    subst (λ y. SpellsParameters y (placed (SignTok sign.Open) at ∷ ts) x.1) (sym l.is) (ts, l.a, (at, refl), l.name, l.names)
 parameters_sound ts x h = let q : ([], ts) ≡ x = cc in subst (λ y. SpellsParameters y.0 ts y.1) q refl
 
 parameters_complete : (names : List NameAt) (t : Tree) (ts a rest : List Placed) → SpellsParameters names ts a → SpellsBody t a rest → parameters_at ts ≡ Some (names, a)
 unfolding parameters_at
 parameters_complete [] t ts a rest s b = rw s (rw b.2.1 refl)
-parameters_complete (n ∷ names) t ts a rest s b = rw s.2.1 (list_complete ending.Round n names s.0 s.1 a s.3 s.4 s.5)
+parameters_complete (n ∷ names) t ts a rest s b = rw s.2.1 (list_complete ending.Round n names s.0 s.1 a s.3 s.4)
 
 -- what follows the first word of an item
 const_sound : (at : ℕ) (ts : List Placed) (x : ItemTree × List Placed) → const_item_at ts ≡ Some x → SpellsItem x.0 (placed (KeywordTok word.Const) at ∷ ts) x.1
@@ -175,7 +221,7 @@ next_sound at ts x h =
     subst (λ y. SpellsItem y.0 (placed (KeywordTok word.Next) at ∷ ts) y.1) q (ts, n.0.1, (at, refl), name_is ts n.0.1 n.0.0 n.1, body_sound n.0.1 b.0 b.1)
 
 states_list : (a : List Placed) (names : List NameAt) (b rest : List Placed) → Comes (SignTok sign.BraceOpen) a b → Whole ending.Brace b names rest → SpellsList sign.BraceOpen sign.BraceClose names a rest
-states_list a names b rest c l = subst (λ y. SpellsList sign.BraceOpen sign.BraceClose y a rest) (sym l.is) (b, l.a, c, l.name, l.names, l.few)
+states_list a names b rest c l = subst (λ y. SpellsList sign.BraceOpen sign.BraceClose y a rest) (sym l.is) (b, l.a, c, l.name, l.names)
 
 states_item_sound : (at : ℕ) (ts : List Placed) (x : ItemTree × List Placed) → states_item_at ts ≡ Some x → SpellsItem x.0 (placed (KeywordTok word.States) at ∷ ts) x.1
 unfolding states_item_at
@@ -242,6 +288,6 @@ item_complete (NextTree n t) ts rest s = rw s.2.1 (next_again n t s.0 s.1 rest (
 item_complete (StatesTree n []) ts rest s = absurd s.4
 item_complete (StatesTree n (m ∷ more)) ts rest s =
     let l = s.4 in
-    rw s.2.1 (states_again n (m ∷ more) s.0 s.1 l.0 rest (name_reads s.0 s.1 n s.3) (brace_open_reads s.1 l.0 l.2) (list_complete ending.Brace m more l.0 l.1 rest l.3 l.4 l.5))
+    rw s.2.1 (states_again n (m ∷ more) s.0 s.1 l.0 rest (name_reads s.0 s.1 n s.3) (brace_open_reads s.1 l.0 l.2) (list_complete ending.Brace m more l.0 l.1 rest l.3 l.4))
 item_complete (FieldTree n o t) ts rest s = rw s.3.1 (field_again n o t s.0 s.1 s.2 rest (name_reads s.0 s.1 n s.4) (states_complete o t s.1 s.2 rest s.5 s.6) (body_complete t s.2 rest s.6))
 item_complete (LetTree n p t) ts rest s = rw s.3.1 (let_again n p t s.0 s.1 s.2 rest (name_reads s.0 s.1 n s.4) (parameters_complete p t s.1 s.2 rest s.5 s.6) (body_complete t s.2 rest s.6))

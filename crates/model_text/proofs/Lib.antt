@@ -4,6 +4,6 @@ pub mod ItemsRead
 pub mod Leads
 pub mod Lexing
 pub mod Models
-pub mod Naming
 pub mod SingleTokens
 pub mod Sound
+mod Listing

@@ -178,10 +178,10 @@ abbrev pub SpellsNames : Sign → List NameAt → List Placed → List Placed �
 SpellsNames closing [] from to = Comes (SignTok closing) from to
 SpellsNames closing (n ∷ names) from to = (a b : List Placed) × Comes (SignTok sign.Comma) from a × SpellsName n a b × SpellsNames closing names b to
 
--- one name or more between brackets, 256 at most
+-- one name or more between brackets
 abbrev pub SpellsList : Sign → Sign → List NameAt → List Placed → List Placed → Type 0
 SpellsList opening closing [] from to = ⊥
-SpellsList opening closing (n ∷ names) from to = (a b : List Placed) × Comes (SignTok opening) from a × SpellsName n a b × SpellsNames closing names b to × (length names < 256)
+SpellsList opening closing (n ∷ names) from to = (a b : List Placed) × Comes (SignTok opening) from a × SpellsName n a b × SpellsNames closing names b to
 
 -- an expression that ends an item, with the sign before it: nested 100 deep at most
 abbrev pub SpellsBody : Tree → List Placed → List Placed → Type 0

@@ -260,20 +260,21 @@ unfoldable pub ending_at : Ending → List Placed → Option (List Placed)
 ending_at ending.Round ts = close_at ts
 ending_at ending.Brace ts = brace_close_at ts
 
--- names behind names, each behind a comma, to the closing bracket; no more than so many
-abbrev pub listed_by : (List NameAt → Reads (List NameAt)) → Ending → List NameAt → Option (List Placed) → Reads (List NameAt)
-listed_by more e names None ts = ending_at e ts >>= λ rest. Some (names, rest)
-listed_by more e names (Some rest) ts = name_at rest >>= λ n. more (names ++ n.0 ∷ []) n.1
+-- the name behind a comma, where a comma stands
+abbrev pub another_by : Option (List Placed) → Option (Option NameAt)
+another_by None = Some None
+another_by (Some rest) = name_at rest >>= λ n. Some (Some n.0)
 
-abbrev pub no_more : List NameAt → Reads (List NameAt)
-no_more names ts = None
+unfoldable pub another_at : List Placed → Option (Option NameAt)
+another_at ts = another_by (comma_at ts)
 
-unfoldable pub names_at : ℕ → Ending → List NameAt → Reads (List NameAt)
-names_at zero e names ts = listed_by no_more e names (comma_at ts) ts
-names_at (suc room) e names ts = listed_by (names_at room e) e names (comma_at ts) ts
+-- names behind names, each behind a comma, to the closing bracket
+unfoldable pub names_at : Ending → List NameAt → Reads (List NameAt)
+names_at e names (placed (SignTok sign.Comma) at ∷ placed (NameTok w) place ∷ ts) = names_at e (names ++ record { name = w; at = place } ∷ []) ts
+names_at e names ts = ending_at e ts >>= λ rest. Some (names, rest)
 
 unfoldable pub list_at : Ending → Reads (List NameAt)
-list_at e ts = name_at ts >>= λ n. names_at 255 e (n.0 ∷ []) n.1
+list_at e ts = name_at ts >>= λ n. names_at e (n.0 ∷ []) n.1
 
 -- `=`, an expression and `;`
 unfoldable pub body_at : Reads Tree

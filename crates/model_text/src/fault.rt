@@ -40,8 +40,6 @@ pub enum Expected {
     NoChain,
     /// Brackets around `not`, which binds looser than what stands before it.
     Brackets,
-    /// The end of a list that has 256 names.
-    FewerNames,
     /// Nothing: the expression would be nested deeper than 100.
     Shallower,
 }

@@ -23,7 +23,6 @@ pub fn expected_words(expected: Expected) -> &'static str {
         Expected::Decimal => "a decimal, as `0.05`",
         Expected::NoChain => "no second comparison",
         Expected::Brackets => "`(` before `not`",
-        Expected::FewerNames => "256 names at most",
         Expected::Shallower => "less nesting: an expression is 100 deep at most",
     }
 }
@@ -43,9 +42,17 @@ fn byte_hint(rest: &[u8]) -> Option<&'static str> {
         [b'0'..=b'9', ..] => Some(
             "a number is 4294967295 at most, `_` stands only between digits, and a decimal has nine digits behind its point at most",
         ),
-        [b'!', ..] => Some("write `not a`, or `a != b`"),
+        [b'!' | b'~', ..] => Some("write `not a`, or `a != b`"),
+        [b'.', byte, ..] if byte.is_ascii_alphabetic() => Some(
+            "a `.` stands behind `n` alone: n.NAME is a neighbour's field or let",
+        ),
         [b'.', ..] => Some(
             "a decimal begins with a digit, and stands only in `chance(..)` and `chance_of(..)`",
+        ),
+        [b'?', ..] => Some("a choice is written: if a then b else c"),
+        [b'"' | b'\'' | b'`', ..] => Some("names and numbers stand without quotes"),
+        [(0x80..), ..] => Some(
+            "outside comments a model is ASCII: comparisons are `<=`, `>=` and `!=`, and a minus is `-`",
         ),
         [b'n', ..] => Some("behind `n.` stands the name of a field or a let, `id` or `weight`"),
         [b'_', ..] => Some("a name begins with a letter"),
@@ -59,16 +66,45 @@ fn token_hint(rest: &[u8], expected: Expected) -> Option<&'static str> {
     match (expected, rest) {
         (Expected::NoChain, _) => Some("write `a < b and b < c`"),
         (Expected::Brackets, _) => Some("write `a == (not b)`"),
-        (Expected::Expression, [b'&', ..]) => Some("write `and` in place of `&&`"),
-        (Expected::Expression, [b'|', ..]) => Some("write `or` in place of `||`"),
         (Expected::Expression, [b'}', ..]) => Some("the last arm of `cases` is `else: value;`"),
         (Expected::Expression, [b'-', ..]) => Some("there are no negative numbers"),
         (Expected::Expression, [b'0'..=b'9', ..]) => {
             Some("a decimal stands only in `chance(..)` and `chance_of(..)`")
         }
+        (Expected::Name, [b'=', ..]) => Some(
+            "a value is given by `=`, as in: field NAME = NUMBER;",
+        ),
+        (Expected::Name, [b')', ..]) => Some("without parameters a let stands without brackets"),
         (Expected::Name, _) => reserved_hint(rest),
-        (Expected::Semicolon | Expected::Close | Expected::Colon | Expected::Then, [b'=', ..]) => {
-            Some("write `==` to compare")
+        (Expected::Assign, [b':', b'=', ..]) => {
+            Some("a value is given by `=`, as in: next NAME = EXPRESSION;")
+        }
+        (Expected::Assign, _) => Some("a value is given by `=`"),
+        (Expected::Item, [b';', ..]) => {
+            Some("an item ends with one `;`, and no `;` stands behind the `}` of states")
+        }
+        (Expected::Item, [byte, ..]) if byte.is_ascii_alphabetic() => {
+            Some("an item begins with its word, as in: next NAME = EXPRESSION;")
+        }
+        (Expected::Open, _) => Some("functions and aggregates have brackets, as in count(n.NAME)"),
+        (Expected::Then, [b':', ..]) => Some("a choice is written: if a then b else c"),
+        (Expected::Else, [b';' | b')', ..]) => Some("a choice has an `else`: if a then b else c"),
+        (
+            Expected::Semicolon
+            | Expected::Close
+            | Expected::Colon
+            | Expected::Then
+            | Expected::Else
+            | Expected::Comma,
+            [b'=', ..],
+        ) => Some("write `==` to compare"),
+        (
+            Expected::Semicolon | Expected::Close | Expected::Colon | Expected::Comma,
+            [b'i', b'f', b' ', ..],
+        ) => Some("a choice is written: if a then b else c"),
+        (Expected::Close, [b';', ..]) => Some("a bracket is open"),
+        (Expected::BraceClose, [b';', ..]) => {
+            Some("between states stand commas: states NAME { A, B }")
         }
         (Expected::Semicolon, _) => Some("each item, and each arm of `cases`, ends with `;`"),
         _ => None,

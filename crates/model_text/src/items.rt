@@ -5,7 +5,7 @@ ghost use Rattle.std.specs.Option.{option_map};
 ghost use Rattle.model_text.specs.View.{tree_of, name_of, item_of, items_of, placed_all};
 ghost use Rattle.model_text.specs.Causes.{Gives};
 ghost use Rattle.model_text.specs.Models.{IsTreeOf};
-ghost use Rattle.model_text.specs.Reading.{names_at, list_at, body_at, states_at, parameters_at, const_item_at, states_item_at, field_item_at, let_item_at, next_item_at, item_at};
+ghost use Rattle.model_text.specs.Reading.{another_at, names_at, list_at, body_at, states_at, parameters_at, const_item_at, states_item_at, field_item_at, let_item_at, next_item_at, item_at};
 
 use crate::expect::{Ending, assign, behind_comma, brace_open, list_end, name, semicolon};
 use crate::fault::Expected;
@@ -19,40 +19,35 @@ use std::alloc::Global;
 /// The greatest depth of an expression.
 const NESTING: u32 = 100;
 
-/// The most names of a list behind the first.
-const MORE_NAMES: u32 = 255;
-
-/// Names, and one more.
-#[tactic(auto, using(crate::proofs::Naming::named_push))]
-fn with_name(found: Vec<Name>, next: Name) -> Result<Vec<Name>, Stuck>
-    ensures { Gives (λ x. map name_of x.items) result (Some (map name_of found.items ++ name_of next ∷ [])) }
+/// The name behind a comma, where a comma stands here.
+#[tactic(auto, unfolding(crate::specs::Reading::another_at))]
+fn another<'a>(alloc: Global, tokens: &[Lexeme<'a>]) -> Result<Option<Name>, Stuck>
+    ensures { Gives (λ x. option_map name_of x) result (another_at (placed_all tokens.now)) }
 {
-    let mut found = found;
-    found.push(next)?;
-    Ok(found)
+    let Some(rest) = behind_comma(tokens) else {
+        return Ok(None);
+    };
+    let (next, _) = name(alloc, rest)?;
+    Ok(Some(next))
 }
 
-/// Names behind names, each behind a comma, to the closing bracket; no more than so many.
-#[tactic(auto, unfolding(crate::specs::Reading::names_at))]
+/// Names behind names, each behind a comma, to the closing bracket.
 fn names<'t, 'a>(
     alloc: Global,
-    room: u32,
     end: Ending,
     found: Vec<Name>,
     tokens: &'t [Lexeme<'a>],
 ) -> Result<(Vec<Name>, &'t [Lexeme<'a>]), Stuck>
-    ensures { Gives (λ x. (map name_of x.0.items, placed_all x.1.now)) result (names_at room end (map name_of found.items) (placed_all tokens.now)) }
+    ensures { Gives (λ x. (map name_of x.0.items, placed_all x.1.now)) result (names_at end (map name_of found.items) (placed_all tokens.now)) }
 {
-    let Some(rest) = behind_comma(tokens) else {
-        let rest = list_end(end, tokens)?;
-        return Ok((found, rest));
-    };
-    if room == 0 {
-        return Err(Stuck::before(tokens, Expected::FewerNames));
+    let mut found = found;
+    let mut at = 0;
+    while let Some(next) = another(alloc, &tokens[at..])? {
+        found.push(next)?;
+        at += 2;
     }
-    let (next, rest) = name(alloc, rest)?;
-    let found = with_name(found, next)?;
-    names(alloc, room - 1, end, found, rest)
+    let rest = list_end(end, &tokens[at..])?;
+    Ok((found, rest))
 }
 
 /// Names, to the closing bracket.
@@ -65,8 +60,9 @@ fn list<'t, 'a>(
     ensures { Gives (λ x. (map name_of x.0.items, placed_all x.1.now)) result (list_at end (placed_all tokens.now)) }
 {
     let (first, rest) = name(alloc, tokens)?;
-    let found = with_name(Vec::new(alloc), first)?;
-    names(alloc, MORE_NAMES, end, found, rest)
+    let mut found = Vec::new(alloc);
+    found.push(first)?;
+    names(alloc, end, found, rest)
 }
 
 /// `=`, an expression and `;`.

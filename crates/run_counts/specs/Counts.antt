@@ -14,12 +14,12 @@ use Rattle.run_counts.specs.declared.asked.Until.{Until}
 use Rattle.run_counts.specs.Rows.{AreRows, AreValues, IsRowOf, RowView, count_in}
 use Rattle.run_counts.specs.Tables.{table_text}
 
--- the text is that of exactly the rounds that are counted, with a column for each value that occurs in one of them
+-- the text is that of exactly the rounds that are counted, with a column for each state, and for each value that occurs in one of them
 pub record IsCounted (p : PlanView) (span : SpanView) (counting : Counting) (text : List ℕ) : Type 0 where
   pub rows : List RowView
   pub values : List ℕ
   pub rows_are : AreRows p span counting rows
-  pub values_are : AreValues rows values
+  pub values_are : AreValues counting.states rows values
   pub spelled : text ≡ table_text counting.format counting.names.now (names_of p.program) counting.figures.now values rows
 
 -- the number that stands under a value is the number of nodes that have it

@@ -1,5 +1,5 @@
 -- The text of the means of runs that are counted together.
-use Rattle.std.specs.Prelude.{◌≡◌, ℕ, List, [], ◌∷◌, ◌++◌, String, codes, length, map, max, nat_lt, slice_get, slice_index_or, if◌then◌else◌}
+use Rattle.std.specs.Prelude.{◌≡◌, ℕ, List, [], ◌∷◌, ◌++◌, ◌-◌, Option, Some, None, String, codes, length, map, max, min, nat_lt, slice_get, slice_index_or, if◌then◌else◌}
 use Rattle.std.specs.Global.{Global}
 use Rattle.std.specs.List.{AllZip, enumerate_from, flat_map, range_with_len}
 use Rattle.std.specs.Option.{option_to_list}
@@ -8,6 +8,7 @@ use Rattle.run_counts.specs.declared.asked.CountFormat.{CountFormat}
 use Rattle.run_counts.specs.declared.asked.CountFormat.TheVariants.{Csv, Json}
 use Rattle.run_counts.specs.declared.asked.Counting.{Counting}
 use Rattle.run_counts.specs.declared.asked.Figure.{Figure}
+use Rattle.run_counts.specs.declared.asked.Until.{Until}
 use Rattle.run_counts.specs.declared.ensemble.Ensemble.{Ensemble}
 use Rattle.run_counts.specs.declared.mean_columns.Column.{Column}
 use Rattle.run_counts.specs.declared.mean_columns.Column.TheVariants.{Nodes, Further}
@@ -30,9 +31,17 @@ abbrev pub column_name : List (String Global) → List (List ℕ) → Column →
 column_name labels names (Nodes value) = value_label labels value
 column_name labels names (Further place figure) = figure_name names figure
 
--- the rows at a place, of the runs that have so many: those of a round, in the order of the runs
+-- the rows at a place, of the runs that have so many: those of a round, of the runs that go on to it, in the order of the runs
+abbrev pub going_at : ℕ → List RunView → List RowView
+going_at place runs = flat_map (λ run. option_to_list (slice_get run.rows place)) runs
+
+-- the row that stands for a run at a place: the one at the place, and of a run that has ended before it its last one
+abbrev pub held_row : ℕ → List RowView → Option RowView
+held_row place rows = slice_get rows (min place (length rows - 1))
+
+-- the rows that stand for the runs at a place, in the order of the runs
 abbrev pub rows_at : ℕ → List RunView → List RowView
-rows_at place runs = flat_map (λ run. option_to_list (slice_get run.rows place)) runs
+rows_at place runs = flat_map (λ run. option_to_list (held_row place run.rows)) runs
 
 -- how many rows the runs have at most
 abbrev pub longest : List RunView → ℕ
@@ -64,27 +73,46 @@ mean_cells format labels names column numbers =
     cell_start format (column_name labels names column ++ codes " mean")
     ++ (four_digits (mean_of numbers) ++ (cell_start format (column_name labels names column ++ codes " deviation") ++ deviation_text format numbers))
 
--- the line of a round with these rows: the round, how many runs are counted in it, and the mean and the deviation of each column; none where there is no row
-abbrev pub mean_text : CountFormat → List (String Global) → List (List ℕ) → List Column → List RowView → List ℕ
-mean_text format labels names columns [] = []
-mean_text format labels names columns (row ∷ rows) =
-    line_start format [] row.round
-    ++ (cell_text format (codes "runs") (length (row ∷ rows)) ++ (flat_map (λ c. mean_cells format labels names c (map (number_in c) (row ∷ rows))) columns ++ line_end format))
+-- how many runs go on to a round, where runs may end early
+abbrev pub going_text : CountFormat → Option Until → ℕ → List ℕ
+going_text format None going = []
+going_text format (Some until) going = cell_text format (codes "going") going
+
+-- how many runs there are, and how many of them go on to a round
+abbrev pub runs_cells : CountFormat → Option Until → ℕ → ℕ → List ℕ
+runs_cells format until total going = cell_text format (codes "runs") total ++ going_text format until going
+
+-- the line of a round to which some of so many runs go on, with these rows, where these rows stand for all runs: the round, the numbers of runs, and the
+-- mean and the deviation of each column over all runs; none where no run goes on
+abbrev pub mean_text : CountFormat → List (String Global) → List (List ℕ) → List Column → Option Until → ℕ → List RowView → List RowView → List ℕ
+mean_text format labels names columns until total [] rows = []
+mean_text format labels names columns until total (first ∷ going) rows =
+    line_start format [] first.round
+    ++ (runs_cells format until total (length (first ∷ going)) ++ (flat_map (λ c. mean_cells format labels names c (map (number_in c) rows)) columns ++ line_end format))
+
+-- the heading above how many runs go on, where runs may end early
+abbrev pub going_heading : Option Until → List ℕ
+going_heading None = []
+going_heading (Some until) = codes ",going"
 
 -- the line of the headings, in CSV alone
-abbrev pub means_opening : CountFormat → List (String Global) → List (List ℕ) → List Column → List ℕ
-means_opening Csv labels names columns = codes "round,runs" ++ (flat_map (headings_text labels names) columns ++ codes "\n")
-means_opening Json labels names columns = []
+abbrev pub means_opening : CountFormat → List (String Global) → List (List ℕ) → List Column → Option Until → List ℕ
+means_opening Csv labels names columns until = codes "round,runs" ++ (going_heading until ++ (flat_map (headings_text labels names) columns ++ codes "\n"))
+means_opening Json labels names columns until = []
+
+-- the line of the round at a place
+abbrev pub line_at : CountFormat → List (String Global) → List (List ℕ) → List Column → Option Until → List RunView → ℕ → List ℕ
+line_at format labels names columns until runs k = mean_text format labels names columns until (length runs) (going_at k runs) (rows_at k runs)
 
 -- the lines of all rounds behind the headings
-abbrev pub means_text : CountFormat → List (String Global) → List (List ℕ) → List Column → List RunView → List ℕ
-means_text format labels names columns runs =
-    means_opening format labels names columns ++ flat_map (λ k. mean_text format labels names columns (rows_at k runs)) (range_with_len 0 (longest runs))
+abbrev pub means_text : CountFormat → List (String Global) → List (List ℕ) → List Column → Option Until → List RunView → List ℕ
+means_text format labels names columns until runs =
+    means_opening format labels names columns until ++ flat_map (line_at format labels names columns until runs) (range_with_len 0 (longest runs))
 
--- the text is that of the means of exactly the rounds that are counted of each run, with columns for each value that occurs in one of them
+-- the text is that of the means of exactly the rounds that are counted of each run, with columns for each state, and for each value that occurs in one of them
 pub record AreMeans (e : Ensemble) (span : SpanView) (counting : Counting) (text : List ℕ) : Type 0 where
   pub runs : List RunView
   pub values : List ℕ
   pub runs_are : AllZip (IsRunOf span counting) e.variants.now runs
-  pub values_are : AreValues (rows_in runs) values
-  pub spelled : text ≡ means_text counting.format counting.names.now (names_in e.variants.now) (columns_of values counting.figures.now) runs
+  pub values_are : AreValues counting.states (rows_in runs) values
+  pub spelled : text ≡ means_text counting.format counting.names.now (names_in e.variants.now) (columns_of values counting.figures.now) counting.until runs

@@ -1,6 +1,6 @@
 -- Which rounds are counted, and what is counted of each.
-use Rattle.std.specs.Prelude.{◌≡◌, ◌↔◌, ◌==◌, ◌<◌, ◌^◌, ℕ, Bool, false, not, List, [], ◌∷◌, All, Contains, length, map, Option, Some, None, if◌then◌else◌}
-use Rattle.std.specs.List.{flat_map, list_any}
+use Rattle.std.specs.Prelude.{◌≡◌, ◌↔◌, ◌==◌, ◌<◌, ◌^◌, ◌++◌, ℕ, Bool, false, not, List, [], ◌∷◌, All, Contains, length, map, Option, Some, None, if◌then◌else◌}
+use Rattle.std.specs.List.{flat_map, list_all, list_any, range_with_len}
 use Rattle.std.specs.List.Sorted.{IsStrictlyIncreasing}
 use Rattle.rule_check.specs.declared.state.State.{State}
 use Rattle.rounds_plan.specs.Configs.{Configuration}
@@ -10,6 +10,8 @@ use Rattle.large_rounds.specs.Counts.{AreCounts, has_value}
 use Rattle.run_watch.specs.Spans.{SpanView, rounds_in}
 use Rattle.run_counts.specs.declared.asked.Counting.{Counting}
 use Rattle.run_counts.specs.declared.asked.Figure.{Figure}
+use Rattle.run_counts.specs.declared.asked.Holders.{Holders}
+use Rattle.run_counts.specs.declared.asked.Holders.TheVariants.{NoNode, EveryNode}
 use Rattle.run_counts.specs.declared.asked.Until.{Until}
 use Rattle.run_counts.specs.Figures.{figures_of}
 
@@ -24,10 +26,15 @@ pub record IsRow (row : RowView) : Type 0 where
   pub counts : All (λ c. c.1 < 2 ^ 48) row.counts
   pub figures : All (λ f. f.1 < 2 ^ 48) row.figures
 
--- no round is counted behind one with these states: no node has the value
+-- the value stands at no node, or at every node
+abbrev pub is_held : Holders → ℕ → ℕ → List State → Bool
+is_held NoNode field value states = not (list_any (has_value field value) states)
+is_held EveryNode field value states = list_all (has_value field value) states
+
+-- no round is counted behind one with these states: the value stands where rounds end by it
 abbrev pub is_over : Option Until → List State → Bool
 is_over None states = false
-is_over (Some until) states = not (list_any (has_value until.field until.value) states)
+is_over (Some until) states = is_held until.holders until.field until.value states
 
 -- the rounds that are counted, of those that are asked for: up to the first behind which none is
 abbrev pub rounds_until : PlanView → Option Until → List ℕ → List ℕ
@@ -54,9 +61,9 @@ pub record AreOnce (numbers values : List ℕ) : Type 0 where
   pub rising : IsStrictlyIncreasing values
   pub each : (v : ℕ) → Contains values v ↔ Contains numbers v
 
--- the values are those that occur in one of the rounds, by rising number
-abbrev pub AreValues : List RowView → List ℕ → Type 0
-AreValues rows values = AreOnce (flat_map keys_of rows) values
+-- the values are the states, of which there are so many, and those that occur in one of the rounds, by rising number
+abbrev pub AreValues : ℕ → List RowView → List ℕ → Type 0
+AreValues states rows values = AreOnce (range_with_len 0 states ++ flat_map keys_of rows) values
 
 -- the number beside a value, and 0 where it has none
 abbrev pub count_in : List (ℕ × ℕ) → ℕ → ℕ

@@ -31,10 +31,10 @@ run_text format labels name names values run = flat_map (row_text format labels 
 abbrev pub runs_text : CountFormat → List (String Global) → List ℕ → List (List ℕ) → List Figure → List ℕ → List RunView → List ℕ
 runs_text format labels name names figures values runs = runs_opening format labels name names figures values ++ flat_map (run_text format labels name names values) runs
 
--- the text is that of exactly the rounds that are counted of each run, in the order of the runs, with a column for each value that occurs in one of them
+-- the text is that of exactly the rounds that are counted of each run, in the order of the runs, with a column for each state, and for each value that occurs in one of them
 pub record AreCounted (e : Ensemble) (span : SpanView) (counting : Counting) (text : List ℕ) : Type 0 where
   pub runs : List RunView
   pub values : List ℕ
   pub runs_are : AllZip (IsRunOf span counting) e.variants.now runs
-  pub values_are : AreValues (rows_in runs) values
+  pub values_are : AreValues counting.states (rows_in runs) values
   pub spelled : text ≡ runs_text counting.format counting.names.now e.name.now (names_in e.variants.now) counting.figures.now values runs

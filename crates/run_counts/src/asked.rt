@@ -43,10 +43,20 @@ pub struct Figure {
     pub field: u32,
 }
 
-/// When rounds end early: behind the first round that is shown in which no node has this value in the field at this
-/// place.
+/// At which nodes a value stands where rounds end by it.
+#[derive(Clone, Copy)]
+pub enum Holders {
+    /// At no node.
+    NoNode,
+    /// At every node.
+    EveryNode,
+}
+
+/// When rounds end early: behind the first round that is shown in which the nodes that have this value in the field at
+/// this place are these.
 #[derive(Clone, Copy)]
 pub struct Until {
+    pub holders: Holders,
     pub field: u32,
     pub value: u32,
 }
@@ -58,6 +68,8 @@ pub struct Counting<'a> {
     pub format: CountFormat,
     /// The place of the field whose values are counted.
     pub field: u32,
+    /// How many states it has: each of the values below this has a column, also where no node has it.
+    pub states: u32,
     /// What its values are called, 0 and so on, by words; a value past the last is its number.
     pub names: &'a [String],
     /// The further numbers, in this order.

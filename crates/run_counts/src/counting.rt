@@ -93,7 +93,7 @@ fn text_of<P: Progress>(
     ensures text { IfOk result (λ v. IsCounted plan.now span.now counting.now v.items) }
 {
     let rows = counted_rows(rt, alloc, plan, span, counting, progress)?;
-    let values = values_of(alloc, &rows)?;
+    let values = values_of(alloc, counting.states, &rows)?;
     let text = table_with(alloc, plan.program(), counting, &values, &rows)?;
     Ok(text)
 }
@@ -102,9 +102,9 @@ fn text_of<P: Progress>(
 /// over the rounds: none is computed twice. Each round is shared among as many threads as there are processors where it
 /// has enough to compute for them. The rounds end behind the first of them that ends them, where one does.
 ///
-/// Where 64 values at most occur in these rounds, each has a column, by rising value, and each round a line; else each
-/// value that occurs in a round has a line of that round: `value`, and `nodes`, how many nodes have it. A value that has a
-/// name is called by it.
+/// Each state has a column, and each value that occurs in one of these rounds, by rising value, and each round a line,
+/// where that makes 64 columns at most; else each value that occurs in a round has a line of that round: `value`, and
+/// `nodes`, how many nodes have it. A value that has a name is called by it.
 ///
 /// `TooManyRounds` comes where the last round is above 1,000,000,000, else `RoundsBelowStart` where the first lies
 /// before the plan's start, and else `NoField` with the first place at which the program has no field, of the counted

@@ -19,7 +19,7 @@ mod table;
 mod together;
 mod values;
 
-pub use asked::{CountFormat, Counting, Figure, FigureKind, Until};
+pub use asked::{CountFormat, Counting, Figure, FigureKind, Holders, Until};
 pub use counting::counted;
 pub use ensemble::{Ensemble, Variant};
 pub use laws::{cells_are_counts, csv_is_read_back, means_are_nearest};

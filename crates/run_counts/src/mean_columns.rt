@@ -3,10 +3,10 @@ ghost use Rattle.std.specs.Prelude.{◌≡◌, ◌<◌, ◌^◌, ◌++◌, IfOk,
 ghost use Rattle.std.specs.List.{enumerate_from, flat_map};
 ghost use Rattle.rule_check.specs.Value.{names_of};
 ghost use Rattle.run_counts.specs.declared.mean_columns.Column.TheVariants.{Further, Nodes};
-ghost use Rattle.run_counts.specs.MeanTables.{column_name, columns_of, headings_text, means_opening, number_in};
+ghost use Rattle.run_counts.specs.MeanTables.{column_name, columns_of, going_heading, headings_text, means_opening, number_in};
 ghost use Rattle.run_counts.specs.Tables.{has_columns};
 
-use crate::asked::{CountFormat, Counting, Figure};
+use crate::asked::{CountFormat, Counting, Figure, Until};
 use crate::columns::{has_columns, put_figure_name};
 use crate::table::Row;
 use rule_check::Program;
@@ -119,6 +119,16 @@ fn put_all_headings(
     Ok(())
 }
 
+/// The heading above how many runs go on, where runs may end early.
+fn going_heading(until: Option<Until>) -> &'static str
+    ensures text { result.now ≡ going_heading until }
+{
+    match until {
+        Some(_) => ",going",
+        None => "",
+    }
+}
+
 /// The line of the headings, in CSV.
 pub(crate) fn put_means_opening(
     out: &mut String,
@@ -126,12 +136,13 @@ pub(crate) fn put_means_opening(
     program: &Program,
     columns: &[Column],
 ) -> Result<(), AllocError>
-    ensures text { OnOk result (string_bytes out.new ≡ string_bytes out.old ++ means_opening counting.now.format counting.now.names.now (names_of program.now) columns.now) }
+    ensures text { OnOk result (string_bytes out.new ≡ string_bytes out.old ++ means_opening counting.now.format counting.now.names.now (names_of program.now) columns.now counting.now.until) }
 {
     if counting.format != CountFormat::Csv {
         return Ok(());
     }
     out.push_str("round,runs")?;
+    out.push_str(going_heading(counting.until))?;
     put_all_headings(out, counting.names, program, columns)?;
     out.push_str("\n")
 }

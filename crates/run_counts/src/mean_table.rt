@@ -4,9 +4,9 @@ ghost use Rattle.std.specs.List.{flat_map, range_with_len};
 ghost use Rattle.std.specs.Option.{option_to_list};
 ghost use Rattle.rule_check.specs.Value.{names_of};
 ghost use Rattle.run_counts.specs.Ensembles.{most_runs};
-ghost use Rattle.run_counts.specs.MeanTables.{cell_start, column_name, deviation_text, longest, mean_cells, mean_text, means_text, number_in, rows_at};
+ghost use Rattle.run_counts.specs.MeanTables.{cell_start, column_name, deviation_text, going_at, going_text, held_row, line_at, longest, mean_cells, means_text, number_in, rows_at, runs_cells};
 
-use crate::asked::{CountFormat, Counting};
+use crate::asked::{CountFormat, Counting, Until};
 use crate::lines::{end_of, put_named, put_start};
 use crate::mean_columns::{Column, put_means_opening};
 use crate::runs::Run;
@@ -14,7 +14,8 @@ use crate::spread::{deviation_of, mean_of, put_four_digits};
 use rule_check::Program;
 use std::alloc::{AllocError, Global};
 
-/// Puts the number that a run has in a column at a place behind the others, where it has so many rows.
+/// Puts the number that stands for a run in a column at a place behind the others: that of its last row where it has
+/// ended before.
 fn put_number(
     numbers: &mut Vec<u64>,
     run: &Run,
@@ -22,11 +23,12 @@ fn put_number(
     column: Column,
 ) -> Result<(), AllocError>
     requires small { All (λ n. n < 2 ^ 48) numbers.old.items }
-    ensures numbers { OnOk result (numbers.new.items ≡ numbers.old.items ++ map (number_in column) (option_to_list (slice_get run.now.rows place))) }
+    ensures numbers { OnOk result (numbers.new.items ≡ numbers.old.items ++ map (number_in column) (option_to_list (held_row place run.now.rows))) }
     ensures small { OnOk result (All (λ n. n < 2 ^ 48) numbers.new.items) }
     ensures few { OnOk result (length numbers.new.items ≤ length numbers.old.items + 1) }
 {
-    if let Some(row) = run.rows().get(place) {
+    let last = run.rows().len().saturating_sub(1);
+    if let Some(row) = run.rows().get(place.min(last)) {
         numbers.push(column.number_in(row))?;
     }
     Ok(())
@@ -43,7 +45,7 @@ fn put_round(rounds: &mut Vec<u32>, run: &Run, place: usize) -> Result<(), Alloc
     Ok(())
 }
 
-/// The numbers that the runs have in a column at a place.
+/// The numbers that stand for the runs in a column at a place.
 fn numbers_at(
     alloc: Global,
     runs: &[Run],
@@ -61,9 +63,9 @@ fn numbers_at(
     Ok(numbers)
 }
 
-/// The round of each row that the runs have at a place.
+/// The round of each row that the runs have at a place: as many as go on to it.
 fn rounds_at(alloc: Global, runs: &[Run], place: usize) -> Result<Vec<u32>, AllocError>
-    ensures rounds { IfOk result (λ rounds. rounds.items ≡ map (λ row. row.round) (rows_at place runs.now)) }
+    ensures rounds { IfOk result (λ rounds. rounds.items ≡ map (λ row. row.round) (going_at place runs.now)) }
     ensures few { IfOk result (λ rounds. length rounds.items ≤ length runs.now) }
 {
     let mut rounds = Vec::new(alloc);
@@ -163,6 +165,35 @@ fn put_columns(
     Ok(())
 }
 
+/// How many runs go on to a round, where runs may end early.
+fn put_going(
+    out: &mut String,
+    format: CountFormat,
+    until: Option<Until>,
+    going: u64,
+) -> Result<(), AllocError>
+    ensures text { OnOk result (string_bytes out.new ≡ string_bytes out.old ++ going_text format until going) }
+{
+    match until {
+        Some(_) => put_named(out, format, "going", going),
+        None => Ok(()),
+    }
+}
+
+/// How many runs there are, and how many of them go on to a round.
+fn put_runs(
+    out: &mut String,
+    format: CountFormat,
+    until: Option<Until>,
+    total: u64,
+    going: u64,
+) -> Result<(), AllocError>
+    ensures text { OnOk result (string_bytes out.new ≡ string_bytes out.old ++ runs_cells format until total going) }
+{
+    put_named(out, format, "runs", total)?;
+    put_going(out, format, until, going)
+}
+
 /// The line of the round at a place.
 fn put_line(
     alloc: Global,
@@ -174,14 +205,16 @@ fn put_line(
     place: usize,
 ) -> Result<(), AllocError>
     requires few { length runs.now ≤ most_runs }
-    ensures text { OnOk result (string_bytes out.new ≡ string_bytes out.old ++ mean_text counting.now.format counting.now.names.now (names_of program.now) columns.now (rows_at place runs.now)) }
+    ensures text { OnOk result (string_bytes out.new ≡ string_bytes out.old ++ line_at counting.now.format counting.now.names.now (names_of program.now) columns.now counting.now.until runs.now place) }
 {
     let rounds = rounds_at(alloc, runs, place)?;
     let Some(round) = rounds.first() else {
         return Ok(());
     };
+    let total = runs.len() as u64;
+    let going = rounds.len() as u64;
     put_start(out, counting.format, "", *round)?;
-    put_named(out, counting.format, "runs", rounds.len() as u64)?;
+    put_runs(out, counting.format, counting.until, total, going)?;
     put_columns(alloc, out, counting, program, columns, runs, place)?;
     out.push_str(end_of(counting.format))
 }
@@ -207,7 +240,7 @@ fn put_lines(
     runs: &[Run],
 ) -> Result<(), AllocError>
     requires few { length runs.now ≤ most_runs }
-    ensures text { OnOk result (string_bytes out.new ≡ string_bytes out.old ++ flat_map (λ k. mean_text counting.now.format counting.now.names.now (names_of program.now) columns.now (rows_at k runs.now)) (range_with_len 0 (longest runs.now))) }
+    ensures text { OnOk result (string_bytes out.new ≡ string_bytes out.old ++ flat_map (line_at counting.now.format counting.now.names.now (names_of program.now) columns.now counting.now.until runs.now) (range_with_len 0 (longest runs.now))) }
 {
     for place in 0..longest(runs) {
         put_line(alloc, out, counting, program, columns, runs, place)?;
@@ -224,7 +257,7 @@ pub(crate) fn means_table(
     runs: &[Run],
 ) -> Result<Vec<u8>, AllocError>
     requires few { length runs.now ≤ most_runs }
-    ensures text { IfOk result (λ v. v.items ≡ means_text counting.now.format counting.now.names.now (names_of program.now) columns.now runs.now) }
+    ensures text { IfOk result (λ v. v.items ≡ means_text counting.now.format counting.now.names.now (names_of program.now) columns.now counting.now.until runs.now) }
 {
     let mut out = String::new(alloc);
     put_means_opening(&mut out, counting, program, columns)?;

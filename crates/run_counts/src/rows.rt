@@ -1,12 +1,12 @@
 //! The rounds that are counted, in one pass.
 ghost use Rattle.std.specs.Prelude.{◌≡◌, ◌≤◌, IfOk};
-ghost use Rattle.std.specs.List.{list_any};
+ghost use Rattle.std.specs.List.{list_all, list_any};
 ghost use Rattle.large_rounds.specs.Counts.{has_value};
 ghost use Rattle.rounds_plan.specs.Configs.{most_rounds};
 ghost use Rattle.rounds_plan.specs.Lockstep.{lockstep_config};
-ghost use Rattle.run_counts.specs.Rows.{AreRows, IsRowOf, is_over};
+ghost use Rattle.run_counts.specs.Rows.{AreRows, IsRowOf, is_held, is_over};
 
-use crate::asked::{Counting, Until};
+use crate::asked::{Counting, Holders, Until};
 use crate::figures::{figures_of, value_in};
 use crate::table::Row;
 use large_rounds::count_values;
@@ -29,12 +29,34 @@ fn has_value(states: &[State], field: u32, value: u32) -> bool
     false
 }
 
+/// Whether every node has a value in a field.
+fn have_value(states: &[State], field: u32, value: u32) -> bool
+    ensures { result ≡ list_all (has_value field value) states.now }
+{
+    for state in states {
+        if value_in(state, field) != value {
+            return false;
+        }
+    }
+    true
+}
+
+/// Whether the nodes that have a value in a field are these.
+fn is_held(holders: Holders, states: &[State], field: u32, value: u32) -> bool
+    ensures { result ≡ is_held holders field value states.now }
+{
+    match holders {
+        Holders::NoNode => !has_value(states, field, value),
+        Holders::EveryNode => have_value(states, field, value),
+    }
+}
+
 /// Whether no round is counted behind one in which the nodes have these states.
 fn is_over(until: Option<Until>, states: &[State]) -> bool
     ensures { result ≡ is_over until states.now }
 {
     match until {
-        Some(until) => !has_value(states, until.field, until.value),
+        Some(until) => is_held(until.holders, states, until.field, until.value),
         None => false,
     }
 }

@@ -58,7 +58,7 @@ fn counted_text<R: Threads + Sync, P: RunsProgress + Sync>(
     ensures text { IfOk result (λ v. AreCounted ensemble.now span.now counting.now v.items) }
 {
     let runs = runs_of(rt, alloc, ensemble.variants, span, counting, progress)?;
-    let values = values_in(alloc, &runs)?;
+    let values = values_in(alloc, counting.states, &runs)?;
     let program = first_program(ensemble.variants);
     let text = runs_table(alloc, ensemble.name, program, counting, &values, &runs)?;
     Ok(text)
@@ -79,7 +79,7 @@ fn means_text<R: Threads + Sync, P: RunsProgress + Sync>(
     ensures text { IfOk result (λ v. AreMeans ensemble.now span.now counting.now v.items) }
 {
     let runs = runs_of(rt, alloc, ensemble.variants, span, counting, progress)?;
-    let values = values_in(alloc, &runs)?;
+    let values = values_in(alloc, counting.states, &runs)?;
     let columns = columns_of(alloc, &values, counting.figures)?;
     let program = first_program(ensemble.variants);
     let text = means_table(alloc, counting, program, &columns, &runs)?;
@@ -87,8 +87,8 @@ fn means_text<R: Threads + Sync, P: RunsProgress + Sync>(
 }
 
 /// What `counted` gives of each of several runs, in one table: the lines of a run behind those of the run before, each
-/// with the run's value of what varies in a column in front. A column for each value stands there where 64 values at
-/// most occur in all rounds of all runs. The runs are made side by side by as many threads as there are processors, and
+/// with the run's value of what varies in a column in front. A column for each state, and for each value that occurs in
+/// one of the rounds of one of the runs, stands there where these are 64 at most. The runs are made side by side by as many threads as there are processors, and
 /// `progress` is told of each that is made.
 ///
 /// The fault is that of the first run that has one, as `counted` tells it, before anything is done; `Memory` only where
@@ -114,11 +114,12 @@ pub fn counted_runs<R: Threads + Sync, P: RunsProgress + Sync>(
     Ok(text)
 }
 
-/// The mean and the standard deviation, over several runs, of what `counted` gives of each of them: for each round a
-/// line of the round, how many runs are counted in it, and for each column the mean of its numbers in these runs and the
-/// standard deviation of the sample, both with four digits behind the point and rounded to the nearest. There is no
-/// deviation where one run is counted. Where more than 64 values occur in all rounds of all runs, there are columns for
-/// the further numbers alone. The runs are made, and told, as those of `counted_runs`.
+/// The mean and the standard deviation, over several runs, of what `counted` gives of each of them: for each round to
+/// which a run goes on a line of the round, how many runs there are and, where runs may end early, how many go on to this
+/// round, and for each column the mean of its numbers in all runs and the standard deviation of the sample, both with
+/// four digits behind the point and rounded to the nearest. A run that has ended keeps the numbers of its last round.
+/// There is no deviation where there is one run. Where there are more than 64 states and values that occur in all rounds
+/// of all runs, there are columns for the further numbers alone. The runs are made, and told, as those of `counted_runs`.
 ///
 /// The fault is that of the first run that has one, as `counted` tells it, before anything is done; `Memory` only where
 /// none has one.

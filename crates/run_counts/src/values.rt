@@ -1,6 +1,6 @@
 //! The values that occur in rounds.
 ghost use Rattle.std.specs.Prelude.{◌≡◌, ◌++◌, IfOk, OnOk, map};
-ghost use Rattle.std.specs.List.{flat_map};
+ghost use Rattle.std.specs.List.{flat_map, range_with_len};
 ghost use Rattle.run_counts.specs.Ensembles.{rows_in};
 ghost use Rattle.run_counts.specs.Rows.{AreOnce, AreValues, count_in, keys_of};
 
@@ -28,15 +28,25 @@ fn put_all_keys(keys: &mut Vec<u32>, rows: &[Row]) -> Result<(), AllocError>
     Ok(())
 }
 
-/// The values that occur in the rounds of each of the runs, one run behind the other.
-fn keys_in(alloc: Global, runs: &[Run]) -> Result<Vec<u32>, AllocError>
-    ensures keys { IfOk result (λ keys. keys.items ≡ flat_map (λ run. flat_map keys_of run.rows) runs.now) }
+/// The states, of which there are so many.
+fn states_of(alloc: Global, states: u32) -> Result<Vec<u32>, AllocError>
+    ensures states { IfOk result (λ keys. keys.items ≡ range_with_len 0 states) }
 {
     let mut keys = Vec::new(alloc);
-    for run in runs {
-        put_all_keys(&mut keys, run.rows())?;
+    for state in 0..states {
+        keys.push(state)?;
     }
     Ok(keys)
+}
+
+/// Puts the values that occur in the rounds of each of the runs behind the others, one run behind the other.
+fn put_run_keys(keys: &mut Vec<u32>, runs: &[Run]) -> Result<(), AllocError>
+    ensures keys { OnOk result (keys.new.items ≡ keys.old.items ++ flat_map (λ run. flat_map keys_of run.rows) runs.now) }
+{
+    for run in runs {
+        put_all_keys(keys, run.rows())?;
+    }
+    Ok(())
 }
 
 /// The numbers by rising number, each once.
@@ -48,20 +58,22 @@ fn once(mut numbers: Vec<u32>) -> Result<Vec<u32>, AllocError>
     Ok(numbers)
 }
 
-/// The values that occur in one of the rounds, by rising number.
-pub fn values_of(alloc: Global, rows: &[Row]) -> Result<Vec<u32>, AllocError>
-    ensures values { IfOk result (λ values. AreValues rows.now values.items) }
+/// The states, of which there are so many, and the values that occur in one of the rounds, by rising number.
+pub fn values_of(alloc: Global, states: u32, rows: &[Row]) -> Result<Vec<u32>, AllocError>
+    ensures values { IfOk result (λ values. AreValues states rows.now values.items) }
 {
-    let mut keys = Vec::new(alloc);
+    let mut keys = states_of(alloc, states)?;
     put_all_keys(&mut keys, rows)?;
     once(keys)
 }
 
-/// The values that occur in one of the rounds of one of the runs, by rising number.
-pub(crate) fn values_in(alloc: Global, runs: &[Run]) -> Result<Vec<u32>, AllocError>
-    ensures values { IfOk result (λ values. AreValues (rows_in runs.now) values.items) }
+/// The states, of which there are so many, and the values that occur in one of the rounds of one of the runs, by rising
+/// number.
+pub(crate) fn values_in(alloc: Global, states: u32, runs: &[Run]) -> Result<Vec<u32>, AllocError>
+    ensures values { IfOk result (λ values. AreValues states (rows_in runs.now) values.items) }
 {
-    let keys = keys_in(alloc, runs)?;
+    let mut keys = states_of(alloc, states)?;
+    put_run_keys(&mut keys, runs)?;
     once(keys)
 }
 

@@ -28,9 +28,9 @@ abbrev cells_from : KeyView → ℕ → ℕ → List ℕ → List (ℕ × ℕ ×
 cells_from key width i [] = []
 cells_from key width i (v ∷ values) = (class_of key v, i % width, i / width) ∷ cells_from key width (i + 1) values
 
-text_is : (key : KeyView) (width i : ℕ) (values : List ℕ) → rows_text key width i values ≡ drawn (cells_from key width i values)
+text_is : (key : KeyView) (width i : ℕ) (values : List ℕ) → rows_text key width i values ≡ drawn key.styles.shape (cells_from key width i values)
 text_is key width i [] = refl
-text_is key width i (v ∷ values) = ap (λ (text : List ℕ). cell_text (class_of key v) (i % width) (i / width) ++ text) (text_is key width (i + 1) values)
+text_is key width i (v ∷ values) = ap (λ (text : List ℕ). cell_text key.styles.shape (class_of key v) (i % width) (i / width) ++ text) (text_is key width (i + 1) values)
 
 count_is : (key : KeyView) (width i : ℕ) (values : List ℕ) → length (cells_from key width i values) ≡ length values
 count_is key width i [] = refl

@@ -28,7 +28,7 @@ pub rounds_are : (p : PlanView) (span : SpanView) (field : ℕ) (rows : List Row
 rounds_are p span field rows are = are.rows_are.rounds ∙ ap (λ (until : Option Until). rounds_until p until (rounds_in span)) are.all_rounds ∙ all_rounds p (rounds_in span)
 
 pub each_round_has_its_point : EachRoundHasItsPoint
-each_round_has_its_point p span field rows values v counted =
+each_round_has_its_point p span field states rows values v counted =
     let are = counted.rows_are in
     let nodes = nodes_with p field v in
     by_rounds nodes v rows (λ k d inside.

@@ -1,9 +1,10 @@
 -- Each value that occurs in a round of a span has its curve, and no other.
-use Rattle.std.proofs.Common.{◌≡◌, ◌<◌, ◌≤◌, ℕ, zero, suc, List, [], ◌∷◌, Bool, true, false, if◌then◌else◌, All, Contains, inl, inr, arith, length, map, refl, slice_index, slice_index_or, subst, sym}
+use Rattle.std.proofs.Common.{◌≡◌, ◌∙◌, ◌+◌, ◌<◌, ◌≤◌, ℕ, zero, suc, List, [], ◌∷◌, Bool, true, false, if◌then◌else◌, All, Contains, inl, inr, arith, length, map, refl, slice_index, slice_index_or, subst, sym}
 use Rattle.std.proofs.lemmas.Bool.Decides.{nat_tests}
 use Rattle.std.proofs.lemmas.List.Elements.{Contains-append_cases, Contains-append_left, Contains-append_right}
 use Rattle.std.proofs.lemmas.List.Sums.{length-filter}
-use Rattle.std.specs.List.{count_by, filter, flat_map}
+use Rattle.std.proofs.lemmas.List.FromFn.{get_or-range_with_len, length-range_with_len}
+use Rattle.std.specs.List.{count_by, filter, flat_map, range_with_len}
 use Rattle.rule_check.specs.declared.state.State.{State}
 use Rattle.large_rounds.specs.Counts.{AreCounts, has_value}
 use Rattle.rounds_plan.specs.Lockstep.{lockstep_states}
@@ -68,27 +69,46 @@ of_row nodes v t (row ∷ rows) each some zero inside at =
 of_row nodes v t (row ∷ rows) each some (suc k) inside at =
     Contains-append_right (keys_of row) (flat_map keys_of rows) v (of_row nodes v t rows (λ j d below. each (suc j) d (omega (arith, below))) some k (omega (arith, inside)) at)
 
+-- ---- among the states
+
+range_below : (a n v : ℕ) → Contains (range_with_len a n) v → v < a + n
+range_below a n v found =
+    let inside : found.0 < n = omega (arith, found.1, length-range_with_len a n) in
+    omega (arith, inside, get_or-range_with_len a n found.0 v inside ∙ refl, found.2)
+
+range_has : (n v : ℕ) → v < n → Contains (range_with_len 0 n) v
+range_has n v below = (v, omega (arith, below, length-range_with_len 0 n), omega (arith, get_or-range_with_len 0 n v v below))
+
 pub each_value_has_its_curve : EachValueHasItsCurve
-each_value_has_its_curve p span field rows values v counted =
+each_value_has_its_curve p span field many rows values v counted =
     let are = counted.rows_are in
     let nodes = nodes_with p field v in
     let rounds = rounds_are p span field rows are in
+    let first_states = range_with_len 0 many in
+    let keys = flat_map keys_of rows in
     let states = λ (t : ℕ). lockstep_states p t (length p.network) in (
       λ there.
-          let found = in_some_row nodes v rows
-          (λ k d inside has.
-          let row = slice_index_or rows k d in
-          subst (λ (f : ℕ). 1 ≤ count_by (has_value f v) (states row.round)) are.of_field
-          (has_node are.counting.field v (states row.round) row.counts (are.rows_are.each k d inside).counts has))
-          ((counted.values_are.each v).0 there) in
-          (found.0, subst (λ (ts : List ℕ). Contains ts found.0) rounds found.1, found.2),
-      λ some.
-          let at = subst (λ (ts : List ℕ). Contains ts some.0) (sym rounds) some.1 in
-          (counted.values_are.each v).1
-          (of_row nodes v some.0 rows
-          (λ k d inside one.
-          let row = slice_index_or rows k d in
-          is_counted are.counting.field v (states row.round) row.counts (are.rows_are.each k d inside).counts
-          (subst (λ (f : ℕ). 1 ≤ count_by (has_value f v) (states row.round)) (sym are.of_field) one))
-          some.2 at.0 at.1 at.2),
+          elim (Contains-append_cases first_states keys v ((counted.values_are.each v).0 there)) [
+            | inl state ↦ inl (omega (arith, range_below 0 many v state))
+            | inr occurs ↦ inr (let found = in_some_row nodes v rows
+                (λ k d inside has.
+                let row = slice_index_or rows k d in
+                subst (λ (f : ℕ). 1 ≤ count_by (has_value f v) (states row.round)) are.of_field
+                (has_node are.counting.field v (states row.round) row.counts (are.rows_are.each k d inside).counts has))
+                occurs in
+                (found.0, subst (λ (ts : List ℕ). Contains ts found.0) rounds found.1, found.2))
+          ],
+      λ has.
+          elim has [
+            | inl state ↦ (counted.values_are.each v).1 (Contains-append_left first_states keys v (range_has many v state))
+            | inr some ↦ (let at = subst (λ (ts : List ℕ). Contains ts some.0) (sym rounds) some.1 in
+                (counted.values_are.each v).1
+                (Contains-append_right first_states keys v
+                (of_row nodes v some.0 rows
+                (λ k d inside one.
+                let row = slice_index_or rows k d in
+                is_counted are.counting.field v (states row.round) row.counts (are.rows_are.each k d inside).counts
+                (subst (λ (f : ℕ). 1 ≤ count_by (has_value f v) (states row.round)) (sym are.of_field) one))
+                some.2 at.0 at.1 at.2)))
+          ],
     )

@@ -9,4 +9,5 @@ pub mod EachValue
 pub mod EachFrame
 pub mod RoundParts
 pub mod Joined
+pub mod StateColours
 pub mod StrokeSlots

@@ -2,10 +2,10 @@
 use Rattle.std.proofs.Common.{◌≡◌, ◌≢◌, ◌∙◌, ◌<◌, ◌≤◌, ◌+◌, ◌==◌, ◌||◌, ℕ, zero, suc, List, [], ◌∷◌, Bool, true, false, cond, if◌then◌else◌, ap, arith, length, max, nat_le, nat_lt, not, refl, slice_index, slice_index_or, subst, sym, take}
 use Rattle.std.proofs.lemmas.Bool.Decides.{nat_tests}
 use Rattle.std.proofs.lemmas.List.Sums.{prefix_len-le-length}
-use Rattle.std.specs.List.{insert, list_any}
+use Rattle.std.specs.List.{insert, list_any, range_with_len}
 use Rattle.run_picture.specs.declared.chosen.ValueColour.{ValueColour}
 use Rattle.run_picture.specs.Chosen.{StylesView, has_own, own_place}
-use Rattle.run_picture.specs.Shades.{KeyView, SameClassSameValue, blank_key, class_count, class_of, is_among, is_few, key_from, key_of, no_value, rank, shade_of, step_of, with_cell, with_value}
+use Rattle.run_picture.specs.Shades.{KeyView, SameClassSameValue, blank_key, class_count, class_of, is_among, is_few, key_from, key_of, no_value, rank, shade_of, state_count, state_key, step_of, with_cell, with_value}
 
 -- each is above those before it, and from a on
 abbrev pub Rising : ℕ → List ℕ → Type 0
@@ -22,14 +22,14 @@ or_swap true false c = refl
 or_swap false true c = refl
 or_swap false false c = refl
 
-or_right : (a b : Bool) → b ≡ true → (a || b) ≡ true
+pub or_right : (a b : Bool) → b ≡ true → (a || b) ≡ true
 or_right true b is = refl
 or_right false b is = is
 
 or_left : (a b : Bool) → a ≡ true → (a || b) ≡ true
 or_left a b is = ap (λ (x : Bool). x || b) is
 
-same_number : (v : ℕ) → (v == v) ≡ true
+pub same_number : (v : ℕ) → (v == v) ≡ true
 same_number v = grind (arith, nat_tests)
 
 -- a list with one more at some place has it, and those that it had
@@ -126,7 +126,7 @@ marked key = record { styles = key.styles; values = key.values; greatest = key.g
 abbrev pub grown : KeyView → ℕ → KeyView
 grown key c = record { styles = key.styles; values = take 9 (with_value key.values c); greatest = max key.greatest c; none = key.none }
 
-cell_by : (P : KeyView → Type 0) (key : KeyView) (c : ℕ) (b : Bool) → P (marked key) → P (grown key c) → P (if b then marked key else grown key c)
+pub cell_by : (P : KeyView → Type 0) (key : KeyView) (c : ℕ) (b : Bool) → P (marked key) → P (grown key c) → P (if b then marked key else grown key c)
 cell_by P key c true there more = there
 cell_by P key c false there more = more
 
@@ -290,20 +290,28 @@ own_once : (colours : List ValueColour) (v w : ℕ) → own_place colours v < le
 own_once [] v w inside same = absurd (omega (arith, inside))
 own_once (own ∷ colours) v w inside same = own_by (own.value == v) (own.value == w) own v w colours refl refl inside same (own_once colours v w)
 
+-- nine values at most are kept
+stays_few : (cells : List ℕ) (key : KeyView) → length key.values ≤ 9 → length (key_from key cells).values ≤ 9
+stays_few [] key few = few
+stays_few (c ∷ cells) key few = stays_few cells (with_cell key c) (cell_more key c few).few
+
+states_few : (styles : StylesView) → length (state_key styles).values ≤ 9
+states_few styles = stays_few (range_with_len 0 (state_count styles)) (blank_key styles) (omega arith)
+
 module _ (styles : StylesView) (cells : List ℕ) (few : length (key_of styles cells).values ≤ 8) where
   kept : (v : ℕ) → is_among cells v ≡ true → v ≢ no_value → is_among (key_of styles cells).values v ≡ true
-  kept v has some = comes cells (blank_key styles) v has some (omega arith) few
+  kept v has some = comes cells (state_key styles) v has some (states_few styles) few
 
   within : (v : ℕ) → is_among cells v ≡ true → (v == no_value) ≡ false → nat_le (key_of styles cells).greatest 1 ≡ true → v ≤ 1
   within v has other two =
       let some : v ≢ no_value = grind (arith, nat_tests, other) in
-      let less = below cells (blank_key styles) v has some in
+      let less = below cells (state_key styles) v has some in
       grind (arith, nat_tests, two, less)
 
   ranked : (v w : ℕ) → is_among cells v ≡ true → is_among cells w ≡ true → (v == no_value) ≡ false → (w == no_value) ≡ false → rank (key_of styles cells).values v ≡ rank (key_of styles cells).values w → v ≡ w
   ranked v w has_v has_w other_v other_w same =
       let values = (key_of styles cells).values in
-      let rising = values_rise cells (blank_key styles) tt in
+      let rising = values_rise cells (state_key styles) (values_rise (range_with_len 0 (state_count styles)) (blank_key styles) tt) in
       let some_v : v ≢ no_value = grind (arith, nat_tests, other_v) in
       let some_w : w ≢ no_value = grind (arith, nat_tests, other_w) in
       sym (found 0 v values rising (kept v has_v some_v)) ∙ ap (slice_index values) same ∙ found 0 w values rising (kept w has_w some_w)

@@ -2,6 +2,7 @@
 use Rattle.std.specs.Prelude.{ℕ, ◌+◌, ◌*◌, ◌/◌, ◌%◌, ◌==◌, Bool, List, [], ◌∷◌, ◌++◌, codes, length, max, nat_lt, not, false}
 use Rattle.std.specs.Fmt.{digits}
 use Rattle.std.specs.List.{prefix_len}
+use Rattle.run_picture.specs.declared.chosen.CellShape.{CellShape}
 use Rattle.run_picture.specs.declared.chosen.Colour.{Colour}
 use Rattle.run_picture.specs.declared.chosen.ValueColour.{ValueColour}
 
@@ -11,6 +12,8 @@ pub record StylesView : Type 0 where
   pub names : List (List ℕ)
   -- the values that have colours of their own; where a value stands twice, the first counts
   pub colours : List ValueColour
+  -- the shape of cells
+  pub shape : CellShape
 
 -- the most values with colours of their own
 abbrev pub most_colours : ℕ

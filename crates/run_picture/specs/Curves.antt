@@ -25,10 +25,10 @@ pub record AreFieldRows (p : PlanView) (span : SpanView) (field : ℕ) (rows : L
   pub all_rounds : counting.until ≡ None
   pub rows_are : AreRows p span counting rows
 
--- the rows are those of all rounds of a span, and the values are those that occur in one of them, by rising number
-pub record AreCounted (p : PlanView) (span : SpanView) (field : ℕ) (rows : List RowView) (values : List ℕ) : Type 0 where
+-- the rows are those of all rounds of a span, and the values are the states, of which there are so many, and those that occur in one of the rounds, by rising number
+pub record AreCounted (p : PlanView) (span : SpanView) (field states : ℕ) (rows : List RowView) (values : List ℕ) : Type 0 where
   pub rows_are : AreFieldRows p span field rows
-  pub values_are : AreValues rows values
+  pub values_are : AreValues states rows values
 
 -- the most points of a curve
 abbrev pub most_points : ℕ
@@ -37,6 +37,10 @@ most_points = 10000
 -- the most curves
 abbrev pub most_curves : ℕ
 most_curves = 64
+
+-- how many states have a curve, whether or not they occur: all of them, or none where there are too many
+abbrev pub states_drawn : StylesView → ℕ
+states_drawn styles = if nat_le (length styles.names) most_curves then length styles.names else 0
 
 -- why there are no curves of the rounds of a span, of what is known before they are counted
 abbrev pub curves_refusal : PlanView → SpanView → ℕ → Option PictureFault
@@ -167,20 +171,20 @@ curves_picture styles span nodes rows values = plotted span nodes (key_of styles
 pub record IsCountPicture (styles : StylesView) (p : PlanView) (span : SpanView) (field : ℕ) (text : List ℕ) : Type 0 where
   pub rows : List RowView
   pub values : List ℕ
-  pub counted : AreCounted p span field rows values
+  pub counted : AreCounted p span field (states_drawn styles) rows values
   pub few : length values ≤ most_curves
   pub spelled : text ≡ curves_picture styles span (length p.network) rows values
 
--- more values of a field occur in the rounds of a span than there may be curves
-pub record HasManyValues (p : PlanView) (span : SpanView) (field : ℕ) : Type 0 where
+-- more values of a field are drawn in the rounds of a span than there may be curves
+pub record HasManyValues (styles : StylesView) (p : PlanView) (span : SpanView) (field : ℕ) : Type 0 where
   pub rows : List RowView
   pub values : List ℕ
-  pub counted : AreCounted p span field rows values
+  pub counted : AreCounted p span field (states_drawn styles) rows values
   pub many : most_curves < length values
 
 -- why there is no picture, memory aside: what is known before rounds are counted, or else that too many values occur
-abbrev pub IsCurveFault : PlanView → SpanView → ℕ → PictureFault → Type 0
-IsCurveFault p span field fault = (curves_refusal p span field ≡ Some fault) ⊎ ((fault ≡ TooManyValues) × (curves_refusal p span field ≡ None) × HasManyValues p span field)
+abbrev pub IsCurveFault : StylesView → PlanView → SpanView → ℕ → PictureFault → Type 0
+IsCurveFault styles p span field fault = (curves_refusal p span field ≡ Some fault) ⊎ ((fault ≡ TooManyValues) × (curves_refusal p span field ≡ None) × HasManyValues styles p span field)
 
 -- ---- laws
 
@@ -191,11 +195,11 @@ nodes_with p field v t = count_by (has_value field v) (lockstep_states p t (leng
 -- The curve of a value has one point for each round of the span, in order; its height is the number of nodes that have the value after the round.
 abbrev pub EachRoundHasItsPoint : Type 0
 EachRoundHasItsPoint =
-    (p : PlanView) (span : SpanView) (field : ℕ) (rows : List RowView) (values : List ℕ) (v : ℕ) → AreCounted p span field rows values
+    (p : PlanView) (span : SpanView) (field states : ℕ) (rows : List RowView) (values : List ℕ) (v : ℕ) → AreCounted p span field states rows values
     → points_text rows v ≡ flat_map (λ t. point_text t (nodes_with p field v t)) (rounds_in span)
 
--- A value has a curve exactly where some node has it after one of the rounds of the span.
+-- A value has a curve exactly where it is a state, of which there are so many, or some node has it after one of the rounds of the span.
 abbrev pub EachValueHasItsCurve : Type 0
 EachValueHasItsCurve =
-    (p : PlanView) (span : SpanView) (field : ℕ) (rows : List RowView) (values : List ℕ) (v : ℕ) → AreCounted p span field rows values
-    → Contains values v ↔ ((t : ℕ) × Contains (rounds_in span) t × (1 ≤ nodes_with p field v t))
+    (p : PlanView) (span : SpanView) (field states : ℕ) (rows : List RowView) (values : List ℕ) (v : ℕ) → AreCounted p span field states rows values
+    → Contains values v ↔ ((v < states) ⊎ ((t : ℕ) × Contains (rounds_in span) t × (1 ≤ nodes_with p field v t)))

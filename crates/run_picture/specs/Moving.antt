@@ -12,7 +12,8 @@ use Rattle.run_picture.specs.declared.fault.PictureFault.TheVariants.{NoWidth, T
 use Rattle.run_picture.specs.Chosen.{StylesView}
 use Rattle.run_picture.specs.Frames.{most_cells, refusal_of, values_after, values_in}
 use Rattle.run_picture.specs.Shades.{KeyView, class_of, fill_of, key_of}
-use Rattle.run_picture.specs.Sheets.{cell_text, legend_text, legend_top, opening_text, sheet_height, sheet_width, side_of, style_text}
+use Rattle.run_picture.specs.declared.chosen.CellShape.{CellShape}
+use Rattle.run_picture.specs.Sheets.{cell_text, lattice, legend_text, legend_top, opening_text, outline, sheet_height, sheet_width, side_of, style_text}
 
 -- ---- what changes
 
@@ -83,16 +84,17 @@ unfoldable pub animate_text : KeyView → ℕ → ℕ → ℕ → List Change �
 animate_text key frames time class changes = turn_text frames time ++ (fill_of key class ++ course_text key frames changes)
 
 -- what stands first in a cell that changes: its first colour, its column and its row
-unfoldable pub place_text : ℕ → ℕ → ℕ → List ℕ
-place_text class x y = codes "<path class=\"c" ++ (decimal class ++ (codes "\" d=\"M" ++ (decimal x ++ (codes " " ++ (decimal y ++ codes "h1v1h-1z\">")))))
+unfoldable pub place_text : CellShape → ℕ → ℕ → ℕ → List ℕ
+place_text shape class x y =
+    codes "<path class=\"c" ++ (decimal class ++ (codes "\" d=\"M" ++ (decimal x ++ (codes " " ++ (decimal y ++ (outline shape y ++ codes "\">"))))))
 
 -- a cell that changes
 unfoldable pub changing_text : KeyView → ℕ → ℕ → ℕ → ℕ → ℕ → List Change → List ℕ
-changing_text key frames time class x y changes = place_text class x y ++ (animate_text key frames time class changes ++ codes "</path>\n")
+changing_text key frames time class x y changes = place_text key.styles.shape class x y ++ (animate_text key frames time class changes ++ codes "</path>\n")
 
 -- a cell at a column and a row, which has this colour at first: one that never changes stands as in a picture of one round
 abbrev pub moving_text : KeyView → ℕ → ℕ → ℕ → ℕ → ℕ → List Change → List ℕ
-moving_text key frames time class x y [] = cell_text class x y
+moving_text key frames time class x y [] = cell_text key.styles.shape class x y
 moving_text key frames time class x y (change ∷ changes) = changing_text key frames time class x y (change ∷ changes)
 
 -- the cell of a node in rows of a width, with these colours frame by frame
@@ -110,7 +112,8 @@ moving_cells key frames time width nodes values = flat_map (node_text key frames
 -- the same, as large as they are to be
 unfoldable pub moving_group : KeyView → ℕ → ℕ → ℕ → ℕ → List ℕ → List ℕ
 moving_group key frames time width nodes values =
-    codes "<g transform=\"scale(" ++ (decimal (side_of width nodes) ++ (codes ")\">\n" ++ (moving_cells key frames time width nodes values ++ codes "</g>\n")))
+    codes "<g transform=\"scale("
+    ++ (decimal (side_of width nodes) ++ (codes ")" ++ (lattice key.styles.shape ++ (codes "\">\n" ++ (moving_cells key frames time width nodes values ++ codes "</g>\n")))))
 
 -- cells that are coloured by a key, and the legend of the key
 abbrev pub moving_sheet : KeyView → ℕ → ℕ → ℕ → ℕ → List ℕ → List ℕ

@@ -1,6 +1,6 @@
 -- How values are coloured.
-use Rattle.std.specs.Prelude.{◌≡◌, ◌↔◌, ◌≤◌, ℕ, ◌+◌, ◌-◌, ◌*◌, ◌/◌, ◌==◌, ◌||◌, ◌&&◌, max, min, Bool, true, false, List, [], ◌∷◌, codes, if◌then◌else◌, length, nat_le, nat_lt, slice_get, slice_index, slice_index_or, take, Option, Some, None}
-use Rattle.std.specs.List.{IsAmong, insert, list_any, prefix_len}
+use Rattle.std.specs.Prelude.{◌≡◌, ◌↔◌, ◌⊎◌, ◌<◌, ◌≤◌, ℕ, All, ◌+◌, ◌-◌, ◌*◌, ◌/◌, ◌==◌, ◌||◌, ◌&&◌, max, min, Bool, true, false, List, [], ◌∷◌, codes, if◌then◌else◌, length, nat_le, nat_lt, slice_get, slice_index, slice_index_or, take, Option, Some, None}
+use Rattle.std.specs.List.{IsAmong, insert, list_any, prefix_len, range_with_len}
 use Rattle.run_picture.specs.declared.chosen.ValueColour.{ValueColour}
 use Rattle.run_picture.specs.Chosen.{StylesView, has_own, hex_text, is_dim, own_place}
 
@@ -12,7 +12,7 @@ no_value = 4294967295
 pub record KeyView : Type 0 where
   -- how values are shown
   pub styles : StylesView
-  -- the values in the cells, rising, each once and without `no_value`; where there are more than nine, the least nine
+  -- the states and the values in the cells, rising, each once and without `no_value`; where there are more than nine, the least nine
   pub values : List ℕ
   -- the greatest of them, or 0
   pub greatest : ℕ
@@ -46,9 +46,21 @@ abbrev pub key_from : KeyView → List ℕ → KeyView
 key_from key [] = key
 key_from key (v ∷ cells) = key_from (with_cell key v) cells
 
+-- how many states a field has whose values have these names: each value below this is one. A field has 256 states at most.
+abbrev pub state_count : StylesView → ℕ
+state_count styles = min 256 (length styles.names)
+
+-- the key of the states, whether or not a cell has one
+abbrev pub state_key : StylesView → KeyView
+state_key styles = key_from (blank_key styles) (range_with_len 0 (state_count styles))
+
+-- the value is one of the states, or says that there is none
+abbrev pub IsState : StylesView → ℕ → Type 0
+IsState styles v = (v < state_count styles) ⊎ (v ≡ no_value)
+
 -- the key of cells whose values are shown in these styles
 abbrev pub key_of : StylesView → List ℕ → KeyView
-key_of styles cells = key_from (blank_key styles) cells
+key_of styles cells = key_from (state_key styles) cells
 
 -- there are so few values that each has a colour of its own
 abbrev pub is_few : KeyView → Bool
@@ -126,3 +138,9 @@ abbrev pub SameClassSameValue : Type 0
 SameClassSameValue =
     (styles : StylesView) (cells : List ℕ) (v w : ℕ) → length (key_of styles cells).values ≤ 8 → IsAmong cells v → IsAmong cells w
     → (class_of (key_of styles cells) v ≡ class_of (key_of styles cells) w) ↔ (v ≡ w)
+
+-- Where a field has states, few enough for a colour each, a state has the same class in each picture whose values are states: it does not hang on which of them occur.
+abbrev pub StatesKeepTheirColours : Type 0
+StatesKeepTheirColours =
+    (styles : StylesView) (cells others : List ℕ) (v : ℕ) → length (state_key styles).values ≤ 8 → All (IsState styles) cells → All (IsState styles) others
+    → class_of (key_of styles cells) v ≡ class_of (key_of styles others) v

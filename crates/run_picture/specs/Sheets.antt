@@ -5,6 +5,8 @@ use Rattle.std.specs.Fmt.{decimal}
 use Rattle.std.specs.List.{flat_map}
 use Rattle.std.specs.Str.{chars}
 use Rattle.link_net.specs.Neighbours.{numbers_below}
+use Rattle.run_picture.specs.declared.chosen.CellShape.{CellShape}
+use Rattle.run_picture.specs.declared.chosen.CellShape.TheVariants.{Square, Hexagon}
 use Rattle.run_picture.specs.declared.chosen.ValueColour.{ValueColour}
 use Rattle.run_picture.specs.Chosen.{StylesView, longest}
 use Rattle.run_picture.specs.Shades.{KeyView, class_of, class_total, fill_of, is_few, key_of, least_of, no_value}
@@ -58,9 +60,14 @@ legend_top width count = side_of width count * rows_of width count + 8
 abbrev pub legend_width : KeyView → ℕ
 legend_width key = max 120 (92 + 8 * min 64 (longest key.styles.names))
 
+-- how far a row may stand out to the right, in pixels, where a cell has this side
+abbrev pub overhang : CellShape → ℕ → ℕ
+overhang Square side = 0
+overhang Hexagon side = (side + 1) / 2
+
 -- the size of the whole in pixels across, with room for the legend
 abbrev pub sheet_width : KeyView → ℕ → ℕ → ℕ
-sheet_width key width count = max (side_of width count * columns_of width count) (legend_width key)
+sheet_width key width count = max (side_of width count * columns_of width count + overhang key.styles.shape (side_of width count)) (legend_width key)
 
 -- the size of the whole in pixels from the top to the bottom
 abbrev pub sheet_height : KeyView → ℕ → ℕ → ℕ
@@ -81,18 +88,33 @@ style_text key =
     codes "<style>text{font:12px sans-serif}.key{stroke:#888888}"
     ++ (flat_map (class_style key) (numbers_below (class_total key)) ++ codes "</style>\n<rect width=\"100%\" height=\"100%\" fill=\"#ffffff\"/>\n")
 
+-- The outline of a cell in this row, from the place on that its column and row name: a square, or a hexagon that stands on a corner and, in each second row, half a cell further
+-- to the right. A cell is 1 wide, and rows are 1 apart: `lattice` brings rows of hexagons as near as the root of 3/4 of the width, by which the hexagons are regular.
+abbrev pub outline : CellShape → ℕ → List ℕ
+outline Square row = codes "h1v1h-1z"
+outline Hexagon row =
+    if row % 2 == 1 then codes "m1-.16667l.5 .33333v.66667l-.5 .33333-.5-.33333v-.66667z" else codes "m.5-.16667l.5 .33333v.66667l-.5 .33333-.5-.33333v-.66667z"
+
+-- how cells lie that are 1 wide and 1 apart: rows of hexagons nearer to each other, the first one as far down as its corners stand out
+abbrev pub lattice : CellShape → List ℕ
+lattice Square = []
+lattice Hexagon = codes " scale(1 .86603) translate(0 .16667)\" shape-rendering=\"auto"
+
 -- a cell at a column and a row
-unfoldable pub cell_text : ℕ → ℕ → ℕ → List ℕ
-cell_text class x y = codes "<path class=\"c" ++ (decimal class ++ (codes "\" d=\"M" ++ (decimal x ++ (codes " " ++ (decimal y ++ codes "h1v1h-1z\"/>\n")))))
+unfoldable pub cell_text : CellShape → ℕ → ℕ → ℕ → List ℕ
+cell_text shape class x y =
+    codes "<path class=\"c" ++ (decimal class ++ (codes "\" d=\"M" ++ (decimal x ++ (codes " " ++ (decimal y ++ (outline shape y ++ codes "\"/>\n"))))))
 
 -- cells in rows of a width, from the one at this place on
 abbrev pub rows_text : KeyView → ℕ → ℕ → List ℕ → List ℕ
 rows_text key width i [] = []
-rows_text key width i (v ∷ cells) = cell_text (class_of key v) (i % width) (i / width) ++ rows_text key width (i + 1) cells
+rows_text key width i (v ∷ cells) = cell_text key.styles.shape (class_of key v) (i % width) (i / width) ++ rows_text key width (i + 1) cells
 
 -- all cells, as large as they are to be
 unfoldable pub cells_text : KeyView → ℕ → List ℕ → List ℕ
-cells_text key width cells = codes "<g transform=\"scale(" ++ (decimal (side_of width (length cells)) ++ (codes ")\">\n" ++ (rows_text key width 0 cells ++ codes "</g>\n")))
+cells_text key width cells =
+    codes "<g transform=\"scale("
+    ++ (decimal (side_of width (length cells)) ++ (codes ")" ++ (lattice key.styles.shape ++ (codes "\">\n" ++ (rows_text key width 0 cells ++ codes "</g>\n")))))
 
 -- what a line of the legend begins with: a swatch of a class, at a height in pixels, and where the words beside it stand
 unfoldable pub mark_text : ℕ → ℕ → List ℕ

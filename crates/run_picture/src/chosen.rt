@@ -4,6 +4,16 @@ ghost use Rattle.run_picture.specs.Chosen.{hex_text, is_dim, own_place, pair_tex
 
 use std::alloc::AllocError;
 
+/// The shape of cells.
+#[derive(Clone, Copy, Debug, PartialEq, Eq)]
+pub enum CellShape {
+    /// Squares, in columns.
+    Square,
+    /// Hexagons that stand on a corner; each second row, from the one below the first on, is shifted to the right by half
+    /// a cell.
+    Hexagon,
+}
+
 /// A colour, by its parts of red, green and blue.
 #[derive(Clone, Copy)]
 pub struct Colour {

@@ -1,7 +1,7 @@
 //! How many nodes have each value, round by round, as curves.
 ghost use Rattle.std.specs.Prelude.{◌≡◌, ◌≢◌, Err, IfOk, IfErr, MatchOption, None};
 ghost use Rattle.run_picture.specs.declared.fault.PictureFault.TheVariants.{Memory, TooManyValues};
-ghost use Rattle.run_picture.specs.Curves.{AreFieldRows, HasManyValues, IsCountPicture, IsCurveFault, curves_refusal};
+ghost use Rattle.run_picture.specs.Curves.{AreFieldRows, HasManyValues, IsCountPicture, IsCurveFault, curves_refusal, states_drawn};
 
 use crate::curves::curves_picture;
 use crate::fault::PictureFault;
@@ -50,11 +50,23 @@ fn field_rows<P: Progress>(
     let counting = Counting {
         format: CountFormat::Csv,
         field,
+        states: 0,
         names: &[],
         figures: &[],
         until: None,
     };
     counted_rows(rt, alloc, plan, span, &counting, progress)
+}
+
+/// How many states have a curve, whether or not they occur.
+fn states_drawn(styles: &ValueStyles<'_>) -> u32
+    ensures states { result ≡ states_drawn styles.now }
+{
+    let count = styles.names().len();
+    if count <= MOST_CURVES {
+        return count as u32;
+    }
+    0
 }
 
 /// The picture of counted rounds, where not too many values occur in them.
@@ -69,9 +81,9 @@ fn picture_of(
     requires fits { curves_refusal plan.now span.now field ≡ None }
     requires rows { AreFieldRows plan.now span.now field rows.now }
     ensures text { IfOk result (λ v. IsCountPicture styles.now plan.now span.now field v.items) }
-    ensures refused { IfErr result (λ fault. fault ≢ Memory → (fault ≡ TooManyValues) × HasManyValues plan.now span.now field) }
+    ensures refused { IfErr result (λ fault. fault ≢ Memory → (fault ≡ TooManyValues) × HasManyValues styles.now plan.now span.now field) }
 {
-    let values = values_of(alloc, rows)?;
+    let values = values_of(alloc, states_drawn(styles), rows)?;
     if values.len() > MOST_CURVES {
         return Err(PictureFault::TooManyValues);
     }
@@ -91,22 +103,22 @@ fn count_text<P: Progress>(
 ) -> Result<Vec<u8>, PictureFault>
     requires fits { curves_refusal plan.now span.now field ≡ None }
     ensures text { IfOk result (λ v. IsCountPicture styles.now plan.now span.now field v.items) }
-    ensures refused { IfErr result (λ fault. fault ≢ Memory → (fault ≡ TooManyValues) × HasManyValues plan.now span.now field) }
+    ensures refused { IfErr result (λ fault. fault ≢ Memory → (fault ≡ TooManyValues) × HasManyValues styles.now plan.now span.now field) }
 {
     let rows = field_rows(rt, alloc, plan, span, field, progress)?;
     picture_of(alloc, plan, span, field, styles, &rows)
 }
 
 /// The curves of a field as SVG: how many nodes have each value in each round of a span of a plan, the rounds to the
-/// right and the nodes upwards, with axes. Each value that a node has in one of these rounds has a curve, named and coloured
-/// as in `time_picture`, and below the curves stands which colour is which value. The points of a curve are whole numbers,
+/// right and the nodes upwards, with axes. Each state has a curve, where there are 64 at most, and each value that a node
+/// has in one of these rounds, named and coloured as in `time_picture`, and below the curves stands which colour is which value. The points of a curve are whole numbers,
 /// `each_round_has_its_point` says which. In one pass over the rounds: none is computed twice. Each round is shared among
 /// as many threads as there are processors where it has enough to compute for them.
 ///
 /// `TooManyRounds` comes where the last round is above 1,000,000,000, else `RoundsBelowStart` where the first lies
 /// before the plan's start, else `NoField` where the program has no field at this place, else `OneRound` where the span
 /// has a single round, and else `TooManyPoints` where it has more than 10,000, all before anything is done; and else
-/// `TooManyValues` after the rounds, where more than 64 values occur in them; `Memory` only where none of those comes
+/// `TooManyValues` after the rounds, where there would be more than 64 curves; `Memory` only where none of those comes
 /// that are known before anything is done.
 pub fn count_picture<P: Progress>(
     rt: &(impl Threads + Sync),
@@ -119,7 +131,7 @@ pub fn count_picture<P: Progress>(
 ) -> Result<Vec<u8>, PictureFault>
     ensures text { IfOk result (λ v. IsCountPicture styles.now plan.now span.now field v.items) }
     ensures fits { IfOk result (λ _. curves_refusal plan.now span.now field ≡ None) }
-    ensures refused { IfErr result (λ fault. fault ≢ Memory → IsCurveFault plan.now span.now field fault) }
+    ensures refused { IfErr result (λ fault. fault ≢ Memory → IsCurveFault styles.now plan.now span.now field fault) }
     ensures memory { IfErr result (λ fault. fault ≡ Memory → curves_refusal plan.now span.now field ≡ None) }
     ensures at_once { MatchOption (curves_refusal plan.now span.now field) (Unit {0}) (λ fault. result ≡ Err fault) }
 {

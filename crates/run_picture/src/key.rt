@@ -1,6 +1,6 @@
 //! What the colours of cells follow from.
 ghost use Rattle.std.specs.Prelude.{◌≡◌, OnOk, IfOk, take};
-ghost use Rattle.run_picture.specs.Shades.{blank_key, is_among, is_few, key_of, least_of, rank, with_cell, with_value};
+ghost use Rattle.run_picture.specs.Shades.{blank_key, is_among, is_few, key_of, least_of, rank, state_count, state_key, with_cell, with_value};
 
 use crate::styles::ValueStyles;
 use std::alloc::{AllocError, AllocFailed, Global};
@@ -9,11 +9,14 @@ use std::marker::Model;
 /// The value that says that there is none.
 pub(crate) const NO_VALUE: u32 = 4_294_967_295;
 
+/// The most states of a field.
+const MOST_STATES: usize = 256;
+
 /// So many values at most have a colour each; one more is kept, so that it is known whether there are more.
 const MOST_KEPT: usize = 9;
 
-/// What the colours of cells follow from. A contract sees how values are shown, those in the cells, the greatest, and whether
-/// a cell has none.
+/// What the colours of cells follow from. A contract sees how values are shown, the states and the values in the cells, the
+/// greatest, and whether a cell has none.
 #[derive(Drop)]
 pub(crate) struct Key<'a> {
     styles: &'a ValueStyles<'a>,
@@ -108,7 +111,7 @@ impl<'a> Key<'a> {
         self.styles
     }
 
-    /// The values in the cells, rising, the least nine of them.
+    /// The states and the values in the cells, rising, the least nine of them.
     pub(crate) fn values(&self) -> &[u32]
         ensures { result.now ≡ self.now.values }
     {
@@ -144,6 +147,24 @@ impl<'a> Key<'a> {
     }
 }
 
+/// How many states a field has whose values are shown in these styles.
+fn state_count(styles: &ValueStyles<'_>) -> u32
+    ensures count { result ≡ state_count styles.now }
+{
+    styles.names().len().min(MOST_STATES) as u32
+}
+
+/// The key of the states, whether or not a cell has one.
+fn state_key<'a>(alloc: Global, styles: &'a ValueStyles<'a>) -> Result<Key<'a>, AllocError>
+    ensures key { IfOk result (λ key. key ≡ state_key styles.now) }
+{
+    let mut key = Key::new(alloc, styles);
+    for state in 0..state_count(styles) {
+        key.add(state)?;
+    }
+    Ok(key)
+}
+
 /// The key of cells whose values are shown in these styles.
 pub(crate) fn key_of<'a>(
     alloc: Global,
@@ -152,7 +173,7 @@ pub(crate) fn key_of<'a>(
 ) -> Result<Key<'a>, AllocError>
     ensures key { IfOk result (λ key. key ≡ key_of styles.now cells.now) }
 {
-    let mut key = Key::new(alloc, styles);
+    let mut key = state_key(alloc, styles)?;
     for cell in cells {
         key.add(*cell)?;
     }

@@ -4,11 +4,13 @@ ghost use Rattle.run_picture.specs.DrawnLinks.{EachLinkIsDrawnOnce, LinesTellLin
 ghost use Rattle.run_picture.specs.Moving.{EachFrameHasItsColours, EachFrameHasItsTime};
 ghost use Rattle.run_picture.specs.Nets.{EachLinkHasItsLine};
 ghost use Rattle.run_picture.specs.Placed.{EachCellHasItsPlace, TextTellsCells};
-ghost use Rattle.run_picture.specs.Shades.{SameClassSameValue};
+ghost use Rattle.run_picture.specs.Shades.{SameClassSameValue, StatesKeepTheirColours};
 
-/// In a picture with few values two cells have the same colour exactly where they have the same value.
+/// In a picture with few values two cells have the same class of colours exactly where they have the same value. Where a
+/// field has states, few enough for a colour each, the class of a state does not hang on which of them occur.
 pub fn same_class_same_value()
     ensures colours { SameClassSameValue }
+    ensures states { StatesKeepTheirColours }
 {}
 
 /// In the text of a network for Graphviz each link has one line, from the lesser number to the greater and with its
@@ -39,7 +41,7 @@ pub fn each_frame_has_its_colours()
     ensures times { EachFrameHasItsTime }
 {}
 
-/// A value has a curve exactly where some node has it after one of the rounds of the span. The curve has one point for
+/// A value has a curve exactly where it is a state or some node has it after one of the rounds of the span. The curve has one point for
 /// each round, in order, and no other; how high it stands is the number of nodes that have the value after the round.
 pub fn each_round_has_its_point()
     ensures curves { EachValueHasItsCurve }

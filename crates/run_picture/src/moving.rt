@@ -3,11 +3,13 @@ ghost use Rattle.std.specs.Prelude.{◌≡◌, ◌++◌, ◌≤◌, ◌<◌, ◌
 ghost use Rattle.run_picture.specs.Moving.{animate_text, begins, changing_text, clock_text, course_text, fills_text, fraction_text, last_text, most_frames, moving_cells, moving_group, moving_picture, moving_text, node_cell, node_text, place_text, times_text, turn_text};
 
 use crate::changes::{Change, changes_of, classes_of};
+use crate::chosen::CellShape;
 use crate::colour::put_fill;
 use crate::key::{Key, key_of};
 use crate::legend::put_legend;
 use crate::sheet::{
-    legend_top, put_cell, put_opening, put_style, sheet_height, sheet_width, side_of,
+    lattice, legend_top, outline, put_cell, put_opening, put_style, sheet_height, sheet_width,
+    side_of,
 };
 use crate::styles::ValueStyles;
 use std::alloc::{AllocError, Global};
@@ -129,12 +131,19 @@ pub(crate) fn put_animate(
 
 /// What stands first in a cell that changes.
 #[tactic(auto, unfolding(crate::specs::Moving::place_text))]
-fn put_place(out: &mut String, class: usize, column: u32, row: u32) -> Result<(), AllocError>
-    ensures text { OnOk result (string_bytes out.new ≡ string_bytes out.old ++ place_text class column row) }
+fn put_place(
+    out: &mut String,
+    shape: CellShape,
+    class: usize,
+    column: u32,
+    row: u32,
+) -> Result<(), AllocError>
+    ensures text { OnOk result (string_bytes out.new ≡ string_bytes out.old ++ place_text shape class column row) }
 {
+    let outline = outline(shape, row);
     write!(
         out,
-        "<path class=\"c{class}\" d=\"M{column} {row}h1v1h-1z\">"
+        "<path class=\"c{class}\" d=\"M{column} {row}{outline}\">"
     )
 }
 
@@ -152,7 +161,7 @@ fn put_changing(
     requires some { 1 ≤ pace.frames }
     ensures text { OnOk result (string_bytes out.new ≡ string_bytes out.old ++ changing_text key.now pace.frames pace.time class column row changes.now) }
 {
-    put_place(out, class, column, row)?;
+    put_place(out, key.styles().shape(), class, column, row)?;
     put_animate(out, key, pace, class, changes)?;
     out.push_str("</path>\n")
 }
@@ -171,7 +180,7 @@ fn put_moving(
     ensures text { OnOk result (string_bytes out.new ≡ string_bytes out.old ++ moving_text key.now pace.frames pace.time class column row changes.now) }
 {
     match changes {
-        [] => put_cell(out, class, column, row),
+        [] => put_cell(out, key.styles().shape(), class, column, row),
         _ => put_changing(out, key, pace, class, column, row, changes),
     }
 }
@@ -254,7 +263,8 @@ fn put_group(
     ensures text { OnOk result (string_bytes out.new ≡ string_bytes out.old ++ moving_group key.now pace.frames pace.time width nodes values.now) }
 {
     let side = side_of(width, nodes);
-    write!(out, "<g transform=\"scale({side})\">\n")?;
+    let lattice = lattice(key.styles().shape());
+    write!(out, "<g transform=\"scale({side}){lattice}\">\n")?;
     put_cells(out, alloc, key, pace, width, nodes, values)?;
     out.push_str("</g>\n")
 }

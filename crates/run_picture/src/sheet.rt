@@ -3,8 +3,9 @@ ghost use Rattle.std.specs.Prelude.{◌≡◌, ◌++◌, ◌≤◌, OnOk, IfOk, 
 ghost use Rattle.std.specs.List.{flat_map};
 ghost use Rattle.link_net.specs.Neighbours.{numbers_below};
 ghost use Rattle.run_picture.specs.Shades.{class_total};
-ghost use Rattle.run_picture.specs.Sheets.{cell_text, cells_text, class_style, columns_of, legend_top, opening_text, picture_text, rows_of, rows_text, sheet_height, sheet_text, sheet_width, side_of, style_text};
+ghost use Rattle.run_picture.specs.Sheets.{cell_text, cells_text, class_style, columns_of, lattice, legend_top, opening_text, outline, overhang, picture_text, rows_of, rows_text, sheet_height, sheet_text, sheet_width, side_of, style_text};
 
+use crate::chosen::CellShape;
 use crate::colour::{class_of, class_total, put_fill};
 use crate::key::{Key, key_of};
 use crate::legend::{legend_lines, legend_width, put_legend};
@@ -59,13 +60,27 @@ pub(crate) fn put_opening(out: &mut String, width: u32, height: u32) -> Result<(
     )
 }
 
+/// How far a row may stand out to the right, in pixels, where a cell has this side.
+fn overhang(shape: CellShape, side: u32) -> u32
+    requires side { side ≤ 24 }
+    ensures overhang { result ≡ overhang shape side }
+    ensures small { result ≤ 12 }
+{
+    match shape {
+        CellShape::Square => 0,
+        CellShape::Hexagon => (side + 1) / 2,
+    }
+}
+
 /// The size of the whole in pixels across.
 pub(crate) fn sheet_width(key: &Key<'_>, width: u32, count: u32) -> u32
     requires width { 1 ≤ width }
     requires count { count ≤ 1000000 }
     ensures { result ≡ sheet_width key.now width count }
 {
-    (side_of(width, count) * columns_of(width, count)).max(legend_width(key))
+    let side = side_of(width, count);
+    let hangs = overhang(key.styles().shape(), side);
+    (side * columns_of(width, count) + hangs).max(legend_width(key))
 }
 
 /// The size of the whole in pixels from the top to the bottom.
@@ -115,19 +130,44 @@ pub(crate) fn put_style(out: &mut String, key: &Key<'_>) -> Result<(), AllocErro
     out.push_str("</style>\n<rect width=\"100%\" height=\"100%\" fill=\"#ffffff\"/>\n")
 }
 
+/// The outline of a cell in a row.
+pub(crate) fn outline(shape: CellShape, row: u32) -> &'static str
+    ensures outline { result.now ≡ outline shape row }
+{
+    match shape {
+        CellShape::Square => "h1v1h-1z",
+        CellShape::Hexagon if row % 2 == 1 => {
+            "m1-.16667l.5 .33333v.66667l-.5 .33333-.5-.33333v-.66667z"
+        }
+        CellShape::Hexagon => "m.5-.16667l.5 .33333v.66667l-.5 .33333-.5-.33333v-.66667z",
+    }
+}
+
+/// How cells lie that are 1 wide and 1 apart.
+pub(crate) fn lattice(shape: CellShape) -> &'static str
+    ensures lattice { result.now ≡ lattice shape }
+{
+    match shape {
+        CellShape::Square => "",
+        CellShape::Hexagon => { " scale(1 .86603) translate(0 .16667)\" shape-rendering=\"auto" }
+    }
+}
+
 /// A cell.
 #[tactic(auto, unfolding(crate::specs::Sheets::cell_text))]
 pub(crate) fn put_cell(
     out: &mut String,
+    shape: CellShape,
     class: usize,
     column: u32,
     row: u32,
 ) -> Result<(), AllocError>
-    ensures text { OnOk result (string_bytes out.new ≡ string_bytes out.old ++ cell_text class column row) }
+    ensures text { OnOk result (string_bytes out.new ≡ string_bytes out.old ++ cell_text shape class column row) }
 {
+    let outline = outline(shape, row);
     write!(
         out,
-        "<path class=\"c{class}\" d=\"M{column} {row}h1v1h-1z\"/>\n"
+        "<path class=\"c{class}\" d=\"M{column} {row}{outline}\"/>\n"
     )
 }
 
@@ -139,7 +179,14 @@ fn put_rows(out: &mut String, key: &Key<'_>, width: u32, cells: &[u32]) -> Resul
 {
     for (place, value) in cells.iter().enumerate() {
         let place = place as u32;
-        put_cell(out, class_of(key, *value), place % width, place / width)?;
+        let class = class_of(key, *value);
+        put_cell(
+            out,
+            key.styles().shape(),
+            class,
+            place % width,
+            place / width,
+        )?;
     }
     Ok(())
 }
@@ -152,7 +199,8 @@ fn put_cells(out: &mut String, key: &Key<'_>, width: u32, cells: &[u32]) -> Resu
     ensures text { OnOk result (string_bytes out.new ≡ string_bytes out.old ++ cells_text key.now width cells.now) }
 {
     let side = side_of(width, cells.len() as u32);
-    write!(out, "<g transform=\"scale({side})\">\n")?;
+    let lattice = lattice(key.styles().shape());
+    write!(out, "<g transform=\"scale({side}){lattice}\">\n")?;
     put_rows(out, key, width, cells)?;
     out.push_str("</g>\n")
 }

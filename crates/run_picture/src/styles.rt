@@ -4,7 +4,7 @@ ghost use Rattle.run_picture.specs.declared.styles.StylesFault.TheVariants.{Memo
 ghost use Rattle.run_picture.specs.Chosen.{most_colours};
 ghost use Rattle.run_picture.specs.Styling.{colour_refusal};
 
-use crate::chosen::{Colour, ValueColour, own_place};
+use crate::chosen::{CellShape, Colour, ValueColour, own_place};
 use std::alloc::{AllocError, AllocFailed, Global};
 use std::marker::Model;
 use thiserror::Error;
@@ -36,11 +36,13 @@ impl From<AllocError> for StylesFault {
 }
 
 /// How the values of a field are shown: a value below the number of the names has its name, and any other its number; some
-/// values have colours of their own, and all others those of the palette. A contract sees the names and these colours.
+/// values have colours of their own, and all others those of the palette; cells have a shape. A contract sees the names, these
+/// colours and the shape.
 #[derive(Drop)]
 pub struct ValueStyles<'a> {
     names: &'a [String],
     colours: Vec<ValueColour>,
+    shape: CellShape,
 }
 
 impl<'a> Model for ValueStyles<'a> {
@@ -49,20 +51,28 @@ impl<'a> Model for ValueStyles<'a> {
 
     ghost Value = { StylesView };
 
-    ghost view = { λ s. record { names = map string_bytes s.names.now; colours = s.colours.items } };
+    ghost view = { λ s. record { names = map string_bytes s.names.now; colours = s.colours.items; shape = s.shape } };
 
     ghost invariant = { λ s. length s.colours.items ≤ most_colours };
 }
 
 impl<'a> ValueStyles<'a> {
-    /// The values 0, 1, 2 and so on by these names, all in the colours of the palette.
-    pub fn new(alloc: Global, names: &'a [String]) -> ValueStyles<'a>
-        ensures styles { result ≡ record { names = map string_bytes names.now; colours = [] } }
+    /// The values 0, 1, 2 and so on by these names, all in the colours of the palette, in cells of this shape.
+    pub fn new(alloc: Global, names: &'a [String], shape: CellShape) -> ValueStyles<'a>
+        ensures styles { result ≡ record { names = map string_bytes names.now; colours = []; shape = shape } }
     {
         ValueStyles {
             names,
             colours: Vec::new(alloc),
+            shape,
         }
+    }
+
+    /// The shape of cells.
+    pub(crate) fn shape(&self) -> CellShape
+        ensures shape { result ≡ self.now.shape }
+    {
+        self.shape
     }
 
     /// The names of the values 0, 1, 2 and so on.
@@ -99,7 +109,7 @@ impl<'a> ValueStyles<'a> {
     /// `TwoColours` comes where the value has one already, else `TooManyColours` where 64 values have one; `Memory` only
     /// where neither holds. Nothing is changed then.
     pub fn add(&mut self, value: u32, colour: Colour) -> Result<(), StylesFault>
-        ensures added { OnOk result (self.new ≡ record { names = self.old.names; colours = self.old.colours ++ record { value = value; colour = colour } ∷ [] }) }
+        ensures added { OnOk result (self.new ≡ record { names = self.old.names; colours = self.old.colours ++ record { value = value; colour = colour } ∷ []; shape = self.old.shape }) }
         ensures kept { IfErr result (λ _. self.new ≡ self.old) }
         ensures refused { IfErr result (λ fault. fault ≢ Memory → colour_refusal self.old value ≡ Some fault) }
         ensures at_once { MatchOption (colour_refusal self.old value) (Unit {0}) (λ fault. result ≡ Err fault) }

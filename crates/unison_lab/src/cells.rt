@@ -2,6 +2,7 @@
 
 use crate::endings::told_text;
 use crate::init::put_same;
+use crate::notes::put_note;
 use app_files::{Ending, Told, bytes_at, name_at};
 use app_requests::{CellsWord, InitRequest};
 use net_initial::{Chosen, Opening};
@@ -55,10 +56,46 @@ fn cells_of(alloc: Global, name: &str, text: &[u8]) -> Result<Vec<Cell>, Ending>
     }
 }
 
+/// The rule that a line names, where it is the header of runs that names one: `x = 3, y = 3, rule = B3/S23`.
+fn rule_in(line: &str) -> Option<&str> {
+    if !line.starts_with('x') {
+        return None;
+    }
+    let (_, behind) = line.split_once("rule")?;
+    let (_, rule) = behind.split_once('=')?;
+    Some(rule.trim())
+}
+
+/// The rule that a pattern of this text names, where it names one.
+fn rule_of(text: &[u8]) -> Option<&str> {
+    let text = str::from_utf8(text).ok()?;
+    for line in text.lines() {
+        if let Some(rule) = rule_in(line.trim()) {
+            return Some(rule);
+        }
+    }
+    None
+}
+
+/// Prints a note on the rule that a pattern of this name names, which no rule of a program follows from.
+fn note_rule(rt: &HostRuntime, name: &str, text: &[u8]) -> Result<(), Ending> {
+    if let Some(rule) = rule_of(text) {
+        let note = format!(in rt.alloc();
+            "{name} is a pattern for the rule {rule}; it is the program that says by which rule its cells live"
+        )?;
+        put_note(rt, note.as_str());
+    }
+    Ok(())
+}
+
 /// The live cells of the pattern at a path.
-fn cells_at(rt: &HostRuntime, path: &str) -> Result<Vec<Cell>, Ending> {
+fn cells_at(rt: &HostRuntime, path: &str, quiet: bool) -> Result<Vec<Cell>, Ending> {
     let bytes = bytes_at(rt, path)?;
-    cells_of(rt.alloc(), name_at(path), &bytes)
+    let cells = cells_of(rt.alloc(), name_at(path), &bytes)?;
+    if !quiet {
+        note_rule(rt, name_at(path), &bytes)?;
+    }
+    Ok(cells)
 }
 
 /// The ending where a pattern has no place on the grid.
@@ -189,8 +226,9 @@ fn put_word(
     rt: &HostRuntime,
     grid: &Grid,
     word: &CellsWord,
+    quiet: bool,
 ) -> Result<(), Ending> {
-    let cells = cells_at(rt, word.path.as_str())?;
+    let cells = cells_at(rt, word.path.as_str(), quiet)?;
     put_states(openings, rt.alloc(), grid, word, &cells)
 }
 
@@ -203,7 +241,7 @@ pub(crate) fn put_cells(
 ) -> Result<(), Ending> {
     let grid = grid_of(rt.alloc(), nodes, asked.width)?;
     for word in &asked.cells {
-        put_word(openings, rt, &grid, word)?;
+        put_word(openings, rt, &grid, word, asked.quiet)?;
     }
     Ok(())
 }

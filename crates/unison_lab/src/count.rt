@@ -3,14 +3,15 @@ ghost use Rattle.std.specs.Prelude.{IfSome};
 ghost use Rattle.app_requests.specs.Requests.{HasRuns};
 
 use crate::count_runs::runs_text;
-use crate::plan_texts::{NamedPlan, named_plan_at, read_plan_once};
+use crate::notes::put_note;
+use crate::plan_texts::{NamedPlan, noted_plan_at, read_plan_once};
 use crate::progress::Telling;
 use crate::watch::no_rounds;
 use app_files::{Ending, coloured_field, field_place, names_of_field, print_out, value_named};
 use app_requests::{CountRequest, FigureWord, UntilWord, ValueWord};
 use rounds_plan::Plan;
 use rule_check::Program;
-use run_counts::{CountFormat, Counting, Figure, FigureKind, Until, counted};
+use run_counts::{CountFormat, Counting, Figure, FigureKind, Holders, Until, counted};
 use std::alloc::Global;
 use std::thread::Threads;
 
@@ -72,7 +73,12 @@ fn until_of(
 ) -> Result<Option<Until>, Ending> {
     let field = field_place(alloc, program, "--until", word.field.as_str())?;
     let value = until_value(alloc, names_of_field(names, field), word)?;
-    Ok(Some(Until { field, value }))
+    let holders = word.holders.unwrap_or(Holders::NoNode);
+    Ok(Some(Until {
+        holders,
+        field,
+        value,
+    }))
 }
 
 /// When the rounds end early, where they may; the values of fields have these names.
@@ -88,11 +94,18 @@ fn until_for(
     }
 }
 
+/// How many states a field has whose values have these names: a model has 256 at most.
+fn states_in(names: &[String]) -> u32 {
+    names.len().min(256) as u32
+}
+
 /// What is counted, where fields have their places.
 #[derive(Drop)]
 pub(crate) struct Counted {
     format: CountFormat,
     field: u32,
+    /// How many states the counted field has.
+    states: u32,
     figures: Vec<Figure>,
     until: Option<Until>,
 }
@@ -111,6 +124,7 @@ impl Counted {
         Ok(Counted {
             format: asked.format,
             field,
+            states: states_in(names_of_field(names, field)),
             figures,
             until,
         })
@@ -126,6 +140,7 @@ impl Counted {
         Counting {
             format: self.format,
             field: self.field,
+            states: self.states,
             names,
             figures: &self.figures,
             until: self.until,
@@ -166,7 +181,7 @@ fn run_text(
     threads: &(impl Threads + Sync),
     asked: &CountRequest,
 ) -> Result<Vec<u8>, Ending> {
-    let named = named_plan_at(rt, &asked.runs.plan)?;
+    let named = noted_plan_at(rt, &asked.runs.plan, asked.quiet)?;
     plan_text(rt, threads, &named, asked)
 }
 
@@ -184,6 +199,26 @@ fn text_for<R: Threads + Sync>(
     }
 }
 
+/// Prints a note where a word of `--until` leaves out at which nodes the value is to stand.
+fn note_holders(rt: &HostRuntime, word: &UntilWord) -> Result<(), Ending> {
+    if word.holders.is_none() {
+        let field = word.field.as_str();
+        let note = format!(in rt.alloc();
+            "--until {field}=.. ends where no node has this value, and none:{field}=.. says so; all:{field}=.. ends where every node has it"
+        )?;
+        put_note(rt, note.as_str());
+    }
+    Ok(())
+}
+
+/// Prints notes on the words, unless they are left out.
+fn note_words(rt: &HostRuntime, asked: &CountRequest) -> Result<(), Ending> {
+    match &asked.until {
+        Some(word) if !asked.quiet => note_holders(rt, word),
+        _ => Ok(()),
+    }
+}
+
 /// Prints the counts that are asked for. The status with which the program ends.
 fn put_counts<R: Threads + Sync>(
     rt: &HostRuntime,
@@ -193,6 +228,7 @@ fn put_counts<R: Threads + Sync>(
     requires runs { IfSome asked.now.runs.varied HasRuns }
 {
     read_plan_once(rt.alloc(), &asked.runs.plan, "", "", "")?;
+    note_words(rt, asked)?;
     let text = text_for(rt, threads, asked)?;
     print_out(rt, &text)
 }

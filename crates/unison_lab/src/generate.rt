@@ -44,7 +44,7 @@ fn no_random(alloc: Global, fault: RandomFault) -> Ending {
     let text = match fault {
         RandomFault::NodeCount => "there are 1 to 65536 nodes",
         RandomFault::TooManyLinks =>
-            "a network has 262144 links at most, and no more than there are pairs of nodes: a node has fewer neighbours than there are nodes: a node has fewer neighbours than there are nodes",
+            "a network has 262144 links at most, and no more than there are pairs of nodes: a node has fewer neighbours than there are nodes",
         RandomFault::TooManyNeighbours =>
             "a node came out with more than 4096 neighbours: take another seed, or fewer links",
         RandomFault::OddEnds =>

@@ -1,12 +1,15 @@
 //! `import FORMAT FILE`: a network from another format, and the names of its nodes.
 
 use crate::endings::asked_by;
+use crate::import_columns::{columns_for, looks_headed, names_headings};
 use crate::json_refusals::json_refusal;
 use crate::refusals::refusal;
 use app_files::{Ending, bytes_at, name_at, put_note, write_file, write_out};
-use app_requests::{Format, ImportRequest};
+use app_requests::{Delimiter, Format, ImportRequest};
 use app_table::Draft;
+use import_edges::Columns;
 use import_json::JsonReading;
+use import_lines::all_digits;
 use import_network::{
     TakeFault, Taken, take_dot, take_edges, take_json, take_matrix, take_numbers, take_table,
     take_table_numbers,
@@ -21,10 +24,12 @@ fn take_rows(
     text: &[u8],
     asked: &ImportRequest,
     separator: Separator,
+    columns: Option<Columns>,
 ) -> Result<Taken, TakeFault> {
     let reading = TableReading {
         separator,
-        header: asked.header,
+        header: asked.header || names_headings(asked),
+        columns,
         factor: asked.factor,
     };
     if asked.numbers {
@@ -34,10 +39,18 @@ fn take_rows(
     }
 }
 
-/// The network of a list of edges.
-fn take_lines(alloc: Global, text: &[u8], asked: &ImportRequest) -> Result<Taken, TakeFault> {
+/// The network of a list of edges, where places between commas may be empty or not.
+fn take_lines(
+    alloc: Global,
+    text: &[u8],
+    asked: &ImportRequest,
+    gaps: bool,
+    columns: Option<Columns>,
+) -> Result<Taken, TakeFault> {
     let reading = import_edges::Reading {
-        header: asked.header,
+        header: asked.header || names_headings(asked),
+        columns,
+        gaps,
         factor: asked.factor,
     };
     if asked.numbers {
@@ -47,15 +60,31 @@ fn take_lines(alloc: Global, text: &[u8], asked: &ImportRequest) -> Result<Taken
     }
 }
 
-/// The network of a text.
-fn take_text(alloc: Global, text: &[u8], asked: &ImportRequest) -> Result<Taken, TakeFault> {
+/// The network of lines of edges, of which these columns are meant.
+fn take_columns(
+    alloc: Global,
+    text: &[u8],
+    asked: &ImportRequest,
+    columns: Option<Columns>,
+) -> Result<Taken, TakeFault> {
+    match asked.delimiter {
+        Delimiter::Sign(separator) => take_rows(alloc, text, asked, separator, columns),
+        Delimiter::Any => take_lines(alloc, text, asked, true, columns),
+        Delimiter::Unsaid => take_lines(alloc, text, asked, false, columns),
+    }
+}
+
+/// The network of a text, of whose lines these columns are meant where they say edges.
+fn take_text(
+    alloc: Global,
+    text: &[u8],
+    asked: &ImportRequest,
+    columns: Option<Columns>,
+) -> Result<Taken, TakeFault> {
     let factor = asked.factor;
     let undirected = asked.undirected;
     match asked.format {
-        Format::Edges => match asked.separator {
-            Some(separator) => take_rows(alloc, text, asked, separator),
-            None => take_lines(alloc, text, asked),
-        },
+        Format::Edges => take_columns(alloc, text, asked, columns),
         Format::MatrixMarket => {
             let reading = import_matrix::Reading { factor, undirected };
             take_matrix(alloc, text, &reading, asked.mending)
@@ -71,6 +100,54 @@ fn take_text(alloc: Global, text: &[u8], asked: &ImportRequest) -> Result<Taken,
     }
 }
 
+/// Whether a line is three whole numbers.
+fn is_triple(line: &[u8]) -> bool {
+    let mut words: usize = 0;
+    for word in line.split(|byte| matches!(*byte, b' ' | b'\t' | b'\r' | b',')) {
+        if !all_digits(word) {
+            return false;
+        }
+        if !word.is_empty() {
+            words = words.saturating_add(1);
+        }
+    }
+    words == 3
+}
+
+/// Whether three whole numbers stand in a line of a text.
+fn has_triple(text: &[u8]) -> bool {
+    for line in text.split(|byte| *byte == b'\n') {
+        if is_triple(line) {
+            return true;
+        }
+    }
+    false
+}
+
+/// Whether a third number was taken for a weight, and no word says that it is one: it may be an end, and the first a time.
+fn guesses_weights(asked: &ImportRequest, text: &[u8]) -> bool {
+    matches!(asked.format, Format::Edges)
+        && asked.columns.is_none()
+        && asked.factor.is_none()
+        && has_triple(text)
+}
+
+/// Whether the first line was taken for an edge, and looks like headings.
+fn guesses_edge(alloc: Global, asked: &ImportRequest, text: &[u8]) -> Result<bool, AllocError> {
+    match asked.format {
+        Format::Edges => looks_headed(alloc, asked, text),
+        _ => Ok(false),
+    }
+}
+
+/// What was made of a text, and what was guessed: that the first line is an edge, that weights stand in it.
+#[derive(Drop)]
+struct Imported {
+    taken: Taken,
+    guesses_edge: bool,
+    guesses_weights: bool,
+}
+
 /// Writes the names into their file, where there is one.
 fn keep_names(rt: &HostRuntime, asked: &ImportRequest, taken: &Taken) -> Result<(), Ending> {
     match &asked.names {
@@ -79,9 +156,18 @@ fn keep_names(rt: &HostRuntime, asked: &ImportRequest, taken: &Taken) -> Result<
     }
 }
 
-/// How many edges were dropped or merged, and how many weights rounded; nothing where none were.
-fn notes_text(alloc: Global, taken: &Taken) -> Result<String, AllocError> {
+/// Adds what was guessed as a line, where it was.
+fn put_guess(draft: &mut Draft, was_guessed: bool, told: &str) {
+    if was_guessed {
+        draft.put(if draft.is_empty() { "" } else { "\n" });
+        draft.put(told);
+    }
+}
+
+/// How many edges were dropped or merged, and how many weights rounded; and what was guessed. Nothing where nothing was.
+fn notes_text(alloc: Global, imported: &Imported) -> Result<String, AllocError> {
     let mut draft = Draft::new(alloc);
+    let taken = &imported.taken;
     put_note(
         &mut draft,
         "dropped",
@@ -97,6 +183,16 @@ fn notes_text(alloc: Global, taken: &Taken) -> Result<String, AllocError> {
         " into an earlier one",
     );
     put_note(&mut draft, "rounded", taken.rounded as u64, "weight", "");
+    put_guess(
+        &mut draft,
+        imported.guesses_edge,
+        "the first line looks like headings, and was taken for an edge (--header passes over it)",
+    );
+    put_guess(
+        &mut draft,
+        imported.guesses_weights,
+        "of three numbers in a line the third was taken for a weight (--columns FROM,TO[,WEIGHT] says which are meant)",
+    );
     draft.end()
 }
 
@@ -129,16 +225,28 @@ fn no_network(alloc: Global, asked: &ImportRequest, text: &[u8], fault: TakeFaul
 
 /// The network of this text, or what is told where it has none.
 fn taken_from(alloc: Global, asked: &ImportRequest, text: &[u8]) -> Result<Taken, Ending> {
-    match take_text(alloc, text, asked) {
+    let columns = columns_for(alloc, asked, text)?;
+    match take_text(alloc, text, asked, columns) {
         Ok(taken) => Ok(taken),
         Err(fault) => Err(no_network(alloc, asked, text, fault)),
     }
 }
 
-/// The network of the text that is asked for, or what is told where it has none.
-fn taken_for(rt: &HostRuntime, asked: &ImportRequest) -> Result<Taken, Ending> {
+/// What is made of this text, or what is told where it has no network.
+fn import_from(alloc: Global, asked: &ImportRequest, text: &[u8]) -> Result<Imported, Ending> {
+    let taken = taken_from(alloc, asked, text)?;
+    let guesses_edge = guesses_edge(alloc, asked, text)?;
+    Ok(Imported {
+        taken,
+        guesses_edge,
+        guesses_weights: guesses_weights(asked, text),
+    })
+}
+
+/// What is made of the text that is asked for, or what is told where it has no network.
+fn import_for(rt: &HostRuntime, asked: &ImportRequest) -> Result<Imported, Ending> {
     let text = bytes_at(rt, asked.path.as_str())?;
-    taken_from(rt.alloc(), asked, &text)
+    import_from(rt.alloc(), asked, &text)
 }
 
 /// Writes the names of the nodes, and prints the network.
@@ -161,15 +269,15 @@ fn put_noted(
 
 /// Writes the names of the nodes, prints the network, and tells what was done to make it. The status with which the program
 /// ends.
-fn put_taken(rt: &HostRuntime, asked: &ImportRequest, taken: &Taken) -> Result<u8, Ending> {
-    let notes = notes_text(rt.alloc(), taken)?;
-    put_noted(rt, asked, taken, notes.as_str())
+fn put_import(rt: &HostRuntime, asked: &ImportRequest, imported: &Imported) -> Result<u8, Ending> {
+    let notes = notes_text(rt.alloc(), imported)?;
+    put_noted(rt, asked, &imported.taken, notes.as_str())
 }
 
 /// Does what is asked for. The status with which the program ends.
 fn import(rt: &HostRuntime, asked: &ImportRequest) -> Result<u8, Ending> {
-    let taken = taken_for(rt, asked)?;
-    put_taken(rt, asked, &taken)
+    let imported = import_for(rt, asked)?;
+    put_import(rt, asked, &imported)
 }
 
 /// Prints the network of a text in another format, and writes the names of its nodes before. The status with which the

@@ -2,6 +2,7 @@
 
 use crate::endings::asked_by;
 use crate::explain::steps_at;
+use crate::grid::grid_width;
 use crate::labels::labels_at;
 use crate::page_names::value_names;
 use crate::page_size::{check_size, steps_too_many};
@@ -150,9 +151,12 @@ fn run_text(
     }
 }
 
-/// The grid that is asked for, 0 being none.
-fn grid_of(width: u32) -> Option<u32> {
-    if width > 0 { Some(width) } else { None }
+/// The width of the grid that is asked for, on the network of a plan, where there is one.
+fn grid_of(rt: &HostRuntime, plan: &Plan, asked: &PageRequest) -> Result<Option<u32>, Ending> {
+    match asked.view.grid {
+        Some(grid) => grid_width(rt, plan.network(), grid).map(Some),
+        None => Ok(None),
+    }
 }
 
 /// The data of what is asked for, these fields and names being shown, where the values of each field have these names.
@@ -167,11 +171,12 @@ fn data_with(
 ) -> Result<Vec<u8>, Ending> {
     let node_fields = asked.view.node_fields.as_slice();
     let names = value_names(rt.alloc(), plan.program(), states, node_fields, labels)?;
+    let grid = grid_of(rt, plan, asked)?;
     let look = Look {
         fields,
         names: names.as_slice(),
         labels,
-        grid: grid_of(asked.view.grid),
+        grid,
     };
     run_text(rt, threads, plan, &asked.run, &look)
 }

@@ -1,18 +1,19 @@
 //! `image PROGRAM NETWORK` and `dot PROGRAM NETWORK`: rounds as pictures, and networks for Graphviz.
 
 use crate::endings::asked_by;
+use crate::grid::{cell_shape, grid_width};
 use crate::labels::labels_at;
 use crate::picture_files::RoundFiles;
 use crate::plan_texts::{NamedPlan, named_plan_at, read_plan_once};
 use crate::progress::Telling;
 use crate::watch::no_rounds;
 use app_files::{Ending, coloured_field, names_of_field, path_in, print_out};
-use app_requests::{DotRequest, ImageRequest};
+use app_requests::{DotRequest, GridWidth, ImageRequest};
 use rounds_plan::Plan;
 use run_picture::{
-    Layout, MOST_CELLS, MOST_CURVES, MOST_FRAMES, MOST_POINTS, MOST_STROKES, PictureFault,
-    StylesFault, ValueColour, ValueStyles, count_picture, grid_picture, moving_picture,
-    network_dot, network_picture, round_pictures, time_picture,
+    CellShape, Layout, MOST_CELLS, MOST_CURVES, MOST_FRAMES, MOST_POINTS, MOST_STROKES,
+    PictureFault, StylesFault, ValueColour, ValueStyles, count_picture, grid_picture,
+    moving_picture, network_dot, network_picture, round_pictures, time_picture,
 };
 use run_watch::{Format, WatchFault};
 use std::alloc::Global;
@@ -83,8 +84,9 @@ fn styles_with<'a>(
     alloc: Global,
     names: &'a [String],
     colours: &[ValueColour],
+    shape: CellShape,
 ) -> Result<ValueStyles<'a>, StylesFault> {
-    let mut styles = ValueStyles::new(alloc, names);
+    let mut styles = ValueStyles::new(alloc, names, shape);
     for own in colours {
         styles.add(own.value, own.colour)?;
     }
@@ -97,10 +99,19 @@ fn styles_for<'a>(
     alloc: Global,
     names: &'a [String],
     colours: &[ValueColour],
+    shape: CellShape,
 ) -> Result<ValueStyles<'a>, Ending> {
-    match styles_with(alloc, names, colours) {
+    match styles_with(alloc, names, colours, shape) {
         Ok(styles) => Ok(styles),
         Err(_) => Err(Ending::Memory),
+    }
+}
+
+/// The shape of the cells of a picture: that of the grid on which the nodes stand by their links, where they are drawn as one.
+fn shape_for(plan: &Plan, asked: &ImageRequest) -> CellShape {
+    match asked.grid {
+        Some(GridWidth::Given(width)) => cell_shape(plan.network(), width),
+        _ => CellShape::Square,
     }
 }
 
@@ -180,7 +191,7 @@ fn drawn_grids(
 ) -> Result<Vec<u8>, PictureFault> {
     let alloc = rt.alloc();
     let span = &asked.span;
-    let width = asked.grid;
+    let width = GridWidth::number(asked.grid);
     let mut telling = Telling::new(rt, span, plan.network().nodes());
     moving_picture(
         threads,
@@ -204,7 +215,7 @@ fn drawn_grid(
     field: u32,
     styles: &ValueStyles<'_>,
 ) -> Result<Vec<u8>, PictureFault> {
-    let (round, width) = (asked.span.first(), asked.grid);
+    let (round, width) = (asked.span.first(), GridWidth::number(asked.grid));
     match asked.frame_time {
         Some(time) => drawn_grids(rt, threads, plan, asked, field, time, styles),
         None => grid_picture(threads, rt.alloc(), plan, round, field, width, styles),
@@ -224,7 +235,7 @@ fn drawn(
     if asked.links {
         return drawn_network(rt, threads, plan, asked, field, styles);
     }
-    if asked.grid > 0 {
+    if asked.grid.is_some() {
         return drawn_grid(rt, threads, plan, asked, field, styles);
     }
     drawn_rounds(rt, threads, plan, asked, field, styles)
@@ -254,7 +265,8 @@ fn styled_picture(
     field: u32,
 ) -> Result<Vec<u8>, Ending> {
     let names = names_of_field(&named.names, field);
-    let styles = styles_for(rt.alloc(), names, &asked.colours)?;
+    let shape = shape_for(&named.plan, asked);
+    let styles = styles_for(rt.alloc(), names, &asked.colours, shape)?;
     drawn_in_style(rt, threads, &named.plan, asked, field, &styles)
 }
 
@@ -269,22 +281,14 @@ fn picture_of(
     styled_picture(rt, threads, named, asked, field)
 }
 
-/// The picture that is asked for.
-fn picture_for(
-    rt: &HostRuntime,
-    threads: &(impl Threads + Sync),
-    asked: &ImageRequest,
-) -> Result<Vec<u8>, Ending> {
-    let named = named_plan_at(rt, &asked.plan)?;
-    picture_of(rt, threads, &named, asked)
-}
-
 /// How the nodes of single rounds are drawn.
 fn layout_of(asked: &ImageRequest) -> Layout {
     if asked.links {
         Layout::Network
     } else {
-        Layout::Cells { width: asked.grid }
+        Layout::Cells {
+            width: GridWidth::number(asked.grid),
+        }
     }
 }
 
@@ -324,7 +328,8 @@ fn round_texts(
     field: u32,
 ) -> Result<Vec<Vec<u8>>, Ending> {
     let names = names_of_field(&named.names, field);
-    let styles = styles_for(rt.alloc(), names, &asked.colours)?;
+    let shape = shape_for(&named.plan, asked);
+    let styles = styles_for(rt.alloc(), names, &asked.colours, shape)?;
     rounds_in_style(rt, threads, &named.plan, asked, field, &styles)
 }
 
@@ -375,38 +380,50 @@ fn put_files_of(
     put_coloured(rt, threads, named, asked, field, folder)
 }
 
-/// Writes the picture of each round into a file of a folder. The status with which the program ends.
-fn put_files(
-    rt: &HostRuntime,
-    threads: &(impl Threads + Sync),
-    asked: &ImageRequest,
-    folder: &str,
-) -> Result<u8, Ending> {
-    let named = named_plan_at(rt, &asked.plan)?;
-    put_files_of(rt, threads, &named, asked, folder)
-}
-
-/// Prints the picture that is asked for. The status with which the program ends.
+/// Prints the picture of a plan that is asked for. The status with which the program ends.
 fn put_picture(
     rt: &HostRuntime,
     threads: &(impl Threads + Sync),
+    named: &NamedPlan,
     asked: &ImageRequest,
 ) -> Result<u8, Ending> {
-    let text = picture_for(rt, threads, asked)?;
+    let text = picture_of(rt, threads, named, asked)?;
     print_out(rt, &text)
+}
+
+/// Prints the picture of a plan that is asked for, or writes those of all rounds into files. The status with which the program
+/// ends.
+fn put_drawn(
+    rt: &HostRuntime,
+    threads: &(impl Threads + Sync),
+    named: &NamedPlan,
+    asked: &ImageRequest,
+) -> Result<u8, Ending> {
+    match &asked.frames {
+        Some(folder) => put_files_of(rt, threads, named, asked, folder.as_str()),
+        None => put_picture(rt, threads, named, asked),
+    }
+}
+
+/// Notes the width of the grid that is asked for, on the network of a plan.
+fn set_width(rt: &HostRuntime, plan: &Plan, asked: &mut ImageRequest) -> Result<(), Ending> {
+    if let Some(grid) = asked.grid {
+        let width = grid_width(rt, plan.network(), grid)?;
+        asked.grid = Some(GridWidth::Given(width));
+    }
+    Ok(())
 }
 
 /// Prints the picture that is asked for, or writes those of all rounds into files. The status with which the program ends.
 fn put_image(
     rt: &HostRuntime,
     threads: &(impl Threads + Sync),
-    asked: &ImageRequest,
+    mut asked: ImageRequest,
 ) -> Result<u8, Ending> {
     read_plan_once(rt.alloc(), &asked.plan, "", "", "")?;
-    match &asked.frames {
-        Some(folder) => put_files(rt, threads, asked, folder.as_str()),
-        None => put_picture(rt, threads, asked),
-    }
+    let named = named_plan_at(rt, &asked.plan)?;
+    set_width(rt, &named.plan, &mut asked)?;
+    put_drawn(rt, threads, &named, &asked)
 }
 
 /// Prints a picture of rounds, or writes one of each into a file. The status with which the program ends.
@@ -416,7 +433,7 @@ pub(crate) fn make_image(
     words: &[String],
 ) -> Result<u8, Ending> {
     let asked = asked_by(ImageRequest::parse(rt.alloc(), words))?;
-    put_image(rt, threads, &asked)
+    put_image(rt, threads, asked)
 }
 
 /// The network of a plan in a round, for Graphviz, each node with its label, coloured so by a field.
@@ -445,7 +462,7 @@ fn labelled(
     labels: &[String],
 ) -> Result<Vec<u8>, Ending> {
     let names = names_of_field(&named.names, field);
-    let styles = styles_for(rt.alloc(), names, &asked.colours)?;
+    let styles = styles_for(rt.alloc(), names, &asked.colours, CellShape::Square)?;
     let (plan, round) = (&named.plan, asked.round);
     dot_in_style(rt.alloc(), threads, plan, round, field, labels, &styles)
 }

@@ -1,10 +1,13 @@
 //! Plans of the texts that the words name.
 
+use crate::notes::{put_cut_note, put_slip_notes};
 use app_files::{
-    Ending, NamedProgram, bytes_at, bytes_where, named_program_at, path_in, program_at, read_once,
+    Ending, NamedProgram, bytes_at, bytes_where, is_packed, named_program_at, packed_ending,
+    path_in, program_at, read_once,
 };
-use app_jobs::plan_from;
+use app_jobs::{ServeFault, plan_from};
 use app_requests::PlanPaths;
+use link_net::NetFault;
 use rounds_plan::Plan;
 use std::alloc::Global;
 use std::sync::Arc;
@@ -41,6 +44,7 @@ pub(crate) fn plan_of(
     };
     match plan_from(alloc, program, network, report) {
         Ok(plan) => Ok(plan),
+        Err(ServeFault::Net(NetFault::NotToml)) if is_packed(network) => Err(packed_ending(alloc)),
         Err(fault) => Err(Ending::Served(fault)),
     }
 }
@@ -79,6 +83,33 @@ fn named_plan_with(
     let plan = plan_with(rt, paths, &program.text)?;
     let NamedProgram { names, .. } = program;
     Ok(NamedPlan { plan, names })
+}
+
+/// The same, where notes on the program are printed unless they are left out.
+fn noted_plan_with(
+    rt: &HostRuntime,
+    paths: &PlanPaths,
+    program: NamedProgram,
+    quiet: bool,
+) -> Result<NamedPlan, Ending> {
+    let plan = plan_with(rt, paths, &program.text)?;
+    if !quiet {
+        put_slip_notes(rt, paths.program.as_str(), &program)?;
+        put_cut_note(rt, paths.program.as_str(), &program.text, plan.network())?;
+    }
+    let NamedProgram { names, .. } = program;
+    Ok(NamedPlan { plan, names })
+}
+
+/// The plan of the texts at these paths, with the names of the values of its program's fields. Notes on the program are
+/// printed on standard error before anything is computed, unless they are left out.
+pub(crate) fn noted_plan_at(
+    rt: &HostRuntime,
+    paths: &PlanPaths,
+    quiet: bool,
+) -> Result<NamedPlan, Ending> {
+    let program = named_program_at(rt, paths.program.as_str(), &paths.constants)?;
+    noted_plan_with(rt, paths, program, quiet)
 }
 
 /// The plan of the texts at these paths, with the names of the values of its program's fields.

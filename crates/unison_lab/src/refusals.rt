@@ -2,11 +2,13 @@
 
 use crate::json_refusals::json_told;
 use app_files::{
-    Told, edges_told, matrix_told, on_line, put_matrix_detail, put_place, weight_told, words_told,
+    Told, edges_told, heading_told, matrix_told, on_line, put_matrix_detail, put_place,
+    weight_told, words_told,
 };
 use app_requests::Format;
 use app_table::Draft;
 use import_dot::{DotFault, DotLineFault, TokenKind};
+use import_edges::{EdgeFault, LineFault};
 use import_lines::{WeightFault, WordsFault};
 use import_links::{JoinFault, NumberFault, SettleFault};
 use import_network::TakeFault;
@@ -19,11 +21,11 @@ fn fields_told(fault: WordsFault) -> (&'static str, &'static str) {
     match fault {
         WordsFault::OneWord => (
             "OneField",
-            "expected two names and, where it has one, a weight; found one field (--separator says what parts them: tab or comma)",
+            "expected two names and, where it has one, a weight; found one field (--delimiter says what parts them: comma or tab)",
         ),
         WordsFault::TooManyWords => (
             "TooManyFields",
-            "expected two names and, where it has one, a weight; found more than three fields: take the other columns out",
+            "expected two names and, where it has one, a weight; found more than three fields (--columns FROM,TO[,WEIGHT] says which are meant)",
         ),
         WordsFault::LongLine => ("LongField", "a field has 65536 bytes at most"),
         _ => words_told(fault),
@@ -33,6 +35,11 @@ fn fields_told(fault: WordsFault) -> (&'static str, &'static str) {
 /// What is wrong with a row of a table.
 fn row_told(fault: RowFault) -> (&'static str, &'static str) {
     match fault {
+        RowFault::Heading => heading_told(),
+        RowFault::NoColumn => (
+            "NoColumn",
+            "the row has fewer fields than --columns asks for",
+        ),
         RowFault::UnclosedQuote => (
             "UnclosedQuote",
             "a field that begins with a quote has no closing quote in its line; a quote inside is written twice",
@@ -43,6 +50,21 @@ fn row_told(fault: RowFault) -> (&'static str, &'static str) {
             "the weight is no number; blanks around it count too (--header passes over a line of headings)",
         ),
         RowFault::Weight(fault) => weight_told(fault),
+    }
+}
+
+/// What is wrong with a list of edges.
+fn list_told(fault: EdgeFault) -> Told {
+    match fault {
+        EdgeFault::BadLine {
+            line,
+            fault: LineFault::Words(WordsFault::TooManyWords),
+        } => (
+            Some(line),
+            "TooManyWords",
+            "expected two names and, where it has one, a weight; found more than three words (--columns FROM,TO[,WEIGHT] says which are meant)",
+        ),
+        fault => edges_told(fault),
     }
 }
 
@@ -195,7 +217,7 @@ fn settle_told(fault: SettleFault) -> Told {
 /// What is wrong with a text.
 pub(crate) fn told_of(fault: TakeFault) -> Told {
     match fault {
-        TakeFault::Edges(fault) => edges_told(fault),
+        TakeFault::Edges(fault) => list_told(fault),
         TakeFault::Table(fault) => table_told(fault),
         TakeFault::Matrix(fault) => matrix_told(fault, "a network has 65536 nodes at most"),
         TakeFault::Dot(fault) => dot_told(fault),

@@ -2,6 +2,7 @@
 
 use crate::csv_text::table_of;
 use crate::endings::asked_by;
+use crate::notes::put_note;
 use app_files::{Ending, bytes_at, name_at, print_out};
 use app_requests::{CellsFormat, CellsRequest};
 use app_table::Draft;
@@ -111,8 +112,8 @@ fn no_rows(alloc: Global, nodes: usize, width: u32) -> Ending {
     ))
 }
 
-/// The pattern of values.
-fn pattern_of(alloc: Global, values: &[u32], asked: &CellsRequest) -> Result<Vec<u8>, Ending> {
+/// The pattern of values, whose header names no rule.
+fn plain_pattern(alloc: Global, values: &[u32], asked: &CellsRequest) -> Result<Vec<u8>, Ending> {
     let width = asked.width.max(1);
     if values.len() % width as usize != 0 {
         return Err(no_rows(alloc, values.len(), width));
@@ -123,26 +124,72 @@ fn pattern_of(alloc: Global, values: &[u32], asked: &CellsRequest) -> Result<Vec
     }
 }
 
+/// Puts what names a rule in the header of runs.
+fn put_rule(text: &mut Vec<u8>, rule: &str) -> Result<(), AllocError> {
+    text.extend_from_slice(b", rule = ")?;
+    text.extend_from_slice(rule.as_bytes())
+}
+
+/// Runs whose header, their first line, names a rule.
+fn with_rule(alloc: Global, runs: &[u8], rule: &str) -> Result<Vec<u8>, AllocError> {
+    let mut text = Vec::new(alloc);
+    let mut in_header = true;
+    for byte in runs {
+        if in_header && *byte == b'\n' {
+            put_rule(&mut text, rule)?;
+            in_header = false;
+        }
+        text.push(*byte)?;
+    }
+    Ok(text)
+}
+
+/// The pattern of values.
+fn pattern_of(alloc: Global, values: &[u32], asked: &CellsRequest) -> Result<Vec<u8>, Ending> {
+    let pattern = plain_pattern(alloc, values, asked)?;
+    match &asked.rule {
+        Some(rule) => with_rule(alloc, &pattern, rule.as_str()).map_err(Ending::from),
+        None => Ok(pattern),
+    }
+}
+
+/// Prints a note where Golly will not read runs, since they have more than two states and name no rule.
+fn note_rule(rt: &HostRuntime, values: &[u32], asked: &CellsRequest) {
+    let has_more = values.iter().any(|value| *value > 1);
+    if has_more && asked.rule.is_none() && !asked.quiet {
+        put_note(
+            rt,
+            "there are more than two states, and the runs name no rule: Golly takes them for Life's then, which has two, and refuses them; --rule RULE names one, as --rule WireWorld",
+        );
+    }
+}
+
 /// The pattern of a table.
 fn table_pattern(
-    alloc: Global,
+    rt: &HostRuntime,
     table: &Table<'_>,
     asked: &CellsRequest,
 ) -> Result<Vec<u8>, Ending> {
-    let values = asked_values(alloc, table, &asked.field)?;
-    pattern_of(alloc, &values, asked)
+    let values = asked_values(rt.alloc(), table, &asked.field)?;
+    let pattern = pattern_of(rt.alloc(), &values, asked)?;
+    note_rule(rt, &values, asked);
+    Ok(pattern)
 }
 
 /// The pattern of a report.
-fn report_pattern(alloc: Global, asked: &CellsRequest, report: &[u8]) -> Result<Vec<u8>, Ending> {
-    let table = table_of(alloc, name_at(asked.report.as_str()), report)?;
-    table_pattern(alloc, &table, asked)
+fn report_pattern(
+    rt: &HostRuntime,
+    asked: &CellsRequest,
+    report: &[u8],
+) -> Result<Vec<u8>, Ending> {
+    let table = table_of(rt.alloc(), name_at(asked.report.as_str()), report)?;
+    table_pattern(rt, &table, asked)
 }
 
 /// The pattern that is asked for.
 fn pattern_for(rt: &HostRuntime, asked: &CellsRequest) -> Result<Vec<u8>, Ending> {
     let report = bytes_at(rt, asked.report.as_str())?;
-    report_pattern(rt.alloc(), asked, &report)
+    report_pattern(rt, asked, &report)
 }
 
 /// Prints the pattern that is asked for. The status with which the program ends.

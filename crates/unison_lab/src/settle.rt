@@ -1,7 +1,7 @@
 //! `settle PROGRAM NETWORK`: from which round on nothing changes, or all states come again.
 
 use crate::endings::asked_by;
-use crate::plan_texts::{plan_at, read_plan_once};
+use crate::plan_texts::{noted_plan_at, read_plan_once};
 use crate::progress::Silent;
 use crate::watch::no_rounds;
 use app_files::{Ending, all_fields, not_settled, print_out, settled_round, settling_line};
@@ -88,10 +88,10 @@ fn text_of(
 }
 
 /// What becomes of the rounds of the plan that is asked for.
-fn found_for(alloc: Global, plan: &Plan, limit: u32) -> Result<Settling, Ending> {
-    match settle(alloc, plan, limit) {
+fn found_for(alloc: Global, plan: &Plan, asked: &SettleRequest) -> Result<Settling, Ending> {
+    match settle(alloc, plan, asked.limit) {
         Ok(found) => Ok(found),
-        Err(fault) => Err(not_settled(alloc, fault)),
+        Err(fault) => Err(not_settled(alloc, asked.plan.program.as_str(), fault)),
     }
 }
 
@@ -102,7 +102,7 @@ fn told_of(
     plan: &Plan,
     asked: &SettleRequest,
 ) -> Result<Vec<u8>, Ending> {
-    let found = found_for(alloc, plan, asked.limit)?;
+    let found = found_for(alloc, plan, asked)?;
     text_of(alloc, threads, plan, asked, found)
 }
 
@@ -112,8 +112,8 @@ fn text_for(
     threads: &(impl Threads + Sync),
     asked: &SettleRequest,
 ) -> Result<Vec<u8>, Ending> {
-    let plan = plan_at(rt, &asked.plan)?;
-    told_of(rt.alloc(), threads, &plan, asked)
+    let named = noted_plan_at(rt, &asked.plan, asked.quiet)?;
+    told_of(rt.alloc(), threads, &named.plan, asked)
 }
 
 /// Prints what is told of the plan that is asked for. The status with which the program ends.

@@ -2,6 +2,7 @@
 
 use crate::endings::asked_by;
 use crate::labels::names_for;
+use crate::notes::put_note;
 use crate::plan_texts::{read_plan_once, shared_plan};
 use crate::text_lines::line_at;
 use app_files::{Ending, bytes_at, name_at, path_in, write_out};
@@ -95,16 +96,29 @@ fn put_counts(
     Ok(())
 }
 
-/// Puts how many steps hold, and how many of them have values.
-fn put_steps(out: &mut String, found: &Verified) -> Result<(), AllocError> {
-    let (s, hold) = if found.lines == 1 {
-        ("", "holds")
-    } else {
-        ("s", "hold")
-    };
+/// What stands behind the name of a thing of which there are so many.
+fn plural(count: u64) -> &'static str {
+    if count == 1 { "" } else { "s" }
+}
+
+/// How often all nodes have moved since a start at which each had moved so often.
+fn moves_since(start: u32, counts: &[u32]) -> u64 {
+    let mut moves: u64 = 0;
+    for count in counts {
+        moves = moves.saturating_add(u64::from(count.saturating_sub(start)));
+    }
+    moves
+}
+
+/// Puts how many steps hold, how many of them are reads and moves, and how many have values.
+fn put_steps(out: &mut String, start: u32, found: &Verified) -> Result<(), AllocError> {
+    let moves = moves_since(start, &found.counts);
+    let reads = found.lines.saturating_sub(moves);
+    let hold = if found.lines == 1 { "holds" } else { "hold" };
+    let (s, of_reads, of_moves) = (plural(found.lines), plural(reads), plural(moves));
     write!(
         out,
-        "{} step{s} {hold}, {} with values\n",
+        "{} step{s} {hold}: {reads} read{of_reads}, {moves} move{of_moves}; {} with values\n",
         found.lines, found.valued
     )
 }
@@ -121,9 +135,10 @@ fn put_few(out: &mut String, names: Option<&NodeNames>, counts: &[u32]) -> Resul
 fn put_held_text(
     out: &mut String,
     names: Option<&NodeNames>,
+    start: u32,
     found: &Verified,
 ) -> Result<(), AllocError> {
-    put_steps(out, found)?;
+    put_steps(out, start, found)?;
     put_extremes(out, names, &found.counts)?;
     put_few(out, names, &found.counts)
 }
@@ -132,11 +147,56 @@ fn put_held_text(
 fn held_text(
     alloc: Global,
     names: Option<&NodeNames>,
+    start: u32,
     found: &Verified,
 ) -> Result<String, AllocError> {
     let mut out = String::new(alloc);
-    put_held_text(&mut out, names, found)?;
+    put_held_text(&mut out, names, start, found)?;
     Ok(out)
+}
+
+/// The first node that has moved less often than so often.
+fn first_below(counts: &[u32], round: u32) -> Option<Moves> {
+    let mut node: u32 = 0;
+    for count in counts {
+        let count = *count;
+        if count < round {
+            return Some(Moves { node, count });
+        }
+        node = node.saturating_add(1);
+    }
+    None
+}
+
+/// What is told where a node has not come to a round.
+fn not_there_text(
+    alloc: Global,
+    names: Option<&NodeNames>,
+    found: Moves,
+    round: u32,
+) -> Result<String, AllocError> {
+    let mut out = String::new(alloc);
+    put_count(&mut out, names, found.node, found.count)?;
+    write!(
+        out,
+        ", and has not come to round {round}, which --until-round wants of every node\n"
+    )?;
+    Ok(out)
+}
+
+/// What a trace that holds leaves open: that it says nothing, or nothing of states.
+fn held_note(found: &Verified) -> Option<&'static str> {
+    if found.lines == 0 {
+        return Some(
+            "the trace has no steps, so nothing was checked; --until-round T wants each node to have come to round T",
+        );
+    }
+    if found.valued == 0 {
+        return Some(
+            "no step gives a value, so the order of reads and moves was checked, and no state",
+        );
+    }
+    None
 }
 
 /// The line of which a fault tells.
@@ -384,9 +444,34 @@ fn put_unheld(
     }
 }
 
-/// Prints what is told of a trace that holds. The status with which the program ends.
-fn put_held(rt: &HostRuntime, names: Option<&NodeNames>, found: &Verified) -> Result<u8, Ending> {
-    let told = held_text(rt.alloc(), names, found)?;
+/// Prints what is told of a trace that holds, and in which a node has not come to the round that is asked for. The status
+/// with which the program ends.
+fn put_not_there(
+    rt: &HostRuntime,
+    names: Option<&NodeNames>,
+    found: Moves,
+    round: u32,
+) -> Result<u8, Ending> {
+    let told = not_there_text(rt.alloc(), names, found, round)?;
+    put_with(rt, told.as_str(), UNHELD)
+}
+
+/// Prints what is told of a trace of which all lines hold. The status with which the program ends.
+fn put_held(
+    rt: &HostRuntime,
+    asked: &VerifyRequest,
+    names: Option<&NodeNames>,
+    start: u32,
+    found: &Verified,
+) -> Result<u8, Ending> {
+    if let Some(below) = first_below(&found.counts, asked.until_round) {
+        return put_not_there(rt, names, below, asked.until_round);
+    }
+    let told = held_text(rt.alloc(), names, start, found)?;
+    match held_note(found) {
+        Some(note) if !asked.quiet => put_note(rt, note),
+        _ => {}
+    }
     put_with(rt, told.as_str(), 0)
 }
 
@@ -394,32 +479,33 @@ fn put_held(rt: &HostRuntime, names: Option<&NodeNames>, found: &Verified) -> Re
 fn put_verdict(
     rt: &HostRuntime,
     plan: &Arc<Plan>,
+    asked: &VerifyRequest,
     names: Option<&NodeNames>,
-    name: &str,
     text: &[u8],
 ) -> Result<u8, Ending> {
     let shared = Arc::try_clone(plan)?;
+    let name = name_at(asked.trace.as_str());
     match verify(rt.alloc(), shared, names, text) {
-        Ok(found) => put_held(rt, names, &found),
+        Ok(found) => put_held(rt, asked, names, plan.start(), &found),
         Err(fault) => put_unheld(rt, Telling { plan, names }, name, text, fault),
     }
 }
 
-/// Prints what is told of the trace at a path, on a plan. The status with which the program ends.
+/// Prints what is told of the trace that is asked for, on a plan. The status with which the program ends.
 fn put_trace(
     rt: &HostRuntime,
     plan: &Arc<Plan>,
+    asked: &VerifyRequest,
     names: Option<&NodeNames>,
-    path: &str,
 ) -> Result<u8, Ending> {
-    let text = bytes_at(rt, path)?;
-    put_verdict(rt, plan, names, name_at(path), &text)
+    let text = bytes_at(rt, asked.trace.as_str())?;
+    put_verdict(rt, plan, asked, names, &text)
 }
 
 /// Prints what is told of a trace on a plan. The status with which the program ends.
 fn put_told(rt: &HostRuntime, plan: &Arc<Plan>, asked: &VerifyRequest) -> Result<u8, Ending> {
     let names = names_for(rt, &asked.names, plan.network().nodes())?;
-    put_trace(rt, plan, names.as_ref(), asked.trace.as_str())
+    put_trace(rt, plan, asked, names.as_ref())
 }
 
 /// Prints what is told of the trace on the plan that is asked for. The status with which the program ends.

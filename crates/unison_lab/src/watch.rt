@@ -2,7 +2,7 @@
 
 use crate::endings::asked_by;
 use crate::labels::labels_at;
-use crate::plan_texts::{NamedPlan, named_plan_at, read_plan_once};
+use crate::plan_texts::{NamedPlan, noted_plan_at, read_plan_once};
 use crate::progress::Telling;
 use app_files::{Ending, path_in, print_out, shown_fields};
 use app_jobs::ServeFault;
@@ -111,7 +111,7 @@ fn text_for(
     threads: &(impl Threads + Sync),
     asked: &WatchRequest,
 ) -> Result<Vec<u8>, Ending> {
-    let named = named_plan_at(rt, &asked.plan)?;
+    let named = noted_plan_at(rt, &asked.plan, asked.quiet)?;
     text_of(rt, threads, &named, asked)
 }
 

@@ -1,12 +1,13 @@
 //! `why COMMAND WORDS..`: why a command refuses its texts.
 
 use crate::endings::asked_by;
+use crate::plan_texts::noted_plan_at;
 use app_files::{
     Ending, ModelRefusal, Text, check_constants, is_model, path_in, print_fault, program_name,
-    read_once, refusal_of, text_at, text_where, write_out,
+    read_once, refusal_of, slips_in, text_at, text_where, write_out,
 };
 use app_jobs::ServeFault;
-use app_requests::constants_among;
+use app_requests::{PlanPaths, constants_among};
 use app_why::{Finding, Named, Texts, why};
 use app_words::{Request, UsageFault, command_as, job_by};
 use model_program::{ModelProgramFault, expanded};
@@ -224,12 +225,45 @@ fn found_in(
     found_with(alloc, request, &read.program, read)
 }
 
+/// The same with notes on what is accepted in the program's text and rarely meant.
+fn noted(alloc: Global, finding: Finding, program: &Text) -> Result<Finding, AllocError> {
+    if finding.fault.is_some() {
+        return Ok(finding);
+    }
+    let slips = slips_in(alloc, named(program))?;
+    let mut text = finding.text;
+    text.push_str(slips.as_str())?;
+    Ok(Finding { fault: None, text })
+}
+
+/// What is found with notes on the program's text, where nothing is wrong.
+fn with_notes(alloc: Global, found: Found, program: &Text) -> Result<Found, AllocError> {
+    match found {
+        Found::Job(finding) => {
+            let finding = noted(alloc, finding, program)?;
+            Ok(Found::Job(finding))
+        }
+        found => Ok(found),
+    }
+}
+
+/// What is found in the texts that were read for a request, with notes on the program's text.
+fn noted_in(
+    alloc: Global,
+    request: &Request,
+    constants: &[Given],
+    read: &ReadTexts,
+) -> Result<Found, AllocError> {
+    let found = found_in(alloc, request, constants, read)?;
+    with_notes(alloc, found, &read.program)
+}
+
 /// What is found in the texts of a request.
 fn found_for(rt: &HostRuntime, request: &Request, constants: &[Given]) -> Result<Found, Ending> {
     check_paths(rt.alloc(), request)?;
     check_constants(rt.alloc(), request.program.as_str(), constants)?;
     let read = read(rt, request)?;
-    found_in(rt.alloc(), request, constants, &read).map_err(Ending::from)
+    noted_in(rt.alloc(), request, constants, &read).map_err(Ending::from)
 }
 
 /// The status with which a command would end that has this fault, which is printed, or none.
@@ -271,8 +305,57 @@ fn put_words(rt: &HostRuntime, words: &[String], constants: &[Given]) -> Result<
     put_request(rt, &request, constants)
 }
 
-/// Tells why a command refuses its texts. The status with which that command would end.
+/// The paths of the plan of a request, where its command has a network, and none of its texts comes from standard input.
+fn plan_paths(request: Request, constants: Vec<Given>) -> Option<PlanPaths> {
+    let Request {
+        program,
+        network,
+        from,
+        ..
+    } = request;
+    let network = network?;
+    if program.as_str() == "-" || network.as_str() == "-" || path_in(&from) == "-" {
+        return None;
+    }
+    Some(PlanPaths {
+        program,
+        constants,
+        network,
+        from,
+    })
+}
+
+/// Prints the notes on a plan, where there is one: what refuses it is told by the command itself.
+fn put_plan_notes(rt: &HostRuntime, paths: &PlanPaths) {
+    match noted_plan_at(rt, paths, false) {
+        Ok(_named) => {}
+        Err(_ending) => {}
+    }
+}
+
+/// Prints the notes on what a command accepts, on standard error, and nothing besides. The status is 0.
+fn put_notes(rt: &HostRuntime, words: &[String], constants: Vec<Given>) -> Result<u8, Ending> {
+    let request = request_of(rt.alloc(), words)?;
+    if let Some(paths) = plan_paths(request, constants) {
+        put_plan_notes(rt, &paths);
+    }
+    Ok(0)
+}
+
+/// The words without the second one, where that is `--notes`.
+fn without_notes(words: &[String]) -> Option<&[String]> {
+    match words.get(1) {
+        Some(word) if word.as_str() == "--notes" => words.get(1..),
+        _ => None,
+    }
+}
+
+/// Tells why a command refuses its texts. The status with which that command would end. Behind `--notes`, which no help
+/// lists, the notes on what the command accepts are printed alone: so `./unison` tells them of the five commands.
 pub(crate) fn why_command(rt: &HostRuntime, words: &[String]) -> Result<u8, Ending> {
     let (constants, words) = asked_by(constants_among(rt.alloc(), words))?;
-    put_words(rt, &words, &constants)
+    match without_notes(&words) {
+        Some(words) => put_notes(rt, words, constants),
+        None => put_words(rt, &words, &constants),
+    }
 }

@@ -11,17 +11,19 @@ use run_settle::Settling;
 use std::alloc::{AllocError, Global};
 use std::thread::Threads;
 
-/// What becomes of the rounds of a plan up to a limit, which are shared among so many threads.
+/// What becomes of the rounds of a plan, whose program stands at a path, up to a limit; they are shared among so many
+/// threads.
 fn found_for<'a>(
     alloc: Global,
     threads: &'a (impl Threads + Sync),
     plan: &'a LargePlan<'a>,
+    path: &str,
     limit: u32,
     count: usize,
 ) -> Result<Settling, Ending> {
     match large_settle(threads, alloc, plan, limit, count) {
         Ok(found) => Ok(found),
-        Err(fault) => Err(not_settled(alloc, fault)),
+        Err(fault) => Err(not_settled(alloc, path, fault)),
     }
 }
 
@@ -80,12 +82,13 @@ fn text_of(
     alloc: Global,
     threads: &(impl Threads + Sync),
     start: &Start,
+    path: &str,
     limit: u32,
     count: usize,
     is_reported: bool,
 ) -> Result<Vec<u8>, Ending> {
     let plan = plan_of(alloc, start, count)?;
-    let found = found_for(alloc, threads, &plan, limit, count)?;
+    let found = found_for(alloc, threads, &plan, path, limit, count)?;
     found_text(alloc, threads, &plan, found, count, is_reported)
 }
 
@@ -99,6 +102,7 @@ pub(crate) fn settle_rounds(
 ) -> Result<u8, Ending> {
     let start = start_at(rt, threads, texts)?;
     let count = threads_for(threads, texts);
-    let text = text_of(rt.alloc(), threads, &start, limit, count, is_reported)?;
+    let (alloc, path) = (rt.alloc(), texts.program.as_str());
+    let text = text_of(alloc, threads, &start, path, limit, count, is_reported)?;
     print_out(rt, &text)
 }

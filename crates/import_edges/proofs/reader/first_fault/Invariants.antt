@@ -7,7 +7,7 @@ use Rattle.import_edges.proofs.reader.first_fault.Given as goal
 abbrev pub invariant-loop-number : goal.invariant-loop-number
 invariant-loop-number l = record {
   room : l.lines.passed + length l.lines.bytes.now < 2 ^ 64;
-  read : result_err (edges_in l.factor (told_from (l.lines.passed + 1) l.lines.bytes.now)) ≡ result_err (edges_in l.fn.factor (told_from (l.fn.from.passed + 1) l.fn.from.bytes.now));
+  read : result_err (edges_in l.reading (told_from (l.lines.passed + 1) l.lines.bytes.now)) ≡ result_err (edges_in l.fn.reading (told_from (l.fn.from.passed + 1) l.fn.from.bytes.now));
 }
 
 abbrev pub decreases-loop-number : goal.decreases-loop-number

@@ -5,4 +5,4 @@ use Rattle.import_table.proofs.RowSteps.{with_front}
 use Rattle.import_table.proofs.reader.collect.Given as goal
 
 abbrev pub invariant-loop-row : goal.invariant-loop-row
-invariant-loop-row l = with_front l.edges.items (edges_in l.factor (map row_of (drop l.row-index l.rows))) ≡ edges_in l.fn.factor (map row_of l.rows)
+invariant-loop-row l = with_front l.edges.items (edges_in l.reading (map row_of (drop l.row-index l.rows))) ≡ edges_in l.fn.reading (map row_of l.rows)

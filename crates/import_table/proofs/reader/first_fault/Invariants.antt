@@ -5,4 +5,4 @@ use Rattle.import_table.specs.View.{row_of}
 use Rattle.import_table.proofs.reader.first_fault.Given as goal
 
 abbrev pub invariant-loop-row : goal.invariant-loop-row
-invariant-loop-row l = result_err (edges_in l.factor (map row_of (drop l.row-index l.rows))) ≡ result_err (edges_in l.fn.factor (map row_of l.rows))
+invariant-loop-row l = result_err (edges_in l.reading (map row_of (drop l.row-index l.rows))) ≡ result_err (edges_in l.fn.reading (map row_of l.rows))

@@ -2,13 +2,14 @@ use Rattle.std.proofs.Common.{◌≡◌, ◌+◌, ◌++◌, [], ◌<◌, ◌^◌
 use Rattle.import_lines.specs.Texts.{told_from}
 use Rattle.import_edges.specs.Edges.{edges_in}
 use Rattle.large_pack.proofs.Rising.{numbers, lines_of}
+use Rattle.large_names.specs.Naming.{reading_of}
 use Rattle.large_names.proofs.Numbering.{numbered_after}
 use Rattle.large_names.proofs.ends.named_edges.Given as goal
 
 abbrev pub invariant-loop-number : goal.invariant-loop-number
 invariant-loop-number l = record {
   room : l.lines.passed + length l.lines.bytes.now < 2 ^ 64;
-  read : numbered_after l.options l.names l.edges.items (edges_in l.options.factor (told_from (l.lines.passed + 1) l.lines.bytes.now)) ≡ numbered_after l.options [] [] (edges_in l.options.factor (told_from (l.fn.from.passed + 1) l.fn.from.bytes.now));
+  read : numbered_after l.options l.names l.edges.items (edges_in (reading_of l.options) (told_from (l.lines.passed + 1) l.lines.bytes.now)) ≡ numbered_after l.options [] [] (edges_in (reading_of l.options) (told_from (l.fn.from.passed + 1) l.fn.from.bytes.now));
   lines : lines_of l.edges.items ++ numbers (told_from (l.lines.passed + 1) l.lines.bytes.now) ≡ numbers (told_from (l.fn.from.passed + 1) l.fn.from.bytes.now);
 }
 

@@ -4,5 +4,5 @@ use Rattle.large_names.proofs.ends.number_edge.Goals as goal
 
 pub returns-clause-edge : goal.returns-clause-edge
 returns-clause-edge c =
-    rw (c.in_ok-first.ensures.number, c.in_ok-second.ensures.number, c.in_ok-first.ensures.names, c.weight.ensures.weight, c.line.ensures.line, c.first.ensures.name, c.second.ensures.name)
-    (sym (edge_placed c.args.names.now c.args.edge.now))
+    rw (c.edge_between.ensures, c.in_ok-first.ensures.number, c.in_ok-second.ensures.number, c.in_ok-first.ensures.names, c.first.ensures.name, c.second.ensures.name)
+    (sym (edge_placed c.args.reverse c.args.names.now c.args.edge.now))

@@ -1,28 +1,28 @@
 use Rattle.std.proofs.Common.{◌≡◌, ◌∙◌, ℕ, ◌+◌, ◌≤◌, List, [], length, map, Ok, Err, ap, sym, subst}
 use Rattle.link_net.specs.Limits.{most_rows}
 use Rattle.import_lines.specs.Texts.{told_from}
-use Rattle.import_edges.specs.Edges.{edges_in, edges_of}
+use Rattle.import_edges.specs.Edges.{edges_in, edge_lines}
 use Rattle.import_links.specs.Joining.{names_with}
 use Rattle.large_pack.specs.declared.ranked.Ranked.{Ranked}
 use Rattle.large_pack.specs.Ranks.{ranked, RankedWithin}
 use Rattle.large_pack.proofs.Rising.{all_tied}
 use Rattle.large_names.specs.Faults.{edges_fault}
-use Rattle.large_names.specs.Naming.{numbered, packing_of}
+use Rattle.large_names.specs.Naming.{numbered, packing_of, reading_of}
 use Rattle.large_names.proofs.Numbering.{numbered_within, some_names}
 use Rattle.large_names.proofs.NamedPacks.{Known, known, passed_on, packs_here, packed_answers, fault_answers}
 use Rattle.large_names.proofs.pack.pack_names.Goals as goal
 use Rattle.large_names.proofs.pack.pack_names.Goals.{In_ok-named}
 
-known_here : (c : In_ok-named) → Known c.args.options.now.self_loops (edges_of c.args.options.now.header c.args.options.now.factor c.args.text.now)
-known_here c = known c.in_ok-check_edges.field-0 c.args.options.now.self_loops (edges_of c.args.options.now.header c.args.options.now.factor c.args.text.now) c.in_ok-check_edges.ensures
+known_here : (c : In_ok-named) → Known c.args.options.now.self_loops (edges_in (reading_of c.args.options.now) (edge_lines c.args.options.now.header c.args.text.now))
+known_here c = known c.in_ok-check_edges.field-0 c.args.options.now.self_loops (edges_in (reading_of c.args.options.now) (edge_lines c.args.options.now.header c.args.text.now)) c.in_ok-check_edges.ensures
 
-told_here : (c : In_ok-named) → edges_in c.args.options.now.factor (told_from (c.edge_lines.result.passed + 1) c.edge_lines.result.bytes.now) ≡ Ok (known_here c).0
+told_here : (c : In_ok-named) → edges_in (reading_of c.args.options.now) (told_from (c.edge_lines.result.passed + 1) c.edge_lines.result.bytes.now) ≡ Ok (known_here c).0
 told_here c = rw (c.edge_lines.ensures.lines) (known_here c).1
 
 names_here : (c : In_ok-named) → c.in_ok-named.named.names ≡ names_with [] (known_here c).0
 names_here c = c.in_ok-named.ensures.names (known_here c).0 (told_here c)
 
-edges_here : (c : In_ok-named) → c.in_ok-named.named.edges.items ≡ map (ranked c.args.options.now) (numbered (names_with [] (known_here c).0) (known_here c).0)
+edges_here : (c : In_ok-named) → c.in_ok-named.named.edges.items ≡ map (ranked c.args.options.now) (numbered c.args.options.now.reverse (names_with [] (known_here c).0) (known_here c).0)
 edges_here c = c.in_ok-named.ensures.edges (known_here c).0 (told_here c)
 
 pub pack_ranked-requires-clause-some : goal.pack_ranked-requires-clause-some
@@ -36,12 +36,12 @@ pack_ranked-requires-clause-within c =
     let es = (known_here b).0 in
     let as_many : c.count-nodes.result ≡ length (names_with [] es) = c.count-nodes.ensures.count ∙ ap length (names_here b) in
     subst (λ (items : List Ranked). RankedWithin c.count-nodes.result items) (sym (edges_here b))
-    (subst (λ (n : ℕ). RankedWithin n (map (ranked c.args.options.now) (numbered (names_with [] es) es))) (sym as_many) (numbered_within c.args.options.now es))
+    (subst (λ (n : ℕ). RankedWithin n (map (ranked c.args.options.now) (numbered c.args.options.now.reverse (names_with [] es) es))) (sym as_many) (numbered_within c.args.options.now es))
 
 pub pack_ranked-requires-clause-tied : goal.pack_ranked-requires-clause-tied
 pack_ranked-requires-clause-tied c h =
     let b = (goal.at.pack_ranked-requires-clause-tied c).In_ok-named in
-    rw (edges_here b) (all_tied c.args.options.now (numbered (names_with [] (known_here b).0) (known_here b).0) (rw c.named_options-packing.ensures at h))
+    rw (edges_here b) (all_tied c.args.options.now (numbered c.args.options.now.reverse (names_with [] (known_here b).0) (known_here b).0) (rw c.named_options-packing.ensures at h))
 
 pub returns-in_err-packed-clause-answer : goal.returns-in_err-packed-clause-answer
 returns-in_err-packed-clause-answer c =

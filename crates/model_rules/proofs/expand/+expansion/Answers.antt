@@ -10,14 +10,14 @@ use Rattle.model_rules.specs.declared.fault.ExpandFault.{ExpandFault}
 use Rattle.model_rules.specs.declared.fault.ExpandFault.TheVariants as fault
 use Rattle.model_rules.specs.Terms.{TermTree, looks}
 use Rattle.model_rules.specs.TermView.{term_of}
-use Rattle.model_rules.specs.TermFor.{number_in, first_term, term_for, terms_for}
+use Rattle.model_rules.specs.TermFor.{first_term, term_for, terms_for}
 use Rattle.model_rules.specs.Operators.{is_end}
 use Rattle.model_rules.specs.ScopeView.{frame_of, knowns_of, later_of}
-use Rattle.model_rules.specs.Refusals.{item_at, parts_left, let_for, apply_cause}
+use Rattle.model_rules.specs.Refusals.{item_at, parts_left, let_for, call_cause}
 use Rattle.model_rules.specs.FirstFaults.{told_at, first_of, outside_cause, below_cause, bound_cause, chance_cause, node_cause, draw_cause, only_fault, few_fault, fault_in, arms_fault, faults_in}
-use Rattle.model_rules.specs.Parts.{size, unless_wrong, let_parts, parts_upto, only_parts, parts_below, arms_parts, parts_each, parts_in}
-use Rattle.model_rules.proofs.Called.{bound_first, more_told, rest_told}
-use Rattle.model_rules.proofs.Parts.{told_long, told_first, told_plain, told_here, told_next, told_or, told_more, told_at_once, all_made, refused_behind, refused_next, refused_out, refused_plain, refused_alone}
+use Rattle.model_rules.specs.Parts.{size, unless_wrong, let_parts, parts_upto, only_parts, parts_below, arms_parts, parts_each, parts_in, bounded_fault}
+use Rattle.model_rules.proofs.Called.{bound_first, few_only, more_told, rest_told}
+use Rattle.model_rules.proofs.Parts.{told_long, told_first, told_plain, told_here, told_next, told_or, told_more, all_made, refused_behind, refused_next, refused_out, refused_plain, refused_alone}
 use Rattle.model_rules.proofs.expand.+expansion.Goals as goal
 
 pub application-returns-in_err-terms-clause-refused : goal.application-returns-in_err-terms-clause-refused
@@ -31,7 +31,7 @@ application-returns-in_err-terms-clause-refused t c =
     let item = item_at room in
     let es = arguments_of c.args.arguments.now in
     let lets = let_for (knowns_of c.args.scope.now.lets.items) c.args.name.now in
-    let own = apply_cause lets later c.args.name.now (length (terms_for f es)) (i || list_any looks (terms_for f es)) in
+    let own = call_cause f later c.args.name.now (length (terms_for f es)) (i || list_any looks (terms_for f es)) in
     let made = parts_upto (faults_in f later i es) (parts_each f later i es) in
     let more = unless_wrong own (let_parts lets (terms_for f es)) in
     rw (p.1, p.2) (λ m. told_here left made more item (first_of (faults_in f later i es)) (told_at c.args.at own) _ (c.in_err-terms.ensures.refused m))
@@ -46,11 +46,11 @@ application-returns-clause-refused t c =
     let item = item_at room in
     let es = arguments_of c.args.arguments.now in
     let lets = let_for (knowns_of c.args.scope.now.lets.items) c.args.name.now in
-    let own = apply_cause lets later c.args.name.now (length (terms_for f es)) (i || list_any looks (terms_for f es)) in
+    let own = call_cause f later c.args.name.now (length (terms_for f es)) (i || list_any looks (terms_for f es)) in
     let made = parts_upto (faults_in f later i es) (parts_each f later i es) in
     let more = unless_wrong own (let_parts lets (terms_for f es)) in
-    let told = rw (c.deref.ensures.value, sym (length-map c.in_ok-terms.terms.items term_of), c.in_ok-terms.ensures.exact) at c.applied.ensures.refused in
-    refused_next c.applied.result left (parts_left c.each.new.room) made more item (item_at c.each.new.room) (first_of (faults_in f later i es)) (told_at c.args.at own) c.in_ok-terms.ensures.faultless c.in_ok-terms.ensures.taken c.in_ok-terms.ensures.item told
+    let told = rw (c.deref.ensures.value, sym (length-map c.in_ok-terms.terms.items term_of), c.in_ok-terms.ensures.exact) at c.called.ensures.refused in
+    refused_next c.called.result left (parts_left c.each.new.room) made more item (item_at c.each.new.room) (first_of (faults_in f later i es)) (told_at c.args.at own) c.in_ok-terms.ensures.faultless c.in_ok-terms.ensures.taken c.in_ok-terms.ensures.item told
 
 pub bound-returns-in_err-limit-clause-refused : goal.bound-returns-in_err-limit-clause-refused
 bound-returns-in_err-limit-clause-refused t c =
@@ -84,7 +84,7 @@ bound-returns-in_err-check_bound-clause-refused t c =
     rw (p.1, p.2)
     (λ m. told_first left made item (option_or own behind) (omega (arith, taken))
     ∙ (bound_first f later i c.args.at es c.in_ok-limit.ensures.faultless
-    ∙ (ap (λ (x : TermTree). told_at c.args.at (below_cause (number_in x))) (sym c.in_ok-limit.ensures.exact) ∙ c.in_err-check_bound.ensures.refused)))
+    ∙ (ap (λ (x : TermTree). told_at c.args.at (below_cause x)) (sym c.in_ok-limit.ensures.exact) ∙ c.in_err-check_bound.ensures.refused)))
 
 pub cases-returns-in_err-test-in-Arm-clause-refused : goal.cases-returns-in_err-test-in-Arm-clause-refused
 cases-returns-in_err-test-in-Arm-clause-refused t c =
@@ -468,8 +468,8 @@ difference-returns-in_ok-second-in-Argument-clause-refused t c =
     (all_made left (parts_left c.expression.new.room) (parts_left c.single.new.room) (parts_in f later i e) (only_parts (parts_each f later i es)) (fault_in f later i e) none taken taken2)
     (c.in_ok-second-in-Argument.ensures.item ∙ c.in_ok-first-in-Argument.ensures.item) many c.distance.ensures.refused)
 
-pub random-returns-in_err-draw-clause-refused : goal.random-returns-in_err-draw-clause-refused
-random-returns-in_err-draw-clause-refused t c =
+pub random-returns-in_err-limit-in-Argument-clause-refused : goal.random-returns-in_err-limit-in-Argument-clause-refused
+random-returns-in_err-limit-in-Argument-clause-refused t c =
     let p = err_from_is_err_and c.from_residual.result c.from_residual.ensures.1 in
     let f = frame_of c.args.scope.now in
     let later = later_of c.args.scope.now in
@@ -478,4 +478,44 @@ random-returns-in_err-draw-clause-refused t c =
     let left = parts_left room in
     let item = item_at room in
     let es = arguments_of c.args.arguments.now in
-    rw (p.1, p.2) (λ m. told_at_once left (only_parts (parts_each f later i es)) item c.args.at (draw_cause c.args.source f i c.args.at) (option_or (few_fault c.args.at (faults_in f later i es)) (told_at c.args.at (bound_cause (terms_for f es)))) _ (c.in_err-draw.ensures.refused m))
+    let made = only_parts (parts_each f later i es) in
+    let own = only_fault c.args.at (faults_in f later i es) in
+    let few = few_fault c.args.at (faults_in f later i es) in
+    let below = told_at c.args.at (bound_cause (terms_for f es)) in
+    let drawn = told_at c.args.at (draw_cause c.args.source f i c.args.at) in
+    let one : few ≡ own = few_only f later i c.args.at es _ _ (ap arguments_of c.in-Argument.is) in
+    rw (p.1, p.2)
+    (λ m. ap (λ (x : Option ExpandFault). bounded_fault left made item (option_or (option_or x below) drawn)) one
+    ∙ told_or left made item (option_or own below) drawn _ (c.in_err-limit-in-Argument.ensures.refused m))
+
+pub random-returns-in_err-draw-in-Argument-clause-refused : goal.random-returns-in_err-draw-in-Argument-clause-refused
+random-returns-in_err-draw-in-Argument-clause-refused t c =
+    let p = err_from_is_err_and c.from_residual-in_err-draw-in-Argument.result c.from_residual-in_err-draw-in-Argument.ensures.1 in
+    let f = frame_of c.args.scope.now in
+    let later = later_of c.args.scope.now in
+    let i = c.args.inside in
+    let room = c.args.room.now in
+    let left = parts_left room in
+    let item = item_at room in
+    let es = arguments_of c.args.arguments.now in
+    let made = only_parts (parts_each f later i es) in
+    let own = only_fault c.args.at (faults_in f later i es) in
+    let few = few_fault c.args.at (faults_in f later i es) in
+    let below = told_at c.args.at (bound_cause (terms_for f es)) in
+    let drawn = told_at c.args.at (draw_cause c.args.source f i c.args.at) in
+    let one : few ≡ own = few_only f later i c.args.at es _ _ (ap arguments_of c.in-Argument.is) in
+    let taken = c.in_ok-limit-in-Argument.ensures.taken in
+    rw (p.1, p.2)
+    (λ m. told_first left made item (option_or (option_or few below) drawn) (omega (arith, taken))
+    ∙ (ap (λ (x : Option ExpandFault). option_or (option_or x below) drawn) one
+    ∙ (ap (λ (x : Option ExpandFault). option_or x drawn) c.in_ok-limit-in-Argument.ensures.faultless ∙ c.in_err-draw-in-Argument.ensures.refused m)))
+
+pub random-returns-in-End-clause-refused : goal.random-returns-in-End-clause-refused
+random-returns-in-End-clause-refused t c =
+    let f = frame_of c.args.scope.now in
+    let later = later_of c.args.scope.now in
+    let i = c.args.inside in
+    let room = c.args.room.now in
+    let left = parts_left room in
+    let item = item_at room in
+    rw c.in-End.is (refused_alone c.random_term.result left item (told_at c.args.at (draw_cause c.args.source f i c.args.at)) c.random_term.ensures.refused)

@@ -16,7 +16,7 @@ returns g c =
         rows = rows;
         values = values;
         rows_are = c.in_ok-rows.ensures.rows;
-        values_are = subst (λ (rs : List RowView). AreValues rs values) c.deref.ensures.value c.in_ok-values.ensures.values;
+        values_are = subst (λ (rs : List RowView). AreValues counting.states rs values) c.deref.ensures.value c.in_ok-values.ensures.values;
         spelled =
             c.in_ok-text.ensures.text
             ∙ ap (λ (r : Rules). text r c.deref-2.result.now c.deref-3.result.now) c.program.ensures.program

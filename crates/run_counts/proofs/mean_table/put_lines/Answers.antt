@@ -2,7 +2,7 @@ use Rattle.std.proofs.Common.{◌∙◌, ◌<◌, ◌+◌, ◌-◌, ◌++◌, �
 use Rattle.std.specs.List.{flat_map, range_with_len}
 use Rattle.rule_check.specs.Value.{names_of}
 use Rattle.run_watch.proofs.Ranges.{flat_left}
-use Rattle.run_counts.specs.MeanTables.{longest, mean_text, rows_at}
+use Rattle.run_counts.specs.MeanTables.{line_at, longest}
 use Rattle.run_counts.proofs.mean_table.put_lines.Goals as goal
 
 pub loop-place-preserved : goal.loop-place-preserved
@@ -11,7 +11,7 @@ loop-place-preserved c =
     let l = c.loop-place in
     let k = l.place in
     let n = longest runs in
-    let line = λ (i : ℕ). mean_text c.args.counting.now.format c.args.counting.now.names.now (names_of c.args.program.now) c.args.columns.now (rows_at i runs) in
+    let line = line_at c.args.counting.now.format c.args.counting.now.names.now (names_of c.args.program.now) c.args.columns.now c.args.counting.now.until runs in
     let rest = flat_map line (range_with_len (k + 1) (n - (k + 1))) in
     let inside : k < n = omega (arith, c.loop-place-test.true, c.longest-place-end.ensures.longest) in
     ap (λ (text : List ℕ). text ++ rest) c.in_ok-put_line.ensures.text

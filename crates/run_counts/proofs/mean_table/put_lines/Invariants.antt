@@ -1,11 +1,11 @@
-use Rattle.std.proofs.Common.{◌≡◌, ◌++◌, ◌-◌, ℕ, string_bytes}
+use Rattle.std.proofs.Common.{◌≡◌, ◌++◌, ◌-◌, string_bytes}
 use Rattle.std.specs.List.{flat_map, range_with_len}
 use Rattle.rule_check.specs.Value.{names_of}
-use Rattle.run_counts.specs.MeanTables.{longest, mean_text, rows_at}
+use Rattle.run_counts.specs.MeanTables.{line_at, longest}
 use Rattle.run_counts.proofs.mean_table.put_lines.Given as goal
 
 abbrev pub invariant-loop-place : goal.invariant-loop-place
 invariant-loop-place l =
     string_bytes l.out
-    ++ flat_map (λ (k : ℕ). mean_text l.counting.format l.counting.names.now (names_of l.program) l.columns (rows_at k l.runs)) (range_with_len l.place (longest l.runs - l.place))
-    ≡ string_bytes l.initial.out ++ flat_map (λ (k : ℕ). mean_text l.counting.format l.counting.names.now (names_of l.program) l.columns (rows_at k l.runs)) (range_with_len 0 (longest l.runs))
+    ++ flat_map (line_at l.counting.format l.counting.names.now (names_of l.program) l.columns l.counting.until l.runs) (range_with_len l.place (longest l.runs - l.place))
+    ≡ string_bytes l.initial.out ++ flat_map (line_at l.counting.format l.counting.names.now (names_of l.program) l.columns l.counting.until l.runs) (range_with_len 0 (longest l.runs))

@@ -21,7 +21,7 @@ returns g c =
         runs = runs;
         values = values;
         runs_are = c.in_ok-runs.ensures.runs;
-        values_are = subst (λ (rs : List RunView). AreValues (rows_in rs) values) c.deref.ensures.value c.in_ok-values.ensures.values;
+        values_are = subst (λ (rs : List RunView). AreValues counting.states (rows_in rs) values) c.deref.ensures.value c.in_ok-values.ensures.values;
         spelled =
             c.in_ok-text.ensures.text
             ∙ ap (λ (ns : List (List ℕ)). text ns c.deref-2.result.now c.deref-3.result.now) c.first_program-program.ensures.names

@@ -23,13 +23,13 @@ returns g c =
     let values = c.in_ok-values.values.items in
     let names = names_in e.variants.now in
     let columns = columns_of values counting.figures.now in
-    let text = λ (ns : List (List ℕ)) (cs : List Column) (rs : List RunView). means_text counting.format counting.names.now ns cs rs in
+    let text = λ (ns : List (List ℕ)) (cs : List Column) (rs : List RunView). means_text counting.format counting.names.now ns cs counting.until rs in
     record {
       text = record {
         runs = runs;
         values = values;
         runs_are = c.in_ok-runs.ensures.runs;
-        values_are = subst (λ (rs : List RunView). AreValues (rows_in rs) values) c.deref.ensures.value c.in_ok-values.ensures.values;
+        values_are = subst (λ (rs : List RunView). AreValues counting.states (rows_in rs) values) c.deref.ensures.value c.in_ok-values.ensures.values;
         spelled =
             c.in_ok-text.ensures.text
             ∙ ap (λ (ns : List (List ℕ)). text ns c.deref-3.result.now c.deref-4.result.now) c.first_program-program.ensures.names

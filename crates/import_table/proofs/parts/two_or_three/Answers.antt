@@ -1,7 +1,7 @@
 use Rattle.std.proofs.Common.{sym, ◌∙◌}
 use Rattle.csv.specs.Records.{fields_of}
 use Rattle.import_table.proofs.FieldParts.{no_first, no_second, a_fourth, all_parts}
-use Rattle.import_table.proofs.parts.field_parts.Goals as goal
+use Rattle.import_table.proofs.parts.two_or_three.Goals as goal
 
 pub returns-in_default : goal.returns-in_default
 returns-in_default c = no_first (fields_of c.args.fields.now) c.in_default.ensures.value
