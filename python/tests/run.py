@@ -11,7 +11,7 @@ import unittest
 from pathlib import Path
 
 sys.dont_write_bytecode = True
-from support import HERE, library_missing  # noqa: E402
+from support import HERE, IS_LIBRARY, missing  # noqa: E402
 
 try:
     import pytest
@@ -77,9 +77,12 @@ def run_alone(tally, words):
 
 
 def tests_of(tally, name):
-    """The tests of a module, or none where it cannot be taken up."""
+    """The tests of a module, or none where it is skipped or cannot be taken up."""
     try:
         module = importlib.import_module(name)
+    except unittest.SkipTest as reason:
+        tally.tell(name, "skipped", str(reason))
+        return []
     except Exception:
         tally.tell(name, "failed", traceback.format_exc())
         return []
@@ -98,11 +101,12 @@ def run_one(tally, name, test):
 
 
 def main():
-    missing = library_missing()
-    if missing:
-        print(f"python: skipped: {missing}")
+    why = missing()
+    if why:
+        print(f"python: skipped: {why}")
         print("0 passed, 0 failed")
         return 0
+    print(f"python: answers by {'the library' if IS_LIBRARY else 'programs'}", flush=True)
     tally = Tally()
     (run_with_pytest if pytest else run_alone)(tally, sys.argv[1:])
     print(f"{tally.passed} passed, {tally.failed} failed")

@@ -26,6 +26,21 @@ def library_missing():
     return ""
 
 
+#: Whether the library answers; else programs do, which takes longer.
+IS_LIBRARY = unison._calls.backend().lends_lists
+
+
+def missing():
+    """Why nothing answers here, neither the library nor programs in its place; nothing where one does."""
+    return library_missing() if IS_LIBRARY else ""
+
+
+def library_alone(why):
+    """Skips a test, or a module of tests, where programs answer in the place of the library."""
+    if not IS_LIBRARY:
+        skip(f"by the library alone: {why}")
+
+
 def skip(reason):
     raise unittest.SkipTest(reason)
 

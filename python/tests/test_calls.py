@@ -5,10 +5,12 @@ import threading
 import time
 from pathlib import Path
 
-from support import DISTANCE, EXAMPLES, PYTHON, SWAP, program, raised, run_python, skip
+from support import DISTANCE, EXAMPLES, PYTHON, SWAP, library_alone, program, raised, run_python, skip
 
 import unison
-from unison import _calls, _library
+from unison import _by_library, _calls, _library
+
+library_alone("threads and memory in one process")
 
 GRID = 40
 
@@ -106,7 +108,7 @@ def test_room_is_made_where_there_is_too_little():
             found = _calls.replay(texts, 5, (room, other, other))
             assert found.report.decode() == f"0 moves 1 dist=0\n1 moves 0 dist={unison.NONE}\n2 moves 0 dist={unison.NONE}\n"
             assert (found.counts.tolist(), found.table.words.tolist()) == ([1, 0, 0], [0, unison.NONE, unison.NONE])
-    found = _calls.text_of(lambda *room: _library.load().unison_check(texts.program, len(texts.program), *room), 0)
+    found = _by_library.text_of(lambda *room: _library.load().unison_check(texts.program, len(texts.program), *room), 0)
     assert found == (0, unison.Program(DISTANCE).canonical.encode())
     assert _calls.sizes(texts) == (3, 1)
     assert _calls.watch(texts, [], 0).words.tolist() == []
@@ -141,7 +143,8 @@ def test_where_the_library_is_found():
         "try:\n    unison.Program('')\nexcept unison.LibraryMissing as error:\n    print(error)\n",
         env={**os.environ, "UNISON_LIBRARY": "/nowhere/libunison.so"},
     )
-    assert told.startswith("libunison.so is not there: looked for /nowhere/libunison.so. ") and "library/build" in told
+    looked = "libunison.so, the library of the package unison, is not there: looked for /nowhere/libunison.so. "
+    assert told.startswith(looked) and "library/build" in told
     without = {name: value for name, value in os.environ.items() if name != "UNISON_LIBRARY"}
     places = run_python("import unison; print(*unison._library.places(), sep='\\n')", env=without).splitlines()
     assert places == [str(PYTHON / "unison" / "libunison.so"), str(PYTHON.parent / "library" / "out" / "libunison.so")]

@@ -126,7 +126,7 @@ CASES = [
     (TypeError, "count: field is 5, an int: the name of a field is wanted", lambda: unison.count(swap, pair, 1, 5)),
     (Missing, "count: sum[1] is 't': a field of the program is wanted: s", lambda: unison.count(swap, pair, 1, sum=["s", "t"])),
     (ValueError, "count: most is ['s', 's'], a list: each field once is wanted", lambda: unison.count(swap, pair, 1, most=["s", "s"])),
-    (TypeError, "count: until is 5, an int: a dict from one field to a value or a state, as {'state': 'infected'}, is wanted", lambda: unison.count(swap, pair, 1, until=5)),
+    (TypeError, "count: until is 5, an int: a dict from one field to a value or a state, as {'none:state': 'infected'}, is wanted", lambda: unison.count(swap, pair, 1, until=5)),
     (Missing, "count: until['s'] is 'ill': a value of the field s is wanted, and it has no states, but numbers", lambda: unison.count(swap, pair, 1, until={"s": "ill"})),
     (ValueError, "count: constants are given, and the program is no unison.Model: a Program has none", lambda: unison.count(swap, pair, 1, constants={"seed": 1})),
     (ValueError, "count: mean is True, and no constant has several values, as constants={'seed': range(20)}, of which there are means", lambda: unison.count(swap, ring, 1, mean=True)),

@@ -9,9 +9,11 @@ import threading
 from concurrent.futures import ThreadPoolExecutor
 
 from cluster_support import PACKAGE, WORKER, lines_of_code, mpirun, new_folder, packed
-from support import DISTANCE, ROOT, raised, wanted
+from support import DISTANCE, ROOT, library_alone, raised, wanted
 
 import unison
+
+library_alone("the engine of many processes calls it")
 
 SUMS = "field s = 1; next s = ((total n.s + (id * round)) % 1000003);"
 TORUS = (8, 9)

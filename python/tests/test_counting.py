@@ -7,10 +7,12 @@ import re
 import statistics
 from collections import Counter
 
-from support import DISTANCE, EXAMPLES, network, program, raised, wanted
+from support import DISTANCE, EXAMPLES, library_alone, network, program, raised, wanted
 
 import unison
 from unison.faults import Missing
+
+library_alone("many calls")
 
 SPREAD = """
 const chance_of_catching = 65536;
@@ -79,7 +81,8 @@ def test_a_list_of_rounds_and_what_ends_them():
     assert unison.count(model, row, range(2, 3)).rows == [(2, 2, 1, 2)]
     ended = unison.count(model, row, 50, until={"state": "ill"})
     assert ended.rows[-1] == (5, 0, 0, 5) and len(ended) == 6
-    assert unison.count(model, row, 50, until={"state": 1}) == ended
+    assert unison.count(model, row, 50, until={"state": 1}) == unison.count(model, row, 50, until={"none:state": "ill"}) == ended
+    assert unison.count(model, row, 50, until={"all:state": "over"}) == ended, "all are over in the round in which none is ill any more"
     told = str(raised(Missing, lambda: unison.count(model, row, 50, until={"state": "sick"})))
     assert told == "count: until['state'] is 'sick': a value of the field state is wanted, and its states are well, ill, over"
     start = unison.lockstep(model, row, 2)
@@ -116,11 +119,25 @@ def test_means_and_deviations():
             assert abs(row[f"{name} mean"] - statistics.mean(column)) < 0.00006
             assert abs(row[f"{name} deviation"] - statistics.stdev(column)) < 0.00006
     one = unison.count(model, tree, 0, constants={"seed": [7]}, mean=True)
-    assert one.rows == [(0, 1, 32.0, None, 2.0, None)], "one run has no deviation"
+    assert one.rows == [(0, 1, 32.0, None, 2.0, None, 0.0, None)], "one run has no deviation"
     assert str(one["infected deviation"][0]) in ("nan", "None")
     assert unison.count(model, tree, 0, constants={"seed": [7]}).rows == [(7, 0, 32, 2, 0)]
     told = str(raised(ValueError, lambda: unison.count(model, tree, 0, constants={"seed": 7}, mean=True)))
     assert told.startswith("count: mean is True, and no constant has several values, as constants={'seed': range(20)}, ")
+
+
+def test_means_of_runs_that_have_ended():
+    """A run that has ended keeps its last numbers: means by the module `statistics`, of runs that are counted to the end."""
+    model, club = unison.Model.from_file(EXAMPLES / "models" / "epidemic.model"), network("karate").with_set({"state": {0: 1, 33: 1}})
+    seeds, until = range(1, 7), {"none:state": "infected"}
+    runs = unison.count(model, club, 60, constants={"seed": seeds}, until=until)
+    means = unison.count(model, club, 60, constants={"seed": seeds}, until=until, mean=True)
+    recovered = {seed: plain(runs.run(seed)["recovered"]) for seed in seeds}
+    assert means.columns[:3] == ("round", "runs", "going") and len({len(column) for column in recovered.values()}) > 1
+    for place, row in enumerate(dict(zip(means.columns, row)) for row in means.rows):
+        column = [numbers[min(place, len(numbers) - 1)] for numbers in recovered.values()]
+        assert (row["runs"], row["going"]) == (6, sum(place < len(numbers) for numbers in recovered.values()))
+        assert abs(row["recovered mean"] - statistics.mean(column)) < 0.00006
 
 
 def test_each_run_is_that_of_its_seed():
@@ -174,6 +191,7 @@ def test_all_that_is_asked_for_on_a_large_network():
         {"constants": {"seed": [7]}, "mean": True},
         {"constants": {"seed": range(1, 6)}, "mean": True, "sum": "state"},
         {"constants": {"seed": range(1, 6)}, "mean": True, "until": {"state": "infected"}},
+        {"constants": {"seed": range(1, 6)}, "until": {"all:state": "recovered"}},
     ):
         assert unison.count(model, large, range(0, 41, 2), **asked) == unison.count(model, one, range(0, 41, 2), **asked), asked
     many = unison.Model("const less = 0; field s = 0; next s = id - less;")

@@ -2,10 +2,12 @@
 
 import re
 
-from support import EXAMPLES, ROOT, network, program, raised
+from support import EXAMPLES, ROOT, library_alone, network, program, raised
 
 import unison
 from unison import schedule
+
+library_alone("many calls")
 
 
 def lists():

@@ -1,8 +1,10 @@
 """Graphs of NetworkX: to and fro, and what NetworkX computes of them beside the cookbook's programs."""
 
-from support import DISTANCE, EXAMPLES, program, raised, skip, wanted
+from support import DISTANCE, EXAMPLES, library_alone, program, raised, skip, wanted
 
 import unison
+
+library_alone("many calls")
 
 
 def graphs():

@@ -77,7 +77,7 @@ def test_a_trace_of_the_examples():
     folder = EXAMPLES / "asynchronous"
     assert folder.is_dir()
     text = "0 reads 1: s=7\n0 moves: s=7\n1 reads 0: s=5\n"
-    assert unison.verify(program("swap"), network("pair"), text).text.startswith("3 steps hold, 3 with values\n")
+    assert unison.verify(program("swap"), network("pair"), text).text.startswith("3 steps hold: 2 reads, 1 move; 3 with values\n")
 
 
 def test_what_a_schedule_does_is_told_by_names():

@@ -6,9 +6,11 @@ import sys
 import tempfile
 from pathlib import Path
 
-from support import EXAMPLES, PYTHON, skip
+from support import EXAMPLES, PYTHON, library_alone, skip
 
 import unison
+
+library_alone("pip puts it into the package")
 
 
 def ran(*words, **how):

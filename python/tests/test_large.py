@@ -3,10 +3,12 @@
 import random
 from array import array
 
-from support import DISTANCE, SWAP, network, program, raised, wanted
+from support import DISTANCE, SWAP, library_alone, network, program, raised, wanted
 
 import unison
 from unison import _calls
+
+library_alone("many calls")
 
 TOTALS = "field s = 3; field seen = 0; next s = (total (n.s + n.weight) % 1009); next seen = (seen max count n.s);"
 

@@ -4,11 +4,13 @@ import itertools
 import tempfile
 from pathlib import Path
 
-from support import raised
+from support import library_alone, raised
 
 import unison
 from unison import _packed, _programs
 from unison.network import Network
+
+library_alone("many calls")
 
 
 def pairs(network):
@@ -183,8 +185,8 @@ def test_which_networks_are_beyond_the_limits():
         (lambda: Network.grid(256, 257, True), "generate grid 256 257 --diagonals"),
         (lambda: Network.random(1000, 262_144, 1), "generate random 1000 --links=262144 --seed=1"),
         (lambda: Network.random(1000, 262_145, 1), "pack random 1000 --links=262145 --seed=1"),
-        (lambda: Network.small_world(1024, 256, 0, 1), "generate small-world 1024 --near=256 --rewire=0.000000 --seed=1"),
-        (lambda: Network.small_world(1025, 256, 0, 1), "pack small-world 1025 --near=256 --rewire=0.000000 --seed=1"),
+        (lambda: Network.small_world(1024, 256, 0, 1), "generate small-world 1024 --near=256 --rewire=0.000000% --seed=1"),
+        (lambda: Network.small_world(1025, 256, 0, 1), "pack small-world 1025 --near=256 --rewire=0.000000% --seed=1"),
         (lambda: Network.preferential(65_538, 4, 1), "pack preferential 65538 --links-each=4 --seed=1"),
         (lambda: Network.preferential(65_536, 4, 1), "generate preferential 65536 --links-each=4 --seed=1"),
         (lambda: Network.preferential(65_536, 5, 1), "pack preferential 65536 --links-each=5 --seed=1"),
@@ -200,7 +202,7 @@ def test_large_makers_make_the_same_networks():
         (["torus", "5", "4", "--diagonals"], Network.torus(5, 4, diagonals=True)),
         (["random", "30", "--links", "50", "--seed", "7"], Network.random(30, 50, 7)),
         (["preferential", "30", "--links-each", "3", "--seed", "7"], Network.preferential(30, 3, 7)),
-        (["small-world", "30", "--near", "2", "--rewire", "50", "--seed", "7"], Network.small_world(30, 2, 50, 7)),
+        (["small-world", "30", "--near", "2", "--rewire", "50%", "--seed", "7"], Network.small_world(30, 2, 50, 7)),
     ]:
         large = _packed.read(_programs.run(["pack", *words]))
         assert [sorted(large.neighbours(node)) for node in range(large.nodes)] == [small.neighbours(node) for node in range(small.nodes)], words

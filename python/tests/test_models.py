@@ -3,9 +3,11 @@
 import pickle
 from collections import Counter
 
-from support import EXAMPLES, network, raised
+from support import EXAMPLES, library_alone, network, raised
 
 import unison
+
+library_alone("many calls")
 
 MODELS = EXAMPLES / "models"
 

@@ -1,10 +1,12 @@
 """Networks: what they are made of, their texts, names, slots and weights."""
 
-from support import DISTANCE, SWAP, raised, reference, wanted
+from support import DISTANCE, SWAP, library_alone, raised, reference, wanted
 
 import unison
 from unison import _document
 from unison.graphs import weight_of
+
+library_alone("many calls")
 
 CLUB = unison.Network(["ann", "bob", "cid", "dan"], [("ann", "bob", 3), ("cid", "bob"), ("dan", "bob", 0)])
 

@@ -9,9 +9,11 @@ import sys
 import tempfile
 from pathlib import Path
 
-from support import PYTHON, skip, wanted
+from support import PYTHON, library_alone, skip, wanted
 
 import unison
+
+library_alone("many calls")
 
 FOLDER = PYTHON / "examples"
 NAMES = ["epidemic_sweep", "label_propagation", "million_edges", "pagerank"]

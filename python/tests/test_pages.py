@@ -9,7 +9,7 @@ import re
 import tempfile
 from pathlib import Path
 
-from support import PYTHON, ROOT, run_python, skip, wanted
+from support import PYTHON, ROOT, library_alone, run_python, skip, wanted
 
 import unison
 
@@ -106,6 +106,7 @@ def test_the_version_stands_once():
 
 def test_the_examples_of_the_package():
     wanted("networkx")
+    library_alone("how much more several threads do")
     told = run_python(f"import runpy, sys; sys.argv = ['threads.py', '--seconds', '0.2']; runpy.run_path({str(PYTHON / 'examples' / 'threads.py')!r}, run_name='__main__')")
     assert re.search(r"4 threads: .* times as much", told), told
     with tempfile.TemporaryDirectory() as folder:

@@ -1,6 +1,7 @@
 """Where the proved programs are found, how they are run, and what becomes of their faults."""
 
 import contextlib
+import io
 import os
 import tempfile
 from pathlib import Path
@@ -8,7 +9,7 @@ from pathlib import Path
 from support import EXAMPLES, PYTHON, ROOT, program, raised, skip
 
 import unison
-from unison import _programs, faults
+from unison import _library, _programs, faults
 
 
 @contextlib.contextmanager
@@ -58,7 +59,7 @@ def test_the_folder_of_the_variable_comes_first():
     with folder_of("unison_lab") as folder, named(folder):
         assert _programs.path_of("unison_lab") == folder / "unison_lab"
         told = str(raised(unison.ProgramsMissing, lambda: _programs.path_of("unison_large")))
-        assert told.startswith(f"the proved program unison_large is not there: looked for {folder / 'unison_large'}. ")
+        assert told.startswith(f"the program unison_large is not there: looked for {folder / 'unison_large'}. ")
         assert "UNISON_PROGRAMS" in told and "./unison prove" in told
 
 
@@ -91,13 +92,53 @@ def test_what_cannot_be_run_is_passed_over():
         assert _programs.path_of("unison_lab") == folder / "programs" / "default" / "unison_lab"
 
 
-def test_the_checkout_has_the_launcher():
+@contextlib.contextmanager
+def checkout(script):
+    """A checkout whose launcher is this script, in which the package stands."""
+    with folder_of("unison", "python/unison/x", script=script) as folder, package_in(folder / "python" / "unison", ()):
+        (folder / "crates.txt").touch()
+        yield folder
+
+
+@contextlib.contextmanager
+def standard_error():
+    """What is told on standard error."""
+    told = io.StringIO()
+    _programs.tell_of_quick.cache_clear()
+    quiet = os.environ.pop(_programs.QUIET, None)
+    try:
+        with contextlib.redirect_stderr(told):
+            yield told
+    finally:
+        if quiet is not None:
+            os.environ[_programs.QUIET] = quiet
+
+
+def test_the_launcher_of_a_checkout_names_the_program():
     with folder_of("python/unison/x") as folder, package_in(folder / "python" / "unison", ()):
         raised(unison.ProgramsMissing, lambda: _programs.path_of("unison_lab"))
-        for name in ("unison", "crates.txt"):
-            (folder / name).touch()
-        assert _programs.path_of("unison_lab") == folder / "unison"
+    with checkout('echo "$0.$1.$2"') as folder, standard_error() as told:
+        assert _programs.path_of("unison_lab") == folder / "unison.--program.unison_lab"
+        assert told.getvalue() == ""
     assert _programs.HERE == PYTHON / "unison" and _programs.HERE.parent.parent == ROOT
+
+
+def test_quick_programs_are_told_of_once():
+    """With what the launcher tells while it builds one."""
+    script = 'echo "unison: building $2" >&2; echo "${0%/*}/quick/out/$2"'
+    with checkout(script) as folder, standard_error() as told:
+        for name in ("unison_lab", "unison_cli", "unison_lab"):
+            assert _programs.path_of(name) == folder / "quick" / "out" / name
+        lines = told.getvalue().splitlines()
+        assert [line for line in lines if "building" in line] == ["unison: building unison_lab", "unison: building unison_cli"]
+        (note,) = (line for line in lines if "building" not in line)
+        assert "quick programs answer, which are not proved, and slow on large networks" in note
+
+
+def test_a_launcher_without_programs_says_why():
+    with checkout("echo 'unison: there is no python3 here' >&2; exit 1"), standard_error():
+        told = str(raised(unison.ProgramsMissing, lambda: _programs.path_of("unison_lab"))).splitlines()
+        assert told[0] == "unison: there is no python3 here" and told[1:] in ([], [_library.WAYS])
 
 
 def test_each_command_goes_to_its_program():

@@ -2,10 +2,12 @@
 
 import re
 
-from support import reference
+from support import library_alone, reference
 
 import unison
 from unison import _calls
+
+library_alone("many calls")
 
 CASES = 600
 

@@ -2,10 +2,12 @@
 
 import json
 
-from support import DISTANCE, SWAP, raised, run_python, skip, wanted
+from support import DISTANCE, SWAP, library_alone, raised, run_python, skip, wanted
 
 import unison
 from unison import _notebook, results
+
+library_alone("many calls")
 
 NAMED = unison.Network(["ann", "bob", "cid"], [("ann", "bob"), ("bob", "cid")], set={"a": {"ann": 7}, "b": [1, 2, 3]})
 TWO = unison.Program("field a = 0; field b = 9; next a = (a max most n.a);")

@@ -3,9 +3,11 @@
 import json
 import threading
 
-from support import DISTANCE, EXAMPLES, network, raised, run_python, skip, wanted
+from support import DISTANCE, EXAMPLES, library_alone, network, raised, run_python, skip, wanted
 
 import unison
+
+library_alone("many calls")
 
 STEP = unison.Program("field s = 0; field step = 1; next s = (s + step);")
 SPREAD = unison.Program("field s = 0; field wanted = 1; next s = (s max (count n.s >= wanted));")

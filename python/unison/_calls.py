@@ -1,16 +1,24 @@
-"""The library's calls, from bytes to Python's values: room is made, and what is refused is raised."""
+"""The calls, from bytes to Python's values, by one of two back ends: the proved library, or programs where it is not there. What is refused
+is raised, with what is told of it."""
 
 from __future__ import annotations
 
-import ctypes
+import os
 from array import array
-from typing import Any, Callable, List, NamedTuple, Sequence, Tuple
+from functools import lru_cache
+from typing import TYPE_CHECKING, Callable, List, NamedTuple, Protocol, Sequence, Tuple, TypeVar
 
-from . import _library, faults
+from . import _library, _programs, faults
+
+if TYPE_CHECKING:
+    from .large import LargeNetwork
+    from .program import Program
 
 CHECK, LOCKSTEP, REPLAY = 1, 2, 3
 MOST = 4294967295
 assert array("I").itemsize == 4, "unison needs a machine whose C `unsigned int` has four bytes"
+
+Answer = TypeVar("Answer")
 
 
 class Texts(NamedTuple):
@@ -21,10 +29,6 @@ class Texts(NamedTuple):
     report: bytes = b""
     schedule: bytes = b""
 
-    def plan(self) -> Tuple[Any, ...]:
-        """The arguments for program, network and report."""
-        return (self.program, len(self.program), self.network, len(self.network), self.report, len(self.report))
-
 
 class Table(NamedTuple):
     """Words by nodes and fields: those of a round, or of several, one behind the other."""
@@ -32,109 +36,6 @@ class Table(NamedTuple):
     words: "array[int]"
     nodes: int
     fields: int
-
-
-def room_for(count: int) -> "array[int]":
-    """Room for so many words; for none there is one, since no pointer may be null."""
-    return array("I", [0]) * max(count, 1)
-
-
-def address(words: "array[int]") -> int:
-    return words.buffer_info()[0]
-
-
-def cut(words: "array[int]", count: int) -> "array[int]":
-    """The first so many words."""
-    del words[count:]
-    return words
-
-
-def refuse(answer: int, job: int, texts: Texts, asked: int) -> None:
-    """Raises the fault that an answer tells, with what the library says of it."""
-    if answer != 0:
-        raise faults.fault_of(answer, diagnosis_of(answer, job, texts, asked))
-
-
-def diagnosis_of(answer: int, job: int, texts: Texts, asked: int) -> str:
-    """What `why` tells of the fault of an answer; nothing where it cannot tell anything, or finds another fault."""
-    if answer == faults.MEMORY:
-        return ""
-    try:
-        told = why(job, texts, asked)
-    except (MemoryError, faults.UnisonError):
-        return ""
-    return told.text if told.fault == answer else ""
-
-
-def text_of(call: Callable[[Any, int, Any], int], room: int) -> Tuple[int, bytes]:
-    """The answer of a call that writes a text, and the text. It is made again where the text needs more room."""
-    length = ctypes.c_size_t(0)
-    while True:
-        text = ctypes.create_string_buffer(max(room, 1))
-        answer = call(text, room, ctypes.byref(length))
-        if answer != faults.ROOM:
-            return answer, text.raw[: length.value] if answer == 0 else b""
-        room = max(length.value, 2 * room)
-
-
-def table_of(call: Callable[[Any, int, Any, Any], int], rounds: int, room: int) -> Tuple[int, Table]:
-    """The answer of a call that writes words of so many rounds, and the words. It is made again where they need more room."""
-    nodes, fields = ctypes.c_uint32(0), ctypes.c_uint32(0)
-    while True:
-        words = room_for(room)
-        answer = call(address(words), room, ctypes.byref(nodes), ctypes.byref(fields))
-        count = rounds * nodes.value * fields.value
-        if answer != faults.ROOM:
-            return answer, Table(cut(words, count if answer == 0 else 0), nodes.value, fields.value)
-        room = max(count, room + 1)
-
-
-def check(program: bytes) -> bytes:
-    """The canonical spelling of a program."""
-    call = _library.load().unison_check
-    answer, text = text_of(lambda *room: call(program, len(program), *room), 2 * len(program) + 64)
-    refuse(answer, CHECK, Texts(program), 0)
-    return text
-
-
-def sizes(texts: Texts) -> Tuple[int, int]:
-    """How many nodes and fields a program on a network has; no round is computed."""
-    nodes, fields, none = ctypes.c_uint32(0), ctypes.c_uint32(0), room_for(0)
-    answer = _library.load().unison_lockstep(*texts.plan(), 0, address(none), 0, ctypes.byref(nodes), ctypes.byref(fields))
-    if answer != faults.ROOM:
-        refuse(answer, LOCKSTEP, texts, 0)
-    return nodes.value, fields.value
-
-
-def lockstep(texts: Texts, asked: int, room: int) -> Table:
-    """The words of a round; `room` is how many are expected."""
-    call = _library.load().unison_lockstep
-    answer, table = table_of(lambda *rest: call(*texts.plan(), asked, *rest), 1, room)
-    refuse(answer, LOCKSTEP, texts, asked)
-    return table
-
-
-def watch(texts: Texts, rounds: Sequence[int], room: int) -> Table:
-    """The words of some rounds, one round behind the other."""
-    listed = array("I", rounds) if rounds else room_for(0)
-    call = _library.load().unison_watch
-    answer, table = table_of(lambda *rest: call(*texts.plan(), address(listed), len(rounds), *rest), len(rounds), room)
-    refuse(answer, LOCKSTEP, texts, at_fault(answer, rounds))
-    return table
-
-
-def at_fault(answer: int, rounds: Sequence[int]) -> int:
-    """The round of a list at which `why` has to look."""
-    part, name = faults.FAULTS.get(answer, ("", ""))
-    return max(rounds, default=0) if (part, name) == ("run", "TooManyRounds") else min(rounds, default=0)
-
-
-def settle(texts: Texts, limit: int) -> List[int]:
-    """What becomes of the rounds: the manner, the round and the period."""
-    found = [ctypes.c_uint32(0) for _ in range(3)]
-    answer = _library.load().unison_settle(*texts.plan(), limit, *map(ctypes.byref, found))
-    refuse(answer, LOCKSTEP, texts, limit)
-    return [part.value for part in found]
 
 
 class Replay(NamedTuple):
@@ -145,26 +46,6 @@ class Replay(NamedTuple):
     table: Table
 
 
-def replay(texts: Texts, stop: int, rooms: Tuple[int, int, int]) -> Replay:
-    """The replay report, the counts and the words after a schedule; the rooms are those expected for the three."""
-    length, nodes, fields = ctypes.c_size_t(0), ctypes.c_uint32(0), ctypes.c_uint32(0)
-    call = _library.load().unison_replay
-    while True:
-        report, counts, words = ctypes.create_string_buffer(max(rooms[0], 1)), room_for(rooms[1]), room_for(rooms[2])
-        answer = call(
-            *texts.plan(), texts.schedule, len(texts.schedule), stop,
-            report, rooms[0], ctypes.byref(length), address(counts), rooms[1],
-            address(words), rooms[2], ctypes.byref(nodes), ctypes.byref(fields),
-        )  # fmt: skip
-        if answer != faults.ROOM:
-            break
-        needed = (length.value, nodes.value, nodes.value * fields.value)
-        rooms = needed if needed != rooms else (2 * rooms[0], 2 * rooms[1], 2 * rooms[2])
-    refuse(answer, REPLAY, texts, stop)
-    table = Table(cut(words, nodes.value * fields.value), nodes.value, fields.value)
-    return Replay(report.raw[: length.value], cut(counts, nodes.value), table)
-
-
 class Told(NamedTuple):
     """What is told of a job."""
 
@@ -172,65 +53,184 @@ class Told(NamedTuple):
     text: str
 
 
+class Refused(Exception):
+    """A back end refuses what it was asked for."""
+
+    def __init__(self, number: int) -> None:
+        super().__init__(number)
+        self.number = number  # of the fault, as in library/unison.h
+
+
+class Backend(Protocol):
+    """Who answers. Each call raises `Refused` with the number of its fault, or MemoryError; the two back ends have the same answers."""
+
+    #: Whether rounds on the network of a network file are best made on lists in memory: else they are made of its text.
+    lends_lists: bool
+
+    def check(self, program: bytes) -> bytes:
+        """The canonical spelling of a program."""
+
+    def sizes(self, texts: Texts) -> Tuple[int, int]:
+        """How many nodes and fields a program on a network has; no round is computed."""
+
+    def lockstep(self, texts: Texts, asked: int, room: int) -> Table:
+        """The words of a round; `room` is how many are expected."""
+
+    def watch(self, texts: Texts, rounds: Sequence[int], room: int) -> Table:
+        """The words of some rising rounds, one round behind the other."""
+
+    def settle(self, texts: Texts, limit: int) -> List[int]:
+        """What becomes of the rounds: the manner (1 settles, 2 repeats, 3 open), the round and the period."""
+
+    def replay(self, texts: Texts, stop: int, rooms: Tuple[int, int, int]) -> Replay:
+        """What stands after a schedule; the rooms are those expected for the report, the counts and the words."""
+
+    def why(self, job: int, texts: Texts, asked: int) -> Told:
+        """Why a job is refused, as a number and in words."""
+
+    def large_check(self, lists: LargeNetwork) -> Tuple[int, int]:
+        """The number of the first fault of the lists of a network, 0 where they have none, and its place."""
+
+    def large_rounds(self, program: Program, lists: LargeNetwork, start: int, asked: int, words: "array[int]", count: int) -> None:
+        """Puts so many words of a round in place of those of the start."""
+
+    def large_watch(
+        self, program: Program, lists: LargeNetwork, start: int, initial: "array[int]", count: int, rounds: Sequence[int]
+    ) -> "array[int]":
+        """The words of some rising rounds, one round behind the other, from so many words of the start."""
+
+    def large_counts(
+        self,
+        program: Program,
+        lists: LargeNetwork,
+        start: int,
+        initial: "array[int]",
+        count: int,
+        rounds: Sequence[int],
+        field: str,
+        values: Sequence[int],
+    ) -> "array[int]":
+        """How many nodes have each of some values in a field after each of some rising rounds, and last in each round how many have none of
+        them, from so many words of the start."""
+
+
+@lru_cache(maxsize=None)
+def backend() -> Backend:
+    """The proved library; where it is not there, and UNISON_BUILD does not ask for what is proved, the programs, where these are. They also
+    answer where UNISON_BUILD asks for quick programs."""
+    from ._by_library import Library
+    from ._by_programs import Programs
+
+    asked = os.environ.get("UNISON_BUILD")
+    if asked == "quick":
+        return Programs()
+    is_missing = not os.environ.get(_library.VARIABLE) and not _library.is_there()
+    return Programs() if is_missing and asked != "proved" and _programs.are_there() else Library()
+
+
+def room_for(count: int) -> "array[int]":
+    """Room for so many words; for none there is one, since no pointer may be null."""
+    return array("I", [0]) * max(count, 1)
+
+
+def cut(words: "array[int]", count: int) -> "array[int]":
+    """The first so many words."""
+    del words[count:]
+    return words
+
+
+def diagnosis_of(number: int, job: int, texts: Texts, asked: int) -> str:
+    """What `why` tells of a fault; nothing where it cannot tell anything, or finds another fault."""
+    if number == faults.MEMORY:
+        return ""
+    try:
+        told = why(job, texts, asked)
+    except (MemoryError, faults.UnisonError):
+        return ""
+    return told.text if told.fault == number else ""
+
+
+def answer_of(call: Callable[[Backend], Answer], job: int, texts: Texts, asked: Callable[[int], int] = lambda number: 0) -> Answer:
+    """What the back end answers; its fault is raised, with what is told of it: `asked` has the round or stop at which `why` has to look."""
+    try:
+        return call(backend())
+    except Refused as refused:
+        number = refused.number
+    raise faults.fault_of(number, diagnosis_of(number, job, texts, asked(number)))
+
+
+def check(program: bytes) -> bytes:
+    """The canonical spelling of a program."""
+    return answer_of(lambda it: it.check(program), CHECK, Texts(program))
+
+
+def sizes(texts: Texts) -> Tuple[int, int]:
+    """How many nodes and fields a program on a network has."""
+    return answer_of(lambda it: it.sizes(texts), LOCKSTEP, texts)
+
+
+def lockstep(texts: Texts, asked: int, room: int) -> Table:
+    """The words of a round."""
+    return answer_of(lambda it: it.lockstep(texts, asked, room), LOCKSTEP, texts, lambda number: asked)
+
+
+def watch(texts: Texts, rounds: Sequence[int], room: int) -> Table:
+    """The words of some rounds, one round behind the other."""
+    return answer_of(lambda it: it.watch(texts, rounds, room), LOCKSTEP, texts, lambda number: at_fault(number, rounds))
+
+
+def at_fault(number: int, rounds: Sequence[int]) -> int:
+    """The round of a list at which `why` has to look."""
+    is_too_late = faults.FAULTS.get(number) == ("run", "TooManyRounds")
+    return max(rounds, default=0) if is_too_late else min(rounds, default=0)
+
+
+def settle(texts: Texts, limit: int) -> List[int]:
+    """What becomes of the rounds: the manner, the round and the period."""
+    return answer_of(lambda it: it.settle(texts, limit), LOCKSTEP, texts, lambda number: limit)
+
+
+def replay(texts: Texts, stop: int, rooms: Tuple[int, int, int]) -> Replay:
+    """What stands after a schedule."""
+    return answer_of(lambda it: it.replay(texts, stop, rooms), REPLAY, texts, lambda number: stop)
+
+
 def why(job: int, texts: Texts, asked: int) -> Told:
     """Why a job is refused, as a number and in words."""
-    call, fault = _library.load().unison_why, ctypes.c_uint32(0)
-    given = (*texts.plan(), texts.schedule, len(texts.schedule), asked, ctypes.byref(fault))
-    answer, text = text_of(lambda *room: call(job, *given, *room), 4096)
-    if answer != 0:
-        raise faults.fault_of(answer)
-    return Told(fault.value, text.decode("utf-8", "replace"))
+    try:
+        return backend().why(job, texts, asked)
+    except Refused as refused:
+        raise faults.fault_of(refused.number) from None
 
 
-def large_check(lists: Tuple[int, ...]) -> Tuple[int, int]:
+def large_check(lists: LargeNetwork) -> Tuple[int, int]:
     """The first fault of the lists of a network, 0 where they have none, and its place."""
-    place = ctypes.c_size_t(0)
-    return _library.load().unison_large_check(*lists, ctypes.byref(place)), place.value
+    return backend().large_check(lists)
 
 
-def large_rounds(program: bytes, lists: Tuple[int, ...], start: int, asked: int, words: "array[int]", count: int) -> None:
+def large_rounds(program: Program, lists: LargeNetwork, start: int, asked: int, words: "array[int]", count: int) -> None:
     """Puts so many words of a round in place of those of the start."""
-    fields = ctypes.c_uint32(0)
-    call = _library.load().unison_large_rounds
-    answer = call(program, len(program), *lists, start, asked, address(words), count, ctypes.byref(fields))
-    refuse(answer, CHECK, Texts(program), 0)
+    answer_of(lambda it: it.large_rounds(program, lists, start, asked, words, count), CHECK, Texts(program.text))
 
 
 def large_watch(
-    program: bytes, lists: Tuple[int, ...], start: int, initial: "array[int]", count: int, rounds: Sequence[int]
+    program: Program, lists: LargeNetwork, start: int, initial: "array[int]", count: int, rounds: Sequence[int]
 ) -> "array[int]":
-    """The words of some rounds, one round behind the other, from so many words of the start."""
-    listed = array("I", rounds) if rounds else room_for(0)
-    room, fields = len(rounds) * count, ctypes.c_uint32(0)
-    words = room_for(room)
-    call = _library.load().unison_large_watch
-    answer = call(
-        program, len(program), *lists, start, address(initial), count,
-        address(listed), len(rounds), address(words), room, ctypes.byref(fields),
-    )  # fmt: skip
-    refuse(answer, CHECK, Texts(program), 0)
-    return cut(words, room)
+    """The words of some rounds, one round behind the other."""
+    return answer_of(lambda it: it.large_watch(program, lists, start, initial, count, rounds), CHECK, Texts(program.text))
 
 
 def large_counts(
-    program: bytes,
-    lists: Tuple[int, ...],
+    program: Program,
+    lists: LargeNetwork,
     start: int,
     initial: "array[int]",
     count: int,
     rounds: Sequence[int],
-    field: int,
+    field: str,
     values: Sequence[int],
 ) -> "array[int]":
-    """How many nodes have each of some values in the field at a place after each of some rounds, and last in each round how many have none of
-    them, from so many words of the start."""
-    listed, wanted = (array("I", given) if given else room_for(0) for given in (rounds, values))
-    room, fields = len(rounds) * (len(values) + 1), ctypes.c_uint32(0)
-    counts = room_for(room)
-    call = _library.load().unison_large_counts
-    answer = call(
-        program, len(program), *lists, start, address(initial), count, address(listed), len(rounds),
-        field, address(wanted), len(values), address(counts), room, ctypes.byref(fields),
-    )  # fmt: skip
-    refuse(answer, CHECK, Texts(program), 0)
-    return cut(counts, room)
+    """How many nodes have each of some values in a field after each of some rounds, and how many have none of them."""
+    return answer_of(
+        lambda it: it.large_counts(program, lists, start, initial, count, rounds, field, values), CHECK, Texts(program.text)
+    )

@@ -16,13 +16,25 @@ MOST_COLUMNS = 64
 MOST_RUNS = 1000
 
 
+class Until(NamedTuple):
+    """When a run ends: at which nodes a value of a field stands then."""
+
+    holders: str  # none or all
+    field: str
+    value: int
+
+    def ends(self, values: Sequence[int]) -> bool:
+        """Whether a run ends with a round in which the nodes have these values in the field."""
+        return self.value not in values if self.holders == "none" else all(value == self.value for value in values)
+
+
 class Asked(NamedTuple):
     """What is counted of each round."""
 
     field: str
     rounds: Sequence[int]
     figures: Sequence[Tuple[str, str]]  # one of TOTALS and a field
-    until: Optional[Tuple[str, int]]  # a field and a value: no round is counted behind one in which no node has it
+    until: Optional[Until]  # no round is counted behind one that ends the run
 
 
 class Row(NamedTuple):
@@ -66,15 +78,15 @@ def rows_of(program: Program, network: LargeNetwork, asked: Asked, from_: Any) -
         for place, round in enumerate(block.rounds):
             found = {value: nodes for value, nodes in counts[place].items() if nodes}
             yield Row(round, found, [TOTALS[kind](columns[field][place]) for kind, field in asked.figures])
-            if asked.until is not None and asked.until[1] not in block[asked.until[0]][place]:
+            if asked.until is not None and asked.until.ends(block[asked.until.field][place]):
                 return
 
 
 def table_of(runs: Sequence[Run], asked: Asked, several: Optional[str], states: Sequence[str]) -> Tuple[List[str], List[List[Cell]]]:
-    """The columns and the rows of the runs: a column for each value that occurs, or a row, where there are too many values."""
+    """The columns and the rows of the runs: a column for each state and each value that occurs, or a row, where these are too many."""
+    values = values_in(runs, len(states))
     states = () if several in states else states
     head, figures = [*([] if several is None else [several]), "round"], names_of_figures(asked)
-    values = values_in(runs)
     lines: List[List[Cell]] = []
     for run in runs:
         for row in run.rows:
@@ -88,22 +100,25 @@ def table_of(runs: Sequence[Run], asked: Asked, several: Optional[str], states: 
 
 
 def means_of(runs: Sequence[Run], asked: Asked, states: Sequence[str]) -> Tuple[List[str], List[List[Cell]]]:
-    """The means and standard deviations of the rounds, over the runs that have them."""
-    values = values_in(runs) if len(values_in(runs)) <= MOST_COLUMNS else []
+    """The means and standard deviations of the rounds, over all runs: one that has ended keeps the numbers of its last round."""
+    values = values_in(runs, len(states))
+    values = values if len(values) <= MOST_COLUMNS else []
     names = [*(str(called(states, value, value)) for value in values), *names_of_figures(asked)]
     lines: List[List[Cell]] = []
     for place in range(max(len(run.rows) for run in runs)):
-        rows = [run.rows[place] for run in runs if place < len(run.rows)]
+        going = [run.rows[place] for run in runs if place < len(run.rows)]
+        rows = [run.rows[min(place, len(run.rows) - 1)] for run in runs]
         numbers = [[row.counts.get(value, 0) for row in rows] for value in values]
         numbers += [[row.figures[figure] for row in rows] for figure in range(len(asked.figures))]
         cells = [cell for column in numbers for cell in (mean_of(column), deviation_of(column))]
-        lines.append([rows[0].round, len(rows), *cells])
-    return ["round", "runs", *(f"{name} {what}" for name in names for what in ("mean", "deviation"))], lines
+        lines.append([going[0].round, len(rows), *([] if asked.until is None else [len(going)]), *cells])
+    head = ["round", "runs", *([] if asked.until is None else ["going"])]
+    return [*head, *(f"{name} {what}" for name in names for what in ("mean", "deviation"))], lines
 
 
-def values_in(runs: Sequence[Run]) -> List[int]:
-    """The values that occur, rising."""
-    return sorted({value for run in runs for row in run.rows for value in row.counts})
+def values_in(runs: Sequence[Run], states: int) -> List[int]:
+    """The states, of which there are so many, and the values that occur, rising."""
+    return sorted({*range(states), *(value for run in runs for row in run.rows for value in row.counts)})
 
 
 def names_of_figures(asked: Asked) -> List[str]:

@@ -34,8 +34,15 @@ CALLS = {
 }
 
 
+#: What is told where there is no library: how it comes here.
+WAYS = (
+    "In a checkout of unison library/build proves it and makes it, in half an hour or more; the wheel that ./release makes brings it along "
+    "(pip install unison-VERSION-*.whl)"
+)
+
+
 class LibraryMissing(FileNotFoundError):
-    """There is no `libunison.so` at any of the places where it is looked for."""
+    """There is no `libunison.so` at any of the places where it is looked for, and no program that answers in its place."""
 
 
 def places() -> List[Path]:
@@ -54,9 +61,13 @@ def find() -> Path:
         if place.is_file():
             return place
     raise LibraryMissing(
-        f"{NAME} is not there: looked for " + " and ".join(map(str, looked)) + ". "
-        f"In a checkout of unison, library/build makes it; {VARIABLE} names one that stands elsewhere"
+        f"{NAME}, the library of the package unison, is not there: looked for {' and '.join(map(str, looked))}. {WAYS}; "
+        f"{VARIABLE} names one that stands elsewhere"
     )
+
+
+def is_there() -> bool:
+    return any(place.is_file() for place in places())
 
 
 @lru_cache(maxsize=None)

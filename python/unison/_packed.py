@@ -89,6 +89,15 @@ def column(values: "array[int]") -> bytes:
     return b"\x93NUMPY\x01\x00" + len(padded).to_bytes(2, "little") + padded.encode("ascii") + bytes_of(values, WORD)
 
 
+def values_in(npy: bytes) -> "array[int]":
+    """The values of an array of NumPy of words, in their order."""
+    words = array("I")
+    words.frombytes(npy[10 + int.from_bytes(npy[8:10], "little") :])
+    if sys.byteorder == "big":
+        words.byteswap()
+    return words
+
+
 def job_of(call: str, program: Program, network: LargeNetwork, from_: Any) -> _files.Job:
     """The job of a program on a large network, from its initial values or from states on."""
     start = large.start_of(program, network, from_)

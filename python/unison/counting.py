@@ -225,10 +225,12 @@ def count(
       `range(0, 101, 10)`.
     - `field`: the field whose values are counted; may be left out where the program has one alone.
     - `sum`, `least`, `most`: fields whose sum, least and greatest value over all nodes have a column each.
-    - `until`: `{"state": "infected"}`, a value or a state: the counts end behind the first round in which no node has it.
+    - `until`: `{"none:state": "infected"}` or `{"all:state": "recovered"}`, a value or a state: the counts end behind the first round in
+      which no node, or every node, has it. `{"state": "infected"}` is the first of them.
     - `constants`: values for constants of a `Model`, as `{"seed": range(1, 21)}`; one of them may have several, 1000 at most: a run is
       counted for each, by several threads.
-    - `mean`: in place of the runs their means and standard deviations.
+    - `mean`: in place of the runs their means and standard deviations. A run that has ended keeps the numbers of its last round; with
+      `until` the column `going` says how many runs go on to a round.
     - `from_`: a result of `lockstep`, or the text of a report, to go on from.
 
     Raises TypeError, ValueError or KeyError for an argument that cannot be, ModelError, PlanError, ReportError or RunError where it is
@@ -253,7 +255,7 @@ def count(
     job = _files.job_of("count", rules, network, from_, given)
     words = ["count", *_files.span_words("count", rounds), f"--field={named}", *column_words(rules, sum, least, most)]
     if until is not None:
-        words.append("--until={}={}".format(*until_value(rules, until)))
+        words.append("--until={}:{}={}".format(*until_value(rules, until)))
     if mean:
         return Counts(*table_of(job.run(*words, "--mean").decode("utf-8")), named)
     table = table_of(job.run(*words).decode("utf-8"))
@@ -311,13 +313,22 @@ def column_words(program: Program, sum: Any, least: Any, most: Any) -> List[str]
     return [f"--{name}={field}" for name, given in asked.items() for field in _checks.fields("count", name, given, program)]
 
 
-def until_value(program: Program, until: Any) -> Tuple[str, int]:
-    """The field, and the value without which the counts end."""
+def until_value(program: Program, until: Any) -> _counted.Until:
+    """When the counts end."""
     if not isinstance(until, Mapping) or len(until) != 1:
-        _checks.refuse("count", "until", until, "a dict from one field to a value or a state, as {'state': 'infected'}, is wanted")
-    ((name, value),) = until.items()
+        _checks.refuse("count", "until", until, "a dict from one field to a value or a state, as {'none:state': 'infected'}, is wanted")
+    ((key, value),) = until.items()
+    holders, name = split_holders(key)
     field = _checks.field("count", "until", name, program)
-    return field, value_of("count", f"until[{field!r}]", program, field, value)
+    return _counted.Until(holders, field, value_of("count", f"until[{key!r}]", program, field, value))
+
+
+def split_holders(key: Any) -> Tuple[str, Any]:
+    """At which nodes a value is to stand, none or all, and the field: `none:` may be left out."""
+    if isinstance(key, str) and key.startswith(("none:", "all:")):
+        holders, field = key.split(":", 1)
+        return holders, field
+    return "none", key
 
 
 def constant_of_several(constants: Optional[Mapping[str, Values]]) -> Optional[str]:

@@ -25,10 +25,16 @@ def texts_of(call: str, program: Any, network: Any, from_: From = None) -> Texts
 
 
 def start_of(call: str, program: Program, network: AnyNetwork, rounds: Sequence[int], from_: From) -> Optional[Start]:
-    """Where rounds begin that are made on lists, so that no text of a network is read; None where a text is needed: a report to go on from,
-    or the texts with which something is refused, since the library tells faults of texts."""
+    """Where rounds begin that are made on lists, so that no text of a network is read; None where they are made of the text of a network, as
+    they always are where no lists are lent."""
     if isinstance(network, LargeNetwork):
         return large.start_of(program, network, from_)
+    return start_on_lists(call, program, network, rounds, from_) if _calls.backend().lends_lists else None
+
+
+def start_on_lists(call: str, program: Program, network: Network, rounds: Sequence[int], from_: From) -> Optional[Start]:
+    """Where rounds on the lists of a network file's network begin; None where a text is needed: a report to go on from, or the texts with
+    which something is refused, since faults are told of texts."""
     links = _checks.network(call, network)
     if isinstance(from_, States):
         _checks.states_fit(call, from_, program, links)
@@ -41,7 +47,9 @@ def start_of(call: str, program: Program, network: AnyNetwork, rounds: Sequence[
 
 def lists_for(call: str, program: Program, network: AnyNetwork) -> LargeNetwork:
     """The lists of a network for this program."""
-    start = start_of(call, program, network, [0], None)
+    if isinstance(network, LargeNetwork):
+        return network
+    start = start_on_lists(call, program, network, [0], None)
     if start is None:  # the library tells what is wrong with the text
         lockstep(program, network, 0)
         raise RuntimeError(f"{call}: the library reads other links in the network's text: unison.Network(nodes, links) makes the network anew")

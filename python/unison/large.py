@@ -64,12 +64,12 @@ class LargeNetwork:
 
     def _look(self) -> None:
         """Raises the first fault of the lists."""
-        answer, place = _calls.large_check(self._lists())
+        answer, place = _calls.large_check(self)
         if answer != 0:
             raise faults.error_of(answer, text_of_fault(answer, place, self._offsets, self._neighbours, self._weights))
 
     def _lists(self) -> Tuple[Any, ...]:
-        """The arguments for the three lists."""
+        """The arguments of the library's calls for the three lists."""
         return tuple(part for given in (self._offsets, self._neighbours, self._weights) for part in (given.address, given.count))
 
     def _values(self, field: str, given: Any) -> Any:
@@ -245,7 +245,7 @@ def start_of(program: Program, network: LargeNetwork, from_: Any) -> Start:
 def words_after(program: Program, start: Start, round: int) -> "array[int]":
     """The words after a round."""
     size = start.lists.nodes * len(program.fields)
-    _calls.large_rounds(program.text, start.lists._lists(), start.round, round, start.words, size)
+    _calls.large_rounds(program, start.lists, start.round, round, start.words, size)
     return _calls.cut(start.words, size)
 
 
@@ -254,8 +254,7 @@ def counts_after_each(program: Program, start: Start, rounds: Sequence[int], fie
     round behind the other, all in one pass."""
     check_rising(rounds)
     size = start.lists.nodes * len(program.fields)
-    place = program.fields.index(field)
-    return _calls.large_counts(program.text, start.lists._lists(), start.round, start.words, size, rounds, place, values)
+    return _calls.large_counts(program, start.lists, start.round, start.words, size, rounds, field, values)
 
 
 def is_rising(rounds: Sequence[int]) -> bool:
@@ -273,4 +272,4 @@ def words_of_each(program: Program, start: Start, rounds: Sequence[int]) -> "arr
     """The words after each of some rounds, one round behind the other, all in one pass."""
     check_rising(rounds)
     size = start.lists.nodes * len(program.fields)
-    return _calls.large_watch(program.text, start.lists._lists(), start.round, start.words, size, rounds)
+    return _calls.large_watch(program, start.lists, start.round, start.words, size, rounds)

@@ -37,8 +37,8 @@ class Recipe:
         self.words.append(f"--{name.replace('_', '-')}={number}")
         return number
 
-    def decimal(self, name: str, value: Any, most: int, digits: int) -> None:
-        """A number with a point that an option has, rounded to so many digits behind the point."""
+    def decimal(self, name: str, value: Any, most: int, digits: int, unit: str = "") -> None:
+        """A number with a point that an option has, rounded to so many digits behind the point, and its unit."""
         wanted = f"a number from 0 to {most} is wanted"
         if isinstance(value, bool) or not (isinstance(value, Real) or hasattr(value, "as_integer_ratio")):
             _checks.refuse(self.call, name, value, wanted)
@@ -49,7 +49,7 @@ class Recipe:
         if not 0 <= number <= most:
             _checks.refuse(self.call, name, value, wanted, ValueError)
         before, behind = divmod(round(number * 10**digits), 10**digits)
-        self.words.append(f"--{name}={before}.{behind:0{digits}d}")
+        self.words.append(f"--{name}={before}.{behind:0{digits}d}{unit}")
 
     def diagonals(self, value: Any) -> bool:
         """Whether nodes are linked across corners, too."""
@@ -254,6 +254,6 @@ class Makers:
         """
         recipe = Recipe("small_world", "small-world", {"n": n})
         recipe.links = recipe.number("near", near) * recipe.sizes[0]
-        recipe.decimal("rewire", rewire, 100, 6)
+        recipe.decimal("rewire", rewire, 100, 6, "%")
         recipe.drawn(weights, seed)
         return recipe.made_of_any_size(cls, set)
