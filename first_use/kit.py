@@ -127,19 +127,15 @@ def verdict_on(program):
 
 
 def is_newer(crate, program):
-    """Whether a source of a program is newer than it."""
-    made = program.stat().st_mtime
-    return any(file.stat().st_mtime > made for file in sources_of(crate))
+    """Whether a source of a program, or a folder of them, was changed after it was made."""
+    made, files = program.stat().st_mtime, sources_of(crate)
+    times = (it.stat() for it in {*files, *(file.parent for file in files)})
+    return any(max(it.st_mtime, it.st_ctime) > made for it in times)
 
 
 def is_fresh(crate, program):
-    """Whether a program is that of the sources at hand: none is newer, or its note has their sum. Such a program gets the time of now, so that
-    the next look is quick."""
+    """Whether a program is that of the sources at hand: its note has their sum or, where it has no note, none was changed since it was made."""
     if not program.is_file():
         return False
-    newer = is_newer(crate, program)
-    note = read_note(program) if newer else None
-    fresh = note["sources"] == sum_of_sources(crate) if note else not newer
-    if fresh:
-        os.utime(program)
-    return fresh
+    note = read_note(program)
+    return note["sources"] == sum_of_sources(crate) if note else not is_newer(crate, program)

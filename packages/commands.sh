@@ -1,7 +1,9 @@
 # What ./unison and the `unison` of a package share: which program has a command, models in the place of programs, and what is told below a
-# fault line. A script that reads it sets `own`, as which it is called, `names`, those of the commands, `own_names`, those of what it does
-# itself, and `viewer`, into which pages are put. It has three functions: find_program NAME sets `program` to the one that answers for NAME, and
-# `note` to what is told of it; more_help tells what the script does besides, below the help of the programs; tell_version tells the version.
+# fault line. A script that reads it sets `own`, as which it is called, `own_names`, those of what it does itself, and `viewer`, into which
+# pages are put. It has these functions: find_program NAME sets `program` to the one that answers for NAME, and `note` to what is told of it;
+# find_built NAME sets `program` alone, and fails where that one is to be built first;
+# list_names sets `names` to those of the commands, and is_named NAME tells whether this is one; more_help tells what the script does besides,
+# below the help of the programs, and own_help NAME more of one of these; tell_version tells the version.
 work=
 trap '[ -z "$work" ] || rm -rf "$work"' EXIT
 
@@ -19,16 +21,26 @@ model_help() {
 
 By $own itself:
       --const <NAME=VALUE>  Where PROGRAM is a model, a file whose name ends in .model: give a constant this value, a whole number from 0 to 4294967295; as often as wanted
+      --quiet               Leave out notes on what is accepted and may not be meant
 TEXT
 }
 
-# The program that has a command.
-program_of() {
+# Sets `name` to the program that has a command.
+find_name() {
   case $1 in
-  check | lockstep | run | replay | compare) echo unison_cli ;;
-  pack | large) echo unison_large ;;
-  *) echo unison_lab ;;
+  check | lockstep | run | replay | compare) name=unison_cli ;;
+  pack | large) name=unison_large ;;
+  *) name=unison_lab ;;
   esac
+}
+
+# Whether the script does this command itself.
+is_own() {
+  local name
+  for name in "${own_names[@]}"; do
+    [ "$name" != "$1" ] || return 0
+  done
+  return 1
 }
 
 # Sets `program` to the one that answers for NAME, in the folder that UNISON_PROGRAMS names, or else where the script has it.
@@ -43,22 +55,23 @@ choose() {
   exit 1
 }
 
+# Sets `program` to the one that answers for NAME, where it need not be built first.
+choose_built() {
+  program=${UNISON_PROGRAMS-}/$1
+  if [ -n "${UNISON_PROGRAMS-}" ]; then [ -x "$program" ]; else find_built "$1"; fi
+}
+
 tell_note() {
   if [ -n "$note" ] && [ "${UNISON_QUIET-}" != 1 ]; then say "$note"; fi
 }
 
 # Whether the program has this command: each is named, but for old names.
-is_command() {
-  local name
-  for name in "${names[@]}"; do
-    [ "$name" != "$1" ] || return 0
-  done
-  "$program" "$1" --help </dev/null >/dev/null 2>&1
-}
+is_command() { is_named "$1" || "$program" "$1" --help </dev/null >/dev/null 2>&1; }
 
 # Tells the command whose name is nearest to a word, below its fault line.
 tell_nearest() {
   local name nearest known=()
+  list_names
   for name in "${names[@]}"; do
     case $name in
     *[!a-z]*) ;;
@@ -79,7 +92,7 @@ first_pipe() {
 }
 
 # Below a fault line of one of the five commands: what `why` says of the same words, where that is more. The first argument is what the
-# command said, the others are its words.
+# command said, the others are its words. It fails where nothing more is said.
 explain() {
   local said=$1 told lines pipe program note
   shift
@@ -95,6 +108,27 @@ explain() {
   [ "${lines//unison why /unison }" != "$(sed 1d <<<"$said")" ] || lines=
   [ -z "$told" ] || echo "$told" >&2
   [ -z "$lines" ] || echo "$lines" >&2
+  [ -n "$told$lines" ]
+}
+
+# Tells what one of the five commands said of a fault, and below it what `why` says. A line that is the bare name of an option stands there
+# where `why` says no more alone.
+tell_fault() {
+  local said=$1 shown=$1 option=
+  shift
+  if [[ $said =~ ^fault:\ usage$'\n'([a-z-]+)$'\n'?$ ]]; then shown=$'fault: usage\n' option=${BASH_REMATCH[1]}; fi
+  printf %s "$shown" >&2
+  explain "$said" "$@" || [ -z "$option" ] || echo "$option" >&2
+}
+
+# Begins to tell the notes on what one of the five commands accepts, beside the command: where no text comes from standard input.
+begin_notes() {
+  local program
+  notes=
+  if [ -z "$quiet" ] && [ "$reads" = 0 ] && choose_built unison_lab; then
+    "$program" why --notes "$@" </dev/null >/dev/null &
+    notes=$!
+  fi
 }
 
 # What is told of a trace that could not be written, which `why` does not look for.
@@ -123,6 +157,15 @@ standard_input() {
     esac
     words+=("$word")
     before=$word
+  done
+}
+
+# Sets `words` to the words of one of the five commands but for `--quiet`, and `quiet` to whether it is there.
+without_quiet() {
+  local word
+  words=() quiet=
+  for word; do
+    if [ "$word" = --quiet ]; then quiet=1; else words+=("$word"); fi
   done
 }
 
@@ -172,13 +215,15 @@ run_five() {
   else
     exec {given}<&0
   fi
+  begin_notes "$@"
   # (what stands behind the last line end is kept by the x)
   { said=$("$program" "${words[@]}" 2>&1 >&3 3>&- <&"$given" || { status=$?; printf x; exit "$status"; } && printf x); } 3>&1
   status=$?
   [ -z "${tee-}" ] || kill "$tee" 2>/dev/null
-  printf %s "${said%x}" >&2
+  [ -z "$notes" ] || wait "$notes"
   case $status:$said in
-  2:* | 3:* | 1:"fault: file"*) make_work && explain "${said%x}" "$@" ;;
+  2:* | 3:* | 1:"fault: file"*) make_work && tell_fault "${said%x}" "$@" ;;
+  *) printf %s "${said%x}" >&2 ;;
   esac
   case $status:${2-} in
   0:--help | 0:-h) model_help ;;
@@ -231,6 +276,7 @@ run_words() {
   --version | -V) tell_version && exit ;;
   help)
     shift
+    if is_own "${1-}"; then own_help "$1" && exit; fi
     [ $# -gt 0 ] && set -- "$@" --help || set -- --help
     ;;
   page)
@@ -240,9 +286,10 @@ run_words() {
     esac
     ;;
   esac
-  name=$(program_of "${1-}")
+  find_name "${1-}"
   choose "$name"
   if [ "$name" = unison_cli ]; then
+    without_quiet "$@" && set -- "${words[@]}"
     try_five "$@"
     choose unison_lab
     set -- why "$@"

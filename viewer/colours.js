@@ -59,10 +59,11 @@ function scaleAt(part) {
   return colourOf(lower.map((value, at) => value + (upper[at] - value) * (place - below)));
 }
 
-/** What a field has over the whole run, where nodes wait and where they do not: its least and greatest value, its distinct values where they are few, whether one is none. */
+/** What a field has over the whole run, where nodes wait and where they do not: its least and greatest value, its distinct values where they are few, whether one is none. Its states count, whether or not a node has one, so that a state has its own colour on each page. */
 export function rangeOf(run, field) {
   const width = run.fields.length;
   const range = { least: NONE, greatest: 0, few: new Set(), hasNone: false };
+  run.legend[field].forEach((_, state) => widen(range, state));
   let last = -1;
   for (const values of [...run.states, ...run.written]) {
     for (let place = field; place < values.length; place += width) {

@@ -10,9 +10,10 @@ const NUMBERS_ROOM = 52;
 const EDGE_ROOM = 14;
 const ROUNDS_ROOM = 22;
 
-/** For each value of a field, by rising number, how many nodes have it in each shown round; null where more values occur than have curves. */
+/** For each state of a field, where they are not too many, and each value that occurs, by rising number, how many nodes have it in each shown round; null where these are more than have curves. */
 export function countsOf(run, field) {
-  const counts = new Map();
+  const states = run.legend[field].length <= MOST_CURVES ? run.legend[field] : [];
+  const counts = new Map(states.map((_, state) => [state, new Uint32Array(run.states.length)]));
   for (let place = 0; place < run.states.length; place += 1) {
     if (!countRound(counts, run, place, field)) {
       return null;

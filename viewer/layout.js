@@ -148,15 +148,19 @@ function gridLayout(run) {
   return isGrid ? latticeLayout(run, diagonals ? "grid with diagonals" : "grid", width) : null;
 }
 
-/** Hexagonal cells in rows, of which each second one is shifted to the right by half a cell. */
+/** Whether nodes in rows of a width are linked as hexagonal cells, of which each second row is shifted to the right by half a cell. */
+function areHexagons(run, width) {
+  const height = run.nodes / width;
+  const joins = (from, to) => isGridStep(from, to, width, [Math.floor(from / width) % 2 === 1 ? 1 : -1]);
+  return width > 1 && height > 1 && Number.isInteger(height) && linkCount(run) === gridLinks(width, height, 1) && allLinks(run, joins);
+}
+
+/** Hexagonal cells in rows. */
 function hexagonLayout(run) {
   const width = run.degree(0) === 2 ? run.near[1] : 0;
-  const height = run.nodes / width;
   const row = (node) => Math.floor(node / width);
-  const joins = (from, to) => isGridStep(from, to, width, [row(from) % 2 === 1 ? 1 : -1]);
-  const isHexagons = width > 1 && height > 1 && Number.isInteger(height) && linkCount(run) === gridLinks(width, height, 1) && allLinks(run, joins);
   const place = (node) => [(node % width) + (row(node) % 2) / 2, row(node) * Math.sqrt(0.75)];
-  return isHexagons ? layoutOf("hexagons", ...places(run, place), { isLattice: true }) : null;
+  return areHexagons(run, width) ? layoutOf("hexagons", ...places(run, place), { isLattice: true }) : null;
 }
 
 /** Whether two cells of a torus are neighbours, by how far apart their rows and columns are; with diagonals or without. */
@@ -203,6 +207,13 @@ function stubsOf(run, width, height) {
 function cellLayout(run, width, kind) {
   const [xs, ys] = places(run, (node) => [node % width, Math.floor(node / width)]);
   return layoutOf(`${kind}, as cells`, xs, ys, { cells: width });
+}
+
+/** Hexagonal cells in rows, as cells that touch. */
+function hexagonCells(run, width) {
+  const row = (node) => Math.floor(node / width);
+  const [xs, ys] = places(run, (node) => [(node % width) + (row(node) % 2) / 2, row(node) * Math.sqrt(0.75)]);
+  return layoutOf("hexagons, as cells", xs, ys, { cells: width, isHexagonal: true });
 }
 
 /** A tree, from node 0 outwards. */
@@ -289,7 +300,7 @@ const SHAPES = [starLayout, completeLayout, chainLayout, gridLayout, hexagonLayo
  */
 export function layoutFor(run) {
   if (run.grid > 0) {
-    return cellLayout(run, run.grid, "grid");
+    return areHexagons(run, run.grid) ? hexagonCells(run, run.grid) : cellLayout(run, run.grid, "grid");
   }
   for (const shape of run.nodes > MOST_DRAWN ? [gridLayout, torusLayout] : SHAPES) {
     const layout = run.nodes > 1 ? shape(run) : null;

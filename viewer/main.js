@@ -1,6 +1,6 @@
 // The page: reads its run, makes the pictures, and shows one place of the run after another.
 
-import { CellPicture } from "./cells.js";
+import { CellPicture, HexagonPicture } from "./cells.js";
 import { Controls } from "./controls.js";
 import { CurvePicture } from "./curves.js";
 import { Problem, readRun } from "./data.js";
@@ -74,7 +74,8 @@ class Page {
     if (!this.layout) {
       return null;
     }
-    const Picture = this.layout.cells ? CellPicture : NetworkPicture;
+    const CellsPicture = this.layout.isHexagonal ? HexagonPicture : CellPicture;
+    const Picture = this.layout.cells ? CellsPicture : NetworkPicture;
     return new Picture(byId(canvas), this.run, this.layout);
   }
 

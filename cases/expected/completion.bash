@@ -18,17 +18,17 @@ _unison() {
     ;;
   watch:*)
     words=""
-    options="--rounds --every --format --only --changes --names --from --const"
+    options="--rounds --every --format --only --changes --names --from --const --quiet"
     [ "$previous" = --format ] && words="report csv json"
     ;;
   count:*)
     words=""
-    options="--rounds --every --field --until --sum --least --most --format --mean --from --const"
+    options="--rounds --every --field --until --sum --least --most --format --mean --from --const --quiet"
     [ "$previous" = --format ] && words="csv json"
     ;;
   settle:*)
     words=""
-    options="--limit --report --from --const"
+    options="--limit --report --from --const --quiet"
     ;;
   cuts:*)
     words=""
@@ -82,7 +82,7 @@ _unison() {
     ;;
   verify:*)
     words=""
-    options="--names --from --const"
+    options="--until-round --names --from --const --quiet"
     ;;
   page:*)
     words=""
@@ -149,9 +149,9 @@ _unison() {
     options=""
     ;;
   import:edges | take:edges)
-    options="--scale --drop-loops --parallel --names --header --numbers --separator"
+    options="--scale --drop-loops --parallel --names --header --numbers --columns --delimiter"
     [ "$previous" = --parallel ] && words="min max first"
-    [ "$previous" = --separator ] && words="tab comma"
+    [ "$previous" = --delimiter ] && words="comma tab any"
     ;;
   import:matrix-market | take:matrix-market)
     options="--scale --drop-loops --parallel --undirected"
@@ -171,7 +171,7 @@ _unison() {
     ;;
   init:* | open:*)
     words=""
-    options="--set --set-random --overlap --random --seed --cells --width --clear --names --phase"
+    options="--set --set-random --overlap --random --seed --cells --width --clear --names --phase --quiet"
     [ "$previous" = --phase ] && words="0 1 2"
     ;;
   info:* | show:*)
@@ -184,11 +184,11 @@ _unison() {
     ;;
   cells:*)
     words=""
-    options="--width --field --format"
+    options="--width --field --format --rule --quiet"
     [ "$previous" = --format ] && words="rle text"
     ;;
   pack:edges)
-    options="--nodes --directed --scale --drop-loops --keep-loops --parallel --header --names"
+    options="--nodes --directed --reverse --scale --drop-loops --keep-loops --parallel --header --names"
     [ "$previous" = --parallel ] && words="min max first keep"
     ;;
   pack:matrix-market)

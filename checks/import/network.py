@@ -54,7 +54,9 @@ def options_of(words):
              {"header": "header", "numbers": "numbers", "undirected": "undirected", "drop": "drop-loops"}.items()}
     scale = int(value["--scale"]) if "--scale" in value else None
     parallel = value.get("--parallel", OLD_WORDS.get(value.get("--merge-doubles")))
-    return types.SimpleNamespace(scale=scale, parallel=parallel, **flags)
+    gaps = value.get("--delimiter", value.get("--separator")) in ("any", "blank")
+    columns = value["--columns"].split(",") if "--columns" in value else None
+    return types.SimpleNamespace(scale=scale, parallel=parallel, gaps=gaps, columns=columns, **flags)
 
 
 def number_of(digits):

@@ -16,6 +16,8 @@ def options(draws, form):
     words = []
     if form == "edges":
         words += draws.choice([[], [], [], ["--header"], ["--numbers"], ["--header", "--numbers"]])
+        words += draws.choice([[], [], ["--delimiter", "any"]])
+        words += draws.choice([[]] * 9 + [["--columns", "1,2"], ["--columns", "2,1,3"], ["--columns", "1,3,2"]])
     elif draws.random() < 0.5:
         words += ["--undirected"]
     if draws.random() < 0.5:
