@@ -121,14 +121,20 @@ tell_fault() {
   explain "$said" "$@" || [ -z "$option" ] || echo "$option" >&2
 }
 
-# Begins to tell the notes on what one of the five commands accepts, beside the command: where no text comes from standard input.
+# Begins to tell the notes on what one of the five commands accepts, beside the command: where no text comes from standard input. Of words that
+# are refused it tells nothing, since the command does.
 begin_notes() {
   local program
   notes=
   if [ -z "$quiet" ] && [ "$reads" = 0 ] && choose_built unison_lab; then
-    "$program" why --notes "$@" </dev/null >/dev/null &
+    tell_notes "$@" &
     notes=$!
   fi
+}
+
+tell_notes() {
+  local told
+  told=$("$program" why --notes "$@" 2>&1 >/dev/null </dev/null) && [ -n "$told" ] && echo "$told" >&2
 }
 
 # What is told of a trace that could not be written, which `why` does not look for.
