@@ -1,6 +1,6 @@
 -- Why a program is refused, with the items at fault. Items are counted from 0, in the text's order.
 use Rattle.std.specs.Prelude.{ℕ, ◌+◌, ◌<◌, ◌≤◌, ◌≡◌, Bool, false, not, List, [], ◌∷◌, ◌++◌, length, take, Option, Some, None, IsSome, IsSomeAnd, slice_get, string_bytes}
-use Rattle.std.specs.List.{find, position_from}
+use Rattle.std.specs.List.{filter_map, find, position_from}
 use Rattle.std.specs.Option.{option_and_then}
 use Rattle.rule_lang.specs.Tree.{Tree, NumberTree, OwnTree, IdTree, DegreeTree, RoundTree, NearTree, NearIdTree, NearWeightTree, InfixTree, NotTree, OverTree, ChoiceTree, ItemTree, FieldTree, NextTree}
 use Rattle.rule_check.specs.declared.cause.CheckCause.{CheckCause}
@@ -8,7 +8,7 @@ use Rattle.rule_check.specs.declared.cause.CheckCause.TheVariants.{TooManyFields
 use Rattle.rule_check.specs.declared.fault.CheckFault.{CheckFault}
 use Rattle.rule_check.specs.declared.fault.CheckFault.TheVariants as fault
 use Rattle.rule_check.specs.Value.{Next, names_of}
-use Rattle.rule_check.specs.WellFormed.{is_among, is_unknown, looks_outside, nests, all_parts}
+use Rattle.rule_check.specs.WellFormed.{has_twice, is_among, is_unknown, looks_outside, nests, all_parts}
 use Rattle.rule_check.specs.Items.{fields_of, nexts_of, rules_of}
 
 -- the fault of which this is a cause
@@ -36,9 +36,11 @@ assigned_name (NextTree name body) = Some name
 abbrev pub name_at : (ItemTree → Option (List ℕ)) → List ItemTree → ℕ → Option (List ℕ)
 name_at naming items k = option_and_then naming (slice_get items k)
 
--- the item has a name in this way, and an earlier one has the same
+-- the item has a name in this way, an earlier one has the same, and the names of the items before it differ
 abbrev pub IsRepeat : (ItemTree → Option (List ℕ)) → List ItemTree → ℕ → ℕ → Type 0
-IsRepeat naming items item earlier = (earlier < item) × IsSome (name_at naming items item) × (name_at naming items earlier ≡ name_at naming items item)
+IsRepeat naming items item earlier =
+    (earlier < item) × IsSome (name_at naming items item) × (name_at naming items earlier ≡ name_at naming items item)
+    × (has_twice (filter_map naming (take item items)) ≡ false)
 
 -- a `next` item with this property
 abbrev pub is_next : (Next → Bool) → ItemTree → Bool
@@ -81,7 +83,7 @@ is_foreign names name = not (is_among names name)
 abbrev pub first_foreign : List (List ℕ) → Tree → Option (List ℕ)
 first_foreign names e = find (is_foreign names) (names_in e)
 
--- What is named is so. The ninth `field` item: 8 stand in the items before it, 9 with it. An item with the name of an earlier one.
+-- What is named is so. The ninth `field` item: 8 stand in the items before it, 9 with it. The first item with the name of an earlier one.
 -- The first `next` item with a name that is no field's: its own, or one in its expression, and then the first there.
 -- The first `next` item that looks at the neighbour outside an aggregate, or nests aggregates.
 -- The item that brings the aggregates of the expressions from at most 16 to more than 16.

@@ -1,12 +1,12 @@
-use Rattle.std.proofs.Common.{◌≡◌, ◌+◌, ◌∙◌, Some, None, sym, ap, subst, slice_get, nat_cmp, option_copied}
+use Rattle.std.proofs.Common.{◌≡◌, ◌≤◌, ◌+◌, ◌∙◌, Some, None, arith, length, sym, ap, subst, slice_get, nat_cmp, option_copied}
 use Rattle.std.specs.BTreeMap.{is_at}
 use Rattle.std.specs.Map.{lookup}
 use Rattle.std.specs.Cmp.Lexicographic.{slice_cmp}
 use Rattle.std.proofs.lemmas.Map.Text.{btree_map_updates_str}
 use Rattle.rule_lang.specs.View.{item_of, items_of}
 use Rattle.rule_check.specs.Searches.{naming_of}
-use Rattle.rule_check.proofs.Searches.{tree_at}
-use Rattle.rule_check.proofs.Repeats.{Seen, seen_at, seen_first, seen_skip, seen_next, seen_again, none_of}
+use Rattle.rule_check.proofs.Searches.{tree_at, tree_count}
+use Rattle.rule_check.proofs.Repeats.{Seen, seen_at, seen_first, seen_skip, seen_next, seen_again, seen_last, none_of}
 use Rattle.rule_check.proofs.well_formed.first_repeat.Goals as goal
 use Rattle.rule_check.proofs.well_formed.first_repeat.Goals.{in-Some+in_ok-earlier+in_default-2, in_default}
 
@@ -43,3 +43,10 @@ loop-k-preserved c =
           subst (Seen naming items (k + 1)) (sym w.seen-is)
           (seen_skip naming items k c.loop-k.seen item at (sym c.name_of.ensures.exact ∙ ap option_copied w.in_default.is) c.loop-k.invariant)
     ]
+
+pub returns-clause-found : goal.returns-clause-found
+returns-clause-found c =
+    let items = items_of c.args.items.now in
+    let count : length items ≡ length c.args.items.now = tree_count c.args.items.now in
+    let past : length items ≤ c.loop-k.k = grind (arith, c.loop-k-test.false) in
+    sym (seen_last (naming_of c.args.kind) items c.loop-k.k c.loop-k.seen past c.loop-k.invariant)
