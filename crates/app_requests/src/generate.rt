@@ -3,6 +3,7 @@ ghost use Rattle.std.specs.Prelude.{◌≤◌, IfOk, IfSome};
 
 use crate::arguments::{FLAG, NUMBER};
 use crate::decimals::{Portion, billionths_of, percent_of, share_of};
+use crate::percents::no_share;
 use app_table::{Argument, Command, Draft, Kind, OPTION, Reading, Subcommand, WordsFault, number};
 use net_random::RandomNetwork;
 use net_shapes::Shape;
@@ -514,50 +515,6 @@ fn shape_in(reading: &mut Reading) -> Shape {
     }
 }
 
-/// One percent, in millionths of a percent.
-const ONE_PERCENT: u32 = 1_000_000;
-
-/// Adds millionths of a percent as a number of percents, without zeros at its end.
-fn put_percents(draft: &mut Draft, millionths: u32) {
-    draft.put_count((millionths / ONE_PERCENT) as u64);
-    let mut left = millionths % ONE_PERCENT;
-    for unit in [100_000, 10_000, 1_000, 100, 10, 1] {
-        if left == 0 {
-            return;
-        }
-        draft.put(if unit == 100_000 { "." } else { "" });
-        draft.put_count(left.checked_div(unit).unwrap_or(0) as u64);
-        left = left.checked_rem(unit).unwrap_or(0);
-    }
-}
-
-/// What is told of a number without `%`: how it is written where it is percents, and where it is a share from 0 to 1.
-fn bare_share(alloc: Global, found: &str, millionths: u32) -> Result<String, AllocError> {
-    let mut draft = Draft::new(alloc);
-    draft.put("--rewire: percents have % behind them, so that `");
-    draft.put(found);
-    draft.put("` is not taken for another share: write ");
-    draft.put(found);
-    draft.put("%");
-    if millionths <= ONE_PERCENT {
-        draft.put(", or ");
-        put_percents(&mut draft, millionths.saturating_mul(100));
-        draft.put("% for the share ");
-        draft.put(found);
-    }
-    draft.end()
-}
-
-/// What is told of a text that is no share.
-fn no_share(alloc: Global, found: &str) -> Result<String, AllocError> {
-    if let Some(millionths) = share_of(found) {
-        return bare_share(alloc, found, millionths);
-    }
-    format!(in alloc;
-        "--rewire: expected a share from 0% to 100%, with six decimals at most, found `{found}`"
-    )
-}
-
 /// The share that percents write; where `%` is left out, 0 alone.
 fn rewired_of(word: &str) -> Option<Portion> {
     if let Some(percents) = word.strip_suffix('%') {
@@ -575,7 +532,7 @@ pub(crate) fn rewire_in(reading: &mut Reading) -> Portion {
     match rewired_of(found.as_str()) {
         Some(share) => share,
         None => {
-            reading.refuse_as(no_share(reading.alloc(), found.as_str()));
+            reading.refuse_as(no_share(reading.alloc(), REWIRE_ARGUMENT.name, found.as_str()));
             Portion { times: 0, of: 1 }
         }
     }

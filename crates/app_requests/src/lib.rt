@@ -21,6 +21,7 @@ mod large;
 mod naive;
 mod pack;
 mod page;
+mod percents;
 mod schedule;
 mod settle;
 mod verify;

@@ -6,6 +6,7 @@ use crate::arguments::{
     FILE, FROM, NAMES, NAMES_ARGUMENT, NETWORK, NUMBER, PROGRAM, PlanPaths, ROUND,
 };
 use crate::constants::CONSTANT;
+use crate::percents::whole_percents;
 use app_table::{Argument, Command, Kind, OPTION, Reading, Subcommand, Value, WordsFault};
 use rounds_plan::MOST_ROUNDS;
 use std::alloc::{AllocError, Global};
@@ -49,9 +50,8 @@ static SEED_ARGUMENT: Argument = SEED;
 
 const REFUSED: Argument = Argument {
     name: "refused",
-    value: Value::Number { least: 0, most: 99 },
     value_name: "PERCENT",
-    help: "Mix in steps that change nothing: so many of a hundred, 0 to 99",
+    help: "Mix in steps that change nothing: so many of a hundred, as 40%: 0% to 99%",
     ..OPTION
 };
 
@@ -82,12 +82,8 @@ static NEIGHBOUR_ARGUMENT: Argument = NEIGHBOUR;
 
 const SHARE: Argument = Argument {
     name: "share",
-    value: Value::Number {
-        least: 0,
-        most: 100,
-    },
     value_name: "PERCENT",
-    help: "Each enabled node with so many chances of a hundred: 0 to 100, and 50 where it is left out",
+    help: "Each enabled node with so many chances of a hundred, as 40%: 0% to 100%, and 50% where it is left out",
     ..OPTION
 };
 
@@ -278,7 +274,7 @@ fn daemon_in(reading: &mut Reading) -> StepsManner {
         "central" => StepsManner::Central,
         "synchronous" => StepsManner::Synchronous,
         "distributed" => StepsManner::Distributed {
-            share: reading.number_or(&SHARE_ARGUMENT, HALF),
+            share: whole_percents(reading, &SHARE_ARGUMENT, 100).unwrap_or(HALF),
         },
         _ => StepsManner::Adversary {
             node: reading.needed_text(&NODE_ARGUMENT),
@@ -310,7 +306,7 @@ fn limits_in(reading: &mut Reading) -> Limits
     let stop = reading.number_or(&STOP_ARGUMENT, MOST_ROUNDS);
     let count = reading.number_or(&COUNT_ARGUMENT, MOST_STEPS);
     let seed = reading.number_or(&SEED_ARGUMENT, 0);
-    let refused = reading.number_or(&REFUSED_ARGUMENT, 0);
+    let refused = whole_percents(reading, &REFUSED_ARGUMENT, 99).unwrap_or(0);
     Limits {
         stop,
         seed,
