@@ -99,12 +99,12 @@ def test_lists_by_programs_are_texts_by_programs():
         network = unison.Network(nodes, links, set={"a": {0: 5}})
         text = _calls.Texts(rule.text, network._bytes)
         lists = unison._lists.lists_of(network)
-        begin = lists._initial_words(rule)
         wanted = programs.watch(text, [0, 3, 4, 5], 0).words
-        assert programs.large_watch(rule, lists, 0, begin[:], 2 * nodes, [0, 3, 4, 5]) == wanted
-        words = wanted[2 * nodes : 4 * nodes]
-        programs.large_rounds(rule, lists, 3, 5, words, 2 * nodes)
-        assert words == wanted[6 * nodes :]
-        counts = programs.large_counts(rule, lists, 0, begin[:], 2 * nodes, [0, 3], "a", [1, 5])
+        start = _calls.Start(lists, 0, lists._initial_words(rule))
+        assert programs.large_watch(rule, start, [0, 3, 4, 5]) == wanted
+        third = _calls.Start(lists, 3, wanted[2 * nodes : 4 * nodes])
+        programs.large_rounds(rule, third, 5)
+        assert third.words == wanted[6 * nodes :]
+        counts = programs.large_counts(rule, start, [0, 3], "a", [1, 5])
         column = [wanted[place : 2 * nodes + place : 2] for place in (0, 2 * nodes)]
         assert list(counts) == [number for rows in column for number in (rows.count(1), rows.count(5), nodes - rows.count(1) - rows.count(5))]

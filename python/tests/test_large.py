@@ -60,10 +60,10 @@ def test_watched_words_on_random_rows():
         for _ in range(6):
             seen.append([word for state in states for word in state])
             states = totals(rows, states)
-        found = _calls.large_watch(rule.text, given._lists(), 7, initial, len(initial), [7, 9, 12])
-        assert list(found) == seen[0] + seen[2] + seen[5], seed
-    assert len(_calls.large_watch(rule.text, given._lists(), 7, initial, len(initial), [])) == 0
-    refused = raised(unison.RunError, lambda: _calls.large_watch(rule.text, given._lists(), 7, initial, len(initial), [9, 9]))
+        start = _calls.Start(given, 7, initial)
+        assert list(_calls.large_watch(rule, start, [7, 9, 12])) == seen[0] + seen[2] + seen[5], seed
+    assert len(_calls.large_watch(rule, start, [])) == 0
+    refused = raised(unison.RunError, lambda: _calls.large_watch(rule, start, [9, 9]))
     assert refused.name == "NotRising"
 
 
@@ -75,15 +75,16 @@ def test_counted_nodes_on_random_rows():
         given = unison.Network.from_arrays(*lists_of(rows))
         initial = array("I", [word for node in range(len(rows)) for word in (3 + node, 0)])
         asked, values = [7, 9, 12], [4, 0, 1008, 4, *range(1, seed)]
-        seen = _calls.large_watch(rule.text, given._lists(), 7, initial, len(initial), asked)
-        for field in range(2):
-            found = _calls.large_counts(rule.text, given._lists(), 7, initial, len(initial), asked, field, values)
-            columns = [seen[place * len(initial) + field : (place + 1) * len(initial) : 2] for place in range(len(asked))]
+        start = _calls.Start(given, 7, initial)
+        seen = _calls.large_watch(rule, start, asked)
+        for first, field in enumerate(rule.fields):
+            found = _calls.large_counts(rule, start, asked, field, values)
+            columns = [seen[place * len(initial) + first : (place + 1) * len(initial) : 2] for place in range(len(asked))]
             expected = [[*(column.count(value) for value in values), sum(word not in values for word in column)] for column in columns]
             assert list(found) == [number for row in expected for number in row], (seed, field)
-    call = lambda *rest: _calls.large_counts(rule.text, given._lists(), 7, initial, len(initial), *rest)  # noqa: E731
-    assert list(call([], 0, [1])) == [] and list(call([7], 0, [])) == [len(rows)]
-    for name, asked in (("NotRising", ([9, 9], 0, [1])), ("NoField", ([9], 2, [1])), ("TooManyValues", ([9], 1, range(257)))):
+    call = lambda *rest: _calls.large_counts(rule, start, *rest)  # noqa: E731
+    assert list(call([], "s", [1])) == [] and list(call([7], "s", [])) == [len(rows)]
+    for name, asked in (("NotRising", ([9, 9], "s", [1])), ("TooManyValues", ([9], "seen", range(257)))):
         kind = unison.RunError if name == "NotRising" else unison.NetworkError
         assert raised(kind, lambda: call(*asked)).name == name
 

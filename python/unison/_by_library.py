@@ -7,7 +7,7 @@ from array import array
 from typing import TYPE_CHECKING, Any, Callable, List, Sequence, Tuple
 
 from . import _library, faults
-from ._calls import Refused, Replay, Table, Texts, Told, cut, room_for
+from ._calls import Refused, Replay, Start, Table, Texts, Told, cut, room_for
 
 if TYPE_CHECKING:
     from .large import LargeNetwork
@@ -17,6 +17,11 @@ if TYPE_CHECKING:
 def plan(texts: Texts) -> Tuple[Any, ...]:
     """The arguments for program, network and report."""
     return (texts.program, len(texts.program), texts.network, len(texts.network), texts.report, len(texts.report))
+
+
+def begin(program: Program, start: Start) -> Tuple[Any, ...]:
+    """The arguments for a program, the lists of a network and the round at which rounds on them begin."""
+    return (program.text, len(program.text), *start.lists._lists(), start.round)
 
 
 def address(words: "array[int]") -> int:
@@ -119,40 +124,26 @@ class Library:
         place = ctypes.c_size_t(0)
         return _library.load().unison_large_check(*lists._lists(), ctypes.byref(place)), place.value
 
-    def large_rounds(self, program: Program, lists: LargeNetwork, start: int, asked: int, words: "array[int]", count: int) -> None:
-        fields, text = ctypes.c_uint32(0), program.text
-        call = _library.load().unison_large_rounds
-        accept(call(text, len(text), *lists._lists(), start, asked, address(words), count, ctypes.byref(fields)))
+    def large_rounds(self, program: Program, start: Start, asked: int) -> None:
+        fields, call = ctypes.c_uint32(0), _library.load().unison_large_rounds
+        accept(call(*begin(program, start), asked, address(start.words), start.size(program), ctypes.byref(fields)))
 
-    def large_watch(
-        self, program: Program, lists: LargeNetwork, start: int, initial: "array[int]", count: int, rounds: Sequence[int]
-    ) -> "array[int]":
-        (wanted, many), text = listed(rounds), program.text
-        room, fields = many * count, ctypes.c_uint32(0)
-        words = room_for(room)
+    def large_watch(self, program: Program, start: Start, rounds: Sequence[int]) -> "array[int]":
+        wanted, many = listed(rounds)
+        size, fields = start.size(program), ctypes.c_uint32(0)
+        words, room = room_for(many * size), many * size
         answer = _library.load().unison_large_watch(
-            text, len(text), *lists._lists(), start, address(initial), count,
-            address(wanted), many, address(words), room, ctypes.byref(fields),
-        )  # fmt: skip
+            *begin(program, start), address(start.words), size, address(wanted), many, address(words), room, ctypes.byref(fields)
+        )
         accept(answer)
         return cut(words, room)
 
-    def large_counts(
-        self,
-        program: Program,
-        lists: LargeNetwork,
-        start: int,
-        initial: "array[int]",
-        count: int,
-        rounds: Sequence[int],
-        field: str,
-        values: Sequence[int],
-    ) -> "array[int]":
-        (wanted, many), (counted, kinds), text = listed(rounds), listed(values), program.text
+    def large_counts(self, program: Program, start: Start, rounds: Sequence[int], field: str, values: Sequence[int]) -> "array[int]":
+        (wanted, many), (counted, kinds) = listed(rounds), listed(values)
         room, fields = many * (kinds + 1), ctypes.c_uint32(0)
         counts = room_for(room)
         answer = _library.load().unison_large_counts(
-            text, len(text), *lists._lists(), start, address(initial), count, address(wanted), many,
+            *begin(program, start), address(start.words), start.size(program), address(wanted), many,
             program.fields.index(field), address(counted), kinds, address(counts), room, ctypes.byref(fields),
         )  # fmt: skip
         accept(answer)

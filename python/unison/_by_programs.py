@@ -9,7 +9,7 @@ from array import array
 from typing import TYPE_CHECKING, Dict, Iterator, List, Mapping, Sequence, Tuple
 
 from . import _programs, faults
-from ._calls import CHECK, LOCKSTEP, MOST, REPLAY, Refused, Replay, Table, Texts, Told, room_for
+from ._calls import CHECK, LOCKSTEP, MOST, REPLAY, Refused, Replay, Start, Table, Texts, Told, room_for
 
 if TYPE_CHECKING:
     from .large import LargeNetwork
@@ -95,12 +95,12 @@ def first_fault_of_lists(offsets: Sequence[int], neighbours: Sequence[int], weig
 class Rows:
     """Runs on the lists of a network, which are packed into a file once."""
 
-    def __init__(self, program: Program, lists: LargeNetwork, start: int, words: "array[int]") -> None:
+    def __init__(self, program: Program, start: Start) -> None:
         from . import _packed
 
-        self.program, self.nodes = program, lists.nodes
-        self.files = {PROGRAM: program.text, NETWORK: _packed.write(lists)}
-        self.go_on(start, words)
+        self.program, self.nodes = program, start.lists.nodes
+        self.files = {PROGRAM: program.text, NETWORK: _packed.write(start.lists)}
+        self.go_on(start.round, start.words)
 
     def go_on(self, start: int, words: "array[int]") -> None:
         """The next command goes on from these states."""
@@ -203,34 +203,21 @@ class Programs:
         name, place = first_fault_of_lists(lists._offsets.held, lists._neighbours.held, lists._weights.count)
         return (faults.NUMBERS["lists", name] if name else 0), place
 
-    def large_rounds(self, program: Program, lists: LargeNetwork, start: int, asked: int, words: "array[int]", count: int) -> None:
-        if count:
-            words[:count] = Rows(program, lists, start, words).words(asked)
+    def large_rounds(self, program: Program, start: Start, asked: int) -> None:
+        size = start.size(program)
+        if size:
+            start.words[:size] = Rows(program, start).words(asked)
 
-    def large_watch(
-        self, program: Program, lists: LargeNetwork, start: int, initial: "array[int]", count: int, rounds: Sequence[int]
-    ) -> "array[int]":
-        words = array("I")
-        rows = Rows(program, lists, start, initial)
-        for first, last, every in spans(rounds) if count else ():
+    def large_watch(self, program: Program, start: Start, rounds: Sequence[int]) -> "array[int]":
+        words, size, rows = array("I"), start.size(program), Rows(program, start)
+        for first, last, every in spans(rounds) if size else ():
             found = rows.span_words(first, last, every)
             words.extend(found)
-            rows.go_on(last, found[len(found) - count :])
+            rows.go_on(last, found[len(found) - size :])
         return words
 
-    def large_counts(
-        self,
-        program: Program,
-        lists: LargeNetwork,
-        start: int,
-        initial: "array[int]",
-        count: int,
-        rounds: Sequence[int],
-        field: str,
-        values: Sequence[int],
-    ) -> "array[int]":
-        counts = array("I")
-        rows = Rows(program, lists, start, initial)
+    def large_counts(self, program: Program, start: Start, rounds: Sequence[int], field: str, values: Sequence[int]) -> "array[int]":
+        counts, rows = array("I"), Rows(program, start)
         for first, last, every in spans(rounds):
             told = rows.run("watch", f"--rounds={first}..{last}", f"--every={every}", f"--count={field}").decode("ascii")
             found: Dict[int, Dict[int, int]] = {round: {} for round in range(first, last + 1, every)}
@@ -238,5 +225,5 @@ class Programs:
                 found[int(round)][int(value)] = int(nodes)
             for nodes_with in found.values():
                 listed = [nodes_with.get(value, 0) for value in values]
-                counts.extend([*listed, lists.nodes - sum(nodes_with.get(value, 0) for value in {*values})])
+                counts.extend([*listed, rows.nodes - sum(nodes_with.get(value, 0) for value in {*values})])
         return counts

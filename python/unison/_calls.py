@@ -38,6 +38,18 @@ class Table(NamedTuple):
     fields: int
 
 
+class Start(NamedTuple):
+    """Where rounds on lists begin: a round, and the words of its states, which a call may change. There may be more room than words."""
+
+    lists: LargeNetwork
+    round: int
+    words: "array[int]"
+
+    def size(self, program: Program) -> int:
+        """How many words a round has."""
+        return self.lists.nodes * len(program.fields)
+
+
 class Replay(NamedTuple):
     """What a replay gives."""
 
@@ -91,27 +103,15 @@ class Backend(Protocol):
     def large_check(self, lists: LargeNetwork) -> Tuple[int, int]:
         """The number of the first fault of the lists of a network, 0 where they have none, and its place."""
 
-    def large_rounds(self, program: Program, lists: LargeNetwork, start: int, asked: int, words: "array[int]", count: int) -> None:
-        """Puts so many words of a round in place of those of the start."""
+    def large_rounds(self, program: Program, start: Start, asked: int) -> None:
+        """Puts the words of a round in place of those of the start."""
 
-    def large_watch(
-        self, program: Program, lists: LargeNetwork, start: int, initial: "array[int]", count: int, rounds: Sequence[int]
-    ) -> "array[int]":
-        """The words of some rising rounds, one round behind the other, from so many words of the start."""
+    def large_watch(self, program: Program, start: Start, rounds: Sequence[int]) -> "array[int]":
+        """The words of some rising rounds, one round behind the other."""
 
-    def large_counts(
-        self,
-        program: Program,
-        lists: LargeNetwork,
-        start: int,
-        initial: "array[int]",
-        count: int,
-        rounds: Sequence[int],
-        field: str,
-        values: Sequence[int],
-    ) -> "array[int]":
+    def large_counts(self, program: Program, start: Start, rounds: Sequence[int], field: str, values: Sequence[int]) -> "array[int]":
         """How many nodes have each of some values in a field after each of some rising rounds, and last in each round how many have none of
-        them, from so many words of the start."""
+        them."""
 
 
 @lru_cache(maxsize=None)
@@ -208,29 +208,16 @@ def large_check(lists: LargeNetwork) -> Tuple[int, int]:
     return backend().large_check(lists)
 
 
-def large_rounds(program: Program, lists: LargeNetwork, start: int, asked: int, words: "array[int]", count: int) -> None:
-    """Puts so many words of a round in place of those of the start."""
-    answer_of(lambda it: it.large_rounds(program, lists, start, asked, words, count), CHECK, Texts(program.text))
+def large_rounds(program: Program, start: Start, asked: int) -> None:
+    """Puts the words of a round in place of those of the start."""
+    answer_of(lambda it: it.large_rounds(program, start, asked), CHECK, Texts(program.text))
 
 
-def large_watch(
-    program: Program, lists: LargeNetwork, start: int, initial: "array[int]", count: int, rounds: Sequence[int]
-) -> "array[int]":
+def large_watch(program: Program, start: Start, rounds: Sequence[int]) -> "array[int]":
     """The words of some rounds, one round behind the other."""
-    return answer_of(lambda it: it.large_watch(program, lists, start, initial, count, rounds), CHECK, Texts(program.text))
+    return answer_of(lambda it: it.large_watch(program, start, rounds), CHECK, Texts(program.text))
 
 
-def large_counts(
-    program: Program,
-    lists: LargeNetwork,
-    start: int,
-    initial: "array[int]",
-    count: int,
-    rounds: Sequence[int],
-    field: str,
-    values: Sequence[int],
-) -> "array[int]":
+def large_counts(program: Program, start: Start, rounds: Sequence[int], field: str, values: Sequence[int]) -> "array[int]":
     """How many nodes have each of some values in a field after each of some rounds, and how many have none of them."""
-    return answer_of(
-        lambda it: it.large_counts(program, lists, start, initial, count, rounds, field, values), CHECK, Texts(program.text)
-    )
+    return answer_of(lambda it: it.large_counts(program, start, rounds, field, values), CHECK, Texts(program.text))

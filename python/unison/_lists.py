@@ -53,7 +53,7 @@ def agree(network: Network, lists: LargeNetwork) -> bool:
     read = _calls.watch(_calls.Texts(program.text, network._bytes), [0, 1], 2 * size).words
     words = lists._initial_words(program)
     initial = words[:size]
-    _calls.large_rounds(program, lists, 0, 1, words, size)
+    _calls.large_rounds(program, _calls.Start(lists, 0, words), 1)
     return bool(read == initial + words[:size])
 
 

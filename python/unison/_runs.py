@@ -8,8 +8,9 @@ from concurrent.futures import ThreadPoolExecutor
 from typing import Any, Callable, Dict, Iterator, List, Mapping, NamedTuple, Optional, Sequence, Tuple
 
 from . import _calls, large
+from ._calls import Start
 from .jobs import AnyNetwork
-from .large import LargeNetwork, Start
+from .large import LargeNetwork
 from .model import Model
 from .program import Program
 from .results import NONE, Rounds, States, numpy

@@ -5,9 +5,9 @@ from __future__ import annotations
 from typing import Any, Iterable, Optional, Sequence, Tuple, Union
 
 from . import _calls, _checks, faults, large
-from ._calls import Texts
+from ._calls import Start, Texts
 from ._lists import lists_of
-from .large import LargeNetwork, Start
+from .large import LargeNetwork
 from .network import Network
 from .program import Program
 from .results import Replayed, Rounds, Settling, States

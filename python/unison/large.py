@@ -5,10 +5,11 @@ from __future__ import annotations
 import os
 from array import array
 from pathlib import Path
-from typing import Any, Hashable, Iterable, List, Mapping, NamedTuple, Optional, Sequence, Tuple, Union
+from typing import Any, Hashable, Iterable, List, Mapping, Optional, Sequence, Tuple, Union
 
 from . import _calls, _checks, faults
 from ._arrays import LONG, WORD, Numbers, numbers, rows_of_edges, text_of_fault
+from ._calls import Start
 from .network import InitialValues, is_number
 from .program import Program
 from .results import States, numpy
@@ -217,14 +218,6 @@ def from_scipy(matrix: Any, weights: bool, **how: Any) -> LargeNetwork:
     return LargeNetwork(rows.indptr, rows.indices, rows.data if weights else None, **how)
 
 
-class Start(NamedTuple):
-    """Where rounds on lists begin: a round, and the words of its states, which a call may change."""
-
-    lists: LargeNetwork
-    round: int
-    words: "array[int]"
-
-
 def start_of(program: Program, network: LargeNetwork, from_: Any) -> Start:
     """The initial states, or those to go on from."""
     if from_ is None:
@@ -244,17 +237,15 @@ def start_of(program: Program, network: LargeNetwork, from_: Any) -> Start:
 
 def words_after(program: Program, start: Start, round: int) -> "array[int]":
     """The words after a round."""
-    size = start.lists.nodes * len(program.fields)
-    _calls.large_rounds(program, start.lists, start.round, round, start.words, size)
-    return _calls.cut(start.words, size)
+    _calls.large_rounds(program, start, round)
+    return _calls.cut(start.words, start.size(program))
 
 
 def counts_after_each(program: Program, start: Start, rounds: Sequence[int], field: str, values: Sequence[int]) -> "array[int]":
     """How many nodes have each of some values of a field after each of some rounds, and last in each round how many have none of them, one
     round behind the other, all in one pass."""
     check_rising(rounds)
-    size = start.lists.nodes * len(program.fields)
-    return _calls.large_counts(program, start.lists, start.round, start.words, size, rounds, field, values)
+    return _calls.large_counts(program, start, rounds, field, values)
 
 
 def is_rising(rounds: Sequence[int]) -> bool:
@@ -271,5 +262,4 @@ def check_rising(rounds: Sequence[int]) -> None:
 def words_of_each(program: Program, start: Start, rounds: Sequence[int]) -> "array[int]":
     """The words after each of some rounds, one round behind the other, all in one pass."""
     check_rising(rounds)
-    size = start.lists.nodes * len(program.fields)
-    return _calls.large_watch(program, start.lists, start.round, start.words, size, rounds)
+    return _calls.large_watch(program, start, rounds)
