@@ -1,5 +1,5 @@
 -- Trees and tokens without where they lie in memory.
-use Rattle.std.specs.Prelude.{List, map, string_bytes}
+use Rattle.std.specs.Prelude.{ℕ, ◌≡◌, List, map, string_bytes}
 use Rattle.rule_lang.specs.declared.tree.Expr.{Expr}
 use Rattle.rule_lang.specs.declared.tree.Expr.TheVariants.{Number, Own, Id, Degree, Round, Near, NearId, NearWeight, Infix', Not', Over', Choice'}
 use Rattle.rule_lang.specs.declared.tree.Item.{Item}
@@ -7,7 +7,7 @@ use Rattle.rule_lang.specs.declared.tree.Item.TheVariants.{Field, Next}
 use Rattle.rule_lang.specs.declared.token.Token.{Token}
 use Rattle.rule_lang.specs.declared.token.Token.TheVariants as token
 use Rattle.rule_lang.specs.declared.token.Lexeme.{Lexeme}
-use Rattle.rule_lang.specs.Tokens.{Tok, WordTok, NearTok, NumberTok, SignTok}
+use Rattle.rule_lang.specs.Tokens.{Tok, WordTok, NearTok, NumberTok, SignTok, HasTokens, places}
 use Rattle.rule_lang.specs.Tree.{Tree, NumberTree, OwnTree, IdTree, DegreeTree, RoundTree, NearTree, NearIdTree, NearWeightTree, InfixTree, NotTree, OverTree, ChoiceTree, ItemTree, FieldTree, NextTree}
 
 -- the tree of an expression, whose names are bytes
@@ -44,3 +44,8 @@ tok_of (token.Sign s) = SignTok s
 -- the tokens, without their places
 abbrev pub toks_of : List Lexeme → List Tok
 toks_of lexemes = map (λ l. tok_of l.token) lexemes
+
+-- the text has these tokens, each at its place
+pub record StandIn (text : List ℕ) (lexemes : List Lexeme) : Type 0 where
+  pub words : HasTokens text (toks_of lexemes)
+  pub at : places text (toks_of lexemes) words ≡ map (λ l. l.at) lexemes
