@@ -17,6 +17,7 @@ if TYPE_CHECKING:
 
 PROGRAM, NETWORK, REPORT, SCHEDULE = "program", "network", "report", "schedule"  # the files, as the library calls the texts
 LAST = 1_000_000_000  # the last round, stop and limit
+MOST_VALUES = 256  # that are counted at once
 JOBS = {CHECK: "check", LOCKSTEP: "lockstep", REPLAY: "replay"}
 OPTIONS = {LOCKSTEP: "--rounds", REPLAY: "--stop"}
 BEYOND = {LOCKSTEP: faults.NUMBERS["run", "TooManyRounds"], REPLAY: faults.NUMBERS["run", "StopTooLarge"]}
@@ -63,7 +64,9 @@ def table_of(reports: bytes) -> Table:
 
 
 def spans(rounds: Sequence[int]) -> Spans:
-    """Rising rounds as few spans of rounds that are evenly apart: the first, the last and how far apart they are."""
+    """Rising rounds as few spans of rounds that are evenly apart: the first, the last and how far apart they are. Other rounds are refused."""
+    if any(before >= after for before, after in zip(rounds, rounds[1:])):
+        raise Refused(faults.NUMBERS["run", "NotRising"])
     place = 0
     while place < len(rounds):
         every = rounds[place + 1] - rounds[place] if place + 1 < len(rounds) else 1
@@ -217,6 +220,8 @@ class Programs:
         return words
 
     def large_counts(self, program: Program, start: Start, rounds: Sequence[int], field: str, values: Sequence[int]) -> "array[int]":
+        if len(values) > MOST_VALUES:
+            raise Refused(faults.NUMBERS["lists", "TooManyValues"])
         counts, rows = array("I"), Rows(program, start)
         for first, last, every in spans(rounds):
             told = rows.run("watch", f"--rounds={first}..{last}", f"--every={every}", f"--count={field}").decode("ascii")
