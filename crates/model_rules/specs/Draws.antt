@@ -11,7 +11,7 @@ wrapped a b = a * b % 4294967296
 abbrev pub laid : ℕ → ℕ → ℕ
 laid by x = bit_xor x (x / by)
 
--- A word of 32 bits mixed, so that each bit of the result hangs on each bit of the word. No two words have the same result.
+-- A word of 32 bits mixed: its upper bits are laid on the lower ones three times, with a product between, of which 32 bits stay.
 abbrev pub mixed : ℕ → ℕ
 mixed x = laid 65536 (wrapped (laid 32768 (wrapped (laid 65536 x) 2146121005)) 2221713035)
 
