@@ -30,7 +30,7 @@ joins_settled : (u w : ℕ) (links : List Half) → are_linked (map settled link
 joins_settled u w [] = refl
 joins_settled u w (l ∷ ls) = ap (λ r. joins u w l || r) (joins_settled u w ls)
 
-twice_settled : (links : List Half) → has_link_twice (map settled links) ≡ has_link_twice links
+pub twice_settled : (links : List Half) → has_link_twice (map settled links) ≡ has_link_twice links
 twice_settled [] = refl
 twice_settled (l ∷ ls) = rw (joins_settled l.0 l.1 ls, twice_settled ls)
 

@@ -1,9 +1,9 @@
 -- Refusals, step by step.
 use Rattle.std.proofs.Common.{◌≡◌, ◌∙◌, ℕ, ℤ, ◌-◌, Bool, true, false, ◌||◌, List, [], ◌∷◌, length, map, nat_lt, Option, Some, None, option_map, is_none, Result, Ok, Err, refl, sym, ap, inl, inr}
-use Rattle.std.specs.Prelude.{codes, option_and_then, slice_get, IsSomeAnd, find}
+use Rattle.std.specs.Prelude.{codes, option_and_then, take, slice_get, IsSomeAnd, find}
 use Rattle.std.specs.List.{list_any}
 use Rattle.std.proofs.lemmas.Bool.{cases_Bool}
-use Rattle.std.proofs.lemmas.List.{length-map}
+use Rattle.std.proofs.lemmas.List.{length-map, take-map}
 use Rattle.std.proofs.lemmas.Option.{slice_get-map}
 use Rattle.toml.specs.Data.{Members, get_member, as_table}
 use Rattle.link_net.specs.declared.cause.NetCause.{NetCause}
@@ -20,7 +20,7 @@ use Rattle.link_net.specs.Links.{is_self_link, has_link_twice, joins, linked_wit
 use Rattle.link_net.specs.Neighbours.{numbers_below}
 use Rattle.link_net.specs.Reading.{number_in, placed, all_placed, is_crowded, description_in, description_of}
 use Rattle.link_net.specs.Tables.{settled, network_in}
-use Rattle.link_net.proofs.Checks.{linked_settled}
+use Rattle.link_net.proofs.Checks.{linked_settled, twice_settled}
 use Rattle.link_net.proofs.LinkSteps.{Raw, Half}
 use Rattle.link_net.proofs.Places.{position-map, find_agrees}
 
@@ -117,7 +117,8 @@ crowd_of n links = find_agrees _ _ 0 n (λ u low high. ap (λ ws. nat_lt most_ne
 
 pub link_cause_of : (n : ℕ) (links : List Half) (c : NetCause) → IsLinkCause n (map settled links) c → IsLinkCause n links c
 link_cause_of n links (cause.SelfLink link) h = sym (position-map settled is_self_link links) ∙ h
-link_cause_of n links (cause.LinkTwice link earlier) h = twice_of links earlier link h
+link_cause_of n links (cause.LinkTwice link earlier) h =
+    (twice_of links earlier link h.0, sym (twice_settled (take link links)) ∙ ap has_link_twice (sym (take-map settled link links)) ∙ h.1)
 link_cause_of n links (cause.TooManyLinks count) h = (h.0 ∙ length-map links settled, h.1)
 link_cause_of n links (cause.TooManyNeighbours node count) h = (sym (crowd_of n links) ∙ h.0, h.1 ∙ ap length (linked_settled n links node))
 link_cause_of n links _ h = absurd h

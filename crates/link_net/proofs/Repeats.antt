@@ -1,186 +1,207 @@
--- Arcs with the numbers of their links: what leads alike twice comes from two links.
-use Rattle.std.proofs.Common.{◌≡◌, ◌≢◌, ◌∙◌, ℕ, ◌+◌, ◌<◌, ◌≤◌, ◌==◌, Bool, true, false, ◌&&◌, ◌||◌, List, [], ◌∷◌, suc, Option, Some, None, refl, sym, ap, arith, inl, inr, ◌⊎◌, Ordering, Equal, nat_cmp, add-zero, zero-add}
-use Rattle.std.specs.Prelude.{slice_get, IsSomeAnd}
-use Rattle.std.proofs.lemmas.Bool.{cases_Bool, or_cases, or_parts, and_parts}
+-- Links that join the same two nodes, found by the map of the nodes joined so far to the numbers of their links.
+use Rattle.std.proofs.Common.{◌≡◌, ◌∙◌, ℕ, ◌+◌, ◌<◌, ◌≤◌, ◌==◌, zero, suc, add-one, Bool, true, false, cond, ◌&&◌, ◌||◌, List, [], ◌∷◌, ◌++◌, length, get_or, take, drop, Option, Some, None, is_some, IfSome, Ordering, is_eq, nat_cmp, BTreeMap, refl, sym, ap, subst, arith}
+use Rattle.std.specs.Prelude.{slice_get, min, max, IsSomeAnd}
+use Rattle.std.specs.BTreeMap.{get}
+use Rattle.std.specs.Cmp.{both_tied, unsigned_ties}
+use Rattle.std.specs.List.{list_any}
+use Rattle.std.specs.Ordering.{ordering_then}
 use Rattle.std.proofs.lemmas.Bool.Decides.{nat_tests}
-use Rattle.std.proofs.lemmas.List.Elements.{All-from_recursion, recursion_from_All}
-use Rattle.std.proofs.lemmas.List.Sorted.{All-permutation}
-use Rattle.std.proofs.lemmas.Map.Keys.{IsDistinct-head, IsDistinct-tail, IsDistinct-IsPermutation, ge_from_not_lt}
-use Rattle.std.specs.Cmp.{nat_eq_equiv, tied_itself}
-use Rattle.std.proofs.lemmas.Cmp.{nat_cmp_total}
-use Rattle.std.specs.List.{list_any, AllByRecursion, IsDistinct}
-use Rattle.std.specs.List.Sorted.{IsPermutation, IsSorted}
-use Rattle.std.specs.Ordering.{is_lt, ordering_then}
-use Rattle.link_net.specs.Arcs.{Arc, arcs_of, same_arc, arc_cmp, repeats}
+use Rattle.std.proofs.lemmas.List.{take-append-drop}
+use Rattle.std.proofs.lemmas.Option.{slice_get-get_or}
+use Rattle.link_net.specs.Arcs.{Arc}
 use Rattle.link_net.specs.Causes.{AreTwice}
-use Rattle.link_net.specs.Links.{is_self_link, joins, has_link_twice, are_linked}
-use Rattle.link_net.specs.Numbering.{numbered, RepeatsAfter, IsRepeat}
-use Rattle.link_net.proofs.Arcs.{same_arc_flips, joins-sym, once, twice, sorted_by_ends}
+use Rattle.link_net.specs.Links.{joins, has_link_twice}
 
--- numbers do not change which nodes links join
-joins_numbered : (u w i : ℕ) (links : List Arc) → are_linked (numbered i links) u w ≡ are_linked links u w
-joins_numbered u w i [] = refl
-joins_numbered u w i (l ∷ ls) = ap (λ r. joins u w l || r) (joins_numbered u w (i + 1) ls)
+-- the two nodes that a link joins, the lesser first
+abbrev pub ends : Arc → ℕ × ℕ
+ends l = (min l.0 l.1, max l.0 l.1)
 
-pub twice_numbered : (i : ℕ) (links : List Arc) → has_link_twice (numbered i links) ≡ has_link_twice links
-twice_numbered i [] = refl
-twice_numbered i (l ∷ ls) = rw (joins_numbered l.0 l.1 (i + 1) ls, twice_numbered (i + 1) ls) refl
+abbrev pub ends_cmp : ℕ × ℕ → ℕ × ℕ → Ordering
+ends_cmp p q = ordering_then (nat_cmp p.0 q.0) (nat_cmp p.1 q.1)
 
-pub self_numbered : (i : ℕ) (links : List Arc) → list_any is_self_link (numbered i links) ≡ list_any is_self_link links
-self_numbered i [] = refl
-self_numbered i (l ∷ ls) = ap (λ r. is_self_link l || r) (self_numbered (i + 1) ls)
+-- the link that two nodes were seen at
+abbrev pub seen_at : BTreeMap (ℕ × ℕ) ℕ → ℕ × ℕ → Option ℕ
+seen_at seen p = get ends_cmp seen p
 
--- the arc is one of the link that has its number
-abbrev pub IsArcOf : List Arc → Arc → Type 0
-IsArcOf links a = IsSomeAnd (slice_get links a.2) (λ l. joins a.0 a.1 l ≡ true)
+-- a link with the same ends was seen
+abbrev pub was_seen : BTreeMap (ℕ × ℕ) ℕ → Arc → Bool
+was_seen seen l = is_some (seen_at seen (ends l))
 
-both_joined : (a b : ℕ) → ((a == a && b == b) || (a == b && b == a)) ≡ true
-both_joined a b =
-    let one : (a == a) ≡ true = grind (arith, nat_tests) in
-    let two : (b == b) ≡ true = grind (arith, nat_tests) in
-    rw (one, two) refl
+-- one of these links was seen, or stands twice
+abbrev pub comes_again : BTreeMap (ℕ × ℕ) ℕ → List Arc → Bool
+comes_again seen links = list_any (was_seen seen) links || has_link_twice links
 
-back_joined : (a b : ℕ) → ((b == a && a == b) || (b == b && a == a)) ≡ true
-back_joined a b =
-    let one : (a == a) ≡ true = grind (arith, nat_tests) in
-    let two : (b == b) ≡ true = grind (arith, nat_tests) in
-    elim (cases_Bool (b == a && a == b)) [
-      | inl hit ↦ rw hit refl
-      | inr miss ↦ rw (miss, one, two) refl
-    ]
+-- the link before number k that joins the same two nodes as l
+abbrev pub IsBefore : List Arc → ℕ → Arc → ℕ → Type 0
+IsBefore links k l e = (e < k) × IsSomeAnd (slice_get links e) (λ x. joins x.0 x.1 l ≡ true)
 
-next_number : (i k : ℕ) → (i + 1) + k ≡ i + suc k
-next_number i k = omega arith
+-- whatever follows the links before number k, seen are those among them that a later link repeats
+pub record Seen (links : List Arc) (k : ℕ) (seen : BTreeMap (ℕ × ℕ) ℕ) : Type 0 where
+  pub left : (rest : List Arc) → comes_again seen rest ≡ has_link_twice (take k links ++ rest)
+  pub earlier : (l : Arc) → IfSome (seen_at seen (ends l)) (IsBefore links k l)
 
-arcs_numbered : (all links : List Arc) (i : ℕ) → ((k : ℕ) → slice_get all (i + k) ≡ slice_get links k) → AllByRecursion (IsArcOf all) (arcs_of (numbered i links))
-arcs_numbered all [] i same = tt
-arcs_numbered all (l ∷ ls) i same =
-    let here : slice_get all i ≡ Some l = rw add-zero at (same 0) in
-    let later : (k : ℕ) → slice_get all ((i + 1) + k) ≡ slice_get ls k = λ k. rw (next_number i k) (same (suc k)) in
-    (rw here (both_joined l.0 l.1), (rw here (back_joined l.0 l.1), arcs_numbered all ls (i + 1) later))
+-- tests that hold together are equal
+same_tests : (a b : Bool) → (a ≡ true → b ≡ true) → (b ≡ true → a ≡ true) → a ≡ b
+same_tests true b to from = sym (to refl)
+same_tests false true to from = from refl
+same_tests false false to from = refl
 
--- the two arcs lead alike, and come from one link
-abbrev same_numbered : Arc → Arc → Bool
-same_numbered a b = same_arc a b && (a.2 == b.2)
+-- two links join the same two nodes where their ends are the same, the lesser first
+same_ends : (a b u w : ℕ) → ((min a b == min u w) && (max a b == max u w)) ≡ ((a == u && b == w) || (a == w && b == u))
+same_ends a b u w = grind (arith, nat_tests)
 
-same_numbered_flips : (a b : Arc) → same_numbered a b ≡ same_numbered b a
-same_numbered_flips a b = ap (λ t. t && (a.2 == b.2)) (same_arc_flips a b) ∙ ap (λ t. same_arc b a && t) (nat_eq_equiv.symm a.2 b.2)
+joins_ends : (l x : Arc) → is_eq (ends_cmp (ends l) (ends x)) ≡ joins l.0 l.1 x
+joins_ends l x =
+    sym (both_tied (min l.0 l.1 == min x.0 x.1) (max l.0 l.1 == max x.0 x.1) (nat_cmp (min l.0 l.1) (min x.0 x.1)) (nat_cmp (max l.0 l.1) (max x.0 x.1)) (unsigned_ties (min l.0 l.1) (min x.0 x.1)) (unsigned_ties (max l.0 l.1) (max x.0 x.1)))
+    ∙ same_ends l.0 l.1 x.0 x.1
 
-no_and : (b : Bool) → (b && false) ≡ false
-no_and true = refl
-no_and false = refl
+if_none : (P : ℕ → Type 0) (o : Option ℕ) → o ≡ None → IfSome o P
+if_none P None e = tt
+if_none P (Some x) e = absurd (cc)
 
--- arcs of links from a number on have other numbers than those before
-numbers_differ : (a : Arc) (i : ℕ) (links : List Arc) → a.2 < i → AllByRecursion (λ b. same_numbered a b ≡ false) (arcs_of (numbered i links))
-numbers_differ a i [] low = tt
-numbers_differ a i (l ∷ ls) low =
-    let other : (a.2 == i) ≡ false = grind (arith, nat_tests) in
-    (rw other (no_and (same_arc a (l.0, l.1, i))), (rw other (no_and (same_arc a (l.1, l.0, i))), numbers_differ a (i + 1) ls (omega arith)))
+if_more : (P Q : ℕ → Type 0) (o : Option ℕ) → ((x : ℕ) → P x → Q x) → IfSome o P → IfSome o Q
+if_more P Q None more h = tt
+if_more P Q (Some x) more h = more x h
 
-distinct_numbered : (i : ℕ) (links : List Arc) → list_any is_self_link links ≡ false → IsDistinct same_numbered (arcs_of (numbered i links))
-unfolding IsDistinct
-distinct_numbered i [] straight = tt
-distinct_numbered i (l ∷ ls) straight =
-    let (apart, others) = or_parts (is_self_link l) (list_any is_self_link ls) straight in
-    let differ : same_numbered (l.0, l.1, i) (l.1, l.0, i) ≡ false = rw apart refl in
-    ((differ, numbers_differ (l.0, l.1, i) (i + 1) ls (omega arith)), (numbers_differ (l.1, l.0, i) (i + 1) ls (omega arith), distinct_numbered (i + 1) ls others))
+if_either : (P : ℕ → Type 0) (b : Bool) (k : ℕ) (o : Option ℕ) → (b ≡ true → P k) → IfSome o P → IfSome (cond b (Some k) o) P
+if_either P true k o here there = here refl
+if_either P false k o here there = there
 
--- arcs by their ends, and then by their links
-abbrev pub numbered_cmp : Arc → Arc → Ordering
-numbered_cmp a b = ordering_then (arc_cmp a b) (nat_cmp a.2 b.2)
+some_either : (b : Bool) (k : ℕ) (o : Option ℕ) → is_some (cond b (Some k) o) ≡ (b || is_some o)
+some_either true k o = refl
+some_either false k o = refl
 
-ends_same : (a b : Arc) → same_arc b a ≡ true → (a.0 ≡ b.0) × (a.1 ≡ b.1)
-ends_same a b h =
-    let (first, second) = and_parts (b.0 == a.0) (b.1 == a.1) h in
-    (grind (arith, nat_tests), grind (arith, nat_tests))
+-- no value is none
+pub none_of : {X : Type 0} (o : Option X) → ((x : X) → o ≡ Some x → ⊥) → o ≡ None
+none_of None never = refl
+none_of (Some x) never = absurd (never x refl)
 
--- of two arcs in order that lead alike, the first comes from no later link
-no_later : (a b : Arc) → a.0 ≡ b.0 → a.1 ≡ b.1 → is_lt (numbered_cmp b a) ≡ false → a.2 ≤ b.2
-no_later a b first second h =
-    let one : nat_cmp b.0 a.0 ≡ Equal = rw first (tied_itself nat_cmp_total b.0) in
-    let two : nat_cmp b.1 a.1 ≡ Equal = rw second (tied_itself nat_cmp_total b.1) in
-    let three : is_lt (nat_cmp b.2 a.2) ≡ false = rw (one, two) at h in
-    ge_from_not_lt b.2 a.2 three
+-- at first none was seen
+pub seen_first : (links : List Arc) (seen : BTreeMap (ℕ × ℕ) ℕ) → ((p : ℕ × ℕ) → seen_at seen p ≡ None) → Seen links 0 seen
+seen_first links seen none = record {
+  left = λ rest. ap (λ b. b || has_link_twice rest) (none_seen rest);
+  earlier = λ l. if_none (IsBefore links 0 l) (seen_at seen (ends l)) (none (ends l));
+} where
+  none_seen : (rest : List Arc) → list_any (was_seen seen) rest ≡ false
+  none_seen [] = refl
+  none_seen (x ∷ xs) = rw (none (ends x)) (none_seen xs)
 
--- and where they are not the same arc, it comes from an earlier one
-apart_numbers : (a b : Arc) → same_arc b a ≡ true → same_numbered a b ≡ false → a.2 ≢ b.2
-apart_numbers a b same apart is =
-    let alike : same_arc a b ≡ true = same_arc_flips a b ∙ same in
-    let equal : (a.2 == b.2) ≡ true = grind (arith, nat_tests) in
-    let clash : true ≡ false = rw (alike, equal) at apart in
-    cc
+-- one more link is seen
+or_exchange : (a b c d : Bool) → ((a || b) || (c || d)) ≡ ((a || c) || (b || d))
+or_exchange true b c d = refl
+or_exchange false true true d = refl
+or_exchange false true false d = refl
+or_exchange false false c d = refl
 
-earlier : (a b : Arc) → same_arc b a ≡ true → same_numbered a b ≡ false → is_lt (numbered_cmp b a) ≡ false → a.2 < b.2
-earlier a b same apart order =
-    let ends = ends_same a b same in
-    let low : a.2 ≤ b.2 = no_later a b ends.0 ends.1 order in
-    let differ : a.2 ≢ b.2 = apart_numbers a b same apart in
-    omega arith
+one_seen : (before after : Arc → Bool) (l : Arc) (xs : List Arc) → ((x : Arc) → after x ≡ (joins l.0 l.1 x || before x)) → list_any after xs ≡ (list_any (joins l.0 l.1) xs || list_any before xs)
+one_seen before after l [] one = refl
+one_seen before after l (x ∷ xs) one =
+    ap (λ b. b || list_any after xs) (one x)
+    ∙ ap (λ b. (joins l.0 l.1 x || before x) || b) (one_seen before after l xs one)
+    ∙ or_exchange (joins l.0 l.1 x) (before x) (list_any (joins l.0 l.1) xs) (list_any before xs)
 
-abbrev Ends : ℕ → ℕ → Arc → Type 0
-Ends u w l = ((u ≡ l.0) × (w ≡ l.1)) ⊎ ((u ≡ l.1) × (w ≡ l.0))
+last_step : (a b c : Bool) → ((a || b) || c) ≡ (b || (a || c))
+last_step true true c = refl
+last_step true false c = refl
+last_step false b c = refl
 
-ends_joined : (u w : ℕ) (l : Arc) → joins u w l ≡ true → Ends u w l
-ends_joined u w l h =
-    elim (or_cases (u == l.0 && w == l.1) (u == l.1 && w == l.0) h) [
-      | inl there ↦ let (one, two) = and_parts (u == l.0) (w == l.1) there in inl (grind (arith, nat_tests), grind (arith, nat_tests))
-      | inr back ↦ let (one, two) = and_parts (u == l.1) (w == l.0) back in inr (grind (arith, nat_tests), grind (arith, nat_tests))
-    ]
+seen_more : (before after : Arc → Bool) (l : Arc) (xs : List Arc) → ((x : Arc) → after x ≡ (joins l.0 l.1 x || before x)) → before l ≡ false
+    → (list_any after xs || has_link_twice xs) ≡ (list_any before (l ∷ xs) || has_link_twice (l ∷ xs))
+seen_more before after l xs one new =
+    ap (λ b. b || has_link_twice xs) (one_seen before after l xs one)
+    ∙ last_step (list_any (joins l.0 l.1) xs) (list_any before xs) (has_link_twice xs)
+    ∙ ap (λ b. (b || list_any before xs) || (list_any (joins l.0 l.1) xs || has_link_twice xs)) (sym new)
 
--- links that join the same two nodes as a third join the same two
-joined_alike : (u w : ℕ) (e l : Arc) → joins u w e ≡ true → joins u w l ≡ true → joins e.0 e.1 l ≡ true
-joined_alike u w e l one two =
-    elim (ends_joined u w e one) [
-      | inl there ↦ rw (← there.0, ← there.1) two
-      | inr back ↦ rw (← back.0, ← back.1) (joins-sym w u l ∙ two)
-    ]
+-- the link at its place, before those that follow
+taken : (links : List Arc) (k : ℕ) (l : Arc) (rest : List Arc) → slice_get links k ≡ Some l → take (suc k) links ++ rest ≡ take k links ++ (l ∷ rest)
+taken [] k l rest here = cc
+taken (x ∷ xs) zero l rest here = let same : x ≡ l = cc in rw same refl
+taken (x ∷ xs) (suc k) l rest here = ap (λ ys. x ∷ ys) (taken xs k l rest here)
 
-links_alike : (all : List Arc) (a b : Arc) → a.0 ≡ b.0 → a.1 ≡ b.1 → IsArcOf all a → IsArcOf all b → IsSomeAnd (slice_get all a.2) (λ e. IsSomeAnd (slice_get all b.2) (λ l. joins e.0 e.1 l ≡ true))
-links_alike all a b first second = at (slice_get all a.2) (slice_get all b.2) where
-  at : (e l : Option Arc) → IsSomeAnd e (λ x. joins a.0 a.1 x ≡ true) → IsSomeAnd l (λ y. joins b.0 b.1 y ≡ true) → IsSomeAnd e (λ x. IsSomeAnd l (λ y. joins x.0 x.1 y ≡ true))
-  at None l one two = absurd one
-  at (Some x) None one two = absurd two
-  at (Some x) (Some y) one two = joined_alike a.0 a.1 x y one (rw (first, second) two)
+here_joined : (links : List Arc) (k : ℕ) (l x : Arc) → slice_get links k ≡ Some l → joins l.0 l.1 x ≡ true → IsSomeAnd (slice_get links k) (λ y. joins y.0 y.1 x ≡ true)
+here_joined links k l x here joined = rw here joined
 
-one_on : (k : ℕ) → suc k + 1 ≡ suc (k + 1)
-one_on k = omega arith
+pub seen_next : (links : List Arc) (k : ℕ) (before after : BTreeMap (ℕ × ℕ) ℕ) (l : Arc) → slice_get links k ≡ Some l → seen_at before (ends l) ≡ None
+    → ((p : ℕ × ℕ) → seen_at after p ≡ cond (is_eq (ends_cmp (ends l) p)) (Some k) (seen_at before p)) → Seen links k before → Seen links (k + 1) after
+seen_next links k before after l here new put h = record {
+  left = λ rest.
+      seen_more (was_seen before) (was_seen after) l rest (λ x. ap is_some (put_link x) ∙ some_either (joins l.0 l.1 x) k (seen_at before (ends x))) (ap is_some new)
+      ∙ h.left (l ∷ rest)
+      ∙ ap has_link_twice (sym (taken links k l rest here))
+      ∙ ap (λ n. has_link_twice (take n links ++ rest)) (sym (add-one k));
+  earlier = λ x.
+      subst (λ o. IfSome o (IsBefore links (k + 1) x)) (sym (put_link x))
+      (if_either (IsBefore links (k + 1) x) (joins l.0 l.1 x) k (seen_at before (ends x))
+      (λ e. (omega arith, here_joined links k l x here e))
+      (if_more (IsBefore links k x) (IsBefore links (k + 1) x) (seen_at before (ends x)) (λ e was. let less : e < k = was.0 in (omega arith, was.1)) (h.earlier x)));
+} where
+  put_link : (x : Arc) → seen_at after (ends x) ≡ cond (joins l.0 l.1 x) (Some k) (seen_at before (ends x))
+  put_link x = put (ends x) ∙ ap (λ b. cond b (Some k) (seen_at before (ends x))) (joins_ends l x)
 
-rest_sorted : (a : Arc) (arcs : List Arc) → IsSorted numbered_cmp (a ∷ arcs) → IsSorted numbered_cmp arcs
-rest_sorted a arcs sorted k d low high =
-    let next = sorted (suc k) d (omega arith) (omega arith) in
-    rw (one_on k) at next
+-- a link joins the same two nodes as an earlier one, and no link before it does
+pub record Again (links : List Arc) (k e : ℕ) : Type 0 where
+  pub some : has_link_twice links ≡ true
+  pub twice : AreTwice links e k
+  pub first : has_link_twice (take k links) ≡ false
 
-after_twice : (all : List Arc) (a : Arc) (arcs : List Arc) (p : ℕ × ℕ) → IsArcOf all a → AllByRecursion (IsArcOf all) arcs → IsDistinct same_numbered (a ∷ arcs) → IsSorted numbered_cmp (a ∷ arcs)
-    → RepeatsAfter a arcs p → AreTwice all p.1 p.0
-after_twice all a [] p of ofs distinct sorted again = absurd again
-after_twice all a (b ∷ bs) p of ofs distinct sorted again =
-    elim again [
-      | inl here ↦
-          let ends = ends_same a b here.0 in
-          let apart = (IsDistinct-head same_numbered a (b ∷ bs) distinct).0 in
-          rw (here.1) (earlier a b here.0 apart (sorted 0 a (omega arith) (omega arith)), links_alike all a b ends.0 ends.1 of ofs.0)
-      | inr later ↦ after_twice all b bs p ofs.0 ofs.1 (IsDistinct-tail same_numbered a (b ∷ bs) distinct) (rest_sorted a (b ∷ bs) sorted) later
-    ]
+append_none : (xs : List Arc) → xs ++ [] ≡ xs
+append_none [] = refl
+append_none (x ∷ xs) = ap (λ ys. x ∷ ys) (append_none xs)
 
-repeat_twice : (all arcs : List Arc) (p : ℕ × ℕ) → AllByRecursion (IsArcOf all) arcs → IsDistinct same_numbered arcs → IsSorted numbered_cmp arcs → IsRepeat arcs p → AreTwice all p.1 p.0
-repeat_twice all [] p ofs distinct sorted again = absurd again
-repeat_twice all (a ∷ arcs) p ofs distinct sorted again = after_twice all a arcs p ofs.0 ofs.1 distinct sorted again
+-- no two of the links before this one join the same two nodes
+before_differ : (links : List Arc) (k : ℕ) (seen : BTreeMap (ℕ × ℕ) ℕ) → Seen links k seen → has_link_twice (take k links) ≡ false
+before_differ links k seen h = sym (ap has_link_twice (append_none (take k links))) ∙ sym (h.left [])
 
-module _ (links sorted : List Arc) (straight : list_any is_self_link links ≡ false) (moved : IsPermutation (arcs_of (numbered 0 links)) sorted) (order : IsSorted numbered_cmp sorted) where
-  -- two arcs in a row that lead alike come from two links that join the same two nodes
-  pub repeated : (p : ℕ × ℕ) → IsRepeat sorted p → AreTwice links p.1 p.0
-  repeated p again =
-      let P : Arc → Type 0 = IsArcOf links in
-      let arcs = arcs_of (numbered 0 links) in
-      let zero_on : (k : ℕ) → slice_get links (0 + k) ≡ slice_get links k = λ k. rw zero-add refl in
-      let ofs = recursion_from_All P sorted (All-permutation P arcs sorted moved (All-from_recursion P arcs (arcs_numbered links links 0 zero_on))) in
-      let distinct = IsDistinct-IsPermutation same_numbered same_numbered_flips arcs sorted moved (distinct_numbered 0 links straight) in
-      repeat_twice links sorted p ofs distinct order again
+dropped : (links : List Arc) (k : ℕ) (l : Arc) → slice_get links k ≡ Some l → drop k links ≡ l ∷ drop (suc k) links
+dropped [] k l here = cc
+dropped (x ∷ xs) zero l here = let same : x ≡ l = cc in rw same refl
+dropped (x ∷ xs) (suc k) l here = dropped xs k l here
 
-  -- there are such arcs just where a link stands twice
-  pub repeats_twice : repeats sorted ≡ has_link_twice links
-  repeats_twice =
-      elim (cases_Bool (repeats sorted)) [
-        | inl again ↦ again ∙ sym (sym (twice_numbered 0 links) ∙ twice (numbered 0 links) sorted (self_numbered 0 links ∙ straight) moved again)
-        | inr none ↦ none ∙ sym (sym (twice_numbered 0 links) ∙ once (numbered 0 links) sorted moved (sorted_by_ends sorted order) none)
-      ]
+some_joined : (links : List Arc) (k e : ℕ) (l : Arc) → slice_get links k ≡ Some l → IsSomeAnd (slice_get links e) (λ x. joins x.0 x.1 l ≡ true)
+    → IsSomeAnd (slice_get links e) (λ x. IsSomeAnd (slice_get links k) (λ y. joins x.0 x.1 y ≡ true))
+some_joined links k e l here joined = rw here joined
+
+pub seen_again : (links : List Arc) (k : ℕ) (seen : BTreeMap (ℕ × ℕ) ℕ) (l : Arc) (e : ℕ) → slice_get links k ≡ Some l → seen_at seen (ends l) ≡ Some e → Seen links k seen → Again links k e
+seen_again links k seen l e here old h =
+    let was : IsBefore links k l e = subst (λ o. IfSome o (IsBefore links k l)) old (h.earlier l) in
+    let rest = drop (suc k) links in
+    let found : comes_again seen (l ∷ rest) ≡ true = ap (λ o. (is_some o || list_any (was_seen seen) rest) || has_link_twice (l ∷ rest)) old in
+    record {
+      some =
+          ap has_link_twice (sym (take-append-drop k links))
+          ∙ sym (h.left (drop k links))
+          ∙ ap (comes_again seen) (dropped links k l here)
+          ∙ found;
+      twice = (was.0, some_joined links k e l here was.1);
+      first = before_differ links k seen h;
+    }
+
+take_all : (links : List Arc) (k : ℕ) → length links ≤ k → take k links ≡ links
+take_all [] zero past = refl
+take_all [] (suc k) past = refl
+take_all (x ∷ xs) zero past = absurd (omega arith)
+take_all (x ∷ xs) (suc k) past = ap (λ ys. x ∷ ys) (take_all xs k (omega arith))
+
+-- at the end no two links join the same two nodes
+pub seen_last : (links : List Arc) (k : ℕ) (seen : BTreeMap (ℕ × ℕ) ℕ) → length links ≤ k → Seen links k seen → has_link_twice links ≡ false
+seen_last links k seen past h = ap has_link_twice (sym (take_all links k past)) ∙ before_differ links k seen h
+
+-- the link at a place of the list, by its ends
+abbrev at_place : List Arc → ℕ → Arc
+at_place links k = get_or links k (0, 0, 0)
+
+ends_at : (links : List Arc) (k first second : ℕ) → first ≡ min (at_place links k).0 (at_place links k).1 → second ≡ max (at_place links k).0 (at_place links k).1 → ends (at_place links k) ≡ (first, second)
+ends_at links k first second lesser greater = rw (lesser, greater) refl
+
+pub found_again : (links : List Arc) (k : ℕ) (seen : BTreeMap (ℕ × ℕ) ℕ) (first second e : ℕ) (found : Option ℕ) → k < length links
+    → first ≡ min (at_place links k).0 (at_place links k).1 → second ≡ max (at_place links k).0 (at_place links k).1 → found ≡ seen_at seen (first, second) → found ≡ Some e → Seen links k seen → Again links k e
+found_again links k seen first second e found low lesser greater old is h =
+    seen_again links k seen (at_place links k) e (slice_get-get_or links k (0, 0, 0) low) (ap (seen_at seen) (ends_at links k first second lesser greater) ∙ sym old ∙ is) h
+
+pub put_next : (links : List Arc) (k : ℕ) (before after : BTreeMap (ℕ × ℕ) ℕ) (first second : ℕ) (found : Option ℕ) → k < length links
+    → first ≡ min (at_place links k).0 (at_place links k).1 → second ≡ max (at_place links k).0 (at_place links k).1 → found ≡ seen_at before (first, second) → found ≡ None
+    → ((p : ℕ × ℕ) → seen_at after p ≡ cond (is_eq (ends_cmp (first, second) p)) (Some k) (seen_at before p)) → Seen links k before → Seen links (k + 1) after
+put_next links k before after first second found low lesser greater old none put h =
+    let same = ends_at links k first second lesser greater in
+    seen_next links k before after (at_place links k) (slice_get-get_or links k (0, 0, 0) low) (ap (seen_at before) same ∙ sym old ∙ none)
+    (λ p. put p ∙ ap (λ q. cond (is_eq (ends_cmp q p)) (Some k) (seen_at before p)) (sym same)) h

@@ -1,5 +1,5 @@
 -- Why a network file is refused, with the place. Links, and entries of arrays, are counted from 0.
-use Rattle.std.specs.Prelude.{◌≡◌, ◌⊎◌, ℕ, ◌-◌, ◌<◌, ◌≤◌, true, false, Bool, List, length, slice_get, string_bytes, nat_lt, codes, is_none, zero, suc, Option, Some, None, option_and_then, IsSome, IsSomeAnd, Result, Ok, Err, position, find}
+use Rattle.std.specs.Prelude.{◌≡◌, ◌⊎◌, ℕ, ◌-◌, ◌<◌, ◌≤◌, true, false, Bool, List, length, take, slice_get, string_bytes, nat_lt, codes, is_none, zero, suc, Option, Some, None, option_and_then, IsSome, IsSomeAnd, Result, Ok, Err, position, find}
 use Rattle.toml.specs.Data.{Data, Items, no_items, item, Members, get_member, as_integer, as_array, as_table}
 use Rattle.link_net.specs.declared.cause.NetCause.{NetCause}
 use Rattle.link_net.specs.declared.cause.NetCause.TheVariants as cause
@@ -8,7 +8,7 @@ use Rattle.link_net.specs.declared.fault.NetFault.{NetFault}
 use Rattle.link_net.specs.declared.fault.NetFault.TheVariants as fault
 use Rattle.link_net.specs.Document.{is_known, pair_of, link_of, draft_of}
 use Rattle.link_net.specs.Limits.{most_nodes, most_links, most_neighbours}
-use Rattle.link_net.specs.Links.{is_self_link, joins, linked_with}
+use Rattle.link_net.specs.Links.{is_self_link, joins, has_link_twice, linked_with}
 use Rattle.link_net.specs.Neighbours.{numbers_below}
 use Rattle.link_net.specs.Reading.{number_in, placed, all_placed, document_of}
 use Rattle.link_net.specs.Tables.{is_off}
@@ -55,10 +55,11 @@ IsFirstUnread read (suc n) (item d ds) = IsSome (read d) × IsFirstUnread read n
 abbrev pub AreTwice : {W : Type 0} → List (ℕ × ℕ × W) → ℕ → ℕ → Type 0
 AreTwice links earlier later = (earlier < later) × IsSomeAnd (slice_get links earlier) (λ e. IsSomeAnd (slice_get links later) (λ l. joins e.0 e.1 l ≡ true))
 
--- what the cause names is so of links between n nodes: the first link, the least node
+-- what the cause names is so of links between n nodes: the first link, the least node.
+-- The first link that stands twice joins the same two nodes as the earlier one, and no two of the links before it do.
 abbrev pub IsLinkCause : {W : Type 0} → ℕ → List (ℕ × ℕ × W) → NetCause → Type 0
 IsLinkCause n links (cause.SelfLink link) = position is_self_link links ≡ Some link
-IsLinkCause n links (cause.LinkTwice link earlier) = AreTwice links earlier link
+IsLinkCause n links (cause.LinkTwice link earlier) = AreTwice links earlier link × (has_link_twice (take link links) ≡ false)
 IsLinkCause n links (cause.TooManyLinks count) = (count ≡ length links) × (most_links < count)
 IsLinkCause n links (cause.TooManyNeighbours node count) =
     (find (λ u. nat_lt most_neighbours (length (linked_with n links u))) (numbers_below n) ≡ Some node) × (count ≡ length (linked_with n links node))

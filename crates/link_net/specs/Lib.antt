@@ -8,4 +8,3 @@ pub mod Arcs
 pub mod Layout
 pub mod Tables
 pub mod Causes
-pub mod Numbering

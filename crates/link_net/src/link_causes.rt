@@ -1,22 +1,18 @@
 //! Why links between nodes are refused.
-ghost use Rattle.std.specs.Prelude.{◌≡◌, ◌⊎◌, ◌+◌, ◌-◌, ◌≤◌, false, Some, length, option_map, is_some, position, find, nat_lt, slice_index, IfOk, IfSome};
+ghost use Rattle.std.specs.Prelude.{◌≡◌, ◌+◌, ◌-◌, ◌≤◌, false, length, take, option_map, is_some, position, find, nat_lt, slice_index, IfOk, IfSome};
 ghost use Rattle.std.specs.List.{list_any};
 ghost use Rattle.std.specs.List.Sorted.{IsNonDecreasing};
-ghost use Rattle.link_net.specs.Arcs.{arcs_of, repeats};
 ghost use Rattle.link_net.specs.Causes.{fault_of, refusal_of, fault_if, AreTwice, IsLinkCause};
 ghost use Rattle.link_net.specs.Limits.{most_neighbours};
 ghost use Rattle.link_net.specs.Links.{is_self_link, has_link_twice, AllWithin};
 ghost use Rattle.link_net.specs.Neighbours.{numbers_below};
-ghost use Rattle.link_net.specs.Numbering.{numbered, IsRepeat};
 ghost use Rattle.link_net.specs.Reading.{is_crowded};
 ghost use Rattle.link_net.specs.Tables.{network_in};
 
 use crate::tables::{Link, MOST_LINKS, MOST_NEIGHBOURS, offsets, sorted_arcs};
 use crate::{NetCause, NetFault};
 use std::alloc::{AllocError, Global};
-
-/// An arc with the number of its link.
-type NumberedArc = (u32, u32, usize);
+use std::collections::BTreeMap;
 
 /// The first link that joins a node with itself.
 fn self_link(links: &[Link]) -> Option<usize>
@@ -25,55 +21,20 @@ fn self_link(links: &[Link]) -> Option<usize>
     links.iter().position(|link| link.0 == link.1)
 }
 
-/// Both directions of each link, with its number.
-fn numbered_arcs(alloc: Global, links: &[Link]) -> Result<Vec<NumberedArc>, AllocError>
-    ensures { IfOk result (λ v. v.items ≡ arcs_of (numbered 0 links.now)) }
-{
-    let mut arcs = Vec::with_capacity(alloc, 2 * links.len())?;
-    for (number, link) in links.iter().enumerate() {
-        arcs.push((link.0, link.1, number))?;
-        arcs.push((link.1, link.0, number))?;
-    }
-    Ok(arcs)
-}
-
-/// Of the pair found before and this one, the one that comes first.
-fn lesser(found: Option<(usize, usize)>, pair: (usize, usize)) -> (usize, usize)
-    ensures { (found ≡ Some result) ⊎ (result ≡ pair) }
-{
-    let Some(before) = found else {
-        return pair;
-    };
-    if before.0 < pair.0 { before } else { pair }
-}
-
-/// The least link that leads as the arc before it does, and the link of that arc.
-fn least_repeat(arcs: &[NumberedArc]) -> Option<(usize, usize)>
-    ensures some { is_some result ≡ repeats arcs.now }
-    ensures repeat { IfSome result (IsRepeat arcs.now) }
-{
-    let (first, rest) = arcs.split_first()?;
-    let mut last = *first;
-    let mut found = None;
-    for arc in rest {
-        if arc.0 == last.0 && arc.1 == last.1 {
-            found = Some(lesser(found, (arc.2, last.2)));
-        }
-        last = *arc;
-    }
-    found
-}
-
 /// The first link that joins the same two nodes as an earlier one, and that one.
 fn link_twice(alloc: Global, links: &[Link]) -> Result<Option<(usize, usize)>, AllocError>
-    requires { list_any is_self_link links.now ≡ false }
     ensures some { IfOk result (λ pair. is_some pair ≡ has_link_twice links.now) }
     ensures twice { IfOk result (λ pair. IfSome pair (λ p. AreTwice links.now p.1 p.0)) }
+    ensures first { IfOk result (λ pair. IfSome pair (λ p. has_link_twice (take p.0 links.now) ≡ false)) }
 {
-    let mut arcs = numbered_arcs(alloc, links)?;
-    arcs.sort_unstable();
-    let pair = least_repeat(arcs.as_slice());
-    Ok(pair)
+    let mut seen = BTreeMap::new(alloc);
+    for (number, link) in links.iter().enumerate() {
+        let ends = (link.0.min(link.1), link.0.max(link.1));
+        if let Some(earlier) = seen.insert(ends, number)? {
+            return Ok(Some((number, earlier)));
+        }
+    }
+    Ok(None)
 }
 
 /// The first node whose part between the offsets is longer than is allowed, and how long it is.

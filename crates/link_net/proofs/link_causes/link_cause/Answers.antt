@@ -9,9 +9,6 @@ use Rattle.link_net.proofs.link_causes.link_cause.Goals as goal
 pub returns-in-Some-clause-agrees : goal.returns-in-Some-clause-agrees
 returns-in-Some-clause-agrees c = self_refusal c.args.nodes c.args.links.now c.in-Some.link (sym c.in-Some.ensures)
 
-pub link_twice-requires : goal.link_twice-requires
-link_twice-requires c = none_from_place is_self_link c.args.links.now (sym c.in_default.ensures)
-
 pub returns-in-Some-2-clause-agrees : goal.returns-in-Some-2-clause-agrees
 returns-in-Some-2-clause-agrees c =
     let straight = none_from_place is_self_link c.args.links.now (sym c.in_default.ensures) in
