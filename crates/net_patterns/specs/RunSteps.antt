@@ -1,16 +1,16 @@
--- Texts of runs.
-use Rattle.std.specs.Prelude.{ℕ, ◌+◌, ◌*◌, ◌-◌, ◌==◌, Bool, ◌&&◌, ◌||◌, List, [], ◌∷◌, nat_lt, nat_le, Option, Some, None, Result, Ok, Err, is_some, if◌then◌else◌}
+-- Internal: runs, read byte by byte. No public clause cites it.
+use Rattle.std.specs.Prelude.{ℕ, ◌+◌, ◌*◌, ◌-◌, ◌==◌, Bool, ◌&&◌, ◌||◌, List, [], ◌∷◌, nat_lt, nat_le, slice_index, Option, Some, None, Result, Err, is_some, if◌then◌else◌}
 use Rattle.std.specs.Option.{unwrap_or}
 use Rattle.std.specs.Char.{is_ascii_digit}
+use Rattle.std.specs.List.{after_first}
+use Rattle.net_patterns.specs.declared.board.Cell.{Cell}
 use Rattle.net_patterns.specs.declared.board.Mark.{Mark}
 use Rattle.net_patterns.specs.declared.board.Mark.TheVariants.{Dead, Alive, RowEnd}
 use Rattle.net_patterns.specs.declared.fault.PatternFault.{PatternFault}
-use Rattle.net_patterns.specs.declared.fault.PatternFault.TheVariants.{BadCell, BadCount, NoEnd}
-use Rattle.net_patterns.specs.Cells.{Run}
-
--- a blank, TAB, CR, LF
-abbrev pub is_blank : ℕ → Bool
-is_blank b = b == 32 || b == 9 || b == 13 || b == 10
+use Rattle.net_patterns.specs.declared.fault.PatternFault.TheVariants.{BadCell, BadCount, NoEnd, NoPattern}
+use Rattle.net_patterns.specs.Cells.{Run, pattern_of}
+use Rattle.net_patterns.specs.Rle.{is_blank, run_of}
+use Rattle.net_patterns.specs.Texts.{is_comment, is_line_feed, plain_pieces, told_from}
 
 -- the greatest state
 abbrev pub most_state : ℕ
@@ -58,22 +58,20 @@ count_of None = Some 1
 count_of (Some n) = if nat_lt 0 n && nat_le n most_count then Some n else None
 
 -- the line behind a blank
-abbrev pub line_behind : ℕ → ℕ → ℕ
-line_behind line b = if b == 10 then line + 1 else line
+abbrev pub line_past : ℕ → ℕ → ℕ
+line_past line b = if b == 10 then line + 1 else line
 
--- a run of a tag, before other pieces
-abbrev pub run_of : ℕ → ℕ → Option Mark → List (Result Run PatternFault) → List (Result Run PatternFault)
-run_of line count (Some mark) pieces = Ok (record { line = line; count = count; mark = mark }) ∷ pieces
-run_of line count None pieces = Err (BadCell line) ∷ []
+-- a blank or ! stands between runs
+abbrev pub is_between : ℕ → Bool
+is_between b = is_blank b || b == 33
 
 -- the pieces of a byte that is no count's digit, behind a number of this count, where there is one, and a letter that adds
--- so many states, 0 where none does: a blank says nothing, ! is the end, behind a letter from p to y come the first
--- pieces, and behind a tag the others
+-- so many states, 0 where none does: between runs a blank says nothing, and ! is the end; behind a letter from p to y come
+-- the first pieces, and behind a tag the others
 abbrev pub pieces_at : ℕ → Option ℕ → Option ℕ → ℕ → ℕ → List (Result Run PatternFault) → List (Result Run PatternFault) → List (Result Run PatternFault)
 pieces_at line number None higher b longer pieces = Err (BadCount line) ∷ []
 pieces_at line number (Some count) higher b longer pieces =
-    if higher == 0 && is_blank b then (if is_some number then Err (BadCount line) ∷ [] else pieces)
-    else if higher == 0 && b == 33 then []
+    if higher == 0 && is_between b then (if is_some number then Err (BadCount line) ∷ [] else if is_blank b then pieces else [])
     else if higher == 0 && is_some (higher_of b) then longer
     else run_of line count (mark_of higher b) pieces
 
@@ -90,4 +88,16 @@ abbrev pub pieces_from : ℕ → Option ℕ → ℕ → List ℕ → List (Resul
 pieces_from line number higher [] = Err (end_fault line number higher) ∷ []
 pieces_from line number higher (b ∷ bs) =
     if higher == 0 && is_ascii_digit b then pieces_from line (Some (with_digit number b)) 0 bs
-    else pieces_at line number (count_of number) higher b (pieces_from line number (unwrap_or (higher_of b) 0) bs) (pieces_from (line_behind line b) None 0 bs)
+    else pieces_at line number (count_of number) higher b (pieces_from line number (unwrap_or (higher_of b) 0) bs) (pieces_from (line_past line b) None 0 bs)
+
+-- the pieces of a text, where these are the lines that say something: where the first begins with x, those of the runs
+-- behind it; else those of plain text
+abbrev pub pieces_behind : List ℕ → List (ℕ × List ℕ) → List (Result Run PatternFault)
+pieces_behind text [] = Err NoPattern ∷ []
+pieces_behind text (l ∷ ls) =
+    if slice_index l.1 0 == 120 then pieces_from (l.0 + 1) None 0 (after_first is_line_feed l.1)
+    else plain_pieces 1 (is_comment text) text
+
+-- the pattern that a text says, or the first fault
+abbrev pub pattern_in : List ℕ → Result (List Cell) PatternFault
+pattern_in text = pattern_of (pieces_behind text (told_from 1 text))
