@@ -6,6 +6,7 @@ mod Ranges
 mod Rebuilt
 mod PairCounts
 mod Relisted
+mod Ordering
 mod Rows
 mod Tables
 mod PutSets

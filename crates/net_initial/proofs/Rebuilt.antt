@@ -16,7 +16,7 @@ From a ends = (j : ℕ) → j < length ends → a ≤ (get_or ends j (0, 0)).0
 abbrev pub Below : ℕ → List (ℕ × ℕ) → Type 0
 Below n ends = (j : ℕ) → j < length ends → (get_or ends j (0, 0)).0 < n
 
-tail_up : (a : ℕ × ℕ) (ends : List (ℕ × ℕ)) → Up (a ∷ ends) → Up ends
+pub tail_up : (a : ℕ × ℕ) (ends : List (ℕ × ℕ)) → Up (a ∷ ends) → Up ends
 tail_up a ends up i j order low = up (suc i) (suc j) (omega arith) (omega arith)
 
 tail_from : (n : ℕ) (a : ℕ × ℕ) (ends : List (ℕ × ℕ)) → Up (a ∷ ends) → n ≤ a.0 → From (n + 1) ends

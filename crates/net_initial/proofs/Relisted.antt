@@ -17,7 +17,7 @@ use Rattle.net_initial.proofs.Lookups.{entry, weighs, linked_weighs, weighs_back
 use Rattle.net_initial.proofs.Rebuilt.{Up, Below, entry_at, entry_stands, rebuilt}
 use Rattle.net_initial.proofs.PairCounts.{shown_twice}
 
-all-append : (P : Link → Type 0) (xs ys : List Link) → AllByRecursion P xs → AllByRecursion P ys → AllByRecursion P (xs ++ ys)
+pub all-append : (P : Link → Type 0) (xs ys : List Link) → AllByRecursion P xs → AllByRecursion P ys → AllByRecursion P (xs ++ ys)
 all-append P [] ys a b = b
 all-append P (x ∷ xs) ys a b = (a.0, all-append P xs ys a.1 b)
 
@@ -26,7 +26,7 @@ none_of p [] h = refl
 none_of p (l ∷ ls) h = rw h.0 (none_of p ls h.1)
 
 -- what holds of each link up
-all_up : (P : Link → Type 0) (u : ℕ) (ends : List (ℕ × ℕ)) → ((j : ℕ) → j < length ends → u < (get_or ends j (0, 0)).0 → P (u, (get_or ends j (0, 0)).0, (get_or ends j (0, 0)).1)) → AllByRecursion P (links_up u ends)
+pub all_up : (P : Link → Type 0) (u : ℕ) (ends : List (ℕ × ℕ)) → ((j : ℕ) → j < length ends → u < (get_or ends j (0, 0)).0 → P (u, (get_or ends j (0, 0)).0, (get_or ends j (0, 0)).1)) → AllByRecursion P (links_up u ends)
 all_up P u [] h = tt
 all_up P u (a ∷ ends) h =
     let rest = all_up P u ends (λ j low up. h (suc j) (omega arith) up) in
@@ -35,7 +35,7 @@ all_up P u (a ∷ ends) h =
       | inr below ↦ rw below rest
     ]
 
-all_from : (P : Link → Type 0) (net : Neighbours) (a k : ℕ)
+pub all_from : (P : Link → Type 0) (net : Neighbours) (a k : ℕ)
     → ((u j : ℕ) → u < a + k → j < degree net u → u < neighbour net u j → P (u, neighbour net u j, weight net u j)) → AllByRecursion P (links_from net (range_with_len a k))
 all_from P net a zero h = tt
 all_from P net a (suc k) h =

@@ -3,6 +3,7 @@ ghost use Rattle.std.specs.Prelude.{◌≡◌, ◌++◌, length, zip, OnOk, IfOk
 ghost use Rattle.link_net.specs.Links.{network_of};
 ghost use Rattle.link_net.specs.Neighbours.{numbers_below, row, IsNetwork};
 ghost use Rattle.net_initial.specs.Ahead.{links_up, links_from};
+ghost use Rattle.net_initial.specs.LinkOrder.{AreInOrder};
 
 use link_net::{Link, Network};
 use net_text::LinkList;
@@ -54,6 +55,7 @@ fn links_of(alloc: Global, network: &Network) -> Result<Vec<Link>, AllocError>
 pub fn listed(alloc: Global, network: &Network) -> Result<LinkList, AllocError>
     ensures nodes { IfOk result (λ list. list.nodes ≡ length network.now) }
     ensures network { IfOk result (λ list. network_of list.nodes list.links ≡ network.now) }
+    ensures order { IfOk result (λ list. AreInOrder list.links) }
 {
     let links = links_of(alloc, network)?;
     Ok(LinkList::sound(network.nodes(), links))

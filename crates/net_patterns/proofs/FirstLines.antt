@@ -5,8 +5,9 @@ use Rattle.std.proofs.Math.Seq.{take-append_seam, drop-append-add}
 use Rattle.std.proofs.lemmas.Bool.{and_parts, cases_Bool, or_parts}
 use Rattle.std.proofs.lemmas.Bool.Decides.{Decides-eqb, nat_tests}
 use Rattle.net_patterns.specs.Cells.{pattern_of}
-use Rattle.net_patterns.specs.Rle.{is_blank, pieces_from}
-use Rattle.net_patterns.specs.Texts.{is_comment, is_line_feed, says_nothing, told_from, plain_pieces, pieces_behind, pattern_in}
+use Rattle.net_patterns.specs.Rle.{is_blank}
+use Rattle.net_patterns.specs.RunSteps.{pieces_from, pieces_behind, pattern_in}
+use Rattle.net_patterns.specs.Texts.{is_comment, is_line_feed, says_nothing, told_from, plain_pieces}
 use Rattle.net_patterns.specs.Written.{IsLine}
 use Rattle.net_patterns.proofs.LineSteps.{told_said, told_passed}
 

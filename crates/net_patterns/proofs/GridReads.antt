@@ -16,7 +16,7 @@ use Rattle.net_patterns.specs.declared.spelling.Kind.TheVariants.{TwoStates, Man
 use Rattle.net_patterns.specs.declared.spelling.PatternFormat.{PatternFormat}
 use Rattle.net_patterns.specs.declared.spelling.PatternFormat.TheVariants.{Runs, Rows}
 use Rattle.net_patterns.specs.OnGrids.{first_above, grid_cells, grid_text, header_of, kind_of, most_of, no_span, opening_of, rows_filled, spans_from, spelling_of, title_of, too_great}
-use Rattle.net_patterns.specs.Texts.{pattern_in}
+use Rattle.net_patterns.specs.RunSteps.{pattern_in}
 use Rattle.net_patterns.specs.Written.{Frame, IsFrame, IsLine, cells_in, written_from}
 use Rattle.net_patterns.proofs.GridSpans.{all_bytes, all_of_two, cells_of_spans, in_order, none_above}
 use Rattle.net_patterns.proofs.RoundTrip.{reads_plain, reads_runs, reads_states}

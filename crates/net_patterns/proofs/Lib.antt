@@ -9,4 +9,5 @@ mod PlainTexts
 mod RoundTrip
 mod RowCells
 mod RunTexts
+mod RunGrammar
 mod StateTags

@@ -5,7 +5,7 @@ use Rattle.std.specs.Char.{is_ascii_digit}
 use Rattle.std.proofs.lemmas.Bool.{cases_Bool}
 use Rattle.std.proofs.lemmas.Bool.Decides.{nat_tests}
 use Rattle.net_patterns.specs.declared.fault.PatternFault.TheVariants.{BadCount}
-use Rattle.net_patterns.specs.Rle.{pieces_from}
+use Rattle.net_patterns.specs.RunSteps.{pieces_from}
 
 no_count : (n : ℕ) → 999999999 < n → (nat_lt 0 n && nat_le n 999999999) ≡ false
 no_count n more = grind (arith, nat_tests)

@@ -5,9 +5,9 @@ use Rattle.net_patterns.specs.declared.board.Cell.{Cell}
 use Rattle.net_patterns.specs.declared.board.Mark.TheVariants.{Dead, Alive}
 use Rattle.net_patterns.specs.declared.span.Span.{Span}
 use Rattle.net_patterns.specs.Cells.{pattern_of}
-use Rattle.net_patterns.specs.Rle.{pieces_from}
+use Rattle.net_patterns.specs.RunSteps.{pattern_in, pieces_from}
 use Rattle.net_patterns.specs.Steps.{comes}
-use Rattle.net_patterns.specs.Texts.{plain_pieces, pattern_in}
+use Rattle.net_patterns.specs.Texts.{plain_pieces}
 use Rattle.net_patterns.specs.Written.{Frame, IsFrame, cells_beside, cells_in, AreAhead, AreInOrder, IsLine, is_gap, state_tag, with_frame, written_from, written_as_runs, written_as_states, written_as_plain, as_tags, as_plain}
 use Rattle.net_patterns.proofs.FirstLines.{runs_behind, rows_alone, rows_behind}
 use Rattle.net_patterns.proofs.PlainTexts.{all_of_rows, length_beside, no_comments, some_sign, span_of_rows}

@@ -13,7 +13,7 @@ use Rattle.net_patterns.specs.declared.board.Cell.{Cell}
 use Rattle.net_patterns.specs.declared.board.Mark.{Mark}
 use Rattle.net_patterns.specs.declared.board.Mark.TheVariants.{Dead, Alive, RowEnd}
 use Rattle.net_patterns.specs.declared.span.Span.{Span}
-use Rattle.net_patterns.specs.Rle.{line_behind, pieces_from}
+use Rattle.net_patterns.specs.RunSteps.{line_past, pieces_from}
 use Rattle.net_patterns.specs.Steps.{comes}
 use Rattle.net_patterns.specs.Written.{IsAhead, cells_beside, column_at, is_gap, run_text}
 use Rattle.net_patterns.proofs.MarkSteps.{rows_passed, dead_passed, alive_passed}
@@ -31,7 +31,7 @@ more_digits (d ∷ ds) line n rest all =
     rw (is_digit d (omega (arith, range)) (omega (arith, range)))
     (more_digits ds line (10 * n + (d - 48)) rest all.1 ∙ ap (λ k. pieces_from line (Some (digits_value_after 10 k ds)) 0 rest) e)
 
-numeral_read : (ds : List ℕ) (line : ℕ) (rest : List ℕ) → IsNumeral 10 ds → pieces_from line None 0 (ds ++ rest) ≡ pieces_from line (Some (digits_value 10 ds)) 0 rest
+pub numeral_read : (ds : List ℕ) (line : ℕ) (rest : List ℕ) → IsNumeral 10 ds → pieces_from line None 0 (ds ++ rest) ≡ pieces_from line (Some (digits_value 10 ds)) 0 rest
 numeral_read [] line rest numeral = absurd (omega (arith, numeral.0))
 numeral_read (d ∷ ds) line rest numeral =
     let range = digit_from_value d numeral.1.0 in
@@ -66,13 +66,13 @@ no_digit b is = grind (arith, nat_tests)
 -- the line behind a gap
 abbrev pub line_after : ℕ → List ℕ → ℕ
 line_after line [] = line
-line_after line (b ∷ bs) = line_after (line_behind line b) bs
+line_after line (b ∷ bs) = line_after (line_past line b) bs
 
 pub gap_passed : (gap : List ℕ) (line : ℕ) (rest : List ℕ) → list_all is_gap gap ≡ true → pieces_from line None 0 (gap ++ rest) ≡ pieces_from (line_after line gap) None 0 rest
 gap_passed [] line rest all = refl
 gap_passed (b ∷ bs) line rest all =
     let parts = and_parts (is_gap b) (list_all is_gap bs) all in
-    rw (no_digit b parts.0, parts.0) (gap_passed bs (line_behind line b) rest parts.1)
+    rw (no_digit b parts.0, parts.0) (gap_passed bs (line_past line b) rest parts.1)
 
 -- these bytes are read as so many copies of a mark, and what follows stands in some line
 abbrev pub ReadsAs : ℕ → Mark → List ℕ → Type 0
@@ -112,7 +112,7 @@ run_read tag behind mark is all gap passed n few front column row line rest =
           ∙ ap (λ pieces. comes front column row (Ok (record { line = line; count = n; mark = mark }) ∷ pieces)) (gap_passed gap run.0 rest passed),
     )
 
-ends_tag : IsTag (36 ∷ []) RowEnd
+pub ends_tag : IsTag (36 ∷ []) RowEnd
 ends_tag = record { counted = λ line n rest some few. rw (is_count n some few) refl; single = λ line rest. refl }
 
 pub dead_tag : IsTag (98 ∷ []) Dead

@@ -4,18 +4,15 @@ use Rattle.std.specs.Char.{is_ascii_digit}
 use Rattle.std.proofs.lemmas.Bool.{cases_Bool}
 use Rattle.std.proofs.lemmas.Bool.Decides.{nat_tests}
 use Rattle.net_patterns.specs.declared.board.Mark.TheVariants.{Alive}
-use Rattle.net_patterns.specs.Rle.{count_of, is_blank, pieces_from}
+use Rattle.net_patterns.specs.RunSteps.{count_of, is_between, pieces_from}
 use Rattle.net_patterns.specs.Written.{state_tag}
 use Rattle.net_patterns.proofs.RunTexts.{IsTag, is_count}
 
 no_digit : (higher b : ℕ) → 65 ≤ b → (higher == 0 && is_ascii_digit b) ≡ false
 no_digit higher b low = grind (arith, nat_tests)
 
-no_blank : (higher b : ℕ) → 65 ≤ b → (higher == 0 && is_blank b) ≡ false
-no_blank higher b low = grind (arith, nat_tests)
-
-no_end : (higher b : ℕ) → 65 ≤ b → (higher == 0 && b == 33) ≡ false
-no_end higher b low = grind (arith, nat_tests)
+not_between : (higher b : ℕ) → 65 ≤ b → (higher == 0 && is_between b) ≡ false
+not_between higher b low = grind (arith, nat_tests)
 
 no_line : (b : ℕ) → 65 ≤ b → (b == 10) ≡ false
 no_line b low = grind (arith, nat_tests)
@@ -39,13 +36,13 @@ and_false higher = grind (arith, nat_tests)
 letter_read : (number : Option ℕ) (count higher b state line : ℕ) (rest : List ℕ) → count_of number ≡ Some count → 65 ≤ b → b ≤ 88 → higher + (b - 64) ≡ state → state ≤ 255
     → pieces_from line number higher (b ∷ rest) ≡ Ok (record { line = line; count = count; mark = Alive state }) ∷ pieces_from line None 0 rest
 letter_read number count higher b state line rest counted low high same few =
-    rw (no_digit higher b low, counted, no_blank higher b low, no_end higher b low, no_small b high, and_false higher, capital b low high, no_line b low, same, known state few) refl
+    rw (no_digit higher b low, counted, not_between higher b low, no_small b high, and_false higher, capital b low high, no_line b low, same, known state few) refl
 
 -- the letter before it
 prefix_read : (number : Option ℕ) (count b line : ℕ) (rest : List ℕ) → count_of number ≡ Some count → 112 ≤ b → b ≤ 121
     → pieces_from line number 0 (b ∷ rest) ≡ pieces_from line number (24 * (b - 111)) rest
 prefix_read number count b line rest counted low high =
-    rw (no_digit 0 b (omega (arith, low)), counted, no_blank 0 b (omega (arith, low)), no_end 0 b (omega (arith, low)), small b low high) refl
+    rw (no_digit 0 b (omega (arith, low)), counted, not_between 0 b (omega (arith, low)), small b low high) refl
 
 tag_read : (number : Option ℕ) (count state line : ℕ) (rest : List ℕ) → count_of number ≡ Some count → 1 ≤ state → state ≤ 255
     → pieces_from line number 0 (state_tag state ++ rest) ≡ Ok (record { line = line; count = count; mark = Alive state }) ∷ pieces_from line None 0 rest

@@ -1,93 +1,72 @@
--- Texts of runs.
-use Rattle.std.specs.Prelude.{ℕ, ◌+◌, ◌*◌, ◌-◌, ◌==◌, Bool, ◌&&◌, ◌||◌, List, [], ◌∷◌, nat_lt, nat_le, Option, Some, None, Result, Ok, Err, is_some, if◌then◌else◌}
-use Rattle.std.specs.Option.{unwrap_or}
+-- Texts of runs: a grammar.
+use Rattle.std.specs.Prelude.{◌≡◌, ◌⊎◌, ◌≤◌, ℕ, ◌+◌, ◌==◌, Bool, true, false, ◌||◌, List, [], ◌∷◌, ◌++◌, codes, Option, Some, None, Result, Ok, Err}
 use Rattle.std.specs.Char.{is_ascii_digit}
+use Rattle.std.specs.List.{list_all, count_by}
+use Rattle.std.specs.Str.Parse.{IsNumeral, digits_value}
 use Rattle.net_patterns.specs.declared.board.Mark.{Mark}
 use Rattle.net_patterns.specs.declared.board.Mark.TheVariants.{Dead, Alive, RowEnd}
 use Rattle.net_patterns.specs.declared.fault.PatternFault.{PatternFault}
 use Rattle.net_patterns.specs.declared.fault.PatternFault.TheVariants.{BadCell, BadCount, NoEnd}
 use Rattle.net_patterns.specs.Cells.{Run}
+use Rattle.net_patterns.specs.Written.{state_tag}
 
 -- a blank, TAB, CR, LF
 abbrev pub is_blank : ℕ → Bool
 is_blank b = b == 32 || b == 9 || b == 13 || b == 10
-
--- the greatest state
-abbrev pub most_state : ℕ
-most_state = 255
-
--- a capital letter from A to X: 1 for A, 24 for X
-abbrev pub letter_of : ℕ → Option ℕ
-letter_of b = if nat_le 65 b && nat_le b 88 then Some (b - 64) else None
-
--- a letter from p to y: how many states it adds to those of the capital letter behind it, 24 for p and 240 for y
-abbrev pub higher_of : ℕ → Option ℕ
-higher_of b = if nat_le 112 b && nat_le b 121 then Some (24 * (b - 111)) else None
-
--- a live cell of this state, where that is one
-abbrev pub alive_of : ℕ → Option Mark
-alive_of state = if nat_le state most_state then Some (Alive state) else None
-
--- the mark of a tag that is no capital letter, where nothing stands before it: b or . dead, o alive, $ the end of a row
-abbrev pub plain_tag : ℕ → Option Mark
-plain_tag b =
-    if b == 98 || b == 46 then Some Dead
-    else if b == 111 then Some (Alive 1)
-    else if b == 36 then Some RowEnd
-    else None
-
--- the mark that a tag stands for, behind a letter that adds so many states, 0 where none does
-abbrev pub mark_with : ℕ → ℕ → Option ℕ → Option Mark
-mark_with higher b (Some letter) = alive_of (higher + letter)
-mark_with higher b None = if higher == 0 then plain_tag b else None
-
-abbrev pub mark_of : ℕ → ℕ → Option Mark
-mark_of higher b = mark_with higher b (letter_of b)
-
--- a number that is followed by one more digit, or that the digit begins
-abbrev pub with_digit : Option ℕ → ℕ → ℕ
-with_digit number digit = 10 * unwrap_or number 0 + (digit - 48)
-
--- the greatest count
-abbrev pub most_count : ℕ
-most_count = 999999999
-
--- how many copies a number stands for: 1 where there is none; 0 and what is greater than the greatest count are no counts
-abbrev pub count_of : Option ℕ → Option ℕ
-count_of None = Some 1
-count_of (Some n) = if nat_lt 0 n && nat_le n most_count then Some n else None
-
--- the line behind a blank
-abbrev pub line_behind : ℕ → ℕ → ℕ
-line_behind line b = if b == 10 then line + 1 else line
 
 -- a run of a tag, before other pieces
 abbrev pub run_of : ℕ → ℕ → Option Mark → List (Result Run PatternFault) → List (Result Run PatternFault)
 run_of line count (Some mark) pieces = Ok (record { line = line; count = count; mark = mark }) ∷ pieces
 run_of line count None pieces = Err (BadCell line) ∷ []
 
--- the pieces of a byte that is no count's digit, behind a number of this count, where there is one, and a letter that adds
--- so many states, 0 where none does: a blank says nothing, ! is the end, behind a letter from p to y come the first
--- pieces, and behind a tag the others
-abbrev pub pieces_at : ℕ → Option ℕ → Option ℕ → ℕ → ℕ → List (Result Run PatternFault) → List (Result Run PatternFault) → List (Result Run PatternFault)
-pieces_at line number None higher b longer pieces = Err (BadCount line) ∷ []
-pieces_at line number (Some count) higher b longer pieces =
-    if higher == 0 && is_blank b then (if is_some number then Err (BadCount line) ∷ [] else pieces)
-    else if higher == 0 && b == 33 then []
-    else if higher == 0 && is_some (higher_of b) then longer
-    else run_of line count (mark_of higher b) pieces
+-- the tags of a mark: b or . for a dead cell; o for a live one of state 1, and the letters of a state from 1 to 255, A to
+-- X, pA to pX, .. , yA to yO; $ for the end of a row
+abbrev pub IsTagOf : Mark → List ℕ → Type 0
+IsTagOf Dead tag = (tag ≡ codes "b") ⊎ (tag ≡ codes ".")
+IsTagOf (Alive state) tag = ((state ≡ 1) × (tag ≡ codes "o")) ⊎ ((1 ≤ state) × (state ≤ 255) × (tag ≡ state_tag state))
+IsTagOf RowEnd tag = tag ≡ codes "$"
 
--- the fault of a text that ends behind a number that has no tag yet and a letter that adds so many states
-abbrev pub end_fault : ℕ → Option ℕ → ℕ → PatternFault
-end_fault line number higher =
-    if nat_lt 0 higher then BadCell line
-    else if is_some number then BadCount line
-    else NoEnd
+-- a count is from 1 to 999,999,999
+abbrev pub IsCount : ℕ → Type 0
+IsCount n = (1 ≤ n) × (n ≤ 999999999)
 
--- the pieces of a text behind a number that has no tag yet, where there is one, and a letter that adds so many states, 0
--- where none does; its first byte stands in this line
-abbrev pub pieces_from : ℕ → Option ℕ → ℕ → List ℕ → List (Result Run PatternFault)
-pieces_from line number higher [] = Err (end_fault line number higher) ∷ []
-pieces_from line number higher (b ∷ bs) =
-    if higher == 0 && is_ascii_digit b then pieces_from line (Some (with_digit number b)) 0 bs
-    else pieces_at line number (count_of number) higher b (pieces_from line number (unwrap_or (higher_of b) 0) bs) (pieces_from (line_behind line b) None 0 bs)
+-- what stands before a tag: a number in decimal digits, which is the run's count, or nothing for one
+abbrev pub IsCountOf : ℕ → List ℕ → Type 0
+IsCountOf n digits = ((digits ≡ []) × (n ≡ 1)) ⊎ (IsNumeral 10 digits × (digits_value 10 digits ≡ n) × IsCount n)
+
+-- no digit stands at the front
+abbrev pub EndsDigits : List ℕ → Type 0
+EndsDigits [] = Unit {0}
+EndsDigits (b ∷ bs) = is_ascii_digit b ≡ false
+
+-- the text ends here, or what may stand between runs or behind them all, a blank or !, stands at the front
+abbrev pub EndsRuns : List ℕ → Type 0
+EndsRuns [] = Unit {0}
+EndsRuns (b ∷ bs) = (is_blank b || b == 33) ≡ true
+
+-- the fault at a place in this line where neither a blank nor a run nor the end, !, stands:
+-- NoEnd where the text ends; BadCount where a number is no count, or no tag follows it but a blank, ! or the text's end;
+-- BadCell where no tag begins, though something else stands there, with a count before it or without
+abbrev pub IsFaultAt : ℕ → List ℕ → PatternFault → Type 0
+IsFaultAt line text NoEnd = text ≡ []
+IsFaultAt line text (BadCount l) =
+    (l ≡ line) × ((digits : List ℕ) × (behind : List ℕ) × (text ≡ digits ++ behind) × IsNumeral 10 digits × EndsDigits behind × ((IsCount (digits_value 10 digits) → ⊥) ⊎ EndsRuns behind))
+IsFaultAt line text (BadCell l) =
+    (l ≡ line) × ((n : ℕ) × (digits : List ℕ) × (behind : List ℕ) × (text ≡ digits ++ behind) × IsCountOf n digits × EndsDigits behind × (EndsRuns behind → ⊥)
+    × ((mark : Mark) (tag rest : List ℕ) → IsTagOf mark tag → behind ≡ tag ++ rest → ⊥))
+IsFaultAt line text _ = ⊥
+
+-- the line behind blanks: each LF (10) ends one
+abbrev pub line_behind : ℕ → List ℕ → ℕ
+line_behind line blanks = line + count_by (λ b. b == 10) blanks
+
+-- a text whose first byte stands in this line has these pieces, behind blanks each: runs, and the end, !, whatever stands
+-- behind it; or runs and a fault
+abbrev pub AreRuns : ℕ → List (Result Run PatternFault) → List ℕ → Type 0
+AreRuns line [] text =
+    (blanks : List ℕ) × (behind : List ℕ) × (list_all is_blank blanks ≡ true) × (text ≡ blanks ++ (codes "!" ++ behind))
+AreRuns line (Ok run ∷ pieces) text =
+    (blanks : List ℕ) × (digits : List ℕ) × (tag : List ℕ) × (rest : List ℕ) × (list_all is_blank blanks ≡ true) × (text ≡ blanks ++ (digits ++ (tag ++ rest)))
+    × (run.line ≡ line_behind line blanks) × IsCountOf run.count digits × IsTagOf run.mark tag × AreRuns run.line pieces rest
+AreRuns line (Err fault ∷ pieces) text =
+    (pieces ≡ []) × ((blanks : List ℕ) × (rest : List ℕ) × (list_all is_blank blanks ≡ true) × (text ≡ blanks ++ rest) × IsFaultAt (line_behind line blanks) rest fault)

@@ -3,7 +3,7 @@ use Rattle.std.specs.Prelude.{ℕ, ◌+◌, List, [], ◌∷◌, length, Option,
 use Rattle.net_patterns.specs.declared.board.Cell.{Cell}
 use Rattle.net_patterns.specs.declared.board.Mark.TheVariants.{Dead, Alive, RowEnd}
 use Rattle.net_patterns.specs.declared.fault.PatternFault.{PatternFault}
-use Rattle.net_patterns.specs.Rle.{pieces_from}
+use Rattle.net_patterns.specs.RunSteps.{pieces_from}
 use Rattle.net_patterns.specs.Cells.{Run, Sign, written_out, judged, runs_in, fault_in, with_front}
 
 -- the live cells of signs that begin in this column and row

@@ -1,5 +1,5 @@
 -- Texts of patterns, of two kinds.
-use Rattle.std.specs.Prelude.{ℕ, ◌+◌, ◌==◌, Bool, true, ◌&&◌, ◌||◌, not, List, [], ◌∷◌, slice_index, Option, Some, None, Result, Err, if◌then◌else◌}
+use Rattle.std.specs.Prelude.{◌≡◌, ℕ, ◌+◌, ◌==◌, Bool, true, false, ◌&&◌, ◌||◌, not, List, [], ◌∷◌, slice_index, Option, Some, None, Result, Err, if◌then◌else◌}
 use Rattle.std.specs.List.{filter, list_any, before_first, after_first}
 use Rattle.net_patterns.specs.declared.board.Cell.{Cell}
 use Rattle.net_patterns.specs.declared.board.Mark.{Mark}
@@ -7,7 +7,7 @@ use Rattle.net_patterns.specs.declared.board.Mark.TheVariants.{Dead, Alive, RowE
 use Rattle.net_patterns.specs.declared.fault.PatternFault.{PatternFault}
 use Rattle.net_patterns.specs.declared.fault.PatternFault.TheVariants.{NoPattern}
 use Rattle.net_patterns.specs.Cells.{Run, pattern_of}
-use Rattle.net_patterns.specs.Rle.{is_blank, run_of, pieces_from}
+use Rattle.net_patterns.specs.Rle.{AreRuns, is_blank, run_of}
 
 -- LF
 abbrev pub is_line_feed : ℕ → Bool
@@ -51,13 +51,20 @@ plain_pieces line comment (b ∷ bs) =
     else if comment || (b == 13 && ends_line bs) then plain_pieces line comment bs
     else run_of line 1 (plain_mark b) (plain_pieces line comment bs)
 
--- the pieces of a text, where these are the lines that say something: where the first begins with x, the runs behind it; else plain text
-abbrev pub pieces_behind : List ℕ → List (ℕ × List ℕ) → List (Result Run PatternFault)
-pieces_behind text [] = Err NoPattern ∷ []
-pieces_behind text (l ∷ ls) =
-    if slice_index l.1 0 == 120 then pieces_from (l.0 + 1) None 0 (after_first is_line_feed l.1)
-    else plain_pieces 1 (is_comment text) text
+-- the pieces of a text whose first line that says something is this: where it begins with x (120), those of the runs
+-- behind it; else those of plain text
+abbrev pub AreOfKind : Bool → List ℕ → ℕ × List ℕ → List (Result Run PatternFault) → Type 0
+AreOfKind true text l pieces = AreRuns (l.0 + 1) pieces (after_first is_line_feed l.1)
+AreOfKind false text l pieces = pieces ≡ plain_pieces 1 (is_comment text) text
 
--- the pattern that a text says, or the first fault
-abbrev pub pattern_in : List ℕ → Result (List Cell) PatternFault
-pattern_in text = pattern_of (pieces_behind text (told_from 1 text))
+abbrev pub ArePiecesBehind : List ℕ → List (ℕ × List ℕ) → List (Result Run PatternFault) → Type 0
+ArePiecesBehind text [] pieces = pieces ≡ Err NoPattern ∷ []
+ArePiecesBehind text (l ∷ ls) pieces = AreOfKind (slice_index l.1 0 == 120) text l pieces
+
+-- the pieces of a text: its runs, and its fault where it has one
+abbrev pub ArePieces : List ℕ → List (Result Run PatternFault) → Type 0
+ArePieces text pieces = ArePiecesBehind text (told_from 1 text) pieces
+
+-- what a text says, a pattern or the first fault: what its pieces say
+abbrev pub IsPattern : List ℕ → Result (List Cell) PatternFault → Type 0
+IsPattern text answer = (pieces : List (Result Run PatternFault)) × ArePieces text pieces × (pattern_of pieces ≡ answer)

@@ -14,7 +14,7 @@ pub enum PatternFault {
     /// A character that has no meaning there.
     #[error("line {line}: BadCell")]
     BadCell { line: u64 },
-    /// A number that is 0 or greater than 999,999,999, or that no tag follows at once.
+    /// A number that is 0 or greater than 999,999,999, or that no tag follows, but a blank, `!` or the text's end.
     #[error("line {line}: BadCount")]
     BadCount { line: u64 },
     /// The text ends without `!`.

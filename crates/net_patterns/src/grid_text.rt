@@ -4,7 +4,7 @@ ghost use Rattle.std.specs.List.{list_all};
 ghost use Rattle.std.specs.Option.{option_map};
 ghost use Rattle.net_patterns.specs.declared.grid_text.ValueFault.TheVariants.{Memory};
 ghost use Rattle.net_patterns.specs.OnGrids.{first_above, grid_cells, grid_text, kind_of, most_of, rows_filled, too_great, written_grid};
-ghost use Rattle.net_patterns.specs.Texts.{pattern_in};
+ghost use Rattle.net_patterns.specs.Texts.{IsPattern};
 
 use crate::spelling::{Kind, PatternFormat, put_opening};
 use crate::writer::Writer;
@@ -139,7 +139,7 @@ pub fn grid_pattern(
     ensures text { IfOk result (λ text. written_grid format width values.now ≡ Ok text.items) }
     ensures fault { IfErr result (λ fault. fault ≢ Memory → written_grid format width values.now ≡ Err fault) }
     ensures refused { IfErr (written_grid format width values.now) (λ fault. result ≡ Err fault) }
-    ensures reads_back { IfOk result (λ text. pattern_in text.items ≡ Ok (grid_cells width 0 values.now)) }
+    ensures reads_back { IfOk result (λ text. IsPattern text.items (Ok (grid_cells width 0 values.now))) }
 {
     if values.len() > MOST_VALUES {
         return Err(ValueFault::TooMany);

@@ -1,7 +1,11 @@
 //! Patterns that are read.
-ghost use Rattle.std.specs.Prelude.{◌≡◌, ◌<◌, ℕ, List, length, Ok};
+ghost use Rattle.std.specs.Prelude.{◌≡◌, ◌≢◌, ◌<◌, ℕ, List, length, MatchResult, Result, Ok, Err};
+ghost use Rattle.net_patterns.specs.declared.board.Cell.{Cell};
+ghost use Rattle.net_patterns.specs.declared.fault.PatternFault.{PatternFault};
+ghost use Rattle.net_patterns.specs.declared.fault.PatternFault.TheVariants.{Memory};
 ghost use Rattle.net_patterns.specs.Cells.{IsAnswer};
-ghost use Rattle.net_patterns.specs.Texts.{pattern_in};
+ghost use Rattle.net_patterns.specs.RunSteps.{pattern_in};
+ghost use Rattle.net_patterns.specs.Texts.{IsPattern};
 ghost use Rattle.net_patterns.specs.declared.span.Span.{Span};
 ghost use Rattle.net_patterns.specs.Written.{AreInOrder, Frame, IsFrame, IsLine, as_plain, cells_in, written_as_plain, written_as_runs, written_as_states, written_from};
 
@@ -41,14 +45,15 @@ fn read_either(alloc: Global, bytes: &[u8]) -> Result<Vec<Cell>, PatternFault>
 /// line that begins with `!` is a comment. A CR at a line's end is passed over.
 ///
 /// The first fault of the text is returned: `NoPattern` where no line says something; `BadCell` at a character that has
-/// no meaning there, or at one or the text's end where a letter from `p` to `y` is left alone; `BadCount` at a number that is no count, or that no tag follows at once; `NoEnd` where runs end
-/// without `!`; `TooLarge` at a live cell whose column or row is 65,536 or more or that follows 65,536 others. `Memory`
+/// no meaning there, or at one or the text's end where a letter from `p` to `y` is left alone; `BadCount` at a number that
+/// is no count, or that no tag follows, but a blank, `!` or the text's end; `NoEnd` where runs end without `!`; `TooLarge` at a live cell whose column or row is 65,536 or more or that follows 65,536 others. `Memory`
 /// comes only where memory runs out.
 ///
 /// What is written is read back: live cells in reading order, 65,536 at most, that are written as runs of two states or of
 /// many behind a header, as rows of plain text behind a comment, or, where there is a cell, as such rows alone are the cells that come out.
 pub fn read_pattern(alloc: Global, bytes: &[u8]) -> Result<Vec<Cell>, PatternFault>
-    ensures answer { IsAnswer (λ v. v.items) (pattern_in bytes.now) result }
+    ensures answer { MatchResult result (λ v. IsPattern bytes.now (Ok v.items)) (λ fault. fault ≢ Memory → IsPattern bytes.now (Err fault)) }
+    ensures one { (answer : Result (List Cell) PatternFault) → IsPattern bytes.now answer → IsAnswer (λ v. v.items) answer result }
     ensures reads_runs { (frame : Frame) (spans : List Span) → IsFrame frame → AreInOrder 1 spans → bytes.now ≡ written_as_runs frame spans → IsAnswer (λ v. v.items) (Ok (cells_in spans)) result }
     ensures reads_states { (frame : Frame) (spans : List Span) → IsFrame frame → AreInOrder 255 spans → bytes.now ≡ written_as_states frame spans → IsAnswer (λ v. v.items) (Ok (cells_in spans)) result }
     ensures reads_rows { (spans : List Span) → AreInOrder 1 spans → 0 < length (cells_in spans) → bytes.now ≡ written_from as_plain 0 0 spans → IsAnswer (λ v. v.items) (Ok (cells_in spans)) result }

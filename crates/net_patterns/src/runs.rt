@@ -1,10 +1,11 @@
 //! Patterns written as runs.
-ghost use Rattle.std.specs.Prelude.{◌≡◌, ◌≢◌, ◌+◌, ◌≤◌, ◌<◌, ◌^◌, ◌∷◌, List, [], ℕ, length, MatchOption, MatchResult, OnOk, IfOk, None, Result, Ok, Err, true, false, if◌then◌else◌};
+ghost use Rattle.std.specs.Prelude.{◌≡◌, ◌≢◌, ◌+◌, ◌≤◌, ◌<◌, ◌^◌, ◌∷◌, List, [], ℕ, length, MatchOption, MatchResult, OnOk, IfOk, IfErr, is_some, not, None, Result, Ok, Err, true, false, if◌then◌else◌};
 ghost use Rattle.std.specs.Char.{is_ascii_digit};
 ghost use Rattle.net_patterns.specs.declared.fault.PatternFault.{PatternFault};
-ghost use Rattle.net_patterns.specs.declared.fault.PatternFault.TheVariants.{Memory};
+ghost use Rattle.net_patterns.specs.declared.fault.PatternFault.TheVariants.{BadCount, Memory};
 ghost use Rattle.net_patterns.specs.Cells.{IsAnswer, Run, pattern_of};
-ghost use Rattle.net_patterns.specs.Rle.{count_of, end_fault, higher_of, is_blank, letter_of, mark_of, pieces_from, plain_tag, run_of};
+ghost use Rattle.net_patterns.specs.Rle.{is_blank, run_of};
+ghost use Rattle.net_patterns.specs.RunSteps.{count_of, end_fault, higher_of, letter_of, line_past, mark_of, pieces_from, plain_tag};
 ghost use Rattle.net_patterns.specs.Steps.{comes, reads};
 
 use crate::board::{Board, Cell, Mark};
@@ -129,6 +130,26 @@ impl Reader {
         self.board.put(self.line, count, mark)
     }
 
+    /// Takes a blank or `!`, where no number stands before it. Whether it is the end.
+    fn take_between(&mut self, byte: u8) -> Result<bool, PatternFault>
+        requires room { self.old.line + 1 < 2 ^ 64 }
+        ensures number { self.new.number ≡ self.old.number }
+        ensures higher { self.new.higher ≡ self.old.higher }
+        ensures board { self.new.board ≡ self.old.board }
+        ensures line { OnOk result (self.new.line ≡ (if is_blank byte then line_past self.old.line byte else self.old.line)) }
+        ensures ended { IfOk result (λ ended. ended ≡ not (is_blank byte)) }
+        ensures alone { IfOk result (λ _. self.old.number ≡ None) }
+        ensures counted { IfErr result (λ fault. (is_some self.old.number ≡ true) × (fault ≡ BadCount self.old.line)) }
+    {
+        if self.number.is_some() {
+            return Err(PatternFault::BadCount { line: self.line });
+        }
+        if byte == b'\n' {
+            self.line += 1;
+        }
+        Ok(!is_blank(byte))
+    }
+
     /// Takes a byte that is no digit of a count. Whether it is the end.
     fn take_sign(&mut self, byte: u8) -> Result<bool, PatternFault>
         requires digit { self.old.higher ≡ 0 → is_ascii_digit byte ≡ false }
@@ -149,17 +170,8 @@ impl Reader {
             self.take_tag(count, byte)?;
             return Ok(false);
         }
-        if is_blank(byte) {
-            if self.number.is_some() {
-                return Err(PatternFault::BadCount { line: self.line });
-            }
-            if byte == b'\n' {
-                self.line += 1;
-            }
-            return Ok(false);
-        }
-        if byte == b'!' {
-            return Ok(true);
+        if is_blank(byte) || byte == b'!' {
+            return self.take_between(byte);
         }
         if let Some(higher) = higher_of(byte) {
             self.higher = higher;

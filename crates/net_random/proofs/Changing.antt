@@ -1,13 +1,13 @@
 -- One link in place of another.
-use Rattle.std.proofs.Common.{◌≡◌, ℕ, ◌+◌, ◌<◌, ◌≤◌, ◌==◌, Bool, true, false, not, ◌&&◌, ◌||◌, min, max, List, [], ◌∷◌, ◌++◌, map, length, slice_get, slice_set, slice_index_or, None, Some, refl, ap, sym, subst, nat_le, cond, ◌⊎◌, ◌∙◌, inl, inr, arith, zero, suc}
+use Rattle.std.proofs.Common.{◌≡◌, ℕ, ◌<◌, ◌≤◌, ◌==◌, Bool, true, false, not, ◌&&◌, ◌||◌, min, max, List, [], ◌∷◌, ◌++◌, length, slice_get, slice_set, slice_index_or, Some, refl, ap, sym, nat_le, cond, ◌⊎◌, ◌∙◌, inl, inr, arith, zero, suc}
 use Rattle.std.specs.List.{list_any, AllByRecursion}
 use Rattle.std.proofs.lemmas.Bool.{cases_Bool}
 use Rattle.std.proofs.lemmas.Bool.Decides.{nat_tests}
 use Rattle.std.proofs.lemmas.List.Folds.{list_any-append}
 use Rattle.link_net.specs.Links.{AllWithin, is_self_link, has_link_twice, joins, are_linked}
 use Rattle.net_text.specs.Listing.{Link}
-use Rattle.net_random.specs.RandomNetworks.{AreSimpleLinks}
-use Rattle.net_random.specs.Changed.{AreKnown, ArePairsAfter, ArePairsOf, has_pair, is_free, pair_of, starts}
+use Rattle.net_random.specs.RandomNetworks.{starts}
+use Rattle.net_random.specs.Changed.{AreKnown, ArePairsAfter, ArePairsOf, has_pair, is_free}
 
 -- the links but for the one at a place
 abbrev without : ℕ → List Link → List Link

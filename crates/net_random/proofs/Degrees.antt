@@ -9,8 +9,7 @@ use Rattle.link_net.specs.Links.{AllWithin, is_self_link, has_link_twice, joins,
 use Rattle.link_net.specs.Neighbours.{numbers_below, degree}
 use Rattle.net_text.specs.Listing.{Link}
 use Rattle.net_random.specs.declared.random_network.RandomNetwork.{RandomNetwork}
-use Rattle.net_random.specs.RandomNetworks.{AreSimpleLinks, IsOutcome}
-use Rattle.net_random.specs.Changed.{starts, ring_links}
+use Rattle.net_random.specs.RandomNetworks.{AreSimpleLinks, IsOutcome, starts, ring_links}
 use Rattle.net_random.proofs.Counting.{filter_same, either_is, once_in}
 use Rattle.net_random.proofs.Changing.{joined_alike}
 use Rattle.net_random.proofs.Ring.{ring_count, ring_begun}
@@ -54,16 +53,22 @@ degree_is n u ls low =
 length_starts : (ls : List Link) → length (starts ls) ≡ length ls
 length_starts ls = length-map ls (λ l. l.0)
 
+-- where links begin as those of a ring do, so many begin at each node
+begins_near : (n near u : ℕ) (ls : List Link) → starts ls ≡ starts (ring_links n near) → u < n → length (filter (λ l. l.0 == u) ls) ≡ near
+begins_near n near u ls begin low = begun_starts u ls ∙ ap (λ xs. length (filter (λ x. x == u) xs)) begin ∙ sym (begun_starts u (ring_links n near)) ∙ ring_begun n near u low
+
 -- simple links that begin where those of a ring do make a small world
-pub small_world_has : (n near rewire of : ℕ) (ls : List Link) → AreSimpleLinks n ls → starts ls ≡ starts (ring_links n near) → IsOutcome (RandomNetwork.SmallWorld n near rewire of) ls
-small_world_has n near rewire of ls simple begin = record {
+pub small_world_has : (n near rewire of : ℕ) (ls : List Link) → AreSimpleLinks n ls → starts ls ≡ starts (ring_links n near) → (rewire ≡ 0 → ls ≡ ring_links n near) → IsOutcome (RandomNetwork.SmallWorld n near rewire of) ls
+small_world_has n near rewire of ls simple begin kept = record {
   count = sym (length_starts ls) ∙ ap length begin ∙ length_starts (ring_links n near) ∙ ring_count n near;
   simple = simple;
   back = tt;
   degrees = λ u low.
-      let begun = begun_starts u ls ∙ ap (λ xs. length (filter (λ x. x == u) xs)) begin ∙ sym (begun_starts u (ring_links n near)) ∙ ring_begun n near u low in
+      let begun = begins_near n near u ls begin low in
       let linked = begun_linked n u ls simple.within simple.apart simple.once in
       let is = degree_is n u ls low in
       omega arith;
   connected = tt;
+  begun = λ u low. begins_near n near u ls begin low;
+  ring = (begin, kept);
 }

@@ -173,7 +173,7 @@ tree_count (suc n) some =
     omega arith
 
 pub tree_has : (n : ℕ) (links : List Link) → 1 ≤ n → IsGrown 1 n links → IsOutcome (RandomNetwork.Tree n) links
-tree_has n links some grown = record { count = grown.count ∙ tree_count n some; simple = grown.simple; back = grown.back; degrees = λ u h. tt; connected = all_reach 1 n links (omega arith) grown.back }
+tree_has n links some grown = record { count = grown.count ∙ tree_count n some; simple = grown.simple; back = grown.back; degrees = λ u h. tt; connected = all_reach 1 n links (omega arith) grown.back; begun = tt; ring = tt }
 
 pub preferential_has : (n each : ℕ) (links : List Link) → IsGrown each n links → IsOutcome (RandomNetwork.Preferential n each) links
-preferential_has n each links grown = record { count = grown.count; simple = grown.simple; back = grown.back; degrees = λ u h. tt; connected = λ some. all_reach each n links some grown.back }
+preferential_has n each links grown = record { count = grown.count; simple = grown.simple; back = grown.back; degrees = λ u h. tt; connected = λ some. all_reach each n links some grown.back; begun = tt; ring = tt }

@@ -1,5 +1,5 @@
 -- Links round a ring: none stands twice, and each node begins so many.
-use Rattle.std.proofs.Common.{◌≡◌, ◌≢◌, ℕ, ◌+◌, ◌-◌, ◌*◌, ◌/◌, ◌%◌, ◌<◌, ◌≤◌, ◌==◌, Bool, true, false, ◌&&◌, ◌||◌, nat_lt, List, [], ◌∷◌, ◌++◌, map, length, length-append, refl, ap, sym, subst, ◌∙◌, ◌⊎◌, inl, inr, arith, zero, suc, if◌then◌else◌}
+use Rattle.std.proofs.Common.{◌≡◌, ℕ, ◌+◌, ◌-◌, ◌*◌, ◌%◌, ◌<◌, ◌≤◌, ◌==◌, Bool, true, false, ◌&&◌, ◌||◌, nat_lt, List, [], ◌∷◌, ◌++◌, map, length, length-append, refl, ap, sym, subst, ◌∙◌, inl, inr, arith, zero, suc, if◌then◌else◌}
 use Rattle.std.specs.List.{list_any, filter, flat_map, range_with_len, AllByRecursion}
 use Rattle.std.proofs.Math.Nat.{mod-eq_of_lt, mod-lt, mul-le-mul_left}
 use Rattle.std.proofs.lemmas.Bool.{cases_Bool}
@@ -10,11 +10,10 @@ use Rattle.std.proofs.lemmas.List.Folds.{list_any-append}
 use Rattle.std.proofs.lemmas.Grind.{flat_map-append}
 use Rattle.std.proofs.lemmas.List.{append-nil}
 use Rattle.std.proofs.lemmas.List.FromFn.{length-map-range_with_len}
-use Rattle.link_net.specs.Links.{AllWithin, is_self_link, has_link_twice, joins, are_linked}
+use Rattle.link_net.specs.Links.{is_self_link, has_link_twice, joins, are_linked}
 use Rattle.link_net.specs.Neighbours.{numbers_below}
 use Rattle.net_text.specs.Listing.{Link}
-use Rattle.net_random.specs.RandomNetworks.{pair_count, AreSimpleLinks}
-use Rattle.net_random.specs.Changed.{following, ring_link, ring_links}
+use Rattle.net_random.specs.RandomNetworks.{pair_count, AreSimpleLinks, following, ring_link, ring_links}
 use Rattle.net_random.proofs.Growing.{all-append, range_more}
 
 -- twice as many neighbours before and behind a node as there are other nodes at most

@@ -32,7 +32,7 @@ trial_has (RandomNetwork.Random n k) list is nodes count weights degrees trial =
 trial_has (RandomNetwork.Tree n) list is nodes count weights degrees trial = cc
 trial_has (RandomNetwork.Preferential n e) list is nodes count weights degrees trial = cc
 trial_has (RandomNetwork.Regular n d) list is nodes count weights degrees trial =
-    record { count = count; simple = simple n list.links (rw nodes at is.within) (rw nodes at is.is_sound) weights; back = tt; degrees = degrees; connected = tt }
+    record { count = count; simple = simple n list.links (rw nodes at is.within) (rw nodes at is.is_sound) weights; back = tt; degrees = degrees; connected = tt; begun = tt; ring = tt }
 trial_has (RandomNetwork.SmallWorld n k p q) list is nodes count weights degrees trial = cc
 
 -- the same, where the network that the links make has those numbers of neighbours

@@ -1,5 +1,5 @@
 -- Networks each of whose pairs of nodes is linked with the same chance.
-use Rattle.std.specs.Prelude.{◌≡◌, ◌<◌, ◌⊎◌, ⊤, true, ℕ, zero, suc, ◌+◌, Bool, List, [], ◌∷◌, length, map, nat_lt, Ok, if◌then◌else◌}
+use Rattle.std.specs.Prelude.{◌≡◌, ◌<◌, ◌≤◌, ◌⊎◌, true, ℕ, zero, suc, ◌+◌, Bool, List, [], ◌∷◌, length, map, nat_lt, Ok, if◌then◌else◌}
 use Rattle.rand_core.specs.Stream.{Stream}
 use Rattle.rand_core.specs.Steps.{stream_of, steps_u64_low}
 use Rattle.rand_core.specs.Pcg32Seed.{pcg32_seed}
@@ -34,12 +34,17 @@ places_from (suc k) place billionths s = place_before (nat_lt (number_in s).0 bi
 abbrev pub chance_links : ℕ → ℕ → ℕ → List Link
 chance_links n billionths seed = map (link_at n) (places_from (pair_count n) 0 billionths (stream_by seed))
 
--- the fault is the one of these links between n nodes; running out of memory refuses nothing
+-- a network file may have so many nodes
+abbrev pub IsNodeCount : ℕ → Type 0
+IsNodeCount n = (1 ≤ n) × (n ≤ most_nodes)
+
+-- the fault is the first of these links between n nodes; running out of memory refuses nothing, and comes only where the
+-- number of nodes is no fault
 abbrev pub IsChanceFault : ℕ → List Link → RandomFault → Type 0
 IsChanceFault n links NodeCount = (n < 1) ⊎ (most_nodes < n)
-IsChanceFault n links TooManyLinks = most_links < length links
-IsChanceFault n links TooManyNeighbours = is_crowded n links ≡ true
-IsChanceFault n links Memory = ⊤
+IsChanceFault n links TooManyLinks = IsNodeCount n × (most_links < length links)
+IsChanceFault n links TooManyNeighbours = IsNodeCount n × (length links ≤ most_links) × (is_crowded n links ≡ true)
+IsChanceFault n links Memory = IsNodeCount n
 IsChanceFault n links fault = ⊥
 
 -- the text is a network file, and it reads to the network of these links between n nodes, in phase 0, with no initial values

@@ -1,8 +1,7 @@
 -- Internal: links that are changed one by one. No public clause cites it.
-use Rattle.std.specs.Prelude.{◌≡◌, ◌≤◌, ◌==◌, ◌+◌, ◌%◌, ℕ, Bool, not, ◌&&◌, ◌||◌, min, max, List, map}
-use Rattle.std.specs.List.{flat_map, list_any}
+use Rattle.std.specs.Prelude.{◌≡◌, ◌≤◌, ◌==◌, ℕ, Bool, not, ◌&&◌, ◌||◌, min, max, List}
+use Rattle.std.specs.List.{list_any}
 use Rattle.link_net.specs.Links.{joins, are_linked}
-use Rattle.link_net.specs.Neighbours.{numbers_below}
 use Rattle.net_text.specs.Listing.{Link}
 use Rattle.net_random.specs.RandomNetworks.{AreSimpleLinks}
 
@@ -30,19 +29,3 @@ ArePairsAfter here link before after = (u w : ℕ) → u ≤ w → has_pair afte
 pub record AreKnown (n : ℕ) (links : List Link) (pairs : List (ℕ × ℕ)) : Type 0 where
   pub simple : AreSimpleLinks n links
   pub known : ArePairsOf links pairs
-
--- the nodes at which links begin
-abbrev pub starts : List Link → List ℕ
-starts links = map (λ l. l.0) links
-
--- the link from u to the node that follows it round a ring of n nodes, s nodes lying between
-abbrev pub ring_link : ℕ → ℕ → ℕ → Link
-ring_link n u s = (u, (u + 1 + s) % n, 1)
-
--- the links from u to so many that follow it
-abbrev pub following : ℕ → ℕ → ℕ → List Link
-following n near u = map (ring_link n u) (numbers_below near)
-
--- the links of a ring of n nodes, each linked with so many that follow it
-abbrev pub ring_links : ℕ → ℕ → List Link
-ring_links n near = flat_map (following n near) (numbers_below n)

@@ -1,6 +1,6 @@
 -- Random networks: what is drawn.
-use Rattle.std.specs.Prelude.{◌≡◌, ◌<◌, ◌≤◌, ◌-◌, ◌*◌, ◌/◌, ◌%◌, ◌==◌, min, ℕ, ⊤, Bool, true, false, ◌&&◌, List, [], ◌∷◌, length}
-use Rattle.std.specs.List.{list_any, sum_by, AllByRecursion}
+use Rattle.std.specs.Prelude.{◌≡◌, ◌<◌, ◌≤◌, ◌+◌, ◌-◌, ◌*◌, ◌/◌, ◌%◌, ◌==◌, min, ℕ, ⊤, Bool, true, false, ◌&&◌, List, [], ◌∷◌, length, map}
+use Rattle.std.specs.List.{list_any, filter, flat_map, sum_by, AllByRecursion}
 use Rattle.link_net.specs.Links.{AllWithin, is_self_link, has_link_twice, are_linked, linked_with, network_of}
 use Rattle.link_net.specs.Neighbours.{numbers_below, degree}
 use Rattle.net_text.specs.Listing.{Link}
@@ -84,6 +84,33 @@ IsConnected (RandomNetwork.Tree n) links = AllReach n links
 IsConnected (RandomNetwork.Preferential n e) links = 1 ≤ e → AllReach n links
 IsConnected wanted links = ⊤
 
+-- the nodes at which links begin
+abbrev pub starts : List Link → List ℕ
+starts links = map (λ l. l.0) links
+
+-- the link from u to the node that follows it round a ring of n nodes, s nodes lying between
+abbrev pub ring_link : ℕ → ℕ → ℕ → Link
+ring_link n u s = (u, (u + 1 + s) % n, 1)
+
+-- the links from u to so many that follow it
+abbrev pub following : ℕ → ℕ → ℕ → List Link
+following n near u = map (ring_link n u) (numbers_below near)
+
+-- the links of a ring of n nodes, each linked with so many that follow it
+abbrev pub ring_links : ℕ → ℕ → List Link
+ring_links n near = flat_map (following n near) (numbers_below n)
+
+-- how many links begin at each node, where the kind of network says this
+abbrev pub HasBegun : RandomNetwork → List Link → Type 0
+HasBegun (RandomNetwork.SmallWorld n near p q) links = (u : ℕ) → u < n → length (filter (λ l. l.0 == u) links) ≡ near
+HasBegun wanted links = ⊤
+
+-- each link begins at the node where that of a ring begins in its place, and where none is to be led to another node, a
+-- share of 0, the links are those of the ring; where the kind of network says this
+abbrev pub IsFromRing : RandomNetwork → List Link → Type 0
+IsFromRing (RandomNetwork.SmallWorld n near p q) links = (starts links ≡ starts (ring_links n near)) × (p ≡ 0 → links ≡ ring_links n near)
+IsFromRing wanted links = ⊤
+
 -- the links may be drawn for the random network
 pub record IsOutcome (wanted : RandomNetwork) (links : List Link) : Type 0 where
   pub count : length links ≡ link_count wanted
@@ -91,3 +118,5 @@ pub record IsOutcome (wanted : RandomNetwork) (links : List Link) : Type 0 where
   pub back : HasBack wanted links
   pub degrees : HasDegrees wanted links
   pub connected : IsConnected wanted links
+  pub begun : HasBegun wanted links
+  pub ring : IsFromRing wanted links

@@ -92,8 +92,8 @@ fn hit_links(
 /// number is below `billionths`: none for 0, all for 1,000,000,000 or more.
 ///
 /// `NodeCount` comes at once where there is no node or more than 65,536, `TooManyLinks` where more than 262,144 links are
-/// drawn, `TooManyNeighbours` where a node of those that are drawn has more than 4,096 neighbours, and `Memory` only where
-/// memory runs out.
+/// drawn, `TooManyNeighbours` where they are not too many and a node has more than 4,096 neighbours, and `Memory` only
+/// where memory runs out, and not where the number of nodes is at fault.
 pub fn chance_list(
     alloc: Global,
     nodes: u32,

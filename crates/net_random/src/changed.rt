@@ -1,6 +1,7 @@
 //! Links that are changed one by one, none of them twice.
 ghost use Rattle.std.specs.Prelude.{◌≡◌, ◌<◌, ℕ, Some, slice_get, slice_set, length, IfOk, OnOk};
-ghost use Rattle.net_random.specs.Changed.{AreKnown, ArePairsAfter, ArePairsOf, is_free, pair_of, starts};
+ghost use Rattle.net_random.specs.Changed.{AreKnown, ArePairsAfter, ArePairsOf, is_free, pair_of};
+ghost use Rattle.net_random.specs.RandomNetworks.{starts};
 
 use indexmap::IndexSet;
 use link_net::Link;

@@ -1,6 +1,6 @@
 //! Links round a ring, from which others are drawn.
 ghost use Rattle.std.specs.Prelude.{◌≡◌, ◌≤◌, ◌++◌, IfOk, OnOk};
-ghost use Rattle.net_random.specs.Changed.{following, ring_links};
+ghost use Rattle.net_random.specs.RandomNetworks.{following, ring_links};
 
 use link_net::Link;
 use std::alloc::{AllocError, Global};

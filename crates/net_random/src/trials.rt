@@ -1,8 +1,8 @@
 //! Links that are drawn by changing those round a ring.
 ghost use Rattle.std.specs.Prelude.{◌≡◌, ◌≤◌, ◌<◌, ◌*◌, ℕ, IfOk, OnOk};
 ghost use Rattle.net_random.specs.declared.random_network.RandomNetwork.TheVariants.{SmallWorld};
-ghost use Rattle.net_random.specs.Changed.{AreKnown, starts};
-ghost use Rattle.net_random.specs.RandomNetworks.{pair_count, IsOutcome};
+ghost use Rattle.net_random.specs.Changed.{AreKnown};
+ghost use Rattle.net_random.specs.RandomNetworks.{pair_count, IsOutcome, starts};
 
 use crate::changed::Changed;
 use crate::lattice::{put_opposite, ring_links};

@@ -1,7 +1,14 @@
 use Rattle.std.proofs.Common.{ap, ◌∙◌}
-use Rattle.net_patterns.specs.Texts.{pattern_in}
+use Rattle.net_patterns.specs.RunSteps.{pattern_in}
+use Rattle.net_patterns.proofs.RunGrammar.{says_answer, answer_one}
 use Rattle.net_patterns.proofs.RoundTrip.{reads_plain, reads_rows, reads_runs, reads_states}
 use Rattle.net_patterns.proofs.pattern.read_pattern.Goals as goal
+
+pub returns-clause-answer : goal.returns-clause-answer
+returns-clause-answer c = says_answer (λ v. v.items) c.args.bytes.now c.read_either.result c.read_either.ensures
+
+pub returns-clause-one : goal.returns-clause-one
+returns-clause-one c = answer_one (λ v. v.items) c.args.bytes.now c.read_either.result c.read_either.ensures
 
 pub returns-clause-reads_runs : goal.returns-clause-reads_runs
 returns-clause-reads_runs c =

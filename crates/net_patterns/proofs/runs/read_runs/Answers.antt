@@ -1,5 +1,5 @@
 use Rattle.std.proofs.Common.{None, arith}
-use Rattle.net_patterns.specs.Rle.{pieces_from}
+use Rattle.net_patterns.specs.RunSteps.{pieces_from}
 use Rattle.net_patterns.proofs.RowCells.{begins}
 use Rattle.net_patterns.proofs.runs.read_runs.Goals as goal
 

@@ -1,6 +1,6 @@
 use Rattle.std.proofs.Common.{◌≡◌, ◌+◌, ◌≤◌, drop, None, MatchOption}
 use Rattle.net_patterns.specs.Cells.{pattern_of}
-use Rattle.net_patterns.specs.Rle.{pieces_from}
+use Rattle.net_patterns.specs.RunSteps.{pieces_from}
 use Rattle.net_patterns.specs.Steps.{reads}
 use Rattle.net_patterns.proofs.runs.read_runs.Given as goal
 

@@ -1,8 +1,8 @@
-use Rattle.std.proofs.Common.{refl, sym, ap, ◌∙◌, ◌++◌, ◌∷◌, [], map, arith}
+use Rattle.std.proofs.Common.{sym, ap, ◌∙◌, ◌++◌, ◌∷◌, [], map, arith}
 use Rattle.std.proofs.lemmas.List.{append_assoc}
 use Rattle.std.proofs.lemmas.List.FromFn.{map-range_with_len_more}
 use Rattle.link_net.specs.Neighbours.{numbers_below}
-use Rattle.net_random.specs.Changed.{ring_link}
+use Rattle.net_random.specs.RandomNetworks.{ring_link}
 use Rattle.net_random.proofs.lattice.put_following.Goals as goal
 
 pub loop-step-preserved : goal.loop-step-preserved

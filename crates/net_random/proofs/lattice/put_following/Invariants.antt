@@ -1,6 +1,6 @@
 use Rattle.std.proofs.Common.{◌≡◌, ◌++◌, map}
 use Rattle.link_net.specs.Neighbours.{numbers_below}
-use Rattle.net_random.specs.Changed.{ring_link}
+use Rattle.net_random.specs.RandomNetworks.{ring_link}
 use Rattle.net_random.proofs.lattice.put_following.Given as goal
 
 abbrev pub invariant-loop-step : goal.invariant-loop-step

@@ -1,5 +1,5 @@
-use Rattle.std.proofs.Common.{◌≡◌, ◌+◌, refl, sym, ap, ◌∙◌, ◌++◌, arith}
-use Rattle.net_random.specs.Changed.{following}
+use Rattle.std.proofs.Common.{sym, ap, ◌∙◌, ◌++◌}
+use Rattle.net_random.specs.RandomNetworks.{following}
 use Rattle.net_random.proofs.Ring.{ring_more}
 use Rattle.net_random.proofs.lattice.ring_links.Goals as goal
 

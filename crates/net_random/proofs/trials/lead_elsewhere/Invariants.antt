@@ -1,5 +1,6 @@
 use Rattle.std.proofs.Common.{◌≡◌}
-use Rattle.net_random.specs.Changed.{AreKnown, starts}
+use Rattle.net_random.specs.Changed.{AreKnown}
+use Rattle.net_random.specs.RandomNetworks.{starts}
 use Rattle.net_random.proofs.trials.lead_elsewhere.Given as goal
 
 abbrev pub invariant-loop : goal.invariant-loop
