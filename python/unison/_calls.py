@@ -125,7 +125,9 @@ def backend() -> Backend:
     if asked == "quick":
         return Programs()
     is_missing = not os.environ.get(_library.VARIABLE) and not _library.is_there()
-    return Programs() if is_missing and asked != "proved" and _programs.are_there() else Library()
+    if is_missing and asked != "proved" and _programs.are_there():
+        return Programs()
+    return Library()
 
 
 def room_for(count: int) -> "array[int]":

@@ -1,8 +1,8 @@
 //! Counted readers and writers, over devices that take or give few bytes, or fail.
 
-use call_fixtures::devices::{Source, writer};
+use call_fixtures::devices::{LateSource, Source, late_writer, writer};
 use lockstep::{DeviceFault, Tally, write_text};
-use std::io::{ErrorKind, Write};
+use std::io::{ErrorKind, Read, Write};
 use std::process::Abort;
 use std::test::Fail;
 
@@ -46,10 +46,45 @@ fn writes_with_marks(rt: HostRuntime) {
     assert_eq!(rt; out.inner().held.as_slice(), b"abcdef".as_slice());
 }
 
+/// A device that fails its first call alone: the error is answered, and the device is not called again.
+#[test]
+fn an_error_of_a_writer_is_answered(rt: HostRuntime) {
+    for kind in [
+        ErrorKind::Interrupted,
+        ErrorKind::WouldBlock,
+        ErrorKind::BrokenPipe,
+    ] {
+        let mut out = Tally::new(late_writer(rt.alloc(), kind));
+        assert_writes(&rt, &mut out, &[(b"abc", Err(DeviceFault), 1, true)]);
+        assert_eq!(rt; out.inner().held.as_slice(), b"".as_slice());
+        assert_writes(&rt, &mut out, &[(b"abc", Ok(3), 2, true)]);
+        assert_eq!(rt; out.inner().held.as_slice(), b"abc".as_slice());
+    }
+}
+
+#[test]
+fn an_error_of_a_reader_is_answered(rt: HostRuntime) {
+    for kind in [
+        ErrorKind::Interrupted,
+        ErrorKind::WouldBlock,
+        ErrorKind::BrokenPipe,
+    ] {
+        let mut input = Tally::new(LateSource {
+            rest: b"abc",
+            refusal: Some(kind),
+        });
+        let mut buffer = [0; 2];
+        assert_read(&rt, &mut input, &mut buffer, Err(DeviceFault), b"\0\0");
+        assert_calls(&rt, &input, 1, true);
+        assert_read(&rt, &mut input, &mut buffer, Ok(2), b"ab");
+        assert_calls(&rt, &input, 2, true);
+    }
+}
+
 /// Asserts what one call answers, and what it left in the buffer.
-fn assert_read(
+fn assert_read<R: Read>(
     rt: &impl Abort,
-    input: &mut Tally<Source>,
+    input: &mut Tally<R>,
     buffer: &mut [u8],
     want: Result<usize, DeviceFault>,
     bytes: &[u8],
@@ -59,7 +94,7 @@ fn assert_read(
 }
 
 /// Asserts how many calls were made, and the mark.
-fn assert_calls(rt: &impl Abort, input: &Tally<Source>, calls: u64, failed: bool) {
+fn assert_calls<R: Read>(rt: &impl Abort, input: &Tally<R>, calls: u64, failed: bool) {
     assert_eq!(rt; (input.calls(), input.failed()), (calls, failed));
 }
 

@@ -1,3 +1,4 @@
 pub mod Bounded
+pub mod Cuttable
 pub mod Operations
 pub mod Places

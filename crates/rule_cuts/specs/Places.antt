@@ -1,11 +1,11 @@
 -- Where the products and totals of a program stand in its text.
-use Rattle.std.specs.Prelude.{ℕ, ◌≡◌, List, [], ◌∷◌, codes, map, flat_map, if◌then◌else◌, Bool, true, false}
+use Rattle.std.specs.Prelude.{ℕ, ◌≡◌, List, [], ◌∷◌, codes, map, zip, flat_map, if◌then◌else◌, Bool, true, false}
 use Rattle.std.specs.List.{filter}
 use Rattle.std.specs.Str.{bytes_eq}
 use Rattle.rule_lang.specs.declared.token.Sign.{Sign}
 use Rattle.rule_lang.specs.declared.token.Sign.TheVariants.{Assign, Semicolon, Open, Close, Plus, Minus, Star, Slash, Percent, Ampersand, Bar, Caret, Equal, Differ, Less, LessEq, Greater, GreaterEq}
 use Rattle.rule_lang.specs.declared.token.Lexeme.{Lexeme}
-use Rattle.rule_lang.specs.Tokens.{Tok, WordTok, NearTok, NumberTok, SignTok}
+use Rattle.rule_lang.specs.Tokens.{Tok, WordTok, NearTok, NumberTok, SignTok, HasTokens, places}
 use Rattle.rule_lang.specs.Tree.{ItemTree, HasTree}
 use Rattle.rule_lang.specs.View.{tok_of}
 use Rattle.rule_cuts.specs.Operations.{OperationTree, ProductTree, TotalTree, operations_of}
@@ -59,3 +59,13 @@ is_some (k ∷ ks) = true
 -- the places of those among the tokens, in bytes from 0
 abbrev pub places_in : List Lexeme → List ℕ
 places_in lexemes = map (λ l. l.at) (filter (λ l. is_some (token_kinds (tok_of l.token))) lexemes)
+
+-- of tokens with their places, the places of the operations
+abbrev pub operation_places : List (Tok × ℕ) → List ℕ
+operation_places placed = map (λ p. p.1) (filter (λ p. is_some (token_kinds p.0)) placed)
+
+-- these are the places of the operations among the tokens of the text, each where its token stands
+pub record AreOperationPlaces (text at : List ℕ) : Type 0 where
+  pub tokens : List Tok
+  pub words : HasTokens text tokens
+  pub is : at ≡ operation_places (zip tokens (places text tokens words))

@@ -1,8 +1,9 @@
 //! Where the products and totals stand in a program's text.
 
-ghost use Rattle.std.specs.Prelude.{◌≡◌, IfOk};
+ghost use Rattle.std.specs.Prelude.{◌≡◌, ◌≤◌, [], List, length, IfOk};
+ghost use Rattle.rule_lang.specs.Tokens.{Tok, HasTokens};
 ghost use Rattle.rule_lang.specs.View.{tok_of};
-ghost use Rattle.rule_cuts.specs.Places.{StandInOrder, is_some, places_in as places_in_lem, token_kinds};
+ghost use Rattle.rule_cuts.specs.Places.{AreOperationPlaces, StandInOrder, is_some, places_in as places_in_lem, token_kinds};
 
 use rule_lang::{Lexeme, Sign, Token, read_tokens};
 use std::alloc::{AllocError, Global};
@@ -33,7 +34,10 @@ fn places_in(alloc: Global, lexemes: &[Lexeme<'_>]) -> Result<Vec<usize>, AllocE
 
 /// The places of each `*` and `total` of a program's text, in bytes from 0: in the order of `operations_in`
 /// (`operations_stand_in_order`). Of a text that has no tokens there are none.
-pub fn operation_places(alloc: Global, text: &[u8]) -> Result<Vec<usize>, AllocError> {
+pub fn operation_places(alloc: Global, text: &[u8]) -> Result<Vec<usize>, AllocError>
+    ensures listed { IfOk result (λ v. (tokens : List Tok) → length text.now ≤ 65536 → HasTokens text.now tokens → AreOperationPlaces text.now v.items) }
+    ensures none { IfOk result (λ v. ((tokens : List Tok) → length text.now ≤ 65536 → HasTokens text.now tokens → ⊥) → v.items ≡ []) }
+{
     let found = read_tokens(alloc, text)?;
     match found {
         Some(lexemes) => places_in(alloc, &lexemes),
