@@ -479,21 +479,6 @@ fn cause_refusal(
     })
 }
 
-/// A refusal of the whole text.
-fn whole_refusal(
-    alloc: Global,
-    kind: &'static str,
-    what: &str,
-    hint: &str,
-) -> Result<ModelRefusal, AllocError> {
-    Ok(ModelRefusal {
-        kind,
-        at: None,
-        what: String::from_str(alloc, what)?,
-        hint: String::from_str(alloc, hint)?,
-    })
-}
-
 /// The refusal of a constant that is given a value, and that the model does not have.
 fn given_refusal(
     alloc: Global,
@@ -528,18 +513,6 @@ pub fn refusal_of(
         ModelProgramFault::Text(fault) => text_refusal(alloc, text, fault),
         ModelProgramFault::Expansion { cause, at } => cause_refusal(alloc, text, cause, at),
         ModelProgramFault::UnknownGiven { place } => given_refusal(alloc, text, constants, place),
-        ModelProgramFault::Length => whole_refusal(
-            alloc,
-            "TooLong",
-            "with all lets put in, the program has more than 65536 bytes",
-            "each use of a let is its expression once more: keep it in a field, a round earlier",
-        ),
-        ModelProgramFault::Spelling => whole_refusal(
-            alloc,
-            "Spelling",
-            "the program that was written is not the one that was made: this is a mistake of unison",
-            "tell those who make it",
-        ),
         ModelProgramFault::Memory => Err(AllocError),
     }
 }

@@ -4,7 +4,7 @@ use Rattle.model_text.specs.declared.fault.ModelFault.TheVariants as text
 use Rattle.model_rules.specs.declared.fault.ExpandFault.{ExpandFault}
 use Rattle.model_rules.specs.declared.fault.ExpandFault.TheVariants as expand
 use Rattle.model_program.specs.declared.fault.ModelProgramFault.{ModelProgramFault}
-use Rattle.model_program.specs.declared.fault.ModelProgramFault.TheVariants.{Text, Expansion, UnknownGiven, Length, Spelling, Memory}
+use Rattle.model_program.specs.declared.fault.ModelProgramFault.TheVariants.{Text, Expansion, UnknownGiven, Memory}
 
 -- why a text is no model, as why it has no program
 abbrev pub text_fault : ModelFault → ModelProgramFault
@@ -18,12 +18,3 @@ abbrev pub expansion_fault : ExpandFault → ModelProgramFault
 expansion_fault (expand.At cause at) = Expansion cause at
 expansion_fault (expand.UnknownGiven place) = UnknownGiven place
 expansion_fault expand.Memory = Memory
-
--- a fault that comes behind the expansion
-abbrev pub IsOfProgram : ModelProgramFault → Type 0
-IsOfProgram (Text fault) = ⊥
-IsOfProgram (Expansion cause at) = ⊥
-IsOfProgram (UnknownGiven place) = ⊥
-IsOfProgram Length = Unit {0}
-IsOfProgram Spelling = Unit {0}
-IsOfProgram Memory = Unit {0}

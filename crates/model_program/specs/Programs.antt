@@ -14,8 +14,11 @@ use Rattle.model_rules.specs.Bounds.{IsAccepted}
 use Rattle.model_rules.specs.Models.{GivenTree, draws_of, fields_of, in_states, initials_of, model_next, setting, worths_by}
 use Rattle.model_rules.specs.ModelFaults.{model_fault}
 use Rattle.model_rules.specs.Naming.{naming_fault}
+use Rattle.model_rules.specs.Programs.{program_made}
 use Rattle.model_program.specs.declared.fault.ModelProgramFault.{ModelProgramFault}
-use Rattle.model_program.specs.declared.fault.ModelProgramFault.TheVariants.{Text, Expansion, UnknownGiven, Length, Spelling, Memory}
+use Rattle.model_program.specs.declared.fault.ModelProgramFault.TheVariants.{Text, Expansion, UnknownGiven, Memory}
+use Rattle.model_program.specs.Lines.{lines_of}
+use Rattle.model_program.specs.Written.{text_made}
 
 -- the initial values of a program's fields, in order
 abbrev pub openings_of : List RuleTree → List ℕ
@@ -41,24 +44,24 @@ pub record HasFault (text : List ℕ) (given : List GivenTree) (first : Option E
   pub model : HasModel text items
   pub fault : model_fault items given ≡ first
 
--- The text is that of a model without a fault, and the bytes are the text of a program that is the model's and that can be read: it
--- is not too long.
+-- The text is that of a model without a fault, and the bytes are the text of the program that it is expanded to: with the lines of the
+-- model in comments where it then has 65,536 bytes at most. They have that program, which is the model's, and can be read: they are not
+-- too many.
 pub record IsExpanded (text : List ℕ) (given : List GivenTree) (bytes : List ℕ) : Type 0 where
   pub items : List ItemTree
   pub rules : List RuleTree
   pub model : HasModel text items
   pub faultless : model_fault items given ≡ None
+  pub made : rules ≡ program_made items given
+  pub written : bytes ≡ text_made (lines_of text items) rules
   pub program : HasProgram bytes rules
   pub same : IsProgramOf items given rules
   pub fits : length bytes ≤ 65536
 
 -- Why a text has no program, where the caller sets these constants: it is no model, for this reason; or it is one, and this is its
--- first fault; or it is one without a fault, and what is written of it is too long, or does not read back. Running out of memory can
--- come in place of each but a text that is too long.
+-- first fault. Running out of memory can come in place of each but a text that is too long.
 abbrev pub IsRefusedAs : List ℕ → List GivenTree → ModelProgramFault → Type 0
 IsRefusedAs text given (Text fault) = IsNoModelAs text fault
 IsRefusedAs text given (Expansion cause at) = HasFault text given (Some (expand.At cause at))
 IsRefusedAs text given (UnknownGiven place) = HasFault text given (Some (expand.UnknownGiven place))
-IsRefusedAs text given Length = HasFault text given None
-IsRefusedAs text given Spelling = HasFault text given None
 IsRefusedAs text given Memory = length text ≤ 65536

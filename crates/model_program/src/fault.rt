@@ -14,15 +14,11 @@ use std::alloc::AllocError;
 pub enum ModelProgramFault {
     /// The text is no model; the fault is never `Memory`.
     Text(ModelFault),
-    /// The model is not expanded: what is wrong, and where.
+    /// The model is not expanded: what is wrong, and where. That its program would have more than 65,536 bytes is the cause
+    /// `TooLong`, at the item with which it has.
     Expansion { cause: Cause, at: u32 },
     /// A constant that the caller sets and the model does not have: its place among those that are set, counted from 0.
     UnknownGiven { place: usize },
-    /// The program would be longer than a program text may be, 65,536 bytes.
-    Length,
-    /// What was written does not read back as the program that was made: a mistake of this crate, told in place of a
-    /// wrong program.
-    Spelling,
     /// Out of memory.
     Memory,
 }

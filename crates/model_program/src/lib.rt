@@ -4,8 +4,6 @@
 mod fault;
 mod places;
 mod program;
-mod read_back;
-mod same;
 mod spelling;
 
 pub use fault::ModelProgramFault;

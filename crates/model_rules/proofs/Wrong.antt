@@ -11,7 +11,8 @@ use Rattle.model_rules.specs.Models.{GivenTree, draws_of, fields_of}
 use Rattle.model_rules.specs.Naming.{naming_fault}
 use Rattle.model_rules.specs.ScopeView.{frame_of, knowns_of, later_of}
 use Rattle.model_rules.specs.Definitions.{names_defined, frame_in, settled, seed_first, defining_fault}
-use Rattle.model_rules.specs.Faults.{items_fault}
+use Rattle.model_rules.specs.Faults.{items_fault, rules_made}
+use Rattle.model_rules.specs.Programs.{program_made}
 use Rattle.model_rules.specs.FirstFaults.{IsFirst}
 use Rattle.model_rules.specs.ModelFaults.{model_fault}
 
@@ -24,6 +25,11 @@ rules_is : (items : List ItemTree) (values : List GivenTree) (scope : Scope) →
 rules_is items values scope d f l p n =
     ap (λ (g : Frame). items_fault items g (later_of scope) [] items) (frame_is items scope (settled items values (seed_first items values)) d f l p)
     ∙ ap (λ (ns : List (List ℕ)). items_fault items (frame_in items (settled items values (seed_first items values)) []) ns [] items) n
+
+-- the rules by what is known in the end
+pub made_is : (items : List ItemTree) (values : List GivenTree) (scope : Scope) → scope.draws.items ≡ draws_of items → map string_bytes scope.fields.items ≡ fields_of items → knowns_of scope.lets.items ≡ settled items values (seed_first items values) → map string_bytes scope.parameters.items ≡ []
+    → rules_made (frame_of scope) items ≡ program_made items values
+made_is items values scope d f l p = ap (λ (g : Frame). rules_made g items) (frame_is items scope (settled items values (seed_first items values)) d f l p)
 
 -- behind those of names
 behind : (a b c : Option ExpandFault) → a ≡ None → b ≡ None → option_or a (option_or b c) ≡ c

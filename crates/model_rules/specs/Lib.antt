@@ -20,3 +20,4 @@ pub mod Naming
 pub mod ModelFaults
 pub mod Parts
 pub mod Counts
+pub mod Programs

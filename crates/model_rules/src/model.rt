@@ -15,6 +15,7 @@ ghost use Rattle.model_rules.specs.Naming.{naming_fault};
 ghost use Rattle.model_rules.specs.Definitions.{defined_by, names_defined, settled, defining_fault, seed_first};
 ghost use Rattle.model_rules.specs.FirstFaults.{IsFirst};
 ghost use Rattle.model_rules.specs.ModelFaults.{model_fault};
+ghost use Rattle.model_rules.specs.Programs.{program_made};
 ghost use Rattle.model_rules.specs.ScopeView.{IsScopeOf, givens_of, knowns_of, later_of};
 
 use crate::define::{define_all, seed_lets};
@@ -130,7 +131,8 @@ fn known_scope(items: &[Item], given: &[Given], alloc: Global) -> Result<Scope, 
 /// one name the first counts.
 ///
 /// From some depth on at which names are looked up, the next state of each node is the model's, whatever the round, the
-/// number, the state and the neighbours are, and so are the initial values. The program is accepted: `read_program` and
+/// number, the state and the neighbours are, and so are the initial values. It has a rule for each field and each next
+/// value, in their order, as docs/models.md tells it. The program is accepted: `read_program` and
 /// `check` give it, running out of memory aside. `Cause` says when each error comes.
 pub fn expand_model(
     items: &[Item],
@@ -145,6 +147,7 @@ pub fn expand_model(
         ≡ initials_of (items_of items.now) (draws_of (items_of items.now)) (worths_by (items_of items.now) (setting (items_of items.now) (givens_of given.now)) n) here)) }
     ensures states { IfOk result (λ rules. in_states (items_of items.now) (items_of items.now) (map (λ f. f.opening) (program_of (rules_of rules.items)).fields) ≡ true) }
     ensures fields { IfOk result (λ rules. names_of (program_of (rules_of rules.items)) ≡ fields_of (items_of items.now)) }
+    ensures form { IfOk result (λ rules. rules_of rules.items ≡ program_made (items_of items.now) (givens_of given.now)) }
     ensures fits { IfOk result (λ rules. IsAccepted (rules_of rules.items)) }
     ensures named { IfOk result (λ rules. naming_fault (items_of items.now) (givens_of given.now) ≡ None) }
     ensures misnamed { (fault : ExpandFault) → naming_fault (items_of items.now) (givens_of given.now) ≡ Some fault → IfErr result (λ e. e ≢ Memory → e ≡ fault) }

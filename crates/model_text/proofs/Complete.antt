@@ -7,8 +7,9 @@ use Rattle.model_text.specs.declared.tree.Function.{Function}
 use Rattle.model_text.specs.declared.token.Sign.TheVariants as sign
 use Rattle.model_text.specs.Tokens.{SignTok, Placed, placed}
 use Rattle.model_text.specs.Tree.{Tree, NumberTree, NothingTree, NameTree, IdTree, DegreeTree, RoundTree, NearTree, NearIdTree, NearWeightTree, InfixTree, NotTree, ParensTree, IfTree, CasesTree, CallTree, ApplyTree, ChanceTree, ChanceOfTree, ArmTree, OneArm, ElseArm, ArgumentTree, NoArgument, OneArgument}
-use Rattle.model_text.specs.Grammar.{operator_token, operator_level, level, is_open, is_chain, row, depth, arms_depth, arguments_depth, Precedes, IsLevelled, AreLevelledArms, AreLevelled, Spells, SpellsArms, SpellsArguments, SpellsMore, SpellsChance}
+use Rattle.model_text.specs.Grammar.{operator_token, operator_level, level, is_open, is_chain, Precedes, IsLevelled, AreLevelledArms, AreLevelled, Spells, SpellsArms, SpellsArguments, SpellsMore, SpellsChance}
 use Rattle.model_text.specs.Reading.{Reads, open_at, close_at, then_at, else_at, colon_at, semicolon_at, operator_at, parens_at, if_at, not_at, cases_at, named_at, chance_at, keyword_at, form_at, ended_at, joined_at, more_at, value_at, else_arm_at, one_arm_at, arm_at, argument_at, first_at, next_at, expr_at, arms_at, arguments_at, others_at}
+use Rattle.model_text.proofs.Nesting.{row, nesting, arms_nesting, arguments_nesting}
 use Rattle.model_text.proofs.SingleTokens.{close_reads, open_reads, then_reads, else_reads, brace_open_reads, brace_close_reads, colon_reads, semicolon_reads, decimal_reads, operator_reads, operator_no_open, below_not, Closed, close_closes, comma_closes, semicolon_closes, colon_closes, then_closes, else_closes}
 
 -- what may stand behind an expression: an operator that it precedes, or no operator; and no opening bracket
@@ -21,11 +22,11 @@ behind_closed t rest c = record { operator = λ x q. absurd (let n = c.no_operat
 
 -- the expression is read from a level on, up to the operators behind it
 abbrev pub Begins : Tree → Type 0
-Begins t = (d l j : ℕ) (ts rest : List Placed) → l ≤ level t → depth t ≤ suc d → row t + j ≡ suc d → IsLevelled t → Spells t ts rest → Behind t rest → expr_at (suc d) l ts ≡ more_at (expr_at d) j l t rest
+Begins t = (d l j : ℕ) (ts rest : List Placed) → l ≤ level t → nesting t ≤ suc d → row t + j ≡ d → IsLevelled t → Spells t ts rest → Behind t rest → expr_at (suc d) l ts ≡ more_at (expr_at d) j l t rest
 
 -- the expression is read, where no operator of its level or a greater one stands behind it
 abbrev pub Reads_whole : Tree → Type 0
-Reads_whole t = (d l : ℕ) (ts rest : List Placed) → l ≤ level t → depth t ≤ d → IsLevelled t → Spells t ts rest → Behind t rest → ((x : Operator × ℕ × List Placed) → operator_at rest ≡ Some x → operator_level x.0 < l) → expr_at d l ts ≡ Some (t, rest)
+Reads_whole t = (d l : ℕ) (ts rest : List Placed) → l ≤ level t → nesting t ≤ d → IsLevelled t → Spells t ts rest → Behind t rest → ((x : Operator × ℕ × List Placed) → operator_at rest ≡ Some x → operator_level x.0 < l) → expr_at d l ts ≡ Some (t, rest)
 
 lt_true : (m n : ℕ) → m < n → nat_lt m n ≡ true
 lt_true m n h = grind (arith, nat_tests)
@@ -33,45 +34,45 @@ lt_true m n h = grind (arith, nat_tests)
 lt_false : (m n : ℕ) → n ≤ m → nat_lt m n ≡ false
 lt_false m n h = grind (arith, nat_tests)
 
-row_depth : (t : Tree) → row t ≤ depth t
-row_depth (InfixTree o at a b) = omega arith
-row_depth (NumberTree n at) = omega arith
-row_depth (NothingTree at) = omega arith
-row_depth (NameTree w at) = omega arith
-row_depth (IdTree at) = omega arith
-row_depth (DegreeTree at) = omega arith
-row_depth (RoundTree at) = omega arith
-row_depth (NearTree w at) = omega arith
-row_depth (NearIdTree at) = omega arith
-row_depth (NearWeightTree at) = omega arith
-row_depth (NotTree at a) = omega arith
-row_depth (ParensTree at a) = omega arith
-row_depth (IfTree at a b c) = omega arith
-row_depth (CasesTree at a) = omega arith
-row_depth (CallTree f at a) = omega arith
-row_depth (ApplyTree w at a) = omega arith
-row_depth (ChanceTree at d) = omega arith
-row_depth (ChanceOfTree at d) = omega arith
+row_nesting : (t : Tree) → row t + 1 ≤ nesting t
+row_nesting (InfixTree o at a b) = omega arith
+row_nesting (NumberTree n at) = omega arith
+row_nesting (NothingTree at) = omega arith
+row_nesting (NameTree w at) = omega arith
+row_nesting (IdTree at) = omega arith
+row_nesting (DegreeTree at) = omega arith
+row_nesting (RoundTree at) = omega arith
+row_nesting (NearTree w at) = omega arith
+row_nesting (NearIdTree at) = omega arith
+row_nesting (NearWeightTree at) = omega arith
+row_nesting (NotTree at a) = omega arith
+row_nesting (ParensTree at a) = omega arith
+row_nesting (IfTree at a b c) = omega arith
+row_nesting (CasesTree at a) = omega arith
+row_nesting (CallTree f at a) = omega arith
+row_nesting (ApplyTree w at a) = omega arith
+row_nesting (ChanceTree at d) = omega arith
+row_nesting (ChanceOfTree at d) = omega arith
 
-some_depth : (t : Tree) → 1 ≤ depth t
-some_depth (InfixTree o at a b) = omega arith
-some_depth (NumberTree n at) = omega arith
-some_depth (NothingTree at) = omega arith
-some_depth (NameTree w at) = omega arith
-some_depth (IdTree at) = omega arith
-some_depth (DegreeTree at) = omega arith
-some_depth (RoundTree at) = omega arith
-some_depth (NearTree w at) = omega arith
-some_depth (NearIdTree at) = omega arith
-some_depth (NearWeightTree at) = omega arith
-some_depth (NotTree at a) = omega arith
-some_depth (ParensTree at a) = omega arith
-some_depth (IfTree at a b c) = omega arith
-some_depth (CasesTree at a) = omega arith
-some_depth (CallTree f at a) = omega arith
-some_depth (ApplyTree w at a) = omega arith
-some_depth (ChanceTree at d) = omega arith
-some_depth (ChanceOfTree at d) = omega arith
+some_nesting : (t : Tree) → 1 ≤ nesting t
+some_nesting (InfixTree o at a b) = omega arith
+some_nesting (NumberTree n at) = omega arith
+some_nesting (NothingTree at) = omega arith
+some_nesting (NameTree w at) = omega arith
+some_nesting (IdTree at) = omega arith
+some_nesting (DegreeTree at) = omega arith
+some_nesting (RoundTree at) = omega arith
+some_nesting (NearTree w at) = omega arith
+some_nesting (NearIdTree at) = omega arith
+some_nesting (NearWeightTree at) = omega arith
+some_nesting (NotTree at a) = omega arith
+some_nesting (ParensTree at a) = omega arith
+some_nesting (IfTree at a b c) = omega arith
+some_nesting (CasesTree at a) = omega arith
+some_nesting (CallTree f at a) = omega arith
+some_nesting (ApplyTree w at a) = omega arith
+some_nesting (ChanceTree at d) = omega arith
+some_nesting (ChanceOfTree at d) = omega arith
 
 -- no operator of this level or a greater one: nothing more is read
 ended_stops : (l : ℕ) (left : Tree) (ts : List Placed) (o : Option (Operator × ℕ × List Placed)) → operator_at ts ≡ o → ((x : Operator × ℕ × List Placed) → operator_at ts ≡ Some x → operator_level x.0 < l) → ended_at l left o ts ≡ Some (left, ts)
@@ -93,13 +94,13 @@ unfolding more_at
 more_joins expr j l left right o at b rest h c e = rw (operator_reads o at b) (rw (lt_false (operator_level o) l h) (rw c (rw e refl)))
 
 pub whole : (t : Tree) → Begins t → Reads_whole t
-whole t g zero l ts rest h k v s b n = absurd (let m = some_depth t in omega arith)
+whole t g zero l ts rest h k v s b n = absurd (let m = some_nesting t in omega arith)
 whole t g (suc d) l ts rest h k v s b n =
-    let r = row_depth t in
-    g d l (suc d - row t) ts rest h k (omega arith) v s b ∙ more_stops (expr_at d) (suc d - row t) l t rest n
+    let r = row_nesting t in
+    g d l (d - row t) ts rest h k (omega arith) v s b ∙ more_stops (expr_at d) (d - row t) l t rest n
 
 -- the expression is read with no level wanted, where no operator stands behind it
-pub part : (t : Tree) → Begins t → (d : ℕ) (ts rest : List Placed) → depth t ≤ d → IsLevelled t → Spells t ts rest → Closed rest → expr_at d 0 ts ≡ Some (t, rest)
+pub part : (t : Tree) → Begins t → (d : ℕ) (ts rest : List Placed) → nesting t ≤ d → IsLevelled t → Spells t ts rest → Closed rest → expr_at d 0 ts ≡ Some (t, rest)
 part t g d ts rest k v s c = whole t g d 0 ts rest (omega arith) k v s (behind_closed t rest c) (λ x q. absurd (let n = c.no_operator in let e : None ≡ Some x = sym n ∙ q in cc))
 
 -- an infix
@@ -127,10 +128,10 @@ infix_begins o at left right gl gr d l j ts rest h k r v s b =
     (whole right gr d (suc (operator_level o)) s.0 rest (let m = v.3 in omega arith) (omega arith) v.1 s.2 (right_behind o at left right rest v.3 b) (λ x q. let m = (b.operator x q).0 in omega arith))
 
 -- the others: what form_at reads
-form_begins : (t : Tree) → row t ≡ 0 → ((d l : ℕ) (ts rest : List Placed) → l ≤ level t → depth t ≤ suc d → IsLevelled t → Spells t ts rest → Behind t rest → form_at (expr_at d) (arms_at d) (arguments_at d) l ts ≡ Some (t, rest)) → Begins t
+form_begins : (t : Tree) → row t ≡ 0 → ((d l : ℕ) (ts rest : List Placed) → l ≤ level t → nesting t ≤ suc d → IsLevelled t → Spells t ts rest → Behind t rest → form_at (expr_at d) (arms_at d) (arguments_at d) l ts ≡ Some (t, rest)) → Begins t
 unfolding expr_at
 form_begins t z f d l j ts rest h k r v s b =
-    let m : j ≡ suc d = omega arith in
+    let m : j ≡ d = omega arith in
     rw (m, f d l ts rest h k v s b) refl
 
 -- leaves
@@ -237,13 +238,13 @@ chance_of_begins at d = form_begins (ChanceOfTree at d) refl (λ e l ts rest h k
 
 -- `cases`, calls
 abbrev pub ArmsRead : ArmTree → Type 0
-ArmsRead arms = (d : ℕ) (ts rest : List Placed) → arms_depth arms ≤ d → AreLevelledArms arms → SpellsArms arms ts rest → arms_at d ts ≡ Some (arms, rest)
+ArmsRead arms = (d : ℕ) (ts rest : List Placed) → arms_nesting arms ≤ d → AreLevelledArms arms → SpellsArms arms ts rest → arms_at d ts ≡ Some (arms, rest)
 
 abbrev pub ArgumentsRead : ArgumentTree → Type 0
-ArgumentsRead a = (d : ℕ) (ts rest : List Placed) → arguments_depth a ≤ d → AreLevelled a → SpellsArguments a ts rest → arguments_at d ts ≡ Some (a, rest)
+ArgumentsRead a = (d : ℕ) (ts rest : List Placed) → arguments_nesting a ≤ d → AreLevelled a → SpellsArguments a ts rest → arguments_at d ts ≡ Some (a, rest)
 
 abbrev pub OthersRead : ArgumentTree → Type 0
-OthersRead a = (d : ℕ) (ts rest : List Placed) → arguments_depth a ≤ d → AreLevelled a → SpellsMore a ts rest → others_at d ts ≡ Some (a, rest)
+OthersRead a = (d : ℕ) (ts rest : List Placed) → arguments_nesting a ≤ d → AreLevelled a → SpellsMore a ts rest → others_at d ts ≡ Some (a, rest)
 
 cases_begins : (at : ℕ) (arms : ArmTree) → ArmsRead arms → Begins (CasesTree at arms)
 unfolding form_at keyword_at cases_at

@@ -1,5 +1,7 @@
 -- Items: what is read is spelled so, and what is spelled so is read.
-use Rattle.std.proofs.Common.{◌≡◌, ℕ, ◌+◌, drop, ◌≤◌, ◌<◌, List, [], ◌∷◌, ◌++◌, Option, Some, None, refl, sym, ap, subst, ◌∙◌, arith, length, append_assoc, append-nil}
+use Rattle.std.proofs.Common.{◌≡◌, ℕ, ◌+◌, drop, ◌≤◌, ◌<◌, List, [], ◌∷◌, ◌++◌, Bool, true, false, cond, Option, Some, None, refl, sym, ap, subst, ◌∙◌, arith, length, append_assoc, append-nil}
+use Rattle.std.specs.Prelude.{nat_le}
+use Rattle.std.proofs.lemmas.Bool.Decides.{nat_tests}
 use Rattle.model_text.specs.declared.keyword.Keyword.TheVariants as word
 use Rattle.model_text.specs.declared.token.Sign.{Sign}
 use Rattle.model_text.specs.declared.token.Sign.TheVariants as sign
@@ -7,11 +9,12 @@ use Rattle.model_text.specs.declared.expect.Ending.{Ending}
 use Rattle.model_text.specs.declared.expect.Ending.TheVariants as ending
 use Rattle.model_text.specs.Tokens.{KeywordTok, NameTok, SignTok, Placed, placed}
 use Rattle.model_text.specs.Tree.{Tree, NameAt, ItemTree, ConstTree, StatesTree, FieldTree, LetTree, NextTree}
-use Rattle.model_text.specs.Grammar.{Comes, SpellsName, SpellsNames, SpellsList, SpellsBody, SpellsStates, SpellsParameters, SpellsItem}
-use Rattle.model_text.specs.Reading.{◌>>=◌, name_at, assign_at, semicolon_at, comma_at, brace_open_at, close_at, brace_close_at, ending_at, another_by, another_at, names_at, list_at, expr_at, body_at, states_at, parameters_at, const_item_at, states_item_at, field_item_at, let_item_at, next_item_at, item_at}
+use Rattle.model_text.specs.Grammar.{Comes, SpellsName, SpellsNames, SpellsList, SpellsBody, SpellsStates, SpellsParameters, SpellsItem, depth}
+use Rattle.model_text.specs.Reading.{◌>>=◌, name_at, assign_at, semicolon_at, comma_at, brace_open_at, close_at, brace_close_at, ending_at, another_by, another_at, names_at, list_at, expr_at, shallow_at, body_at, states_at, parameters_at, const_item_at, states_item_at, field_item_at, let_item_at, next_item_at, item_at}
 use Rattle.model_text.proofs.SingleTokens.{name_is, name_reads, assign_is, assign_reads, semicolon_is, semicolon_reads, comma_is, comma_reads, brace_open_is, brace_open_reads, close_is, close_reads, brace_close_is, brace_close_reads, semicolon_closes}
 use Rattle.model_text.proofs.Sound.{some_of, all_sound}
 use Rattle.model_text.proofs.Complete.{expr_begins, part}
+use Rattle.model_text.proofs.Nesting.{nesting_shallow}
 
 -- the sign of the bracket that ends a list
 abbrev pub end_sign : Ending → Sign
@@ -159,23 +162,46 @@ list_complete : (e : Ending) (n : NameAt) (more : List NameAt) (ts a rest : List
 unfolding list_at
 list_complete e n more ts a rest s t = rw (name_reads ts a n s) (names_complete more e (n ∷ []) a rest t)
 
+-- an expression that is 100 deep at most
+within_case : (o : Bool) (n : ℕ) (a x : Tree × List Placed) → nat_le n 100 ≡ o → cond o (Some a) None ≡ Some x → (n ≤ 100) × (a ≡ x)
+within_case true n a x q e = ((grind (arith, nat_tests)), (cc))
+within_case false n a x q e = absurd (cc)
+
+shallow_is : (ts : List Placed) (x : Tree × List Placed) → shallow_at ts ≡ Some x → (depth x.0 ≤ 100) × (expr_at 100 0 ts ≡ Some x)
+unfolding shallow_at
+shallow_is ts x e =
+    let a = some_of (expr_at 100 0 ts) _ x e in
+    let p = within_case (nat_le (depth a.0.0) 100) (depth a.0.0) a.0 x refl a.2 in
+    subst (λ z. (depth z.0 ≤ 100) × (expr_at 100 0 ts ≡ Some z)) p.1 (p.0, a.1)
+
+le_true : (m n : ℕ) → m ≤ n → nat_le m n ≡ true
+le_true m n h = grind (arith, nat_tests)
+
+shallow_reads : (t : Tree) (ts rest : List Placed) → expr_at 100 0 ts ≡ Some (t, rest) → depth t ≤ 100 → shallow_at ts ≡ Some (t, rest)
+unfolding shallow_at
+shallow_reads t ts rest e k = rw (e, le_true (depth t) 100 k) refl
+
 -- `=`, an expression and `;`
 body_sound : (ts : List Placed) (x : Tree × List Placed) → body_at ts ≡ Some x → SpellsBody x.0 ts x.1
 unfolding body_at
 body_sound ts x h =
     let a = some_of (assign_at ts) _ x h in
-    let b = some_of (expr_at 100 0 a.0) _ x a.2 in
+    let b = some_of (shallow_at a.0) _ x a.2 in
     let c = some_of (semicolon_at b.0.1) _ x b.2 in
-    let p = (all_sound 100).expr 0 a.0 b.0 (omega arith) b.1 in
+    let s = shallow_is a.0 b.0 b.1 in
+    let p = (all_sound 100).expr 0 a.0 b.0 (omega arith) s.1 in
     let q : (b.0.0, c.0) ≡ x = (let z = c.2 in cc) in
-    subst (λ y. SpellsBody y.0 ts y.1) q (a.0, b.0.1, assign_is ts a.0 a.1, p.spelled, p.levelled, p.deep, semicolon_is b.0.1 c.0 c.1)
+    subst (λ y. SpellsBody y.0 ts y.1) q (a.0, b.0.1, assign_is ts a.0 a.1, p.spelled, p.levelled, s.0, semicolon_is b.0.1 c.0 c.1)
 
-body_chain : (t : Tree) (ts a b rest : List Placed) → assign_at ts ≡ Some a → expr_at 100 0 a ≡ Some (t, b) → semicolon_at b ≡ Some rest → body_at ts ≡ Some (t, rest)
+body_chain : (t : Tree) (ts a b rest : List Placed) → assign_at ts ≡ Some a → shallow_at a ≡ Some (t, b) → semicolon_at b ≡ Some rest → body_at ts ≡ Some (t, rest)
 unfolding body_at
 body_chain t ts a b rest e f g = rw (e, f, g) refl
 
 body_complete : (t : Tree) (ts rest : List Placed) → SpellsBody t ts rest → body_at ts ≡ Some (t, rest)
-body_complete t ts rest s = body_chain t ts s.0 s.1 rest (assign_reads ts s.0 s.2) (part t (expr_begins t) 100 s.0 s.1 s.5 s.4 s.3 (semicolon_closes s.1 rest s.6)) (semicolon_reads s.1 rest s.6)
+body_complete t ts rest s =
+    let n = nesting_shallow t in
+    let r = part t (expr_begins t) 100 s.0 s.1 (omega arith) s.4 s.3 (semicolon_closes s.1 rest s.6) in
+    body_chain t ts s.0 s.1 rest (assign_reads ts s.0 s.2) (shallow_reads t s.0 s.1 r s.5) (semicolon_reads s.1 rest s.6)
 
 -- `: states`, and the parameters of a let
 states_sound : (ts : List Placed) (x : Option NameAt × List Placed) → states_at ts ≡ Some x → SpellsStates x.0 ts x.1

@@ -70,17 +70,11 @@ is_chain left operator = nat_eq (level left) 4 && nat_eq (operator_level operato
 abbrev pub Precedes : Tree → Operator → Type 0
 Precedes left operator = (operator_level operator ≤ level left) × (is_chain left operator ≡ false) × (is_open left ≡ false)
 
--- how many operators stand in the row that the expression's left parts make
-abbrev pub row : Tree → ℕ
-row (InfixTree operator at left right) = row left + 1
-row _ = 0
-
--- How deep an expression is nested: one more than its deepest part; but the left part of an operator counts as the whole,
--- and a row of operators is as deep as it is long at least. Each arm of `cases`, and each argument, stands one deeper
--- than that before it.
+-- How deep an expression is nested: one more than its deepest part. Each arm of `cases`, and each argument, stands one
+-- deeper than that before it.
 abbrev mutual
   pub depth : Tree → ℕ
-  depth (InfixTree operator at left right) = max (row left + 1) (max (depth left) (depth right + 1))
+  depth (InfixTree operator at left right) = max (depth left) (depth right) + 1
   depth (NotTree at part) = depth part + 1
   depth (ParensTree at part) = depth part + 1
   depth (IfTree at test first second) = max (depth test) (max (depth first) (depth second)) + 1

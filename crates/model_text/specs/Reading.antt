@@ -1,6 +1,6 @@
 -- Internal: what the functions of the parser return, token by token: what they read at the front of a token list, and
 -- the tokens behind it. No public clause cites it; what a tree's tokens are stands in Grammar.
-use Rattle.std.specs.Prelude.{ℕ, zero, suc, List, [], ◌∷◌, ◌++◌, Option, Some, None, nat_lt, if◌then◌else◌}
+use Rattle.std.specs.Prelude.{ℕ, zero, suc, List, [], ◌∷◌, ◌++◌, Option, Some, None, nat_le, nat_lt, if◌then◌else◌}
 use Rattle.model_text.specs.declared.tree.Operator.{Operator}
 use Rattle.model_text.specs.declared.tree.Operator.TheVariants.{Or, And, Equal, Differ, Less, LessEq, Greater, GreaterEq, BitOr, BitXor, BitAnd, Plus, Minus, Times, Quot, Rem}
 use Rattle.model_text.specs.declared.tree.Decimal.{Decimal}
@@ -12,7 +12,7 @@ use Rattle.model_text.specs.declared.expect.Ending.{Ending}
 use Rattle.model_text.specs.declared.expect.Ending.TheVariants as ending
 use Rattle.model_text.specs.Tokens.{Tok, KeywordTok, NameTok, NearTok, NearIdTok, NearWeightTok, NumberTok, DecimalTok, SignTok, Placed, placed}
 use Rattle.model_text.specs.Tree.{Tree, NumberTree, NothingTree, NameTree, IdTree, DegreeTree, RoundTree, NearTree, NearIdTree, NearWeightTree, InfixTree, NotTree, ParensTree, IfTree, CasesTree, CallTree, ApplyTree, ChanceTree, ChanceOfTree, ArmTree, OneArm, ElseArm, ArgumentTree, NoArgument, OneArgument, NameAt, ItemTree, ConstTree, StatesTree, FieldTree, LetTree, NextTree}
-use Rattle.model_text.specs.Grammar.{operator_level, is_chain}
+use Rattle.model_text.specs.Grammar.{operator_level, is_chain, depth}
 
 -- the next step, where this one read something
 infixl 10 ◌>>=◌
@@ -241,7 +241,7 @@ next_at expr more _ = None
 unfoldable mutual
   pub expr_at : ℕ → ℕ → Reads Tree
   expr_at zero level ts = None
-  expr_at (suc d) level ts = form_at (expr_at d) (arms_at d) (arguments_at d) level ts >>= λ a. more_at (expr_at d) (suc d) level a.0 a.1
+  expr_at (suc d) level ts = form_at (expr_at d) (arms_at d) (arguments_at d) level ts >>= λ a. more_at (expr_at d) d level a.0 a.1
 
   pub arms_at : ℕ → Reads ArmTree
   arms_at zero ts = None
@@ -276,11 +276,15 @@ names_at e names ts = ending_at e ts >>= λ rest. Some (names, rest)
 unfoldable pub list_at : Ending → Reads (List NameAt)
 list_at e ts = name_at ts >>= λ n. names_at e (n.0 ∷ []) n.1
 
+-- an expression that is 100 deep at most
+unfoldable pub shallow_at : Reads Tree
+shallow_at ts = expr_at 100 0 ts >>= λ a. if nat_le (depth a.0) 100 then Some a else None
+
 -- `=`, an expression and `;`
 unfoldable pub body_at : Reads Tree
 body_at ts = do
   rest ← assign_at ts
-  body ← expr_at 100 0 rest
+  body ← shallow_at rest
   end ← semicolon_at body.1
   Some (body.0, end)
 

@@ -5,8 +5,9 @@ ghost use Rattle.std.specs.Option.{option_map};
 ghost use Rattle.model_text.specs.View.{tree_of, name_of, item_of, items_of, placed_all};
 ghost use Rattle.model_text.specs.Causes.{Gives};
 ghost use Rattle.model_text.specs.Models.{IsTreeOf};
-ghost use Rattle.model_text.specs.Reading.{another_at, names_at, list_at, body_at, states_at, parameters_at, const_item_at, states_item_at, field_item_at, let_item_at, next_item_at, item_at};
+ghost use Rattle.model_text.specs.Reading.{another_at, names_at, list_at, shallow_at, body_at, states_at, parameters_at, const_item_at, states_item_at, field_item_at, let_item_at, next_item_at, item_at};
 
+use crate::depth::is_within;
 use crate::expect::{Ending, assign, behind_comma, brace_open, list_end, name, semicolon};
 use crate::fault::Expected;
 use crate::keyword::Keyword;
@@ -65,13 +66,28 @@ fn list<'t, 'a>(
     names(alloc, end, found, rest)
 }
 
+/// An expression that is no deeper than one of an item may be, and the tokens behind it.
+#[tactic(auto, unfolding(crate::specs::Reading::shallow_at))]
+fn shallow<'t, 'a>(
+    alloc: Global,
+    tokens: &'t [Lexeme<'a>],
+) -> Result<(Expr, &'t [Lexeme<'a>]), Stuck>
+    ensures { Gives (λ x. (tree_of x.0, placed_all x.1.now)) result (shallow_at (placed_all tokens.now)) }
+{
+    let (body, rest) = expression(alloc, NESTING, 0, tokens)?;
+    if !is_within(&body, NESTING) {
+        return Err(Stuck::before(tokens, Expected::Shallower));
+    }
+    Ok((body, rest))
+}
+
 /// `=`, an expression and `;`.
 #[tactic(auto, unfolding(crate::specs::Reading::body_at))]
 fn body<'t, 'a>(alloc: Global, tokens: &'t [Lexeme<'a>]) -> Result<(Expr, &'t [Lexeme<'a>]), Stuck>
     ensures { Gives (λ x. (tree_of x.0, placed_all x.1.now)) result (body_at (placed_all tokens.now)) }
 {
     let rest = assign(tokens)?;
-    let (body, rest) = expression(alloc, NESTING, 0, rest)?;
+    let (body, rest) = shallow(alloc, rest)?;
     let rest = semicolon(rest)?;
     Ok((body, rest))
 }

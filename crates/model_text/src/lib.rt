@@ -1,6 +1,7 @@
 //! Models: the notation that people write, read to its tree.
 #![tactic(auto)]
 
+mod depth;
 mod expect;
 mod fault;
 mod hints;

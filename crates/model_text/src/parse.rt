@@ -52,7 +52,7 @@ pub fn expression<'t, 'a>(
         return Err(Stuck::before(tokens, Expected::Shallower));
     }
     let (left, rest) = form(alloc, depth - 1, level, tokens)?;
-    more(alloc, depth - 1, depth, level, left, rest)
+    more(alloc, depth - 1, depth - 1, level, left, rest)
 }
 
 /// A part: a whole expression in a box, and the tokens behind it.
@@ -70,7 +70,7 @@ fn part<'t, 'a>(
     Ok((Box::new(alloc, part)?, rest))
 }
 
-/// The operators of this level and above behind a left part, with their right parts.
+/// The operators of this level and above behind a left part, no more than `joins`, with their right parts.
 #[cycle(expression)]
 #[tactic(auto, unfolding(crate::specs::Reading::more_at))]
 fn more<'t, 'a>(
@@ -82,7 +82,7 @@ fn more<'t, 'a>(
     tokens: &'t [Lexeme<'a>],
 ) -> Result<(Expr, &'t [Lexeme<'a>]), Stuck>
     requires depth { depth ≤ 99 }
-    requires joins { joins ≤ 100 }
+    requires joins { joins ≤ 99 }
     ensures { Gives (λ x. (tree_of x.0, placed_all x.1.now)) result (more_at (expr_at depth) joins level (tree_of left) (placed_all tokens.now)) }
 {
     let Some((operator, at, rest)) = operator_at(tokens) else {

@@ -1,5 +1,10 @@
+use Rattle.std.proofs.Common.{◌≡◌, length, subst, sym, ◌∙◌}
 use Rattle.rule_lang.specs.View.{items_of as rules_of}
+use Rattle.rule_lang.specs.Program.{HasProgram}
 use Rattle.model_text.specs.View.{items_of}
+use Rattle.model_program.specs.Lines.{lines_of}
+use Rattle.model_program.specs.Written.{text_made}
+use Rattle.model_program.proofs.Programs.{text_has_program, text_fits}
 use Rattle.model_program.proofs.program.expanded.Goals as goal
 
 pub returns-clause-program : goal.returns-clause-program
@@ -11,14 +16,18 @@ returns-clause-program c =
     let named = rw c.deref.ensures.value at made.named in
     let faultless = rw c.deref.ensures.value at made.faultless in
     let fields = rw c.deref.ensures.value at made.fields in
-    let written = rw (c.deref-4.ensures.value, c.deref-5.ensures.value) at c.in_ok-read_back.ensures.program in
-    let fits = rw c.deref-4.ensures.value at c.in_ok-read_back.ensures.fits in
+    let form = rw c.deref.ensures.value at made.form in
+    let read = c.in_ok-items.ensures.read in
+    let written = rw (c.deref-2.ensures.value, c.deref-3.ensures.value) at c.in_ok-bytes.ensures.exact in
+    let numbers = rw c.deref-3.ensures.value at c.in_ok-bytes.ensures.numbers in
     record {
       items = items_of c.in_ok-items.items.items;
       rules = rules_of c.in_ok-rules.rules.items;
-      model = c.in_ok-items.ensures.read.1;
+      model = read.1;
       faultless = faultless;
-      program = written;
+      made = form;
+      written = written;
+      program = rw written (text_has_program c.args.text.now (items_of c.in_ok-items.items.items) (rules_of c.in_ok-rules.rules.items) read.0 read.1 fields made.fits numbers);
       same = record { fields = fields; next = next; initial = initial; states = states; named = named; accepted = made.fits };
-      fits = fits;
+      fits = rw written (text_fits (lines_of c.args.text.now (items_of c.in_ok-items.items.items)) (rules_of c.in_ok-rules.rules.items) made.fits);
     }

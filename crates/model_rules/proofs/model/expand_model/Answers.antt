@@ -1,4 +1,4 @@
-use Rattle.std.proofs.Common.{ap}
+use Rattle.std.proofs.Common.{ap, ◌∙◌}
 use Rattle.std.specs.Prelude.{map, string_bytes}
 use Rattle.rule_lang.specs.View.{items_of as rules_of}
 use Rattle.model_text.specs.View.{items_of}
@@ -6,7 +6,7 @@ use Rattle.model_rules.specs.ScopeView.{frame_of, givens_of}
 use Rattle.model_rules.specs.Models.{setting}
 use Rattle.model_rules.proofs.Expanded.{next_by, initials_by, all_in_states, same_fields}
 use Rattle.model_rules.proofs.Accepted.{accepted}
-use Rattle.model_rules.proofs.Wrong.{by_names, by_definitions, by_rules, by_none}
+use Rattle.model_rules.proofs.Wrong.{by_names, by_definitions, by_rules, by_none, made_is}
 use Rattle.std.proofs.lemmas.Result.{err_from_is_err_and}
 use Rattle.model_rules.proofs.model.expand_model.Goals as goal
 
@@ -32,6 +32,11 @@ pub returns-clause-fits : goal.returns-clause-fits
 returns-clause-fits c =
     accepted (items_of c.args.items.now) (frame_of c.in_ok-scope.scope) (items_of c.args.items.now) (givens_of c.args.given.now) (rules_of c.in_ok-rules.rules.items)
     c.in_ok-scope.ensures.fields c.in_ok-check_names.ensures.named c.in_ok-rules.ensures.expands c.in_ok-rules.ensures.fit c.in_ok-rules.ensures.within
+
+pub returns-clause-form : goal.returns-clause-form
+returns-clause-form c =
+    let s = c.in_ok-scope.ensures in
+    c.in_ok-rules.ensures.made ∙ made_is (items_of c.args.items.now) (givens_of c.args.given.now) c.in_ok-scope.scope s.draws s.fields s.known (ap (λ ps. map string_bytes ps) s.plain)
 
 pub returns-clause-faultless : goal.returns-clause-faultless
 returns-clause-faultless c =
