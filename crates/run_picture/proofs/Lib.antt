@@ -6,6 +6,7 @@ pub mod EachCell
 pub mod CellTexts
 pub mod EachPoint
 pub mod EachValue
+pub mod Fills
 pub mod EachFrame
 pub mod RoundParts
 pub mod Joined

@@ -1,9 +1,9 @@
 -- States whose colours do not hang on which of them occur.
-use Rattle.std.proofs.Common.{◌≡◌, ◌≢◌, ◌∙◌, ◌<◌, ◌≤◌, ◌⊎◌, ◌==◌, ◌||◌, ◌+◌, ℕ, zero, suc, List, [], ◌∷◌, Bool, true, false, All, if◌then◌else◌, ap, arith, inl, inr, length, max, refl, slice_index_or, subst, sym, take}
+use Rattle.std.proofs.Common.{◌≡◌, ◌≢◌, ◌∙◌, ◌<◌, ◌≤◌, ◌⊎◌, ◌==◌, ◌||◌, ◌+◌, ℕ, zero, suc, List, [], ◌∷◌, Bool, true, false, All, if◌then◌else◌, ap, arith, inl, inr, length, refl, slice_index_or, subst, sym, take}
 use Rattle.std.proofs.lemmas.Bool.Decides.{nat_tests}
-use Rattle.std.specs.List.{list_any, range_with_len}
+use Rattle.std.specs.List.{range_with_len}
 use Rattle.run_picture.specs.Chosen.{StylesView}
-use Rattle.run_picture.specs.Shades.{IsState, KeyView, StatesKeepTheirColours, blank_key, class_of, is_among, key_from, key_of, no_value, state_count, state_key, with_cell, with_value}
+use Rattle.run_picture.specs.Shades.{IsState, KeyView, StatesKeepTheirColours, blank_key, class_of, is_among, key_from, key_of, no_value, state_count, state_key, with_cell}
 use Rattle.run_picture.proofs.Told.{below, cell_by, comes, grown, marked, or_right, put, same_number}
 
 -- the same key, but for whether a cell has none

@@ -235,7 +235,7 @@ pub found : (a v : ℕ) (xs : List ℕ) → Rising a xs → is_among xs v ≡ tr
 found a v [] rising has = absurd (let e : false ≡ true = has in cc)
 found a v (x ∷ xs) rising has = found_by (nat_lt x v) x v xs refl rising.1 has (λ there. found (x + 1) v xs rising.1 there)
 
-among : (cells : List ℕ) (v i : ℕ) → i < length cells → v ≡ slice_index_or cells i v → is_among cells v ≡ true
+pub among : (cells : List ℕ) (v i : ℕ) → i < length cells → v ≡ slice_index_or cells i v → is_among cells v ≡ true
 among [] v i inside is = absurd (omega (arith, inside))
 among (c ∷ cells) v zero inside is =
     let same : (c == v) ≡ true = grind (arith, nat_tests, is) in
@@ -319,14 +319,14 @@ module _ (styles : StylesView) (cells : List ℕ) (few : length (key_of styles c
   short : (v : ℕ) → rank (key_of styles cells).values v ≤ 8
   short v = omega (arith, few, prefix_len-le-length (λ (x : ℕ). nat_lt x v) (key_of styles cells).values)
 
-  shades_told : (v w : ℕ) → is_among cells v ≡ true → is_among cells w ≡ true → shade_of (key_of styles cells) v ≡ shade_of (key_of styles cells) w → v ≡ w
+  pub shades_told : (v w : ℕ) → is_among cells v ≡ true → is_among cells w ≡ true → shade_of (key_of styles cells) v ≡ shade_of (key_of styles cells) w → v ≡ w
   shades_told v w has_v has_w same =
       let key = key_of styles cells in
       let all : is_few key ≡ true = grind (arith, nat_tests, few) in
       apart (v == no_value) (w == no_value) (nat_le key.greatest 1) (is_few key) v w (rank key.values v) (rank key.values w) (8 + step_of key v) (8 + step_of key w) all
       (within v has_v) (within w has_w) (short v) (short w) (λ nv nw. grind (arith, nat_tests, nv, nw)) (ranked v w has_v has_w) same
 
-  small : (v : ℕ) → is_among cells v ≡ true → shade_of (key_of styles cells) v ≤ 24
+  pub small : (v : ℕ) → is_among cells v ≡ true → shade_of (key_of styles cells) v ≤ 24
   small v has =
       let key = key_of styles cells in
       let all : is_few key ≡ true = grind (arith, nat_tests, few) in

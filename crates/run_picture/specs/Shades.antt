@@ -1,6 +1,8 @@
 -- How values are coloured.
 use Rattle.std.specs.Prelude.{◌≡◌, ◌↔◌, ◌⊎◌, ◌<◌, ◌≤◌, ℕ, All, ◌+◌, ◌-◌, ◌*◌, ◌/◌, ◌==◌, ◌||◌, ◌&&◌, max, min, Bool, true, false, List, [], ◌∷◌, codes, if◌then◌else◌, length, nat_le, nat_lt, slice_get, slice_index, slice_index_or, take, Option, Some, None}
 use Rattle.std.specs.List.{IsAmong, insert, list_any, prefix_len, range_with_len}
+use Rattle.std.specs.Str.{bytes_eq}
+use Rattle.run_picture.specs.declared.chosen.Colour.{Colour}
 use Rattle.run_picture.specs.declared.chosen.ValueColour.{ValueColour}
 use Rattle.run_picture.specs.Chosen.{StylesView, has_own, hex_text, is_dim, own_place}
 
@@ -107,6 +109,10 @@ colours =
 abbrev pub colour_of : ℕ → List ℕ
 colour_of class = slice_index_or colours class (codes "#bbbbbb")
 
+-- the palette has this colour
+abbrev pub is_in_palette : Colour → Bool
+is_in_palette colour = list_any (λ n. bytes_eq (colour_of n) (hex_text colour)) (range_with_len 0 class_count)
+
 -- the colour that a value has for itself, where there is one
 abbrev pub own_fill : Option ValueColour → List ℕ
 own_fill (Some own) = hex_text own.colour
@@ -138,6 +144,13 @@ abbrev pub SameClassSameValue : Type 0
 SameClassSameValue =
     (styles : StylesView) (cells : List ℕ) (v w : ℕ) → length (key_of styles cells).values ≤ 8 → IsAmong cells v → IsAmong cells w
     → (class_of (key_of styles cells) v ≡ class_of (key_of styles cells) w) ↔ (v ≡ w)
+
+-- Two cells in a picture with few values, neither of whose values has a colour of its own, have the same colour exactly where they have the same value.
+abbrev pub SameColourSameValue : Type 0
+SameColourSameValue =
+    (styles : StylesView) (cells : List ℕ) (v w : ℕ) → length (key_of styles cells).values ≤ 8 → has_own styles.colours v ≡ false → has_own styles.colours w ≡ false
+    → IsAmong cells v → IsAmong cells w
+    → (fill_of (key_of styles cells) (class_of (key_of styles cells) v) ≡ fill_of (key_of styles cells) (class_of (key_of styles cells) w)) ↔ (v ≡ w)
 
 -- Where a field has states, few enough for a colour each, a state has the same class in each picture whose values are states: it does not hang on which of them occur.
 abbrev pub StatesKeepTheirColours : Type 0

@@ -1,9 +1,11 @@
 //! The colours of values.
 ghost use Rattle.std.specs.Prelude.{◌≡◌, ◌++◌, ◌≤◌, IfOk, OnOk, length, slice_get, string_bytes};
 ghost use Rattle.run_picture.specs.Chosen.{own_place};
-ghost use Rattle.run_picture.specs.Shades.{class_count, class_of, class_total, colour_of, fill_of, ink_of, is_dark, own_fill, own_is_dark, shade_is_dark, shade_of, step_of};
+ghost use Rattle.std.specs.List.{list_any, range_with_len};
+ghost use Rattle.std.specs.Str.{bytes_eq};
+ghost use Rattle.run_picture.specs.Shades.{is_in_palette as in_palette, class_count, class_of, class_total, colour_of, fill_of, ink_of, is_dark, own_fill, own_is_dark, shade_is_dark, shade_of, step_of};
 
-use crate::chosen::{ValueColour, is_dim, own_place, put_hex};
+use crate::chosen::{Colour, ValueColour, is_dim, own_place, put_hex};
 use crate::key::{Key, NO_VALUE, rank};
 use std::alloc::{AllocError, Global};
 
@@ -87,6 +89,27 @@ fn colour_of(class: usize) -> &'static str
         23 => "#fde725",
         _ => "#bbbbbb",
     }
+}
+
+/// Whether the palette has a colour of this text.
+fn has_text(text: &str) -> bool
+    ensures { result ≡ list_any (λ n. bytes_eq (colour_of n) text.now) (range_with_len 0 class_count) }
+{
+    for class in 0..CLASS_COUNT {
+        if colour_of(class) == text {
+            return true;
+        }
+    }
+    false
+}
+
+/// Whether the palette has this colour, so that another value may be shown in it.
+pub fn is_in_palette(alloc: Global, colour: Colour) -> Result<bool, AllocError>
+    ensures exact { IfOk result (λ found. found ≡ in_palette colour) }
+{
+    let mut text = String::new(alloc);
+    put_hex(&mut text, colour)?;
+    Ok(has_text(text.as_str()))
 }
 
 /// Puts the colour that the value at a place has for itself.

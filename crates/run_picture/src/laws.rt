@@ -4,12 +4,14 @@ ghost use Rattle.run_picture.specs.DrawnLinks.{EachLinkIsDrawnOnce, LinesTellLin
 ghost use Rattle.run_picture.specs.Moving.{EachFrameHasItsColours, EachFrameHasItsTime};
 ghost use Rattle.run_picture.specs.Nets.{EachLinkHasItsLine};
 ghost use Rattle.run_picture.specs.Placed.{EachCellHasItsPlace, TextTellsCells};
-ghost use Rattle.run_picture.specs.Shades.{SameClassSameValue, StatesKeepTheirColours};
+ghost use Rattle.run_picture.specs.Shades.{SameClassSameValue, SameColourSameValue, StatesKeepTheirColours};
 
-/// In a picture with few values two cells have the same class of colours exactly where they have the same value. Where a
-/// field has states, few enough for a colour each, the class of a state does not hang on which of them occur.
+/// In a picture with few values two cells have the same class of colours exactly where they have the same value, and, where
+/// neither value has a colour of its own, the same colour. Where a field has states, few enough for a colour each, the class
+/// of a state does not hang on which of them occur.
 pub fn same_class_same_value()
     ensures colours { SameClassSameValue }
+    ensures fills { SameColourSameValue }
     ensures states { StatesKeepTheirColours }
 {}
 

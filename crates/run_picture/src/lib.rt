@@ -30,6 +30,7 @@ mod values;
 
 pub use animation::{MOST_FRAMES, moving_picture};
 pub use chosen::{CellShape, Colour, ValueColour};
+pub use colour::is_in_palette;
 pub use curve_picture::{MOST_CURVES, MOST_POINTS, count_picture};
 pub use each_round::{Layout, MOST_STROKES, round_pictures};
 pub use fault::PictureFault;
