@@ -11,7 +11,7 @@ mod spelling;
 mod words;
 
 pub use fault::Fault;
-pub use reasons::write_reason;
+pub use reasons::{Reason, reason_for, write_reason};
 pub use replays::write_replay;
 pub use rounds::{write_round, write_rounds};
 pub use settling::write_settling;

@@ -1,11 +1,12 @@
 //! Why a job is not done: the number of its first fault, and what is told of it for people.
-ghost use Rattle.std.specs.Prelude.{◌≡◌, ◌≢◌, ◌≤◌, true, false, length, IfErr, IfOk, OnErr, OnOk, MatchOption, option_map};
+ghost use Rattle.std.specs.Prelude.{◌≡◌, ◌≢◌, ◌≤◌, ◌<◌, true, false, length, IfErr, IfOk, OnErr, OnOk, MatchOption, option_map};
 ghost use Rattle.app_jobs.specs.declared.fault.ServeFault.{ServeFault};
 ghost use Rattle.app_first_fault.specs.FirstFault.{IsFirstFault, IsUnrefused};
 ghost use Rattle.app_why.specs.Given.{network_of, report_of, schedule_of};
-ghost use Rattle.app_calls.specs.Answers.{IsText, report_in};
+ghost use Rattle.app_calls.specs.Answers.{report_in};
 ghost use Rattle.app_calls.specs.Jobs.{HasJobWith, IsFirstNumber, IsJob};
-ghost use Rattle.app_calls.specs.Refusals.{IsUnknownJob, IsUntold, is_job};
+ghost use Rattle.app_calls.specs.Refusals.{IsUnknownJob, is_job};
+ghost use Rattle.app_calls.specs.Words.{with_front};
 
 use crate::fault::{Fault, ending_number};
 use crate::plans::report_in;
@@ -14,13 +15,13 @@ use app_jobs::Job;
 use app_why::{Named, Texts, why};
 use std::alloc::{AllocError, Global};
 
-/// What is told of a job.
+/// What is told of a job: one value of the job and its texts, made before any room for it is seen.
 #[derive(Drop)]
-struct Reason {
+pub struct Reason {
     /// The number of the first fault with which it would end; 0 where nothing refuses it.
-    fault: u32,
+    pub fault: u32,
     /// What is wrong, where, and what to do; or that nothing is wrong.
-    text: Vec<u8>,
+    pub text: Vec<u8>,
 }
 
 /// The job of a number, its round or its stop being `number`.
@@ -111,8 +112,9 @@ fn reason_of(
     })
 }
 
-/// What is told of the job of a number on these texts.
-fn told(
+/// What is told of the job of a number on these texts: the number of its first fault, or 0, and the text. `NoJob` where there
+/// is no such job.
+pub fn reason_for(
     alloc: Global,
     job: u32,
     program: &[u8],
@@ -133,30 +135,20 @@ fn told(
     Ok(reason_of(alloc, &job, program, network, from, schedule)?)
 }
 
-/// Writes the number of the first fault of a job on these texts, or 0, and what is told of it to the front of the text, and how
-/// long that is; where there is too little room, how long it is alone.
+/// Writes what is told of a job: the number of its first fault, or 0, and its text to the front of the caller's text, and how
+/// long that is. Where there is too little room, which is told as `Room`, how long it is alone.
 pub fn write_reason(
-    alloc: Global,
-    job: u32,
-    program: &[u8],
-    network: &[u8],
-    from: &[u8],
-    schedule: &[u8],
-    number: u32,
+    reason: &Reason,
     fault: &mut u32,
     text: &mut [u8],
     text_len: &mut usize,
 ) -> Result<(), Fault>
-    ensures job { OnOk result (is_job job ≡ true) }
-    ensures accepted { OnOk result (fault.new ≡ 0 → HasJobWith job number (λ asked. IsUnrefused asked program.now network.now (report_in from.now) schedule.now)) }
-    ensures first { OnOk result (fault.new ≢ 0 → HasJobWith job number (λ asked. IsFirstNumber asked program.now network.now (report_in from.now) schedule.now fault.new)) }
-    ensures named { OnOk result (fault.new ≢ 0 → 16 ≤ fault.new) }
-    ensures written { OnOk result (IsText text.old text.new text_len.new) }
+    ensures length { text_len.new ≡ length reason.now.text.items }
+    ensures fits { OnOk result (length reason.now.text.items ≤ length text.old) }
+    ensures written { OnOk result ((fault.new ≡ reason.now.fault) × (text.new ≡ with_front reason.now.text.items text.old)) }
     ensures kept { OnErr result ((fault.new ≡ fault.old) × (text.new ≡ text.old)) }
-    ensures sized { IfErr result (λ f. f ≢ Fault.Room → text_len.new ≡ text_len.old) }
-    ensures refused { IfErr result (IsUntold job (length text.old) text_len.new) }
+    ensures refused { IfErr result (λ f. (f ≡ Fault.Room) × (length text.old < length reason.now.text.items)) }
 {
-    let reason = told(alloc, job, program, network, from, schedule, number)?;
     put_text(&reason.text, text, text_len)?;
     *fault = reason.fault;
     Ok(())

@@ -1,5 +1,5 @@
 //! The canonical spelling of a program, and texts that are put in front of a caller's memory.
-ghost use Rattle.std.specs.Prelude.{◌≡◌, ◌≢◌, ◌<◌, List, length, IfOk, IfErr, OnErr, OnOk};
+ghost use Rattle.std.specs.Prelude.{◌≡◌, ◌≢◌, ◌≤◌, ◌<◌, List, length, IfOk, IfErr, OnErr, OnOk};
 ghost use Rattle.rule_lang.specs.Canonical.{program_text};
 ghost use Rattle.rule_lang.specs.Tree.{ItemTree};
 ghost use Rattle.app_calls.specs.Answers.{IsSpelled};
@@ -29,6 +29,7 @@ fn canonical(alloc: Global, program: &[u8]) -> Result<Vec<u8>, ServeFault>
 pub(crate) fn put_text(text: &[u8], out: &mut [u8], len: &mut usize) -> Result<(), Fault>
     ensures len { len.new ≡ length text.now }
     ensures put { OnOk result (out.new ≡ with_front text.now out.old) }
+    ensures fits { OnOk result (length text.now ≤ length out.old) }
     ensures kept { OnErr result (out.new ≡ out.old) }
     ensures refused { IfErr result (λ fault. (fault ≡ Fault.Room) × (length out.old < length text.now)) }
 {

@@ -1,5 +1,5 @@
 -- A cause and the reading that it refuses.
-use Rattle.std.proofs.Common.{◌≡◌, Option, Some, None, option_map, Result, Ok, Err, IfSome, sym, ap}
+use Rattle.std.proofs.Common.{◌≡◌, Option, Some, None, option_map, Result, Ok, Err, IfSome, IsNone, refl, sym, ap}
 use Rattle.link_net.specs.declared.cause.NetCause.{NetCause}
 use Rattle.link_net.specs.declared.fault.NetFault.{NetFault}
 use Rattle.link_net.specs.Causes.{fault_of, refusal_of}
@@ -9,3 +9,9 @@ pub refused_by : {A : Type 0} (found : Option NetCause) (r : Result A NetFault) 
 refused_by None r h = search
 refused_by (Some cause) (Ok x) h = cc
 refused_by (Some cause) (Err g) h = let same : fault_of cause ≡ g = cc in ap Err (sym same)
+
+-- where none is found, the network is read
+pub read_by : {A : Type 0} (found : Option NetCause) (r : Result A NetFault) → IsNone found → option_map fault_of found ≡ refusal_of r → (x : A) × (r ≡ Ok x)
+read_by found (Ok x) none h = (x, refl)
+read_by None (Err g) none h = absurd (cc)
+read_by (Some cause) (Err g) none h = absurd (cc)

@@ -4,6 +4,7 @@ use Rattle.rule_lang.specs.Tree.{ItemTree}
 use Rattle.rule_lang.specs.declared.fault.LangFault.TheVariants as lang
 use Rattle.rule_check.specs.declared.fault.CheckFault.TheVariants as check
 use Rattle.link_net.specs.declared.fault.NetFault.TheVariants as net
+use Rattle.link_net.specs.Reading.{Description, reading_of}
 use Rattle.rounds_plan.specs.declared.fault.PlanFault.TheVariants as plan
 use Rattle.report_text.specs.declared.fault.ReportFault.TheVariants as report
 use Rattle.rounds_plan.specs.declared.fault.RoundFault.TheVariants as round
@@ -26,7 +27,7 @@ use Rattle.app_jobs.specs.declared.job.Job.{Job}
 use Rattle.app_jobs.specs.declared.job.Job.TheVariants.{Check, Lockstep, Run, Replay, Compare}
 use Rattle.app_jobs.specs.declared.fault.ServeFault.{ServeFault}
 use Rattle.app_jobs.specs.declared.fault.ServeFault.TheVariants as fault
-use Rattle.app_jobs.specs.Served.{IsAccepted, HasResumed, IsRefusal, IsPlanRefusal}
+use Rattle.app_jobs.specs.Served.{IsAccepted, HasResumed, IsRefusal, IsPlanRefusal, NeedsNetwork}
 
 -- the texts of a job show the fault: it is no running out of memory, no thread that was refused, nothing that workers leave, and no device's
 abbrev pub is_shown : ServeFault → Bool
@@ -54,6 +55,10 @@ is_shown (fault.Replay (replay.Opening f)) = true
 is_shown (fault.Replay f) = false
 is_shown (fault.Write written) = false
 is_shown fault.Memory = false
+
+-- the network is read, where the job needs one and its program is accepted
+abbrev pub HasNetwork : Job → List ℕ → List ℕ → Type 0
+HasNetwork job program network = NeedsNetwork job → (items : List ItemTree) → IsAccepted program items → (d : Description) × (reading_of network ≡ Ok d)
 
 -- the configuration of the round is there
 abbrev pub HasRounds : PlanView → ℕ → Type 0

@@ -1,8 +1,8 @@
 //! The first fault of a job, found without doing it.
 ghost use Rattle.std.specs.Prelude.{◌≡◌, ◌≢◌, List, IfOk, IfSome, IsNone, None, Some, Ok, Err, true};
 ghost use Rattle.rule_lang.specs.Tree.{ItemTree};
-ghost use Rattle.link_net.specs.Causes.{fault_of};
-ghost use Rattle.link_net.specs.Reading.{reading_of};
+ghost use Rattle.link_net.specs.Causes.{IsCause, fault_of};
+ghost use Rattle.link_net.specs.Reading.{Description, reading_of};
 ghost use Rattle.rounds_plan.specs.declared.fault.RoundFault.{RoundFault as RefusedRound};
 ghost use Rattle.rounds_plan.specs.Lockstep.{rounds_of};
 ghost use Rattle.unison_world.specs.declared.fault.OpenFault.{OpenFault as Refused};
@@ -17,7 +17,7 @@ ghost use Rattle.unison_pool.specs.Refusals.{Refuses};
 ghost use Rattle.app_jobs.specs.declared.job.Job.{Job};
 ghost use Rattle.app_jobs.specs.declared.fault.ServeFault.TheVariants as fault;
 ghost use Rattle.app_jobs.specs.Served.{IsAccepted, NeedsNetwork, RefusesProgram, RefusesTexts, given, trace_limit};
-ghost use Rattle.app_first_fault.specs.FirstFault.{HasRounds, IsFirstFault, IsPlanFault, IsReplayable, IsRunnable, IsUnrefused, IsUnrefusedPlan, is_shown};
+ghost use Rattle.app_first_fault.specs.FirstFault.{HasNetwork, HasRounds, IsFirstFault, IsPlanFault, IsReplayable, IsRunnable, IsUnrefused, IsUnrefusedPlan, is_shown};
 
 use app_jobs::{Job, ServeFault, plan_from};
 use link_net::{NetCause, NetFault};
@@ -167,12 +167,15 @@ fn plan_fault(
 /// Why a network is refused.
 fn refused_network(alloc: Global, network: &[u8]) -> Result<Option<NetCause>, AllocError>
     ensures refused { IfOk result (λ found. IfSome found (λ cause. reading_of network.now ≡ Err (fault_of cause))) }
+    ensures named { IfOk result (λ found. IfSome found (IsCause network.now)) }
+    ensures read { IfOk result (λ found. IsNone found → (d : Description) × (reading_of network.now ≡ Ok d)) }
 {
     let cause = link_net::diagnose(alloc, network)?;
     Ok(cause)
 }
 
 /// Why the network of a job is refused, where that is its first fault: its program is accepted, and it needs a network.
+/// Of such a job there is no cause only where the network is read.
 pub fn network_cause(
     alloc: Global,
     job: &Job,
@@ -181,6 +184,8 @@ pub fn network_cause(
 ) -> Result<Option<NetCause>, AllocError>
     ensures needed { IfOk result (λ found. IfSome found (λ cause. NeedsNetwork job.now)) }
     ensures refused { IfOk result (λ found. IfSome found (λ cause. RefusesTexts program.now network.now None (fault.Net (fault_of cause)))) }
+    ensures named { IfOk result (λ found. IfSome found (IsCause network.now)) }
+    ensures read { IfOk result (λ found. IsNone found → HasNetwork job.now program.now network.now) }
 {
     if let Job::Check = *job {
         return Ok(None);

@@ -1,12 +1,15 @@
 //! Notes on products and totals that can be cut.
+ghost use Rattle.std.specs.Prelude.{◌≡◌, ◌≤◌, [], length, option_map, IfOk, IsNone, Some};
+ghost use Rattle.rule_lang.specs.Program.{HasProgram};
+ghost use Rattle.rule_lang.specs.View.{items_of};
+ghost use Rattle.rule_cuts.specs.Cuttable.{noted_places};
+ghost use Rattle.app_why.specs.Notes.{AreBounds, AreNoted};
 
 use crate::bounds::{bounds_of, bounds_of_any};
 use crate::place_at;
 use crate::told::Named;
 use link_net::Network;
-use rule_cuts::{
-    Bounds, Operand, Operation, can_be_cut, greatest_uncut, operation_places, operations_in,
-};
+use rule_cuts::{Bounds, Cuttable, Operand, Operation, cuttable_in, greatest_uncut};
 use rule_lang::{Expr, Item, read_program};
 use rule_ranges::only_value;
 use std::alloc::{AllocError, Global};
@@ -153,39 +156,6 @@ fn put_limit(
     out.push_str("; unison cuts tells whether a run does\n")
 }
 
-/// The products and totals that can be cut, as they are told of in one line.
-#[derive(Clone, Copy)]
-struct Cuttable<'a> {
-    /// The first of them, and the byte at which it stands.
-    first: (Operation<'a>, usize),
-    /// How many there are besides.
-    others: usize,
-}
-
-/// The operations that can be cut, where there are some.
-fn first_cuttable<'a>(
-    operations: &[Operation<'a>],
-    places: &[usize],
-    bounds: Bounds,
-) -> Option<Cuttable<'a>> {
-    let mut found: Option<Cuttable<'a>> = None;
-    for (operation, at) in operations.iter().zip(places) {
-        if can_be_cut(*operation, bounds) {
-            found = match found {
-                None => Some(Cuttable {
-                    first: (*operation, *at),
-                    others: 0,
-                }),
-                Some(known) => Some(Cuttable {
-                    first: known.first,
-                    others: known.others.saturating_add(1),
-                }),
-            };
-        }
-    }
-    found
-}
-
 /// Adds how many operations there are besides, where there are some.
 fn put_others(out: &mut String, others: usize) -> Result<(), AllocError> {
     match others {
@@ -195,19 +165,37 @@ fn put_others(out: &mut String, others: usize) -> Result<(), AllocError> {
     }
 }
 
-/// What is told of operations that can be cut, in one line.
-fn line_of(alloc: Global, program: Named<'_>, found: Cuttable<'_>) -> Result<String, AllocError> {
-    let (operation, at) = found.first;
-    let place = place_at(program.text, at);
+/// What is told of operations that can be cut, in one line: of the first, and how many there are besides.
+fn line_of(
+    alloc: Global,
+    program: Named<'_>,
+    first: Cuttable<'_>,
+    others: usize,
+) -> Result<String, AllocError> {
+    let place = place_at(program.text, first.at);
     let (line, column) = (place.line, place.column);
-    let kind = kind_of(operation);
+    let kind = kind_of(first.operation);
     let name = program.name;
     let mut out = format!(in alloc; "{name}:{line}:{column}: the {kind} can be cut at 4294967295")?;
-    put_others(&mut out, found.others)?;
+    put_others(&mut out, others)?;
     out.push_str(
         ": unison cuts tells whether a run does and where, unison why from which values on; --quiet leaves this out",
     )?;
     Ok(out)
+}
+
+/// What is told of the operations that can be cut, where there are some.
+fn line_where(
+    alloc: Global,
+    program: Named<'_>,
+    noted: &[Cuttable<'_>],
+) -> Result<Option<String>, AllocError>
+    ensures none { IfOk result (λ line. IsNone line → noted.now ≡ []) }
+{
+    match noted {
+        [first, others @ ..] => line_of(alloc, program, *first, others.len()).map(Some),
+        [] => Ok(None),
+    }
 }
 
 /// A note, in one line, where products or totals of a program can be cut on a network: where the first of them stands, and
@@ -216,39 +204,65 @@ pub fn cut_note(
     alloc: Global,
     program: Named<'_>,
     network: &Network,
-) -> Result<Option<String>, AllocError> {
+) -> Result<Option<String>, AllocError>
+    ensures none { IfOk result (λ note. IsNone note → AreNoted program.entry.text.now (Some network.now) []) }
+{
     let Ok(source) = read_program(alloc, program.text) else {
         return Err(AllocError);
     };
-    let bounds = bounds_of(network);
-    let operations = operations_in(alloc, source.items(), bounds)?;
-    let places = operation_places(alloc, program.text)?;
-    match first_cuttable(&operations, &places, bounds) {
-        Some(found) => line_of(alloc, program, found).map(Some),
-        None => Ok(None),
+    let noted = cuttable_in(alloc, program.text, source.items(), bounds_of(network))?;
+    line_where(alloc, program, &noted)
+}
+
+/// What bounds the nodes of the network, or of each that a file can describe where none is given.
+fn bounds_by(network: Option<&Network>) -> Bounds
+    ensures nodes { AreBounds (option_map (λ given. given.now) network.entry) result }
+{
+    match network {
+        Some(network) => bounds_of(network),
+        None => bounds_of_any(),
     }
 }
 
+/// Adds a note for each of these operations.
+fn put_notes(
+    out: &mut String,
+    program: Named<'_>,
+    noted: &[Cuttable<'_>],
+    bounds: Bounds,
+    of_network: bool,
+) -> Result<(), AllocError> {
+    for cut in noted {
+        put_place(out, program, cut.at, cut.operation)?;
+        put_limit(out, cut.operation, bounds, of_network)?;
+    }
+    Ok(())
+}
+
+/// The places of these operations.
+fn places_of(alloc: Global, noted: &[Cuttable<'_>]) -> Result<Vec<usize>, AllocError>
+    ensures exact { IfOk result (λ v. v.items ≡ noted_places noted.now) }
+{
+    let mut places = Vec::new(alloc);
+    for cut in noted {
+        places.push(cut.at)?;
+    }
+    Ok(places)
+}
+
 /// Adds a note for each product and each total of a program that can be cut: on the network, or on some network where
-/// none is given.
+/// none is given. Answers their places in the program's text, whose items these are.
 pub(crate) fn put_cut_notes(
     alloc: Global,
     out: &mut String,
     program: Named<'_>,
     items: &[Item],
     network: Option<&Network>,
-) -> Result<(), AllocError> {
-    let bounds = match network {
-        Some(network) => bounds_of(network),
-        None => bounds_of_any(),
-    };
-    let operations = operations_in(alloc, items, bounds)?;
-    let places = operation_places(alloc, program.text)?;
-    for (operation, at) in operations.iter().zip(&places) {
-        if can_be_cut(*operation, bounds) {
-            put_place(out, program, *at, *operation)?;
-            put_limit(out, *operation, bounds, network.is_some())?;
-        }
-    }
-    Ok(())
+) -> Result<Vec<usize>, AllocError>
+    ensures noted { IfOk result (λ v. length program.entry.text.now ≤ 65536 → HasProgram program.entry.text.now (items_of items.now) → AreNoted program.entry.text.now (option_map (λ given. given.now) network.entry) v.items) }
+{
+    let bounds = bounds_by(network);
+    let noted = cuttable_in(alloc, program.text, items, bounds)?;
+    put_notes(out, program, &noted, bounds, network.is_some())?;
+    places_of(alloc, &noted)
 }

@@ -1,16 +1,17 @@
 //! Why a job is not done, told for people.
-ghost use Rattle.std.specs.Prelude.{◌≡◌, IfOk, IfSome, IsNone, Some, true};
+ghost use Rattle.std.specs.Prelude.{◌≡◌, [], IfOk, IfSome, IsNone, Some, true};
 ghost use Rattle.link_net.specs.Causes.{fault_of};
 ghost use Rattle.app_jobs.specs.declared.fault.ServeFault.TheVariants as fault;
 ghost use Rattle.app_jobs.specs.Served.{given};
 ghost use Rattle.app_first_fault.specs.FirstFault.{IsFirstFault, IsUnrefused, is_shown};
 ghost use Rattle.app_why.specs.Given.{network_of, report_of, schedule_of};
+ghost use Rattle.app_why.specs.Notes.{AreNotedIn};
 
 use crate::kinds::with_kind;
 use crate::lexical::tell_lexical;
 use crate::lines::{tell_report_line, tell_step};
 use crate::network::tell_network;
-use crate::notes::notes;
+use crate::notes::{Noted, notes};
 use crate::plans::tell_plan;
 use crate::refused::tell_refused;
 use crate::runs::{
@@ -39,6 +40,9 @@ pub struct Finding {
     pub fault: Option<ServeFault>,
     /// What is wrong, where, and what to do; where nothing is, notes on what is rarely meant.
     pub text: String,
+    /// The places of the products and totals that the notes name as ones that can be cut: those of their `*` and `total`
+    /// in the program's text, in bytes from 0, in order. None where there is a fault.
+    pub cuts: Vec<usize>,
 }
 
 /// The items of a program's text that was read before: only memory can be wanting.
@@ -223,6 +227,7 @@ fn tell(alloc: Global, texts: &Texts, job: &Job, fault: ServeFault) -> Result<To
 /// What is found where a network is refused, for its cause.
 fn found_in_network(alloc: Global, texts: &Texts, cause: &NetCause) -> Result<Finding, AllocError>
     ensures fault { IfOk result (λ finding. (finding.fault ≡ Some (fault.Net (fault_of cause.now))) × (is_shown (fault.Net (fault_of cause.now)) ≡ true)) }
+    ensures cuts { IfOk result (λ finding. finding.cuts.items ≡ []) }
 {
     let fault = answer(ServeFault::Net(cause.fault()))?;
     let told = with_kind(
@@ -232,7 +237,8 @@ fn found_in_network(alloc: Global, texts: &Texts, cause: &NetCause) -> Result<Fi
     )?;
     let (part, name) = ServeFault::Net(cause.fault()).part_and_name();
     let text = shown(alloc, texts, &told, part, name)?;
-    Ok(Finding { text, fault })
+    let cuts = Vec::new(alloc);
+    Ok(Finding { text, fault, cuts })
 }
 
 /// What people are told of a fault.
@@ -247,6 +253,26 @@ fn fault_text(
     shown(alloc, texts, &told, part, name)
 }
 
+/// What people are told: of a fault, or that there is none, with notes.
+fn told_of(
+    alloc: Global,
+    texts: &Texts,
+    job: &Job,
+    fault: Option<ServeFault>,
+) -> Result<Noted, AllocError>
+    ensures noted { IfOk result (λ told. IsNone fault → AreNotedIn texts.now told.cuts.items) }
+    ensures unnoted { IfOk result (λ told. IfSome fault (λ f. told.cuts.items ≡ [])) }
+{
+    match fault {
+        Some(fault) => {
+            let text = fault_text(alloc, texts, job, fault)?;
+            let cuts = Vec::new(alloc);
+            Ok(Noted { text, cuts })
+        }
+        None => notes(alloc, texts),
+    }
+}
+
 /// Why a job on these texts is not done, told for people: the first fault as the job would end with it, found without
 /// doing the job; where nothing refuses it, that it is so, and notes on what is accepted and rarely meant.
 ///
@@ -255,6 +281,8 @@ pub fn why(alloc: Global, job: &Job, texts: &Texts) -> Result<Finding, AllocErro
     ensures refused { IfOk result (λ finding. IfSome finding.fault (IsFirstFault job.now texts.now.program.text.now (network_of texts.now) (report_of texts.now) (schedule_of texts.now))) }
     ensures shown { IfOk result (λ finding. IfSome finding.fault (λ f. is_shown f ≡ true)) }
     ensures accepted { IfOk result (λ finding. IsNone finding.fault → IsUnrefused job.now texts.now.program.text.now (network_of texts.now) (report_of texts.now) (schedule_of texts.now)) }
+    ensures noted { IfOk result (λ finding. IsNone finding.fault → AreNotedIn texts.now finding.cuts.items) }
+    ensures unnoted { IfOk result (λ finding. IfSome finding.fault (λ f. finding.cuts.items ≡ [])) }
 {
     if let Some(cause) = network_cause(alloc, job, texts.program.text, network_text(texts))? {
         return found_in_network(alloc, texts, &cause);
@@ -267,9 +295,6 @@ pub fn why(alloc: Global, job: &Job, texts: &Texts) -> Result<Finding, AllocErro
         report_text(texts),
         schedule_text(texts),
     )?;
-    let text = match fault {
-        Some(fault) => fault_text(alloc, texts, job, fault)?,
-        None => notes(alloc, texts)?,
-    };
-    Ok(Finding { fault, text })
+    let Noted { text, cuts } = told_of(alloc, texts, job, fault)?;
+    Ok(Finding { fault, text, cuts })
 }

@@ -1,4 +1,6 @@
 //! What is accepted, and rarely meant.
+ghost use Rattle.std.specs.Prelude.{◌≡◌, option_map, IfOk};
+ghost use Rattle.app_why.specs.Notes.{AreNotedIn, IsDescribed};
 
 use crate::cut_notes::put_cut_notes;
 use crate::told::Texts;
@@ -161,7 +163,9 @@ fn put_program_notes(out: &mut String, items: &[Item]) -> Result<(), AllocError>
 }
 
 /// What the network file describes, which was read before, where there is one.
-fn file_in(alloc: Global, texts: &Texts) -> Result<Option<NetFile>, AllocError> {
+fn file_in(alloc: Global, texts: &Texts) -> Result<Option<NetFile>, AllocError>
+    ensures described { IfOk result (λ file. IsDescribed (option_map (λ named. named.text.now) texts.now.network) (option_map (λ d. d.network) file)) }
+{
     let Some(named) = texts.network else {
         return Ok(None);
     };
@@ -202,22 +206,34 @@ fn put_alike(out: &mut String, items: &[Item]) -> Result<(), AllocError> {
 }
 
 /// The network of a file, where there is one.
-fn network_of(file: &Option<NetFile>) -> Option<&Network> {
+fn network_of(file: &Option<NetFile>) -> Option<&Network>
+    ensures exact { option_map (λ network. network.now) result ≡ option_map (λ d. d.network) file.now }
+{
     match file {
         Some(file) => Some(file.network()),
         None => None,
     }
 }
 
+/// What is told where nothing refuses a job.
+#[derive(Drop)]
+pub(crate) struct Noted {
+    pub(crate) text: String,
+    /// The places of the products and totals that are noted as ones that can be cut.
+    pub(crate) cuts: Vec<usize>,
+}
+
 /// What is told where nothing refuses a job: that it is so, and notes on what is accepted and rarely meant.
-pub(crate) fn notes(alloc: Global, texts: &Texts) -> Result<String, AllocError> {
+pub(crate) fn notes(alloc: Global, texts: &Texts) -> Result<Noted, AllocError>
+    ensures noted { IfOk result (λ notes. AreNotedIn texts.now notes.cuts.items) }
+{
     let mut out = String::from_str(alloc, "nothing is wrong\n")?;
     let Ok(source) = read_program(alloc, texts.program.text) else {
         return Err(AllocError);
     };
     let file = file_in(alloc, texts)?;
     put_program_notes(&mut out, source.items())?;
-    put_cut_notes(
+    let cuts = put_cut_notes(
         alloc,
         &mut out,
         texts.program,
@@ -227,5 +243,5 @@ pub(crate) fn notes(alloc: Global, texts: &Texts) -> Result<String, AllocError> 
     if stay_alike(texts, &file, source.items()) {
         put_alike(&mut out, source.items())?;
     }
-    Ok(out)
+    Ok(Noted { text: out, cuts })
 }

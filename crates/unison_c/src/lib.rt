@@ -17,7 +17,8 @@ ghost use Rattle.large_calls.specs.Lists.{given_weights, lists_fault};
 ghost use Rattle.large_calls.specs.ListNumbers.{IsLargeNumberOf, IsToldLists};
 
 use app_calls::{
-    write_reason, write_replay, write_round, write_rounds, write_settling, write_spelling,
+    reason_for, write_reason, write_replay, write_round, write_rounds, write_settling,
+    write_spelling,
 };
 use large_calls::{
     check_lists, write_large_counts, write_large_rounds, write_large_watch, write_part_round,
@@ -190,10 +191,11 @@ pub extern "C" fn unison_why(
     ensures sized { result ≢ 0 → result ≢ ROOM → text_len.new ≡ text_len.old }
     ensures refused { result ≢ 0 → IsNumberOf (IsUntold job (length text.old) text_len.new) result }
 {
-    let done = write_reason(
-        alloc, job, program, network, from, schedule, number, fault, text, text_len,
-    );
-    match done {
+    let reason = match reason_for(alloc, job, program, network, from, schedule, number) {
+        Ok(reason) => reason,
+        Err(fault) => return fault.number(),
+    };
+    match write_reason(&reason, fault, text, text_len) {
         Ok(()) => 0,
         Err(fault) => fault.number(),
     }

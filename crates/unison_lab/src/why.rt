@@ -233,7 +233,11 @@ fn noted(alloc: Global, finding: Finding, program: &Text) -> Result<Finding, All
     let slips = slips_in(alloc, named(program))?;
     let mut text = finding.text;
     text.push_str(slips.as_str())?;
-    Ok(Finding { fault: None, text })
+    Ok(Finding {
+        fault: None,
+        text,
+        cuts: finding.cuts,
+    })
 }
 
 /// What is found with notes on the program's text, where nothing is wrong.
