@@ -3,6 +3,7 @@
 use crate::endings::asked_by;
 use crate::grid::{cell_shape, grid_width};
 use crate::labels::labels_at;
+use crate::notes::put_colour_notes;
 use crate::picture_files::RoundFiles;
 use crate::plan_texts::{NamedPlan, named_plan_at, read_plan_once};
 use crate::progress::Telling;
@@ -423,7 +424,9 @@ fn put_image(
     read_plan_once(rt.alloc(), &asked.plan, "", "", "")?;
     let named = named_plan_at(rt, &asked.plan)?;
     set_width(rt, &named.plan, &mut asked)?;
-    put_drawn(rt, threads, &named, &asked)
+    let status = put_drawn(rt, threads, &named, &asked)?;
+    put_colour_notes(rt, &asked.colours)?;
+    Ok(status)
 }
 
 /// Prints a picture of rounds, or writes one of each into a file. The status with which the program ends.
@@ -498,7 +501,9 @@ fn put_dot(
 ) -> Result<u8, Ending> {
     read_plan_once(rt.alloc(), &asked.plan, path_in(&asked.names), "", "")?;
     let text = network_for(rt, threads, asked)?;
-    print_out(rt, &text)
+    let status = print_out(rt, &text)?;
+    put_colour_notes(rt, &asked.colours)?;
+    Ok(status)
 }
 
 /// Prints a network in a round for Graphviz. The status with which the program ends.
