@@ -16,7 +16,7 @@ use Rattle.rounds_plan.specs.Lockstep.{lockstep, lockstep_config, lockstep_state
 use Rattle.rounds_plan.specs.Plans.{PlanView}
 use Rattle.large_calls.specs.Lists.{given_weights}
 use Rattle.large_parts.specs.States.{node_words, state_of, states_of}
-use Rattle.large_calls.specs.LargeAnswers.{IsNoSpan, words_plan}
+use Rattle.large_calls.specs.LargeAnswers.{HasSpan, IsNoSpan, words_plan}
 
 no_words : (n : ℕ) → list_any (λ w. not (eqb w 0)) (replicate n 0) ≡ false
 no_words zero = refl
@@ -82,6 +82,10 @@ too_early start t few early p same =
     let within : nat_lt most_rounds t ≡ false = grind (arith, nat_tests) in
     let below : nat_lt t p.start ≡ true = grind (arith, nat_tests) in
     rw (within, below) refl
+
+-- each plan that starts there has the round
+pub span_there : (start t : ℕ) → start ≤ t → t ≤ most_rounds → HasSpan start t
+span_there start t late there = λ p same. (lockstep_config p t, round_there p t (omega (arith, same, late)) there)
 
 -- states of as many nodes as there are rows, and as many fields as the program has
 pub as_opening : (program : Rules) (rows : Neighbours) (words : List ℕ) (f n : ℕ) (opening : List State) → opening ≡ states_of f n words → f ≡ length program.fields → n ≡ length rows

@@ -48,11 +48,15 @@ pub record HasLargeRounds (program offsets neighbours weights : List ℕ) (start
 abbrev pub IsNoSpan : ℕ → ℕ → RoundFault → Type 0
 IsNoSpan start round f = (p : PlanView) → p.start ≡ start → rounds_of p round ≡ Err f
 
--- of so many nodes: the round is none of a plan that starts there, or there is not one word for each field of each node
+-- each plan that starts at this round has that round
+abbrev pub HasSpan : ℕ → ℕ → Type 0
+HasSpan start round = (p : PlanView) → p.start ≡ start → (c : Configuration) × (rounds_of p round ≡ Ok c)
+
+-- of so many nodes: the round is none of a plan that starts there; or it is one, and there is not one word for each field of each node
 abbrev pub IsNoMove : Rules → ℕ → ℕ → ℕ → ℕ → ℕ → LargeCallFault → Type 0
 IsNoMove program nodes start round room fields (Call (call.Round f)) = IsNoSpan start round f
 IsNoMove program nodes start round room fields (Call call.Memory) = Unit {0}
-IsNoMove program nodes start round room fields WordCount = (room ≢ nodes * length program.fields) × (fields ≡ length program.fields)
+IsNoMove program nodes start round room fields WordCount = HasSpan start round × (room ≢ nodes * length program.fields) × (fields ≡ length program.fields)
 IsNoMove program nodes start round room fields f = ⊥
 
 -- the program is refused; or it is accepted, and the lists have this first fault; or they have none, and the round or the number of words is refused

@@ -9,7 +9,7 @@ ghost use Rattle.large_net.specs.Large.{AreLaidOut};
 ghost use Rattle.app_calls.specs.declared.fault.Fault.TheVariants as call;
 ghost use Rattle.large_calls.specs.declared.fault.LargeCallFault.TheVariants as fault;
 ghost use Rattle.large_calls.specs.Lists.{given_weights};
-ghost use Rattle.large_calls.specs.LargeAnswers.{AreMoved, HasLargeRounds, IsLongLarge, IsNoMove, IsNoSpan, IsRefusedRounds, given_plan};
+ghost use Rattle.large_calls.specs.LargeAnswers.{AreMoved, HasLargeRounds, HasSpan, IsLongLarge, IsNoMove, IsNoSpan, IsRefusedRounds, given_plan};
 
 use crate::fault::LargeCallFault;
 use crate::lists::check_lists;
@@ -24,6 +24,7 @@ use std::alloc::{AllocError, Global};
 /// Refuses a round that no plan with this start has.
 pub(crate) fn check_span(start: u32, round: u32) -> Result<(), RoundFault>
     ensures within { OnOk result ((start ≤ round) × (round ≤ most_rounds)) }
+    ensures there { OnOk result (HasSpan start round) }
     ensures refused { IfErr result (IsNoSpan start round) }
 {
     if round > MOST_ROUNDS {
