@@ -108,8 +108,7 @@ fn put_counts(
 /// (`TooManyRounds` above 1,000,000,000, `RoundsBelowStart` below the start, `NotRising` where it is not above the one
 /// before it), `WordCount` where there is not one word in `from` for each field of each node, `NoField` where the program
 /// lacks the field, `TooManyValues` above 256, and `Room` where there is too little room for the counts of all rounds. The
-/// last four take no memory but that of the program, and tell how many fields there are. After a fault the counts are as they
-/// were.
+/// last four tell how many fields there are. After a fault the counts are as they were.
 pub fn write_large_counts(
     alloc: Global,
     program: &[u8],

@@ -163,8 +163,7 @@ fn put_rounds(
 ///
 /// The first fault is answered: of the program, of the lists (`check_lists`), of the round (`TooManyRounds` above
 /// 1,000,000,000, `RoundsBelowStart` below the start), and `WordCount` where there is not one word for each field of each
-/// node, which takes no memory but that of the program, and tells how many fields there are. After a fault the words are
-/// as they were.
+/// node, which tells how many fields there are. After a fault the words are as they were.
 pub fn write_large_rounds(
     alloc: Global,
     program: &[u8],

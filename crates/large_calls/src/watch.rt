@@ -67,8 +67,8 @@ fn put_watch(
 /// The first fault is answered: of the program, of the lists (`check_lists`), of the list of rounds at its first bad one
 /// (`TooManyRounds` above 1,000,000,000, `RoundsBelowStart` below the start, `NotRising` where it is not above the one
 /// before it), `WordCount` where there is not one word in `from` for each field of each node, and `Room` where there is too
-/// little room for the words of all rounds. The last two take no memory but that of the program, and tell how many fields
-/// there are. After a fault the words are as they were.
+/// little room for the words of all rounds. The last two tell how many fields there are. After a fault the words are as they
+/// were.
 pub fn write_large_watch(
     alloc: Global,
     program: &[u8],
