@@ -1,4 +1,6 @@
 //! How it is told from which round on nothing changes, or all states come again.
+ghost use Rattle.std.specs.Prelude.{◌≡◌, string_bytes, IfOk};
+ghost use Rattle.app_files.specs.Settled.{line_of, round_of};
 
 use crate::ending::Ending;
 use crate::programs::is_model;
@@ -29,7 +31,9 @@ pub fn not_settled(alloc: Global, path: &str, fault: SettleFault) -> Ending {
 }
 
 /// What was found, as a line: `settles ROUND`, `repeats ROUND PERIOD` or `open LIMIT`.
-pub fn settling_line(alloc: Global, found: Settling) -> Result<String, AllocError> {
+pub fn settling_line(alloc: Global, found: Settling) -> Result<String, AllocError>
+    ensures line { IfOk result (λ line. string_bytes line ≡ line_of found) }
+{
     match found {
         Settling::Settles { round } => format!(in alloc; "settles {round}\n"),
         Settling::Repeats { round, period } => format!(in alloc; "repeats {round} {period}\n"),
@@ -38,7 +42,9 @@ pub fn settling_line(alloc: Global, found: Settling) -> Result<String, AllocErro
 }
 
 /// The round from which on nothing changes, or all states come again, where there is one.
-pub fn settled_round(found: Settling) -> Option<u32> {
+pub fn settled_round(found: Settling) -> Option<u32>
+    ensures round { result ≡ round_of found }
+{
     match found {
         Settling::Settles { round } => Some(round),
         Settling::Repeats { round, .. } => Some(round),
