@@ -49,11 +49,7 @@ fn bare_share(
 }
 
 /// What is told of a text that is no share with six decimals at most.
-pub(crate) fn no_share(
-    alloc: Global,
-    option: &str,
-    found: &str,
-) -> Result<String, AllocError> {
+pub(crate) fn no_share(alloc: Global, option: &str, found: &str) -> Result<String, AllocError> {
     if let Some(millionths) = share_of(found) {
         let share = if millionths <= ONE_PERCENT {
             Some(millionths.saturating_mul(100))
@@ -68,12 +64,7 @@ pub(crate) fn no_share(
 }
 
 /// What is told of a text that is no whole number of percents up to the most.
-fn no_percents(
-    alloc: Global,
-    option: &str,
-    most: u32,
-    found: &str,
-) -> Result<String, AllocError> {
+fn no_percents(alloc: Global, option: &str, most: u32, found: &str) -> Result<String, AllocError> {
     if number(found, 0, most).is_some() {
         let share = match number(found, 1, most / 100) {
             Some(_) => Some(ALL_NODES),
@@ -81,9 +72,7 @@ fn no_percents(
         };
         return bare_share(alloc, option, found, share);
     }
-    format!(in alloc;
-        "--{option}: expected whole percents from 0% to {most}%, found `{found}`"
-    )
+    format!(in alloc; "--{option}: expected whole percents from 0% to {most}%, found `{found}`")
 }
 
 /// The whole number of percents, up to the most, that a text writes; where `%` is left out, 0 alone.
