@@ -231,13 +231,9 @@ fn noted(alloc: Global, finding: Finding, program: &Text) -> Result<Finding, All
         return Ok(finding);
     }
     let slips = slips_in(alloc, named(program))?;
-    let mut text = finding.text;
-    text.push_str(slips.as_str())?;
-    Ok(Finding {
-        fault: None,
-        text,
-        cuts: finding.cuts,
-    })
+    let mut found = finding;
+    found.text.push_str(slips.as_str())?;
+    Ok(found)
 }
 
 /// What is found with notes on the program's text, where nothing is wrong.
