@@ -95,7 +95,7 @@ fn colour_note(
     }
     if is_in_palette(alloc, own.colour)? {
         let note = format!(in alloc;
-            "--colours: the colour of the value {value} is also one of those that values without their own have"
+            "--colours: the colour of the value {value} stands in the palette, too: another value may have it"
         )?;
         return Ok(Some(note));
     }
