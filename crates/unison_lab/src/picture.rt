@@ -424,9 +424,8 @@ fn put_image(
     read_plan_once(rt.alloc(), &asked.plan, "", "", "")?;
     let named = named_plan_at(rt, &asked.plan)?;
     set_width(rt, &named.plan, &mut asked)?;
-    let status = put_drawn(rt, threads, &named, &asked)?;
     put_colour_notes(rt, &asked.colours)?;
-    Ok(status)
+    put_drawn(rt, threads, &named, &asked)
 }
 
 /// Prints a picture of rounds, or writes one of each into a file. The status with which the program ends.
@@ -501,9 +500,8 @@ fn put_dot(
 ) -> Result<u8, Ending> {
     read_plan_once(rt.alloc(), &asked.plan, path_in(&asked.names), "", "")?;
     let text = network_for(rt, threads, asked)?;
-    let status = print_out(rt, &text)?;
     put_colour_notes(rt, &asked.colours)?;
-    Ok(status)
+    print_out(rt, &text)
 }
 
 /// Prints a network in a round for Graphviz. The status with which the program ends.
