@@ -1,7 +1,7 @@
 """Texts by hand with their outcome, written without the readers: (words, text, outcome).
 
 An outcome is `NAMES: LINKS` or `#NODES: LINKS`, with `; dropped 1` and the like; or `KINDS LINES`, of which any may be told: `?WHAT` where docs/commands/import.md names no
-kind, 0 where no line is told. Other texts, with the whole of what is told, and invalid arguments stand in cases/take_*.toml."""
+kind, 0 where no line is told. Other texts, with the whole of what is told, and invalid arguments stand in cases/import_*.toml."""
 
 PARALLEL = "edges --parallel "
 MATRIX, LARGE = "matrix-market", "0 1 4294967295"
