@@ -22,3 +22,4 @@ mod Crowds
 mod ShapeRefusals
 mod Documents
 mod LentRows
+mod Finds

@@ -1,6 +1,6 @@
 //! The rows of a network, lent.
 ghost use Rattle.std.specs.Prelude.{◌≡◌, ◌≤◌, length, map, slice_get, option_map, IfSome};
-ghost use Rattle.link_net.specs.Neighbours.{AreRows, neighbour_at, weight_at};
+ghost use Rattle.link_net.specs.Neighbours.{AreRows, degree, neighbour, neighbour_at, row, weight, weight_at};
 ghost use Rattle.link_net.specs.Layout.{rows_of, HoldRows};
 
 use crate::network::part_of;
@@ -88,5 +88,49 @@ impl<'a> NetRows<'a> {
     {
         let weights = self.weights(node)?;
         weights.get(slot as usize).copied()
+    }
+
+    /// The neighbours of a node; none where there is no such node.
+    pub fn neighbours_of(&self, node: u32) -> &[u32]
+        ensures exact { result.now ≡ map (λ a. a.0) (row self.now node) }
+    {
+        match self.neighbours(node) {
+            Some(neighbours) => neighbours,
+            None => &[],
+        }
+    }
+
+    /// The weights of the links to the neighbours of a node; none where there is no such node.
+    pub fn weights_of(&self, node: u32) -> &[u32]
+        ensures exact { result.now ≡ map (λ a. a.1) (row self.now node) }
+    {
+        match self.weights(node) {
+            Some(weights) => weights,
+            None => &[],
+        }
+    }
+
+    /// How many neighbours a node has, and 0 where there is no such node.
+    pub fn degree_of(&self, node: u32) -> u32
+        ensures exact { result ≡ degree self.now node }
+        ensures few { result ≤ 4294967295 }
+    {
+        // For the proof: what holds of all rows.
+        let _nodes = self.nodes();
+        self.degree(node).unwrap_or(0)
+    }
+
+    /// The neighbour at a slot of a node, and 0 where there is no such node or slot.
+    pub fn neighbour_of(&self, node: u32, slot: u32) -> u32
+        ensures exact { result ≡ neighbour self.now node slot }
+    {
+        self.neighbour(node, slot).unwrap_or(0)
+    }
+
+    /// The weight of the link to the neighbour at a slot of a node, and 0 where there is no such node or slot.
+    pub fn weight_of(&self, node: u32, slot: u32) -> u32
+        ensures exact { result ≡ weight self.now node slot }
+    {
+        self.weight(node, slot).unwrap_or(0)
     }
 }

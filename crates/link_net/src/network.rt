@@ -2,7 +2,7 @@
 ghost use Rattle.std.specs.Prelude.{◌≡◌, ◌↔◌, ◌+◌, ◌-◌, ◌*◌, ◌<◌, ◌≤◌, ℕ, length, map, slice_get, slice_index, nat_lt, option_map, IfSome, IsTrue, Some, None, if◌then◌else◌};
 ghost use Rattle.std.specs.List.{sum_by};
 ghost use Rattle.std.specs.List.Sorted.{IsStrictlyIncreasing};
-ghost use Rattle.link_net.specs.Neighbours.{IsNetwork, slot_at, neighbour_at, weight_at};
+ghost use Rattle.link_net.specs.Neighbours.{IsNetwork, degree, neighbour, neighbour_at, row, slot_at, weight_at};
 ghost use Rattle.link_net.specs.Layout.{part, rows_of, AreOffsets, IsLaidOut};
 
 use crate::lent::NetRows;
@@ -124,6 +124,41 @@ impl Network {
     {
         let weights = self.weights(node)?;
         weights.get(slot as usize).copied()
+    }
+
+    /// The neighbours of a node by rising number; none where there is no such node.
+    pub fn neighbours_of(&self, node: u32) -> &[u32]
+        ensures exact { result.now ≡ map (λ a. a.0) (row self.now node) }
+        ensures few { length result.now ≤ 4096 }
+    {
+        match self.neighbours(node) {
+            Some(neighbours) => neighbours,
+            None => &[],
+        }
+    }
+
+    /// The weights of the links to the neighbours of a node, slot by slot; none where there is no such node.
+    pub fn weights_of(&self, node: u32) -> &[u32]
+        ensures exact { result.now ≡ map (λ a. a.1) (row self.now node) }
+    {
+        match self.weights(node) {
+            Some(weights) => weights,
+            None => &[],
+        }
+    }
+
+    /// How many neighbours a node has, and 0 where there is no such node.
+    pub fn degree_of(&self, node: u32) -> u32
+        ensures exact { result ≡ degree self.now node }
+    {
+        self.degree(node).unwrap_or(0)
+    }
+
+    /// The neighbour at a slot of a node, and 0 where there is no such node or slot.
+    pub fn neighbour_of(&self, node: u32, slot: u32) -> u32
+        ensures exact { result ≡ neighbour self.now node slot }
+    {
+        self.neighbour(node, slot).unwrap_or(0)
     }
 
     /// The slot of a node at which a neighbour stands, or `None` where it is no neighbour of the node.

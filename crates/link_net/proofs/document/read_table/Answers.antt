@@ -1,7 +1,5 @@
 use Rattle.std.proofs.Common.{◌≡◌, ◌∙◌, true, false, sym, refl}
 use Rattle.std.proofs.lemmas.Str.{is_utf8-from_IsUtf8}
-use Rattle.std.specs.Prelude.{IsUtf8}
-use Rattle.std.specs.Str.{is_utf8}
 use Rattle.toml.specs.View.{table_view}
 use Rattle.link_net.proofs.Documents.{document_is, no_document}
 use Rattle.link_net.proofs.document.read_table.Goals as goal

@@ -1,4 +1,4 @@
--- Looks at a network.
+-- What is found of a node, and of a slot, where there may be none.
 use Rattle.std.proofs.Common.{◌≡◌, ℕ, zero, suc, List, [], ◌∷◌, length, Option, Some, None, slice_get, slice_index_or, refl, ap, ◌∙◌}
 use Rattle.std.specs.Option.{option_map, option_and_then, unwrap_or}
 use Rattle.std.proofs.lemmas.Option.{unwrap_or-slice_get}
