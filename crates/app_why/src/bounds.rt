@@ -1,5 +1,5 @@
 //! What bounds the numbers that a network gives to a program.
-ghost use Rattle.std.specs.Prelude.{◌≡◌, ◌≤◌, ◌<◌, ℕ, All, length, map};
+ghost use Rattle.std.specs.Prelude.{◌≤◌, ◌<◌, ℕ, All, length};
 ghost use Rattle.rule_check.specs.declared.state.State.{State};
 ghost use Rattle.rule_check.specs.Table.{M};
 ghost use Rattle.rule_check.specs.Value.{Rules, alone, here_at};
@@ -22,33 +22,13 @@ fn greatest(first: u32, numbers: &[u32]) -> u32
     greatest
 }
 
-/// How many neighbours a node has.
-fn degree_at(network: &Network, node: u32) -> u32
-    ensures exact { result ≡ degree network.now node }
-{
-    match network.degree(node) {
-        Some(degree) => degree,
-        None => 0,
-    }
-}
-
-/// The weights of the links of a node.
-fn weights_at(network: &Network, node: u32) -> &[u32]
-    ensures exact { result.now ≡ map (λ arc. arc.1) (row network.now node) }
-{
-    match network.weights(node) {
-        Some(weights) => weights,
-        None => &[],
-    }
-}
-
 /// The greatest number of neighbours of a node.
 fn greatest_degree(network: &Network) -> u32
     ensures each { (u : ℕ) → degree network.now u ≤ result }
 {
     let mut greatest = 0;
     for node in 0..network.nodes() {
-        greatest = greatest.max(degree_at(network, node));
+        greatest = greatest.max(network.degree_of(node));
     }
     greatest
 }
@@ -59,7 +39,7 @@ fn greatest_weight(network: &Network) -> u32
 {
     let mut found = 0;
     for node in 0..network.nodes() {
-        found = greatest(found, weights_at(network, node));
+        found = greatest(found, network.weights_of(node));
     }
     found
 }

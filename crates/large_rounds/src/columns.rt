@@ -1,17 +1,10 @@
 //! Values of fields in many states, one behind the other.
-ghost use Rattle.std.specs.Prelude.{◌≡◌, ◌++◌, ◌≤◌, IfOk, OnOk, take, slice_index};
+ghost use Rattle.std.specs.Prelude.{◌≡◌, ◌++◌, IfOk, OnOk, take};
 ghost use Rattle.large_parts.specs.States.{words_in};
 ghost use Rattle.large_rounds.specs.Columns.{column};
 
 use rule_check::State;
 use std::alloc::{AllocError, Global};
-
-/// The value of a field, and 0 for one that states do not have.
-pub(crate) fn field_value(state: &State, field: u32) -> u32
-    ensures value { result ≡ slice_index state.now.words field }
-{
-    state.words.get(field as usize).copied().unwrap_or(0)
-}
 
 /// The values of the first so many fields; all eight words where there are not so many.
 fn first_fields(state: &State, fields: u32) -> &[u32]
@@ -26,7 +19,7 @@ pub fn push_column(words: &mut Vec<u32>, states: &[State], field: u32) -> Result
     ensures pushed { OnOk result (words.new.items ≡ words.old.items ++ column field states.now) }
 {
     for state in states {
-        words.push(field_value(state, field))?;
+        words.push(state.value(field))?;
     }
     Ok(())
 }

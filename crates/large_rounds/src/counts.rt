@@ -5,7 +5,6 @@ ghost use Rattle.std.specs.BTreeMap.{get};
 ghost use Rattle.std.specs.Ordering.{nat_cmp};
 ghost use Rattle.large_rounds.specs.Counts.{AreCounts, has_moved, IsTally};
 
-use crate::columns::field_value;
 use rule_check::State;
 use std::alloc::{AllocError, Global};
 use std::collections::BTreeMap;
@@ -16,7 +15,7 @@ fn tally(alloc: Global, states: &[State], field: u32) -> Result<BTreeMap<u32, u6
 {
     let mut counts = BTreeMap::new(alloc);
     for state in states {
-        *counts.entry(field_value(state, field))?.or_insert(0) += 1;
+        *counts.entry(state.value(field))?.or_insert(0) += 1;
     }
     Ok(counts)
 }

@@ -1,7 +1,6 @@
 -- Ranges that grow by numbers.
-use Rattle.std.proofs.Common.{◌≡◌, ℕ, ◌+◌, ◌<◌, ◌≤◌, List, [], ◌∷◌, ◌++◌, length, get_or, take, map, refl, sym, ap, subst, ◌∙◌, arith, append_assoc, add-one, length-append, Option, Some, None, inl, inr}
-use Rattle.std.specs.Prelude.{Contains, flat_map, min, max, slice_get, option_map, unwrap_or}
-use Rattle.std.proofs.lemmas.Option.{unwrap_or-slice_get}
+use Rattle.std.proofs.Common.{◌≡◌, ℕ, ◌+◌, ◌<◌, ◌≤◌, List, [], ◌∷◌, ◌++◌, length, get_or, take, map, refl, sym, ap, subst, ◌∙◌, arith, append_assoc, add-one, length-append, inl, inr}
+use Rattle.std.specs.Prelude.{Contains, flat_map, min, max}
 use Rattle.std.proofs.lemmas.Bool.{cases_lt}
 use Rattle.std.proofs.lemmas.List.{append-nil, map-append, get_or_append_left, get_or-append-add}
 use Rattle.std.proofs.lemmas.List.Elements.{All-push}
@@ -31,14 +30,6 @@ weights_more network k inside =
     ap (λ n. weights_of (take n network)) (add-one k) ∙ ap weights_of (take-suc network k [] inside)
     ∙ flat_append seconds (take k network) (row network k ∷ [])
     ∙ ap (λ t. weights_of (take k network) ++ t) (append-nil (seconds (row network k)))
-
-out_of : {X B : Type 0} (f : X → B) (o : Option X) (d : X) → unwrap_or (option_map f o) (f d) ≡ f (unwrap_or o d)
-out_of f None d = refl
-out_of f (Some x) d = refl
-
--- what is read of a node's row
-pub read_row : {B : Type 0} (f : List (ℕ × ℕ) → B) (network : Neighbours) (u : ℕ) (found : Option B) → found ≡ option_map f (slice_get network u) → unwrap_or found (f []) ≡ f (row network u)
-read_row f network u found is = ap (λ o. unwrap_or o (f [])) is ∙ out_of f (slice_get network u) [] ∙ ap f (unwrap_or-slice_get network u [])
 
 -- a range with a number taken in
 pub widened : (numbers : List ℕ) (x : ℕ) (old later : Range) → later.least ≡ min old.least x → later.greatest ≡ max old.greatest x → IsRange numbers old → IsRange (numbers ++ x ∷ []) later

@@ -1,7 +1,6 @@
 //! What one wants to know of a network.
 ghost use Rattle.std.specs.Prelude.{◌≡◌, ◌↔◌, ◌≤◌, ◌*◌, ◌++◌, ◌∷◌, ℕ, List, [], length, map, IfOk, IfSome, IsSome};
 ghost use Rattle.std.specs.List.{sum_by};
-ghost use Rattle.link_net.specs.Neighbours.{degree, row};
 ghost use Rattle.net_facts.specs.Distances.{IsDiameter};
 ghost use Rattle.net_facts.specs.Facts.{IsRange, IsRangeOf, most_walks, weights_of};
 ghost use Rattle.net_facts.specs.Parts.{HasParts};
@@ -54,35 +53,15 @@ fn with(range: Option<Range>, number: u32) -> Option<Range>
     }
 }
 
-/// How many neighbours a node has.
-fn degree_at(network: &Network, node: u32) -> u32
-    ensures { result ≡ degree network.now node }
-{
-    match network.degree(node) {
-        Some(degree) => degree,
-        None => 0,
-    }
-}
-
 /// The least and the greatest number of neighbours of a node.
 fn degrees(network: &Network) -> Option<Range>
     ensures { IsRangeOf (map length network.now) result }
 {
     let mut range = None;
     for node in 0..network.nodes() {
-        range = with(range, degree_at(network, node));
+        range = with(range, network.degree_of(node));
     }
     range
-}
-
-/// The weights of the links of a node.
-fn weights_at(network: &Network, node: u32) -> &[u32]
-    ensures { result.now ≡ map (λ a. a.1) (row network.now node) }
-{
-    match network.weights(node) {
-        Some(weights) => weights,
-        None => &[],
-    }
 }
 
 /// The range of the weights of a node's links more.
@@ -102,7 +81,7 @@ fn weights(network: &Network) -> Option<Range>
 {
     let mut range = None;
     for node in 0..network.nodes() {
-        range = with_weights(range, weights_at(network, node));
+        range = with_weights(range, network.weights_of(node));
     }
     range
 }

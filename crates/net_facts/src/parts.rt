@@ -1,6 +1,5 @@
 //! The parts of a network that no links join.
-ghost use Rattle.std.specs.Prelude.{◌≡◌, ◌<◌, ◌≤◌, ℕ, [], length, map, Contains, IfNone, IfOk, IfSome, OnOk, slice_index};
-ghost use Rattle.link_net.specs.Neighbours.{row};
+ghost use Rattle.std.specs.Prelude.{◌≡◌, ◌<◌, ◌≤◌, ℕ, [], length, Contains, IfNone, IfOk, IfSome, OnOk, slice_index};
 ghost use Rattle.net_facts.specs.Parts.{AreJoined, HasParts, IsNeighbour};
 ghost use Rattle.net_facts.specs.Reaching.{AreReached, Grows, IsClosed};
 
@@ -44,16 +43,6 @@ pub(crate) fn reach(reached: &mut Reached, node: u32) -> Result<(), AllocError>
     Ok(())
 }
 
-/// The neighbours of a node.
-fn neighbours_at(network: &Network, node: u32) -> &[u32]
-    ensures value { result.now ≡ map (λ a. a.0) (row network.now node) }
-{
-    match network.neighbours(node) {
-        Some(neighbours) => neighbours,
-        None => &[],
-    }
-}
-
 /// Reaches the neighbours of a node.
 pub(crate) fn reach_neighbours(
     reached: &mut Reached,
@@ -70,7 +59,7 @@ pub(crate) fn reach_neighbours(
 {
     // For the proof: each neighbour is a node.
     let _nodes = network.nodes();
-    let neighbours = neighbours_at(network, node);
+    let neighbours = network.neighbours_of(node);
     for neighbour in neighbours {
         reach(reached, *neighbour)?;
     }

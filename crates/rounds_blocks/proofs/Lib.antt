@@ -1,6 +1,5 @@
 pub mod Given
 pub mod Parts
-pub mod Looks
 pub mod Ranges
 pub mod Slots
 pub mod Sums

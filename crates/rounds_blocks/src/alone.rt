@@ -7,7 +7,6 @@ ghost use Rattle.rounds_blocks.specs.Rounds.{HaveWords};
 ghost use Rattle.rounds_blocks.specs.Gathered.{gathered, gathered_first};
 
 use crate::batch::Batch;
-use crate::nodes::{neighbours_of, weights_of};
 use link_net::NetRows;
 use rounds_code::Block;
 
@@ -86,8 +85,8 @@ pub fn gather_alone(
         return;
     }
     let node = first_node(batch);
-    let neighbours = neighbours_of(network, node);
-    let weights = weights_of(network, node);
+    let neighbours = network.neighbours_of(node);
+    let weights = network.weights_of(node);
     let mut at = first;
     while at < neighbours.len() {
         let behind = part_end(at, neighbours.len());

@@ -3,7 +3,6 @@ ghost use Rattle.std.specs.Prelude.{◌≡◌, ◌<◌, ◌≤◌, ℕ, All, IfO
 ghost use Rattle.link_net.specs.Neighbours.{degree, neighbour, weight};
 ghost use Rattle.rounds_blocks.specs.Batches.{AreFalling, IsSlot, IsBatch};
 
-use crate::nodes::{degree_of, neighbour_of, weight_of};
 use link_net::NetRows;
 use rounds_code::{Places, Slot, Weights};
 use std::alloc::{AllocError, Global};
@@ -45,7 +44,7 @@ fn neighbours_in(
 {
     nodes
         .iter()
-        .map(|node| neighbour_of(network, *node, slot))
+        .map(|node| network.neighbour_of(*node, slot))
         .collect(alloc)
 }
 
@@ -60,7 +59,7 @@ fn weights_in(
 {
     nodes
         .iter()
-        .map(|node| weight_of(network, *node, slot))
+        .map(|node| network.weight_of(*node, slot))
         .collect(alloc)
 }
 
@@ -94,7 +93,7 @@ fn degrees_of(alloc: Global, network: &NetRows<'_>, nodes: &[u32]) -> Result<Vec
 {
     nodes
         .iter()
-        .map(|node| degree_of(network, *node))
+        .map(|node| network.degree_of(*node))
         .collect(alloc)
 }
 

@@ -4,7 +4,6 @@ ghost use Rattle.rounds_blocks.specs.Batches.{AreFalling, IsBatch, IsLayout, nod
 
 use crate::batch::{Batch, batch_of};
 use crate::near::{Near, nears_of};
-use crate::nodes::degree_of;
 use crate::order::by_falling_degree;
 use link_net::NetRows;
 use std::alloc::{AllocError, Global};
@@ -51,9 +50,9 @@ fn next_batch(network: &NetRows<'_>, nodes: &[u32], most_ends: u32) -> usize
     ensures inside { result ≤ length nodes.now }
 {
     let most = nodes.len().min(BATCH);
-    let mut ends = degree_of(network, nodes[0]);
+    let mut ends = network.degree_of(nodes[0]);
     for at in 1..most {
-        ends = ends.saturating_add(degree_of(network, nodes[at]));
+        ends = ends.saturating_add(network.degree_of(nodes[at]));
         if ends > most_ends {
             return at;
         }

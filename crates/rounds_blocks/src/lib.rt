@@ -15,7 +15,6 @@ mod line;
 mod merge;
 mod near;
 mod node_ranges;
-mod nodes;
 mod order;
 mod packed;
 mod part;

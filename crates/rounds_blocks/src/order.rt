@@ -5,7 +5,6 @@ ghost use Rattle.std.specs.List.Sorted.{IsPermutation};
 ghost use Rattle.link_net.specs.Neighbours.{degree};
 ghost use Rattle.rounds_blocks.specs.Batches.{AreFalling};
 
-use crate::nodes::degree_of;
 use link_net::NetRows;
 use std::alloc::{AllocError, Global};
 
@@ -28,7 +27,7 @@ fn nodes_from(alloc: Global, first: u32, end: u32) -> Result<Vec<u32>, AllocErro
 fn lack_of(network: &NetRows<'_>, node: u32) -> u32
     ensures exact { result ≡ 4294967295 - degree network.now node }
 {
-    MOST_NEIGHBOURS - degree_of(network, node)
+    MOST_NEIGHBOURS - network.degree_of(node)
 }
 
 /// The nodes from the first one on to the one before the end, by falling number of their neighbours.

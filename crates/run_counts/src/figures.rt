@@ -1,5 +1,5 @@
 //! Sums and extremes of the values of a field.
-ghost use Rattle.std.specs.Prelude.{◌≡◌, ◌≤◌, ◌<◌, ◌^◌, All, IfOk, length, slice_index, sum};
+ghost use Rattle.std.specs.Prelude.{◌≡◌, ◌≤◌, ◌<◌, ◌^◌, All, IfOk, length, sum};
 ghost use Rattle.rule_lang.specs.declared.tree.Agg.TheVariants as agg;
 ghost use Rattle.rule_check.specs.Table.{gather};
 ghost use Rattle.large_rounds.specs.Columns.{column};
@@ -9,13 +9,6 @@ use crate::asked::{Figure, FigureKind};
 use rule_check::State;
 use std::alloc::{AllocError, Global};
 
-/// The value of a field, and 0 for one that states do not have.
-pub(crate) fn value_in(state: &State, field: u32) -> u32
-    ensures value { result ≡ slice_index state.now.words field }
-{
-    state.words.get(field as usize).copied().unwrap_or(0)
-}
-
 /// The sum of the values of a field.
 fn sum_of(states: &[State], field: u32) -> u64
     requires few { length states.now ≤ 65536 }
@@ -24,7 +17,7 @@ fn sum_of(states: &[State], field: u32) -> u64
 {
     let mut total: u64 = 0;
     for state in states {
-        total += u64::from(value_in(state, field));
+        total += u64::from(state.value(field));
     }
     total
 }
@@ -35,7 +28,7 @@ fn least_of(states: &[State], field: u32) -> u32
 {
     let mut least = u32::MAX;
     for state in states {
-        least = least.min(value_in(state, field));
+        least = least.min(state.value(field));
     }
     least
 }
@@ -46,7 +39,7 @@ fn most_of(states: &[State], field: u32) -> u32
 {
     let mut most = 0;
     for state in states {
-        most = most.max(value_in(state, field));
+        most = most.max(state.value(field));
     }
     most
 }

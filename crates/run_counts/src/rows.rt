@@ -7,7 +7,7 @@ ghost use Rattle.rounds_plan.specs.Lockstep.{lockstep_config};
 ghost use Rattle.run_counts.specs.Rows.{AreRows, IsRowOf, is_held, is_over};
 
 use crate::asked::{Counting, Holders, Until};
-use crate::figures::{figures_of, value_in};
+use crate::figures::figures_of;
 use crate::table::Row;
 use large_rounds::count_values;
 use lockstep::{Course, RoundWalk};
@@ -22,7 +22,7 @@ fn has_value(states: &[State], field: u32, value: u32) -> bool
     ensures { result ≡ list_any (has_value field value) states.now }
 {
     for state in states {
-        if value_in(state, field) == value {
+        if state.value(field) == value {
             return true;
         }
     }
@@ -34,7 +34,7 @@ fn have_value(states: &[State], field: u32, value: u32) -> bool
     ensures { result ≡ list_all (has_value field value) states.now }
 {
     for state in states {
-        if value_in(state, field) != value {
+        if state.value(field) != value {
             return false;
         }
     }

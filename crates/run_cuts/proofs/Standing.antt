@@ -1,10 +1,9 @@
 -- The neighbours of a node with their states.
-use Rattle.std.proofs.Common.{◌≡◌, ◌<◌, ℕ, zero, suc, List, [], ◌∷◌, length, map, None, refl, ap, ◌∙◌}
-use Rattle.std.specs.Prelude.{option_map, slice_get}
+use Rattle.std.proofs.Common.{◌≡◌, ◌<◌, ℕ, List, [], ◌∷◌, length, map, refl, ap, ◌∙◌}
 use Rattle.rule_check.specs.declared.state.State.{State}
 use Rattle.rule_check.specs.declared.state.Near.{Near}
 use Rattle.rule_check.specs.Value.{here_at}
-use Rattle.link_net.specs.Neighbours.{Neighbours, row, neighbour}
+use Rattle.link_net.specs.Neighbours.{row, neighbour}
 use Rattle.rounds_plan.specs.Lockstep.{lockstep, lockstep_states, near_at, nears_in, state_in}
 use Rattle.rounds_plan.specs.Plans.{PlanView}
 use Rattle.rounds_plan.proofs.SameNears.{near_same}
@@ -26,9 +25,3 @@ here_same p t u states within made inside =
     near_same at (lockstep p t) (row p.network u) (λ j h. states_at p t states (neighbour p.network u j) made (within u j h)) in
     ap (λ (ns : List Near). here_at p.program t u (length ns) (at u) ns) nears
     ∙ ap (λ (s : State). here_at p.program t u (length (nears_in p.network (lockstep p t) u)) s (nears_in p.network (lockstep p t) u)) (states_at p t states u made inside)
-
--- of a node that is none
-pub no_row : {B : Type 0} (network : Neighbours) (u : ℕ) (f : List (ℕ × ℕ) → B) → None ≡ option_map f (slice_get network u) → row network u ≡ []
-no_row [] u f none = refl
-no_row (r ∷ rs) zero f none = cc
-no_row (r ∷ rs) (suc u) f none = no_row rs u f none

@@ -1,6 +1,5 @@
 //! The neighbours of a node, as its rules see them.
-ghost use Rattle.std.specs.Prelude.{◌≡◌, ◌+◌, ◌≤◌, ◌++◌, length, map, OnOk};
-ghost use Rattle.link_net.specs.Neighbours.{row};
+ghost use Rattle.std.specs.Prelude.{◌≡◌, ◌+◌, ◌≤◌, ◌++◌, length, OnOk};
 ghost use Rattle.rounds_plan.specs.Lockstep.{nears_in, state_in};
 ghost use Rattle.run_cuts.specs.Counting.{nears_from};
 
@@ -15,27 +14,6 @@ pub(crate) fn state_at(states: &[State], node: u32) -> State
     match states.get(node as usize) {
         Some(state) => *state,
         None => State { words: [0; 8] },
-    }
-}
-
-/// The neighbours of a node.
-fn neighbours_of(network: &Network, node: u32) -> &[u32]
-    ensures exact { result.now ≡ map (λ a. a.0) (row network.now node) }
-    ensures few { length result.now ≤ 4096 }
-{
-    match network.neighbours(node) {
-        Some(neighbours) => neighbours,
-        None => &[],
-    }
-}
-
-/// The weights of the links to the neighbours of a node.
-fn weights_of(network: &Network, node: u32) -> &[u32]
-    ensures exact { result.now ≡ map (λ a. a.1) (row network.now node) }
-{
-    match network.weights(node) {
-        Some(weights) => weights,
-        None => &[],
     }
 }
 
@@ -71,8 +49,8 @@ pub(crate) fn fill_nears(
     ensures few { OnOk result (length nears.new.items ≤ 4294967295) }
 {
     nears.clear();
-    let neighbours = neighbours_of(network, node);
-    let weights = weights_of(network, node);
+    let neighbours = network.neighbours_of(node);
+    let weights = network.weights_of(node);
     put_nears(nears, states, neighbours, weights)?;
     Ok(())
 }

@@ -34,8 +34,7 @@ fn place_of(program: &Program, name: &str) -> u32
 fn word(program: &Program, state: &State, name: &str) -> u32
     ensures exact { result ≡ word_lem (names_of program.now) state.now name.now }
 {
-    let place = place_of(program, name);
-    state.words.get(place as usize).copied().unwrap_or(0)
+    state.value(place_of(program, name))
 }
 
 /// The value of an expression at a node, and at one neighbour where it stands in an aggregate.

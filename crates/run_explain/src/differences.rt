@@ -2,7 +2,7 @@
 ghost use Rattle.std.specs.Prelude.{◌≡◌};
 ghost use Rattle.run_explain.specs.Differences.{difference_after, differences, greatest_of, least_of};
 
-use crate::looks::{moves, neighbours_of};
+use crate::looks::moves;
 use unison_world::{Answer, Step, World};
 
 /// How far a node's count is from that of the neighbour that differs most.
@@ -11,7 +11,7 @@ fn difference_at(world: &World, node: u32) -> u32
 {
     let own = moves(world, node);
     let mut greatest: u32 = 0;
-    for neighbour in neighbours_of(world.plan().network(), node) {
+    for neighbour in world.plan().network().neighbours_of(node) {
         greatest = greatest.max(own.abs_diff(moves(world, *neighbour)));
     }
     greatest

@@ -1,10 +1,8 @@
 //! What a world shows of its nodes.
 ghost use Rattle.std.specs.Prelude.{◌≡◌, ◌≤◌};
-ghost use Rattle.link_net.specs.Neighbours.{degree, neighbour};
 ghost use Rattle.rounds_plan.specs.Configs.{most_rounds};
 ghost use Rattle.unison_world.specs.Counting.{moves_of, marks_of};
 ghost use Rattle.unison_world.specs.Progress.{marks_in};
-ghost use Rattle.unison_world.specs.Turns.{neighbours_of};
 ghost use Rattle.run_explain.specs.Reads.{one_if_read};
 ghost use Rattle.run_explain.specs.Sentences.{first_unread};
 
@@ -20,27 +18,6 @@ pub(crate) fn moves(world: &World, node: u32) -> u32
     let _nodes = world.nodes();
     let _stop = world.stop();
     world.moves(node).unwrap_or(0)
-}
-
-/// How many slots a node has.
-pub(crate) fn degree(network: &Network, node: u32) -> u32
-    ensures { result ≡ degree network.now node }
-{
-    network.degree(node).unwrap_or(0)
-}
-
-/// The neighbour at a slot of a node.
-pub(crate) fn neighbour(network: &Network, node: u32, slot: u32) -> u32
-    ensures { result ≡ neighbour network.now node slot }
-{
-    network.neighbour(node, slot).unwrap_or(0)
-}
-
-/// The neighbours of a node by rising number.
-pub(crate) fn neighbours_of(network: &Network, node: u32) -> &[u32]
-    ensures { result.now ≡ neighbours_of network.now node }
-{
-    network.neighbours(node).unwrap_or(&[])
 }
 
 /// One for a slot that was read.
@@ -61,7 +38,7 @@ pub(crate) fn slots_read(world: &World, node: u32) -> u32
     // For the proof alone: the call tells what holds of every world.
     let _nodes = world.nodes();
     let mut read = 0;
-    for slot in 0..degree(world.plan().network(), node) {
+    for slot in 0..world.plan().network().degree_of(node) {
         read += one_if_read(world.ask(Step::Read { node, slot }));
     }
     read
@@ -73,7 +50,7 @@ pub(crate) fn first_unread(world: &World, node: u32) -> u32
 {
     // For the proof alone: the call tells what holds of every world.
     let _nodes = world.nodes();
-    let slots = degree(world.plan().network(), node);
+    let slots = world.plan().network().degree_of(node);
     for slot in 0..slots {
         if one_if_read(world.ask(Step::Read { node, slot })) == 0 {
             return slot;

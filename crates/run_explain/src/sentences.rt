@@ -10,7 +10,7 @@ ghost use Rattle.unison_world.specs.View.{answer_in, state_of, world_after};
 ghost use Rattle.run_explain.specs.Registers.{HasPrevious};
 ghost use Rattle.run_explain.specs.Sentences.{called, look_sentence, look_words, no_node_words, read_sentence, reads_words, sentence, write_sentence};
 
-use crate::looks::{degree, first_unread, moves, neighbour, slots_read};
+use crate::looks::{first_unread, moves, slots_read};
 use crate::registers::{look, make, state_of};
 use net_names::NodeNames;
 use phase_register::Look;
@@ -160,7 +160,7 @@ fn put_no_slot(
 ) -> Result<(), AllocError>
     ensures words { OnOk result (string_bytes out.new ≡ string_bytes out.old ++ (called (option_map (λ n. n.now) names.entry) node ++ (codes " has no slot " ++ (decimal slot ++ (codes ": its slots are numbered below " ++ decimal (degree world.now.plan.network node)))))) }
 {
-    let slots = degree(world.plan().network(), node);
+    let slots = world.plan().network().degree_of(node);
     put_called(out, names, node)?;
     write!(
         out,
@@ -218,7 +218,7 @@ fn put_read(
 {
     // For the proof alone: the call tells that neighbours are nodes.
     let _nodes = world.nodes();
-    let neighbour = neighbour(world.plan().network(), node, slot);
+    let neighbour = world.plan().network().neighbour_of(node, slot);
     match answer {
         Answer::Taken => put_seen(out, world, previous, names, node, neighbour),
         Answer::Behind => put_seen(out, world, previous, names, node, neighbour),
@@ -260,8 +260,8 @@ fn put_waiting(
 {
     let network = world.plan().network();
     let read = slots_read(world, node);
-    let slots = degree(network, node);
-    let unread = neighbour(network, node, first_unread(world, node));
+    let slots = network.degree_of(node);
+    let unread = network.neighbour_of(node, first_unread(world, node));
     put_called(out, names, node)?;
     write!(
         out,

@@ -2,7 +2,7 @@
 ghost use Rattle.std.specs.Prelude.{◌≡◌, ◌++◌, OnOk, codes, string_bytes};
 ghost use Rattle.run_explain.specs.Words.{answer_words, at_count, read_words, spelled, write_words};
 
-use crate::looks::{degree, moves, neighbour, slots_read};
+use crate::looks::{moves, slots_read};
 use std::alloc::AllocError;
 use unison_world::{Answer, Step, World};
 
@@ -54,8 +54,8 @@ fn put_read(
     ensures words { OnOk result (string_bytes out.new ≡ string_bytes out.old ++ read_words world.now.plan.network world.now.counts node slot answer) }
 {
     let network = world.plan().network();
-    let neighbour = neighbour(network, node, slot);
-    let slots = degree(network, node);
+    let neighbour = network.neighbour_of(node, slot);
+    let slots = network.degree_of(node);
     let nodes = network.nodes();
     match answer {
         Answer::Taken => put_taken(out, world, neighbour),
@@ -77,7 +77,7 @@ fn put_not_ready(out: &mut String, world: &World, node: u32) -> Result<(), Alloc
     ensures words { OnOk result (string_bytes out.new ≡ string_bytes out.old ++ write_words world.now.plan.network world.now.counts node Answer.NotReady) }
 {
     let read = slots_read(world, node);
-    let slots = degree(world.plan().network(), node);
+    let slots = world.plan().network().degree_of(node);
     write!(out, "NotReady: {read} of {slots} neighbours read")
 }
 

@@ -1,7 +1,6 @@
 //! The nodes of a plan before any step.
 ghost use Rattle.std.specs.Prelude.{◌≡◌, ℕ, [], length, map, IfOk};
-ghost use Rattle.link_net.specs.Neighbours.{row};
-ghost use Rattle.rounds_plan.specs.Lockstep.{nears_in, state_in};
+ghost use Rattle.rounds_plan.specs.Lockstep.{state_in};
 ghost use Rattle.run_naive.specs.Naive.{opening_node, opening_nodes};
 ghost use Rattle.run_naive.specs.Keeping.{nears_from, past_in, past_of, shown};
 
@@ -18,26 +17,6 @@ fn opening_of(plan: &Plan, node: u32) -> State
     match plan.opening(node) {
         Some(state) => state,
         None => State { words: [0; 8] },
-    }
-}
-
-/// The neighbours of a node.
-fn neighbours_of(network: &Network, node: u32) -> &[u32]
-    ensures exact { result.now ≡ map (λ a. a.0) (row network.now node) }
-{
-    match network.neighbours(node) {
-        Some(neighbours) => neighbours,
-        None => &[],
-    }
-}
-
-/// The weights of the links to the neighbours of a node.
-fn weights_of(network: &Network, node: u32) -> &[u32]
-    ensures exact { result.now ≡ map (λ a. a.1) (row network.now node) }
-{
-    match network.weights(node) {
-        Some(weights) => weights,
-        None => &[],
     }
 }
 
@@ -67,8 +46,8 @@ fn opening_node(alloc: Global, plan: &Plan, node: u32) -> Result<Node, AllocErro
     ensures exact { IfOk result (λ n. shown n ≡ opening_node plan.now node) }
     ensures past { IfOk result (λ n. n.past.items ≡ []) }
 {
-    let neighbours = neighbours_of(plan.network(), node);
-    let weights = weights_of(plan.network(), node);
+    let neighbours = plan.network().neighbours_of(node);
+    let weights = plan.network().weights_of(node);
     let desk = desk_of(alloc, plan, neighbours, weights)?;
     Ok(Node {
         moves: plan.start(),

@@ -27,20 +27,6 @@ fn put_link(
     Ok(())
 }
 
-/// The neighbours of a node.
-fn neighbours_of(network: &Network, node: u32) -> &[u32]
-    ensures { result.now ≡ map (λ a. a.0) (row network.now node) }
-{
-    network.neighbours(node).unwrap_or(&[])
-}
-
-/// The weights of the links to them.
-fn weights_of(network: &Network, node: u32) -> &[u32]
-    ensures { result.now ≡ map (λ a. a.1) (row network.now node) }
-{
-    network.weights(node).unwrap_or(&[])
-}
-
 /// Adds the links of a node with neighbours of greater number.
 fn put_links(
     alloc: Global,
@@ -50,8 +36,8 @@ fn put_links(
 ) -> Result<(), AllocError>
     ensures { OnOk result (map view items.new.items ≡ map view items.old.items ++ links_up node (row network.now node)) }
 {
-    let neighbours = neighbours_of(network, node);
-    let weights = weights_of(network, node);
+    let neighbours = network.neighbours_of(node);
+    let weights = network.weights_of(node);
     for (slot, neighbour) in neighbours.iter().enumerate() {
         put_link(alloc, items, node, *neighbour, weights[slot])?;
     }

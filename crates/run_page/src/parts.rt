@@ -1,5 +1,5 @@
 //! Numbers, texts and states as JSON.
-ghost use Rattle.std.specs.Prelude.{◌≡◌, ◌∷◌, ◌++◌, [], IfOk, OnOk, map, slice_index, string_bytes};
+ghost use Rattle.std.specs.Prelude.{◌≡◌, ◌∷◌, ◌++◌, [], IfOk, OnOk, map, string_bytes};
 ghost use Rattle.serde_json.specs.Data.{string};
 ghost use Rattle.serde_json.specs.View.{view};
 ghost use Rattle.run_page.specs.Pages.{listed, numbers as numbers_data, shown, shown_values, texts, whole};
@@ -30,13 +30,6 @@ pub(crate) fn bytes(alloc: Global, text: &str) -> Result<Value, AllocError>
     Ok(Value::Array(items))
 }
 
-/// The value of a state at a place; 0 past the last.
-fn word(state: &State, place: u32) -> u32
-    ensures { result ≡ slice_index state.now.words place }
-{
-    state.words.get(place as usize).copied().unwrap_or(0)
-}
-
 /// Adds the values of a state's shown fields.
 pub(crate) fn put_shown(
     items: &mut Vec<Value>,
@@ -46,7 +39,7 @@ pub(crate) fn put_shown(
     ensures { OnOk result (map view items.new.items ≡ map view items.old.items ++ map whole (shown fields.now state.now)) }
 {
     for place in fields {
-        items.push(Value::from(word(state, *place)))?;
+        items.push(Value::from(state.value(*place)))?;
     }
     Ok(())
 }

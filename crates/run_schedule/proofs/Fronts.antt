@@ -1,18 +1,10 @@
 -- The first steps of lists that grow.
-use Rattle.std.proofs.Common.{◌≡◌, ℕ, zero, suc, ◌+◌, ◌≤◌, List, [], ◌∷◌, ◌++◌, length, map, take, Option, slice_get, append_assoc, append-nil, sym, refl, ap, ◌∙◌, ⊎_elim, arith}
+use Rattle.std.proofs.Common.{◌≡◌, ℕ, zero, suc, ◌+◌, ◌≤◌, List, [], ◌∷◌, ◌++◌, length, map, take, append_assoc, append-nil, sym, refl, ap, ◌∙◌, ⊎_elim, arith}
 use Rattle.std.specs.List.{range_with_len, flat_map, repeat}
-use Rattle.std.specs.Option.{option_map, unwrap_or}
 use Rattle.std.proofs.lemmas.List.{length-take, take_all, take-take, take-append-le, length-take-le}
 use Rattle.std.proofs.lemmas.Bool.{cases_lt}
-use Rattle.link_net.specs.Neighbours.{Neighbours, degree}
 use Rattle.unison_world.specs.declared.step.Step.{Step}
 use Rattle.unison_world.specs.declared.step.Step.TheVariants.{Read}
-
--- a degree that is looked up
-pub degree_found : (network : Neighbours) (u d : ℕ) (o : Option ℕ) → o ≡ option_map length (slice_get network u) → d ≡ unwrap_or o 0 → d ≡ degree network u
-degree_found [] u d o e f = f ∙ ap (λ x. unwrap_or x 0) e
-degree_found (r ∷ network) zero d o e f = f ∙ ap (λ x. unwrap_or x 0) e
-degree_found (r ∷ network) (suc u) d o e f = degree_found network u d o e f
 
 take-front : {X : Type 0} (n : ℕ) (xs ys : List X) → take n (take n xs ++ ys) ≡ take n (xs ++ ys)
 take-front n xs ys =

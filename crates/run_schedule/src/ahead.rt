@@ -5,7 +5,6 @@ ghost use Rattle.run_schedule.specs.Leading.{AreTurns, HasLed, IsReady, StaysAhe
 ghost use Rattle.run_schedule.specs.Walks.{GoesOn, IsFull};
 
 use crate::fault::Halt;
-use crate::links::degree;
 use crate::walk::Walk;
 use std::alloc::{AllocError, Global};
 use unison_world::Step;
@@ -71,7 +70,7 @@ fn take_step(walk: &mut Walk, turns: &mut Vec<Turn>, turn: Turn, node: u32) -> R
     ensures turns { OnOk result (AreTurns walk.new.world node turns.new.items) }
     ensures full { IfErr result (λ halt. halt ≡ Halt.Full → (walk.new ≡ walk.old) × IsFull walk.new) }
 {
-    let slots = degree(walk.network(), turn.node);
+    let slots = walk.network().degree_of(turn.node);
     if turn.slot >= slots {
         walk.make(Step::Write { node: turn.node })?;
         return Ok(());

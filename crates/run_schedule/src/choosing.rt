@@ -5,7 +5,6 @@ ghost use Rattle.run_schedule.specs.Daemons.{AreChosen, KeepsTwo, NoneFree, is_f
 
 use crate::daemon::Daemon;
 use crate::enabled::{drawn_nodes, free_nodes, is_free};
-use crate::links::neighbours_of;
 use crate::walk::Walk;
 use rand::RngExt;
 use rand_core::SeedableRng;
@@ -183,7 +182,7 @@ impl Draws {
     /// A node has moved: it may be enabled again, and so may a neighbour that was ahead of it.
     fn after_one(&mut self, walk: &Walk, node: u32) -> Result<(), AllocError> {
         self.put(walk, node)?;
-        for neighbour in neighbours_of(walk.network(), node) {
+        for neighbour in walk.network().neighbours_of(node) {
             if walk.moves(*neighbour) == walk.moves(node) {
                 self.put(walk, *neighbour)?;
             }

@@ -3,7 +3,6 @@ ghost use Rattle.std.specs.Prelude.{◌≡◌, ◌<◌, ◌&&◌, ◌++◌, ◌�
 ghost use Rattle.unison_world.specs.Turns.{any_behind};
 ghost use Rattle.run_schedule.specs.Daemons.{AreDrawn, MayBePut, free_nodes, is_but, is_enabled, is_free};
 
-use crate::links::neighbours_of;
 use crate::walk::Walk;
 use rand::RngExt;
 use rand_pcg::Pcg64;
@@ -14,7 +13,7 @@ fn any_behind(walk: &Walk, node: u32) -> bool
     requires node { node < length walk.now.world.plan.network }
     ensures behind { result ≡ any_behind walk.now.world.plan.network walk.now.world.counts node }
 {
-    let neighbours = neighbours_of(walk.network(), node);
+    let neighbours = walk.network().neighbours_of(node);
     for slot in 0..neighbours.len() {
         if walk.is_behind(neighbours[slot], node) {
             return true;

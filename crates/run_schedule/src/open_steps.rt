@@ -2,7 +2,6 @@
 ghost use Rattle.std.specs.Prelude.{◌≡◌, ◌++◌, ◌∷◌, [], true, All, OnOk, IfOk, if◌then◌else◌};
 ghost use Rattle.run_schedule.specs.Walks.{AtRest, RestsAt, is_open};
 
-use crate::links::degree;
 use crate::walk::Walk;
 use std::alloc::{AllocError, Global};
 use unison_world::Step;
@@ -22,7 +21,7 @@ fn find_at(walk: &Walk, node: u32, found: &mut Vec<Step>) -> Result<(), AllocErr
     ensures opens { OnOk result (All (λ step. is_open walk.now step ≡ true) found.old.items → All (λ step. is_open walk.now step ≡ true) found.new.items) }
     ensures none { OnOk result (found.new.items ≡ [] → (found.old.items ≡ []) × RestsAt walk.now node) }
 {
-    for slot in 0..degree(walk.network(), node) {
+    for slot in 0..walk.network().degree_of(node) {
         find(walk, Step::Read { node, slot }, found)?;
     }
     find(walk, Step::Write { node }, found)?;

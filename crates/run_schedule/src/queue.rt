@@ -1,7 +1,6 @@
 //! Steps that may be open, in the order in which they are tried. Nothing that is promised of a list rests on this: each step is
 //! made only where it is open, and a list ends only where all steps were looked at.
 
-use crate::links::degree;
 use crate::walk::Walk;
 use link_net::Network;
 use rand::RngExt;
@@ -65,7 +64,7 @@ impl Queue {
     ) -> Result<Queue, AllocError> {
         let mut unread = Vec::new(alloc);
         for node in 0..network.nodes() {
-            unread.push(degree(network, node))?;
+            unread.push(network.degree_of(node))?;
         }
         Ok(Queue {
             order,
@@ -158,7 +157,7 @@ impl Queue {
     fn after_write(&mut self, walk: &Walk, node: u32) -> Result<(), AllocError> {
         let neighbours = walk.network().neighbours(node).unwrap_or(&[]);
         if let Some(unread) = self.unread.get_mut(node as usize) {
-            *unread = degree(walk.network(), node);
+            *unread = walk.network().degree_of(node);
         }
         if neighbours.is_empty() {
             return self.try_put(walk, Step::Write { node });

@@ -10,7 +10,6 @@ ghost use Rattle.run_schedule.specs.Manners.{IsFaultOf, refusal_of};
 ghost use Rattle.run_schedule.specs.Mixing.{ArePut, HasLink, IsLinked, IsMixed, IsRefused, IsStepOf, changing_of};
 
 use crate::fault::ListFault;
-use crate::links::degree;
 use crate::listing::{limit_of, refusal};
 use crate::manner::Manner;
 use crate::walk::changes;
@@ -34,7 +33,7 @@ fn drawn_step(rng: &mut Pcg64, network: &Network) -> Step
     ensures there { IsStepOf network.now result }
 {
     let node = rng.random_range(0..network.nodes());
-    let slots = degree(network, node);
+    let slots = network.degree_of(node);
     let slot = rng.random_range(0..=slots);
     if slot < slots {
         Step::Read { node, slot }
@@ -72,7 +71,7 @@ fn refused_of(world: &World, node: u32) -> Step
 fn put_linked(linked: &mut Vec<u32>, network: &Network, node: u32) -> Result<(), AllocError>
     ensures put { OnOk result (linked.new.items ≡ (if nat_lt 0 (degree network.now node) then linked.old.items ++ node ∷ [] else linked.old.items)) }
 {
-    if degree(network, node) > 0 {
+    if network.degree_of(node) > 0 {
         linked.push(node)?;
     }
     Ok(())

@@ -2,7 +2,6 @@
 ghost use Rattle.std.specs.Prelude.{◌≡◌, ◌≤◌, ◌∷◌, ◌++◌, [], length, take, OnOk, IfOk};
 ghost use Rattle.run_schedule.specs.Sweeps.{sweep_of, sweeps_of, turn_of};
 
-use crate::links::degree;
 use link_net::Network;
 use rounds_plan::Plan;
 use std::alloc::{AllocError, Global};
@@ -29,7 +28,7 @@ fn put_turn(
     requires few { length steps.old.items ≤ limit }
     ensures put { OnOk result (steps.new.items ≡ take limit (steps.old.items ++ turn_of network.now node)) }
 {
-    for slot in 0..degree(network, node) {
+    for slot in 0..network.degree_of(node) {
         put(steps, limit, Step::Read { node, slot })?;
     }
     put(steps, limit, Step::Write { node })

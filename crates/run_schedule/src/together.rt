@@ -7,7 +7,6 @@ ghost use Rattle.run_schedule.specs.Daemons.{AllChange, IsBare, MayMove, reads_o
 ghost use Rattle.run_schedule.specs.Walks.{GoesOn, IsFull};
 
 use crate::fault::Halt;
-use crate::links::degree;
 use crate::walk::Walk;
 use link_net::Network;
 use std::alloc::{AllocError, Global};
@@ -17,7 +16,7 @@ use unison_world::Step;
 fn put_reads(steps: &mut Vec<Step>, network: &Network, node: u32) -> Result<(), AllocError>
     ensures put { OnOk result (steps.new.items ≡ steps.old.items ++ reads_of network.now node) }
 {
-    for slot in 0..degree(network, node) {
+    for slot in 0..network.degree_of(node) {
         steps.push(Step::Read { node, slot })?;
     }
     Ok(())

@@ -1,23 +1,16 @@
 //! Which nodes are shown.
-ghost use Rattle.std.specs.Prelude.{◌≡◌, slice_index};
+ghost use Rattle.std.specs.Prelude.{◌≡◌};
 ghost use Rattle.run_watch.specs.Watching.{differs, is_changed, is_shown};
 
 use crate::show::Show;
 use rule_check::State;
-
-/// A word of a state; 0 past the last.
-pub(crate) fn word(state: &State, place: u32) -> u32
-    ensures { result ≡ slice_index state.now.words place }
-{
-    state.words.get(place as usize).copied().unwrap_or(0)
-}
 
 /// Whether one of the fields has another value.
 fn is_changed(fields: &[u32], old: &State, new: &State) -> bool
     ensures { result ≡ is_changed fields.now old.now new.now }
 {
     for place in fields {
-        if word(old, *place) != word(new, *place) {
+        if old.value(*place) != new.value(*place) {
             return true;
         }
     }

@@ -5,7 +5,6 @@ ghost use Rattle.rule_check.specs.Value.{names_of};
 ghost use Rattle.run_watch.specs.declared.show.Format.TheVariants.{Json};
 ghost use Rattle.run_watch.specs.Watching.{cell_text, cells_text, label_of, names_in, row_end, row_start, row_text, value_name, json_label};
 
-use crate::changes::word;
 use crate::show::{Format, Show};
 use report_text::put_field;
 use rule_check::{Program, State};
@@ -94,7 +93,7 @@ fn put_cells(
     ensures text { OnOk result (string_bytes out.new ≡ string_bytes out.old ++ cells_text show.now (names_of program.now) state.now) }
 {
     for place in show.fields {
-        put_cell(out, show, program, *place, word(state, *place))?;
+        put_cell(out, show, program, *place, state.value(*place))?;
     }
     Ok(())
 }

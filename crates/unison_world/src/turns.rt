@@ -15,13 +15,6 @@ use link_net::Network;
 use phase_register::Look;
 use rounds_plan::Plan;
 
-/// The neighbours of a node by rising number.
-fn neighbours_of(network: &Network, node: u32) -> &[u32]
-    ensures { result.now ≡ neighbours_of network.now node }
-{
-    network.neighbours(node).unwrap_or(&[])
-}
-
 /// Whether some neighbour has moved less often than the node: whether its register looks behind.
 fn some_behind(plan: &Plan, stop: u32, nodes: &Vec<Node>, node: u32) -> bool
     requires drawn { IsDrawn plan.now nodes.now.items }
@@ -30,7 +23,7 @@ fn some_behind(plan: &Plan, stop: u32, nodes: &Vec<Node>, node: u32) -> bool
     ensures behind { result ≡ any_behind plan.now.network (counts_of nodes.now.items) node }
 {
     let own = nodes[node as usize].register.phase();
-    let neighbours = neighbours_of(plan.network(), node);
+    let neighbours = plan.network().neighbours_of(node);
     for slot in 0..neighbours.len() {
         let look = nodes[neighbours[slot] as usize].register.seen_from(own);
         if let Look::Behind = look {

@@ -13,4 +13,4 @@ loop-node-preserved c = λ u before. at u before (cases_lt u c.loop-node.node) w
       let same : c.loop-node.node ≡ u = omega (arith, before, here) in
       subst (λ v. All (λ (arc : ℕ × ℕ). arc.1 ≤ c.greatest-found.result) (row c.args.network.now v)) same
       (seconds_at_most c.greatest-found.result (row c.args.network.now c.loop-node.node)
-      (subst (All (λ weight. weight ≤ c.greatest-found.result)) c.weights_at.ensures.exact c.greatest-found.ensures.each))
+      (subst (All (λ weight. weight ≤ c.greatest-found.result)) c.weights_of.ensures.exact c.greatest-found.ensures.each))

@@ -9,5 +9,5 @@ loop-node-preserved c =
     let node = c.loop-node.node in
     let inside : node < length network = omega (arith, c.loop-node-test.true, c.nodes-node-end.ensures.count) in
     let numbers = map length (take node network) in
-    let more = ap (λ d. numbers ++ d ∷ []) c.degree_at.ensures ∙ sym (degrees_more network node inside) in
+    let more = ap (λ d. numbers ++ d ∷ []) c.degree_of.ensures.exact ∙ sym (degrees_more network node inside) in
     subst (λ ns. IsRangeOf ns c.with-range.result) more (c.with-range.ensures.range numbers c.loop-node.invariant)

@@ -9,5 +9,5 @@ loop-node-preserved c =
     let node = c.loop-node.node in
     let inside : node < length network = omega (arith, c.loop-node-test.true, c.nodes-node-end.ensures.count) in
     let numbers = weights_of (take node network) in
-    let more = ap (λ ws. numbers ++ ws) c.weights_at.ensures ∙ sym (weights_more network node inside) in
+    let more = ap (λ ws. numbers ++ ws) c.weights_of.ensures.exact ∙ sym (weights_more network node inside) in
     subst (λ ns. IsRangeOf ns c.with_weights-range.result) more (c.with_weights-range.ensures.range numbers c.loop-node.invariant)

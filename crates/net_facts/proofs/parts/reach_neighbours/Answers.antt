@@ -6,22 +6,22 @@ use Rattle.net_facts.proofs.parts.reach_neighbours.Goals as goal
 
 pub reach-requires-clause-within : goal.reach-requires-clause-within
 reach-requires-clause-within c =
-    let list = c.neighbours_at-neighbours.result.now in
+    let list = c.neighbours_of-neighbours.result.now in
     let k = c.loop-neighbour.neighbour-index in
-    let below : get_or list k 0 < length c.args.network.now = near c.args.network.now c.nodes-nodes.ensures.whole c.args.node k list c.neighbours_at-neighbours.ensures.value c.loop-neighbour-test.true in
+    let below : get_or list k 0 < length c.args.network.now = near c.args.network.now c.nodes-nodes.ensures.whole c.args.node k list c.neighbours_of-neighbours.ensures.exact c.loop-neighbour-test.true in
     omega (arith, below, c.loop-neighbour.invariant.size)
 
 pub loop-neighbour-preserved : goal.loop-neighbour-preserved
 loop-neighbour-preserved c =
     let network = c.args.network.now in
     let node = c.args.node in
-    let list = c.neighbours_at-neighbours.result.now in
+    let list = c.neighbours_of-neighbours.result.now in
     let k = c.loop-neighbour.neighbour-index in
     let x = get_or list k 0 in
     let old = c.args.reached.now.nodes.items in
     let here = c.loop-neighbour.reached.nodes.items in
     let later = c.reach.new.reached.nodes.items in
-    let next : IsNeighbour network node x = subst (λ ns. Contains ns x) c.neighbours_at-neighbours.ensures.value (is_in list k c.loop-neighbour-test.true) in
+    let next : IsNeighbour network node x = subst (λ ns. Contains ns x) c.neighbours_of-neighbours.ensures.exact (is_in list k c.loop-neighbour-test.true) in
     let grows = c.in_ok-reach.ensures.grows in
     record {
       whole = c.in_ok-reach.ensures.whole;
@@ -33,5 +33,5 @@ loop-neighbour-preserved c =
 
 pub returns-clause-all : goal.returns-clause-all
 returns-clause-all c = λ v next.
-    let list = c.neighbours_at-neighbours.result.now in
-    all_in c.loop-neighbour.reached.nodes.items list c.loop-neighbour.neighbour-index c.loop-neighbour-test.false c.loop-neighbour.invariant.all v (subst (λ ns. Contains ns v) (sym c.neighbours_at-neighbours.ensures.value) next)
+    let list = c.neighbours_of-neighbours.result.now in
+    all_in c.loop-neighbour.reached.nodes.items list c.loop-neighbour.neighbour-index c.loop-neighbour-test.false c.loop-neighbour.invariant.all v (subst (λ ns. Contains ns v) (sym c.neighbours_of-neighbours.ensures.exact) next)

@@ -12,7 +12,7 @@ loop-slot-preserved c =
     let u = c.args.node in
     let j = c.loop-slot.slot in
     let network : c.network.result.now ≡ w.plan.network = c.network.ensures.network ∙ ap (λ p. p.network) c.plan.ensures.plan in
-    let slots : c.degree-slot-end.result ≡ degree w.plan.network u = c.degree-slot-end.ensures ∙ ap (λ n. degree n u) network in
+    let slots : c.degree_of-slot-end.result ≡ degree w.plan.network u = c.degree_of-slot-end.ensures.exact ∙ ap (λ n. degree n u) network in
     let inside : j < degree w.plan.network u = omega arith in
     let one = c.one_if_read-read.ensures.count ∙ ap one_if_read c.ask.ensures.answer in
     record {

@@ -13,10 +13,10 @@ returns c =
     let u = c.args.node in
     let names = option_map (λ n. n.now) c.args.names in
     let network = c.network-network.ensures.network ∙ ap (λ p. p.network) c.plan.ensures.plan in
-    let slots : c.degree-slots.result ≡ degree w.plan.network u = c.degree-slots.ensures ∙ ap (λ n. degree n u) network in
-    let unread : c.neighbour-unread.result ≡ neighbour w.plan.network u (first_unread w.counts u) =
-    c.neighbour-unread.ensures ∙ ap (λ n. neighbour n u c.first_unread.result) network ∙ ap (neighbour w.plan.network u) c.first_unread.ensures in
+    let slots : c.degree_of-slots.result ≡ degree w.plan.network u = c.degree_of-slots.ensures.exact ∙ ap (λ n. degree n u) network in
+    let unread : c.neighbour_of-unread.result ≡ neighbour w.plan.network u (first_unread w.counts u) =
+    c.neighbour_of-unread.ensures.exact ∙ ap (λ n. neighbour n u c.first_unread.result) network ∙ ap (neighbour w.plan.network u) c.first_unread.ensures in
     record {
-      words = waiting (string_bytes c.args.out.now) (string_bytes c.put_called.new.out) (string_bytes c.write.new.self) (string_bytes c.put_called-2.new.out) (called names u) (called names c.neighbour-unread.result) (called names (neighbour w.plan.network u (first_unread w.counts u)))
-          c.slots_read-read.result (marks_in (marks_of w.counts u)) c.degree-slots.result (degree w.plan.network u) c.slots_read-read.ensures slots (ap (called names) unread) c.in_ok-put_called.ensures.words c.in_ok-write.ensures.bytes c.in_ok-put_called-2.ensures.words;
+      words = waiting (string_bytes c.args.out.now) (string_bytes c.put_called.new.out) (string_bytes c.write.new.self) (string_bytes c.put_called-2.new.out) (called names u) (called names c.neighbour_of-unread.result) (called names (neighbour w.plan.network u (first_unread w.counts u)))
+          c.slots_read-read.result (marks_in (marks_of w.counts u)) c.degree_of-slots.result (degree w.plan.network u) c.slots_read-read.ensures slots (ap (called names) unread) c.in_ok-put_called.ensures.words c.in_ok-write.ensures.bytes c.in_ok-put_called-2.ensures.words;
     }

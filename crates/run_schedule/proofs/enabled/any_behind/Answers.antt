@@ -22,7 +22,7 @@ pub is_behind-requires-clause-node : goal.is_behind-requires-clause-node
 is_behind-requires-clause-node c =
     let w = c.args.walk.now.world in
     let ids = c.neighbours_of-neighbours.result.now in
-    let same = rw c.network.ensures.network at c.neighbours_of-neighbours.ensures in
+    let same = rw c.network.ensures.network at c.neighbours_of-neighbours.ensures.exact in
     let low = slot-low w.plan.network c.args.node c.loop-slot.slot ids same c.loop-slot-test.true in
     let place = slot-place w.plan.network c.args.node c.loop-slot.slot ids same in
     let within = c.network.ensures.sound.plan.network.within c.args.node c.loop-slot.slot low in
@@ -33,7 +33,7 @@ returns-then-is_behind c =
     let w = c.args.walk.now.world in
     let ids = c.neighbours_of-neighbours.result.now in
     let cs = w.counts in
-    let same = rw c.network.ensures.network at c.neighbours_of-neighbours.ensures in
+    let same = rw c.network.ensures.network at c.neighbours_of-neighbours.ensures.exact in
     let test = λ (v : ℕ). nat_lt (moves_of cs v) (moves_of cs c.args.node) in
     record { behind = sym (ap (list_any test) (sym same) ∙ any-true test ids c.loop-slot.slot c.loop-slot-test.true (sym c.is_behind.ensures ∙ c.if-is_behind.true)) }
 
@@ -49,6 +49,6 @@ returns c =
     let w = c.args.walk.now.world in
     let ids = c.neighbours_of-neighbours.result.now in
     let cs = w.counts in
-    let same = rw c.network.ensures.network at c.neighbours_of-neighbours.ensures in
+    let same = rw c.network.ensures.network at c.neighbours_of-neighbours.ensures.exact in
     let test = λ (v : ℕ). nat_lt (moves_of cs v) (moves_of cs c.args.node) in
     record { behind = sym (ap (list_any test) (sym same) ∙ any-false test ids (λ k h. lt_false (moves_of cs (get_or ids k 0)) (moves_of cs c.args.node) (c.loop-slot.invariant k (omega arith)))) }

@@ -22,5 +22,5 @@ pub returns-clause-none : goal.returns-clause-none
 returns-clause-none c n =
     let f = find-none c.args.walk.now (Write c.args.node) c.loop-slot.found.items c.find-2.new.found.items c.in_ok-find-2.ensures.found n in
     let i = c.loop-slot.invariant.none f.0 in
-    let end : c.degree-slot-end.result ≡ degree c.args.walk.now.world.plan.network c.args.node = rw c.network.ensures.network at c.degree-slot-end.ensures in
+    let end : c.degree_of-slot-end.result ≡ degree c.args.walk.now.world.plan.network c.args.node = rw c.network.ensures.network at c.degree_of-slot-end.ensures.exact in
     (i.0, record { reads = λ j h. i.1 j (omega (arith, h, end, c.loop-slot-test.false)); write = f.1 })

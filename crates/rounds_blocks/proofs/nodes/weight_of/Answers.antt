@@ -1,7 +1,0 @@
-use Rattle.std.proofs.Common.{ap, ◌∙◌}
-use Rattle.std.specs.Option.{unwrap_or}
-use Rattle.rounds_blocks.proofs.Looks.{weight_known}
-use Rattle.rounds_blocks.proofs.nodes.weight_of.Goals as goal
-
-pub returns : goal.returns
-returns c = record { exact = c.unwrap_or.ensures ∙ ap (λ o. unwrap_or o 0) c.weight.ensures.value ∙ weight_known c.args.network.now c.args.node c.args.slot }
