@@ -16,3 +16,4 @@ pub use replays::write_replay;
 pub use rounds::{write_round, write_rounds};
 pub use settling::write_settling;
 pub use spelling::write_spelling;
+pub use words::add_words;

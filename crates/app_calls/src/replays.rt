@@ -1,8 +1,7 @@
 //! What a replay tells: its report, and for each node its count and its words.
 ghost use Rattle.std.specs.Prelude.{◌≡◌, ◌≢◌, ℕ, ◌<◌, ◌++◌, ◌∷◌, [], length, IfOk, IfErr, OnErr, OnOk};
 ghost use Rattle.std.specs.Arc.{arc_value};
-ghost use Rattle.unison_world.specs.Counting.{moves_of, run};
-ghost use Rattle.unison_world.specs.View.{with_counts};
+ghost use Rattle.unison_world.specs.Counting.{moves_of};
 ghost use Rattle.unison_trace.specs.Replays.{replay_text};
 ghost use Rattle.unison_trace.specs.ReplayFaults.{IsRefusedText};
 ghost use Rattle.app_calls.specs.declared.fault.Fault.TheVariants as fault;
@@ -16,8 +15,8 @@ use crate::words::{add_words, put_bytes, put_words};
 use rounds_plan::Plan;
 use std::alloc::{AllocError, Global};
 use std::sync::Arc;
-use unison_trace::{ReplayFault, read_schedule, replay_report};
-use unison_world::{Step, World};
+use unison_trace::{ReplayFault, make_steps, read_schedule, replay_report};
+use unison_world::World;
 
 /// What a replay tells.
 #[derive(Drop)]
@@ -27,15 +26,6 @@ struct Told {
     words: Vec<u32>,
     nodes: u32,
     fields: u32,
-}
-
-/// Makes the steps, in order.
-fn make_steps(world: &mut World, steps: &[Step])
-    ensures made { world.new ≡ with_counts world.old (run world.old.plan.network world.old.stop world.old.counts steps.now) }
-{
-    for step in steps {
-        let _answer = world.step(*step);
-    }
 }
 
 /// Appends how often a node has moved.

@@ -7,11 +7,7 @@ use rule_check::State;
 use std::alloc::AllocError;
 
 /// Appends the state's words of so many fields.
-pub(crate) fn add_words(
-    words: &mut Vec<u32>,
-    state: &State,
-    fields: usize,
-) -> Result<(), AllocError>
+pub fn add_words(words: &mut Vec<u32>, state: &State, fields: usize) -> Result<(), AllocError>
     requires few { fields ≤ 8 }
     ensures added { OnOk result (words.new.items ≡ words.old.items ++ take fields state.now.words) }
     ensures count { length (take fields state.now.words) ≡ fields }

@@ -10,11 +10,11 @@ ghost use Rattle.large_calls.specs.CountAnswers.{AreCounted, AreUncounted, HaveL
 
 use crate::fault::LargeCallFault;
 use crate::lists::check_lists;
-use crate::states::put_words;
 use crate::telling::Telling;
 use crate::told::{check_rounds, told_of_each};
 use app_calls::Fault;
 use app_jobs::program_of;
+use large_parts::put_words;
 use rule_check::Program;
 use std::alloc::Global;
 

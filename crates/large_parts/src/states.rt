@@ -6,7 +6,7 @@ ghost use Rattle.large_parts.specs.States.{state_of, states_of};
 use rule_check::State;
 
 /// Puts words at a place.
-fn put_words(words: &mut [u32], first: usize, new: &[u32])
+pub fn put_words(words: &mut [u32], first: usize, new: &[u32])
     requires room { first + length new.now ≤ length words.old }
     ensures put { words.new ≡ take first words.old ++ new.now ++ drop (first + length new.now) words.old }
 {
@@ -14,7 +14,7 @@ fn put_words(words: &mut [u32], first: usize, new: &[u32])
 }
 
 /// The state with these words, and 0 behind them.
-fn state_of(words: &[u32]) -> State
+pub fn state_of(words: &[u32]) -> State
     requires few { length words.now ≤ 8 }
     ensures state { result ≡ state_of words.now }
 {
@@ -35,7 +35,7 @@ pub(crate) fn state_at(words: &[u32], fields: usize, nodes: usize, node: usize) 
 }
 
 /// Puts the words of a state's fields at a place.
-pub(crate) fn put_state(words: &mut [u32], first: usize, state: &State, fields: usize)
+pub fn put_state(words: &mut [u32], first: usize, state: &State, fields: usize)
     requires few { fields ≤ 8 }
     requires room { first + fields ≤ length words.old }
     ensures put { words.new ≡ take first words.old ++ take fields state.now.words ++ drop (first + fields) words.old }

@@ -1,23 +1,11 @@
 //! What refuses a look at a run.
 ghost use Rattle.std.specs.Prelude.{◌≡◌, ◌^◌, ◌-◌, ◌+◌, ◌<◌, min};
-ghost use Rattle.run_watch.specs.Watching.{missing_of};
 ghost use Rattle.run_page.specs.Refusals.{field_refusal, values_in, values_refusal, values_written};
 
 use crate::fault::PageFault;
 use crate::look::{Look, MOST_VALUES};
 use rounds_plan::Plan;
-
-/// The first of the places that is none of so many fields.
-fn missing_of(count: u32, places: &[u32]) -> Option<u32>
-    ensures { result ≡ missing_of count places.now }
-{
-    for place in places {
-        if *place >= count {
-            return Some(*place);
-        }
-    }
-    None
-}
+use run_watch::missing_of;
 
 /// A shown field that the program does not have.
 pub(crate) fn field_refusal(plan: &Plan, look: &Look<'_>) -> Option<PageFault>

@@ -12,7 +12,6 @@ ghost use Rattle.run_schedule.specs.Mixing.{ArePut, HasLink, IsLinked, IsMixed, 
 use crate::fault::ListFault;
 use crate::listing::{limit_of, refusal};
 use crate::manner::Manner;
-use crate::walk::changes;
 use link_net::Network;
 use rand::RngExt;
 use rand_core::SeedableRng;
@@ -20,6 +19,7 @@ use rand_pcg::Pcg64;
 use rounds_plan::Plan;
 use std::alloc::{AllocError, Global};
 use std::sync::Arc;
+use unison_trace::changes;
 use unison_world::{Step, World};
 
 /// How many refused steps stand before one of the list, at most.

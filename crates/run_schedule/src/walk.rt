@@ -3,7 +3,6 @@ ghost use Rattle.std.specs.Prelude.{◌≡◌, ◌<◌, ◌≤◌, ◌==◌, nat
 ghost use Rattle.std.specs.Arc.{arc_value};
 ghost use Rattle.unison_world.specs.Counting.{moves_of};
 ghost use Rattle.unison_world.specs.Opening.{opening_of};
-ghost use Rattle.unison_trace.specs.Histories.{is_change};
 ghost use Rattle.run_schedule.specs.Lists.{node_of};
 ghost use Rattle.run_schedule.specs.Walks.{IsSound, IsWalk, is_open, is_other, walk_after};
 
@@ -13,7 +12,8 @@ use rounds_plan::Plan;
 use std::alloc::Global;
 use std::marker::Model;
 use std::sync::Arc;
-use unison_world::{Answer, Step, World};
+use unison_trace::changes;
+use unison_world::{Step, World};
 
 /// A world, and the steps that were made on it, no more than a limit. One node may be still: it makes none.
 #[derive(Drop)]
@@ -36,13 +36,6 @@ impl Model for Walk {
     ghost view = { λ w. record { world = w.world; still = w.still; limit = w.limit; steps = w.steps.items } };
 
     ghost invariant = { λ w. IsWalk (record { world = w.world; still = w.still; limit = w.limit; steps = w.steps.items }) };
-}
-
-/// Whether a step with this answer changes the world.
-pub(crate) fn changes(answer: Answer) -> bool
-    ensures { result ≡ is_change answer }
-{
-    matches!(answer, Answer::Taken | Answer::Moved)
 }
 
 /// The node that makes a step.

@@ -15,4 +15,4 @@ pub use laws::{csv_is_read_back, json_is_read_back, whole_parts_are_reports};
 pub use rows::{put_json_label, put_label};
 pub use show::{Format, Show};
 pub use span::Span;
-pub use watching::{Progress, watched};
+pub use watching::{Progress, missing_of, watched};

@@ -26,7 +26,7 @@ pub trait Progress {
 }
 
 /// The first of the places that is none of so many fields.
-fn missing_of(count: u32, places: &[u32]) -> Option<u32>
+pub fn missing_of(count: u32, places: &[u32]) -> Option<u32>
     ensures { result ≡ missing_of count places.now }
 {
     for place in places {

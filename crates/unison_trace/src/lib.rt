@@ -10,8 +10,8 @@ mod schedule_writer;
 mod stored;
 
 pub use fault::{LogFault, ReplayFault, ScheduleFault};
-pub use logged::{Finished, Logged, steps_needed};
-pub use replay::{replay_of, replay_over};
+pub use logged::{Finished, Logged, changes, steps_needed};
+pub use replay::{make_steps, replay_of, replay_over};
 pub use report_writer::replay_report;
 pub use schedule_reader::read_schedule;
 pub use schedule_writer::write_schedule;

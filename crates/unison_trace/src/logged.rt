@@ -49,7 +49,7 @@ pub struct Finished {
 }
 
 /// Whether a step with this answer changes the world.
-fn changes(answer: Answer) -> bool
+pub fn changes(answer: Answer) -> bool
     ensures { result ≡ is_change answer }
 {
     matches!(answer, Answer::Taken | Answer::Moved)

@@ -53,7 +53,7 @@ fn read_input<R: Read>(alloc: Global, input: &mut Tally<R>) -> Result<Vec<u8>, R
 }
 
 /// Makes the steps, in order.
-fn make_steps(world: &mut World, steps: &[Step])
+pub fn make_steps(world: &mut World, steps: &[Step])
     ensures made { world.new ≡ with_counts world.old (run world.old.plan.network world.old.stop world.old.counts steps.now) }
 {
     for step in steps {
