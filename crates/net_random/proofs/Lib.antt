@@ -1,4 +1,5 @@
 mod Places
+mod Pairing
 mod Sized
 mod Counting
 mod Walks

@@ -21,7 +21,7 @@ module _ (n : ℕ) (some : 1 ≤ n) where
       ]
 
   -- two places of one link
-  same_place : (i j k m : ℕ) → i < n / 2 → j < row_width n → k < n / 2 → m < row_width n → (link_in_row n i j).0 ≡ (link_in_row n k m).0 → (link_in_row n i j).1 ≡ (link_in_row n k m).1 → (i ≡ k) × (j ≡ m)
+  pub same_place : (i j k m : ℕ) → i < n / 2 → j < row_width n → k < n / 2 → m < row_width n → (link_in_row n i j).0 ≡ (link_in_row n k m).0 → (link_in_row n i j).1 ≡ (link_in_row n k m).1 → (i ≡ k) × (j ≡ m)
   same_place i j k m a b c d =
       elim (cases_Bool (nat_lt j (n - 1 - i))) [
         | inl first ↦
@@ -39,21 +39,21 @@ module _ (n : ℕ) (some : 1 ≤ n) where
       ]
 
   -- the row and the column of a place
-  wide : zero < row_width n
+  pub wide : zero < row_width n
   wide = omega arith
 
-  row_of : (x : ℕ) → x < place_count n → x / row_width n < n / 2
+  pub row_of : (x : ℕ) → x < place_count n → x / row_width n < n / 2
   row_of x low = (div-lt_iff_lt-mul wide).1 low
 
-  column_of : (x : ℕ) → x % row_width n < row_width n
+  pub column_of : (x : ℕ) → x % row_width n < row_width n
   column_of x = mod-lt x wide
 
   -- the same at a place
-  up : (x : ℕ) → x < place_count n → ((link_at n x).0 < (link_at n x).1) × ((link_at n x).1 < n)
+  pub up : (x : ℕ) → x < place_count n → ((link_at n x).0 < (link_at n x).1) × ((link_at n x).1 < n)
   up x low = rising (x / row_width n) (x % row_width n) (row_of x low) (column_of x)
 
   -- a row and a column have one place
-  back : (x y : ℕ) → (x / row_width n ≡ y / row_width n) × (x % row_width n ≡ y % row_width n) → x ≡ y
+  pub back : (x y : ℕ) → (x / row_width n ≡ y / row_width n) × (x % row_width n ≡ y % row_width n) → x ≡ y
   back x y same = sym (div-add-mod x (row_width n)) ∙ rw (same.0, same.1) (div-add-mod y (row_width n))
 
   ordered : (u v : ℕ) (l : Link) → u < v → l.0 < l.1 → joins u v l ≡ true → (u ≡ l.0) × (v ≡ l.1)
@@ -94,15 +94,17 @@ module _ (n : ℕ) (some : 1 ≤ n) where
       let here = up x (all 0 0 (omega arith)) in
       ((omega (arith, here.0, here.1), here.1), within_all xs (λ k d h. all (suc k) d (omega arith)))
 
+  -- the link has weight 1
+  pub one : (i j : ℕ) → (link_in_row n i j).2 ≡ 1
+  one i j =
+      elim (cases_Bool (nat_lt j (n - 1 - i))) [
+        | inl first ↦ rw first refl
+        | inr second ↦ rw second refl
+      ]
+
   weights_all : (xs : List ℕ) → AllByRecursion (λ l. l.2 ≡ 1) (map (link_at n) xs)
   weights_all [] = tt
-  weights_all (x ∷ xs) = (one (x / row_width n) (x % row_width n), weights_all xs) where
-    one : (i j : ℕ) → (link_in_row n i j).2 ≡ 1
-    one i j =
-        elim (cases_Bool (nat_lt j (n - 1 - i))) [
-          | inl first ↦ rw first refl
-          | inr second ↦ rw second refl
-        ]
+  weights_all (x ∷ xs) = (one (x / row_width n) (x % row_width n), weights_all xs)
 
   -- different places are different links
   pub simple_at : (count : ℕ) (xs : List ℕ) → IsSampleOf (place_count n) count xs → AreSimpleLinks n (map (link_at n) xs)

@@ -1,4 +1,4 @@
-use Rattle.std.proofs.Common.{◌≡◌, rules, sym, ◌∙◌, arith}
+use Rattle.std.proofs.Common.{rules, sym}
 use Rattle.std.proofs.lemmas.Bool.{OnTrue_at, OnTrue_from}
 use Rattle.net_random.proofs.TrialLinks.{trial_network_has}
 use Rattle.net_random.proofs.trial_check.is_outcome.Goals as goal
