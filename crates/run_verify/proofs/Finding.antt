@@ -15,8 +15,7 @@ use Rattle.run_verify.specs.declared.entry.Entry.{Entry}
 use Rattle.run_verify.specs.declared.verified.Verified.{Verified}
 use Rattle.run_verify.specs.declared.fault.VerifyFault.{VerifyFault}
 use Rattle.run_verify.specs.declared.fault.VerifyFault.TheVariants.{Memory}
-use Rattle.run_verify.specs.Traces.{Holds, HoldsAs, IsFound, IsRefused}
-use Rattle.run_verify.specs.Walks.{HasBefore, Walked}
+use Rattle.run_verify.specs.Walks.{HasBefore, Runs, Walked, IsWalked, IsStopped}
 use Rattle.run_verify.proofs.Refusing.{none-bad}
 
 -- no plan starts behind the last round, so its world opens
@@ -40,16 +39,16 @@ before-opened w states is plan same =
 
 module _ (plan : PlanView) (names : Option (List (List ℕ))) (text : List ℕ) where
   -- all lines are walked through
-  pub all-found : (c : Counts) (found : Verified) → Walked plan names (told_from 1 text) [] c found.lines found.valued → found.counts.items ≡ c.moves → IsFound plan names text found
+  pub all-found : (c : Counts) (found : Verified) → Walked plan names (told_from 1 text) [] c found.lines found.valued → found.counts.items ≡ c.moves → IsWalked plan names text found
   all-found c found w moves =
       let same : told_from 1 text ≡ w.earlier = w.all ∙ append-nil w.earlier in
-      record { entries = w.entries; counts = c; holds = subst (λ told. Holds plan names told w.entries c) (sym same) w.holds; lines = w.lines; valued = w.valued; moves = moves }
+      record { entries = w.entries; counts = c; runs = subst (λ told. Runs plan names told w.entries c) (sym same) w.holds; lines = w.lines; valued = w.valued; moves = moves }
 
   memory-only : (fault : VerifyFault) → ((fault ≢ Memory) → ⊥) → fault ≡ Memory
   memory-only Memory h = refl
   memory-only fault h = absurd (h (λ e. cc))
 
   -- a text that holds is refused only where memory runs out
-  pub accepted : (r : Result Verified VerifyFault) (entries : List Entry) (counts : Counts) → IfErr r (IsRefused plan names text) → HoldsAs plan names text entries counts → IfErr r (λ fault. fault ≡ Memory)
+  pub accepted : (r : Result Verified VerifyFault) (entries : List Entry) (counts : Counts) → IfErr r (IsStopped plan names text) → Runs plan names (told_from 1 text) entries counts → IfErr r (λ fault. fault ≡ Memory)
   accepted (Ok x) entries counts h holds = tt
   accepted (Err fault) entries counts h holds = memory-only fault (λ never. none-bad plan names (told_from 1 text) entries counts fault holds (h never))

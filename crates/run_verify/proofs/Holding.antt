@@ -17,8 +17,8 @@ use Rattle.run_verify.specs.declared.entry.Entry.{Entry}
 use Rattle.run_verify.specs.declared.fault.VerifyFault.{VerifyFault}
 use Rattle.run_verify.specs.Meaning.{entry_at}
 use Rattle.run_verify.specs.Shown.{shown_state, Agrees, AllAgree}
-use Rattle.run_verify.specs.Traces.{Holds, IsLineFault, IsFirstBadLine, has_value}
-use Rattle.run_verify.specs.Walks.{Walked}
+use Rattle.run_verify.specs.Traces.{has_value}
+use Rattle.run_verify.specs.Walks.{Runs, Walked, Stops, IsStop}
 
 -- with one entry more
 counted : (entries : List Entry) (e : Entry) → count_by has_value (entries ++ e ∷ []) ≡ count_by has_value entries + cond (has_value e) 1 0
@@ -47,16 +47,16 @@ module _ (plan : PlanView) where
   agree-more c (x ∷ xs) e h agrees = (h.0, agree-more (after plan.network most_rounds c x.step) xs e h.1 agrees)
 
   module _ (names : Option (List (List ℕ))) where
-    holds-none : Holds plan names [] [] (at_start plan.network plan.start)
-    holds-none = record { said = refl; run = record { arrive = refl; each_changes = All-nil (λ a. is_change a ≡ true) }; agree = tt }
+    holds-none : Runs plan names [] [] (at_start plan.network plan.start)
+    holds-none = record { read = refl; run = record { arrive = refl; each_changes = All-nil (λ a. is_change a ≡ true) }; agree = tt }
 
-    holds-more : (earlier : List (ℕ × List ℕ)) (entries : List Entry) (c : Counts) (l : ℕ × List ℕ) (e : Entry) → Holds plan names earlier entries c → entry_at plan names l ≡ Ok e
+    holds-more : (earlier : List (ℕ × List ℕ)) (entries : List Entry) (c : Counts) (l : ℕ × List ℕ) (e : Entry) → Runs plan names earlier entries c → entry_at plan names l ≡ Ok e
         → is_change (answer_of plan.network most_rounds c e.step) ≡ true → Agrees e.given (shown_state plan c e.step)
-        → Holds plan names (earlier ++ l ∷ []) (entries ++ e ∷ []) (after plan.network most_rounds c e.step)
+        → Runs plan names (earlier ++ l ∷ []) (entries ++ e ∷ []) (after plan.network most_rounds c e.step)
     holds-more earlier entries c l e h is changes agrees =
         let step = λ (x : Entry). x.step in
         record {
-          said = map_push (entry_at plan names) earlier l ∙ ap (λ xs. xs ++ entry_at plan names l ∷ []) h.said ∙ ap (λ x. map Ok entries ++ x ∷ []) is ∙ sym (map_push Ok entries e);
+          read = map_push (entry_at plan names) earlier l ∙ ap (λ xs. xs ++ entry_at plan names l ∷ []) h.read ∙ ap (λ x. map Ok entries ++ x ∷ []) is ∙ sym (map_push Ok entries e);
           run = subst (λ ss. LeadTo plan most_rounds (after plan.network most_rounds c e.step) ss) (sym (map_push step entries e)) (lead-more plan most_rounds c (map step entries) e.step h.run changes);
           agree = agree-more (at_start plan.network plan.start) entries e h.agree (subst (λ x. Agrees e.given (shown_state plan x e.step)) (sym h.run.arrive) agrees);
         }
@@ -79,7 +79,7 @@ module _ (plan : PlanView) where
           valued = ap (λ n. n + cond (has_value e) 1 0) w.valued ∙ sym (counted w.entries e);
         }
 
-    pub bad-line : (told todo : List (ℕ × List ℕ)) (l : ℕ × List ℕ) (c : Counts) (lines valued : ℕ) (fault : VerifyFault) → Walked plan names told (l ∷ todo) c lines valued → IsLineFault plan names c l fault → IsFirstBadLine plan names told fault
+    pub bad-line : (told todo : List (ℕ × List ℕ)) (l : ℕ × List ℕ) (c : Counts) (lines valued : ℕ) (fault : VerifyFault) → Walked plan names told (l ∷ todo) c lines valued → Stops plan names c l fault → IsStop plan names told fault
     bad-line told todo l c lines valued fault w why =
         record { earlier = w.earlier; here = l; later = todo; all = w.all; entries = w.entries; counts = c; holds = w.holds; why = why }
 

@@ -6,3 +6,16 @@ pub mod Slots
 pub mod Words
 pub mod Finding
 pub mod Members
+pub mod Choosing
+pub mod FieldValues
+pub mod Gathering
+pub mod Colons
+pub mod Neighbouring
+pub mod SpelledLines
+pub mod Keys
+pub mod Filling
+pub mod States
+pub mod SaidObjects
+pub mod Distinct
+pub mod Tellings
+pub mod Verdicts

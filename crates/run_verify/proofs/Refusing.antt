@@ -11,7 +11,8 @@ use Rattle.run_verify.specs.declared.fault.VerifyFault.{VerifyFault}
 use Rattle.run_verify.specs.declared.fault.VerifyFault.TheVariants.{Stopped, Already, Behind, NotReady, Differs}
 use Rattle.run_verify.specs.Meaning.{entry_at}
 use Rattle.run_verify.specs.Shown.{shown_state, Agrees, AllAgree}
-use Rattle.run_verify.specs.Traces.{Holds, IsUnheld, IsFirstBadLine}
+use Rattle.run_verify.specs.Traces.{IsUnheld}
+use Rattle.run_verify.specs.Walks.{Runs, IsStop}
 
 -- a line in the midst says one of the entries
 record Split (plan : PlanView) (names : Option (List (List ℕ))) (earlier : List (ℕ × List ℕ)) (here : ℕ × List ℕ) (entries : List Entry) : Type 0 where
@@ -63,10 +64,10 @@ module _ (plan : PlanView) where
   not-unheld c here e (NotReady line u v) changes agrees h = (let answer = h.3 in cc)
   not-unheld c here e fault changes agrees h = h
 
-  pub none-bad : (names : Option (List (List ℕ))) (told : List (ℕ × List ℕ)) (entries : List Entry) (counts : Counts) (fault : VerifyFault) → Holds plan names told entries counts → IsFirstBadLine plan names told fault → ⊥
+  pub none-bad : (names : Option (List (List ℕ))) (told : List (ℕ × List ℕ)) (entries : List Entry) (counts : Counts) (fault : VerifyFault) → Runs plan names told entries counts → IsStop plan names told fault → ⊥
   none-bad names told entries counts fault h bad =
-      let s = split names bad.here bad.later bad.earlier entries (ap (map (entry_at plan names)) (sym bad.all) ∙ h.said) in
-      let same : bad.entries ≡ s.before = same-entries bad.entries s.before (sym bad.holds.said ∙ s.said) in
+      let s = split names bad.here bad.later bad.earlier entries (ap (map (entry_at plan names)) (sym bad.all) ∙ h.read) in
+      let same : bad.entries ≡ s.before = same-entries bad.entries s.before (sym bad.holds.read ∙ s.said) in
       let first = at_start plan.network plan.start in
       let step = λ (x : Entry). x.step in
       let each = subst (λ es. All (λ a. is_change a ≡ true) (answers plan.network most_rounds first (map step es))) s.all h.run.each_changes in

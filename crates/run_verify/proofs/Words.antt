@@ -22,7 +22,7 @@ equals-split word (Some x) h =
     rw (t, h.1, h.2) refl
 
 -- a word with a colon at its end
-colon-off : (word front : List ℕ) → word ≡ front ++ 58 ∷ [] → front ≡ without_colon word
+pub colon-off : (word front : List ℕ) → word ≡ front ++ 58 ∷ [] → front ≡ without_colon word
 colon-off word front e =
     let many : length word - 1 ≡ length front = omega (arith, ap length e, length-append front (58 ∷ [])) in
     let last : slice_index word (length word - 1) ≡ 58 = ap (slice_index word) many ∙ ap (λ (w : List ℕ). get_or w (length front) 0) e ∙ get_or-append_seam front 58 [] 0 in
@@ -31,12 +31,12 @@ colon-off word front e =
     rw test (sym rest)
 
 -- a word that ends with its last byte
-whole : (word : List ℕ) → 1 ≤ length word → word ≡ take (length word - 1) word ++ slice_index word (length word - 1) ∷ []
+pub whole : (word : List ℕ) → 1 ≤ length word → word ≡ take (length word - 1) word ++ slice_index word (length word - 1) ∷ []
 whole word some =
     let n : length word - 1 + 1 ≡ length word = omega arith in
     sym (ap (λ k. take k word) n ∙ take-length word) ∙ take_more word (length word - 1) 0 (omega arith)
 
-colon-none : (word : List ℕ) → ((front : List ℕ) → word ≢ front ++ 58 ∷ []) → word ≡ without_colon word
+pub colon-none : (word : List ℕ) → ((front : List ℕ) → word ≢ front ++ 58 ∷ []) → word ≡ without_colon word
 colon-none [] h = refl
 colon-none (b ∷ bytes) h =
     let word = b ∷ bytes in

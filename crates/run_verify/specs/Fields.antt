@@ -1,13 +1,15 @@
--- Values of fields that words give.
-use Rattle.std.specs.Prelude.{◌≡◌, ◌≢◌, ℕ, ◌==◌, Bool, MatchResult, List, [], ◌∷◌, length, nat_lt, set, slice_index_or, Option, Some, None, Result, Ok, Err, if◌then◌else◌}
+-- How values of fields are read from words, function by function: the clauses of private functions speak of this. What words give stands in Given.
+use Rattle.std.specs.Prelude.{◌≡◌, ◌≢◌, ℕ, ◌==◌, Bool, true, false, MatchResult, List, [], ◌∷◌, length, nat_lt, set, Option, Some, None, Result, Ok, Err, if◌then◌else◌}
 use Rattle.std.specs.List.{before_first, after_first, position_or_len}
 use Rattle.std.specs.Option.{option_map, option_and_then, is_some}
 use Rattle.rule_check.specs.Value.{place}
 use Rattle.rule_check.specs.WellFormed.{is_among}
 use Rattle.run_script.specs.Words.{number_in}
 use Rattle.run_verify.specs.declared.entry.Given.{Given}
+use Rattle.run_verify.specs.declared.entry.Gathered.{Gathered}
 use Rattle.run_verify.specs.declared.fault.VerifyFault.{VerifyFault}
 use Rattle.run_verify.specs.declared.fault.VerifyFault.TheVariants.{BadField, FieldTwice, Memory}
+use Rattle.run_verify.specs.Given.{value_given}
 
 -- =
 abbrev pub is_equals : ℕ → Bool
@@ -34,15 +36,20 @@ given_by fields word = option_and_then (given_parts fields) (split_equals word)
 abbrev pub none_given : Given
 none_given = record { values = None ∷ None ∷ None ∷ None ∷ None ∷ None ∷ None ∷ None ∷ [] }
 
--- the value that is given of the field at a place, where one is
-abbrev pub value_given : Given → ℕ → Option ℕ
-value_given given k = slice_index_or given.values k None
+-- nothing is given yet
+abbrev pub none_gathered : Gathered
+none_gathered = record { given = none_given; twice = false }
 
--- values and one more, for a field that has none yet
-abbrev pub with_value : ℕ → Given → Option (ℕ × ℕ) → Result Given VerifyFault
-with_value line given None = Err (BadField line)
-with_value line given (Some p) =
-    if is_some (value_given given p.0) then Err (FieldTwice line) else Ok (record { values = set given.values p.0 (Some p.1) })
+-- what is given so far, and what one word more gives
+abbrev pub with_word : ℕ → Gathered → Option (ℕ × ℕ) → Result Gathered VerifyFault
+with_word line gathered None = Err (BadField line)
+with_word line gathered (Some p) =
+    if is_some (value_given gathered.given p.0) then Ok (record { given = gathered.given; twice = true })
+    else Ok (record { given = record { values = set gathered.given.values p.0 (Some p.1) }; twice = gathered.twice })
+
+-- the values, where none is of a field that has one already
+abbrev pub if_once : ℕ → Gathered → Result Given VerifyFault
+if_once line gathered = if gathered.twice then Err (FieldTwice line) else Ok gathered.given
 
 -- the next step, at the value of a step that succeeds
 abbrev pub and_then : {A B : Type 0} → Result A VerifyFault → (A → Result B VerifyFault) → Result B VerifyFault
@@ -53,7 +60,7 @@ and_then (Err fault) next = Err fault
 abbrev pub IsAnswer : {A : Type 0} → Result A VerifyFault → Result A VerifyFault → Type 0
 IsAnswer defined r = MatchResult r (λ x. defined ≡ Ok x) (λ fault. fault ≢ Memory → defined ≡ Err fault)
 
--- values, and those that words give
-abbrev pub with_words : List (List ℕ) → ℕ → Given → List (List ℕ) → Result Given VerifyFault
-with_words fields line given [] = Ok given
-with_words fields line given (word ∷ words) = and_then (with_value line given (given_by fields word)) (λ more. with_words fields line more words)
+-- the values that are given so far, and those that words give
+abbrev pub with_words : List (List ℕ) → ℕ → Gathered → List (List ℕ) → Result Given VerifyFault
+with_words fields line gathered [] = if_once line gathered
+with_words fields line gathered (word ∷ words) = and_then (with_word line gathered (given_by fields word)) (λ more. with_words fields line more words)

@@ -1,3 +1,7 @@
+pub mod Given
+pub mod SaidByObjects
+pub mod Spelled
+pub mod Unsaid
 pub mod Fields
 pub mod Nodes
 pub mod Objects

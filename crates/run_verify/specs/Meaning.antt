@@ -1,4 +1,4 @@
--- What lines of a trace say. A line is its number, counted from 1, and its bytes.
+-- How lines of a trace are read, function by function: the clauses of private functions speak of this. What lines say stands in Spelled, and why they say nothing in Unsaid.
 use Rattle.std.specs.Prelude.{ℕ, ◌-◌, ◌==◌, Bool, false, ◌||◌, List, [], ◌∷◌, codes, length, take, slice_index, Option, Result, Ok, Err, if◌then◌else◌}
 use Rattle.std.specs.Str.{bytes_eq}
 use Rattle.import_lines.specs.Parts.{shown}
@@ -14,7 +14,7 @@ use Rattle.run_script.specs.Words.{words_in, node_called}
 use Rattle.run_verify.specs.declared.entry.Entry.{Entry}
 use Rattle.run_verify.specs.declared.fault.VerifyFault.{VerifyFault}
 use Rattle.run_verify.specs.declared.fault.VerifyFault.TheVariants.{NotUtf8, ControlCharacter, LongLine, NoSuchLine}
-use Rattle.run_verify.specs.Fields.{and_then, none_given, with_words}
+use Rattle.run_verify.specs.Fields.{and_then, none_gathered, with_words}
 use Rattle.run_verify.specs.Nodes.{node_found, slot_found}
 use Rattle.run_verify.specs.Objects.{object_entry}
 
@@ -41,7 +41,7 @@ is_move word = bytes_eq word (codes "moves") || bytes_eq word (codes "turn")
 
 -- a step, and the values that words give
 abbrev pub entry_of : List (List ℕ) → ℕ → Step → List (List ℕ) → Result Entry VerifyFault
-entry_of fields line step words = and_then (with_words fields line none_given words) (λ given. Ok (record { step = step; given = given }))
+entry_of fields line step words = and_then (with_words fields line none_gathered words) (λ given. Ok (record { step = step; given = given }))
 
 -- `NODE moves`, and values
 unfoldable pub move_entry : PlanView → Option (List (List ℕ)) → ℕ → List ℕ → List (List ℕ) → Result Entry VerifyFault

@@ -1,4 +1,4 @@
--- Nodes that a line calls, and slots at which they stand.
+-- How nodes that a line calls are found, and slots at which they stand: the clauses of private functions speak of this.
 use Rattle.std.specs.Prelude.{ℕ, ◌==◌, map, Option, Result}
 use Rattle.std.specs.List.{position}
 use Rattle.std.specs.Option.{option_and_then, ok_or}

@@ -1,4 +1,4 @@
--- What JSON objects of a trace say.
+-- How JSON objects of a trace are read, function by function: the clauses of private functions speak of this. What objects say stands in SaidByObjects.
 use Rattle.std.specs.Prelude.{ℕ, ◌+◌, ◌^◌, ◌==◌, Bool, false, ◌||◌, codes, List, [], ◌∷◌, set, nat_lt, Option, Some, None, Result, Ok, Err, if◌then◌else◌}
 use Rattle.std.specs.List.{count_by}
 use Rattle.std.specs.Option.{option_map, option_and_then, unwrap_or, is_some}

@@ -10,7 +10,7 @@ use Rattle.unison_world.specs.declared.step.Step.TheVariants.{Read, Write}
 use Rattle.unison_world.specs.Counting.{Counts, moves_of, after}
 use Rattle.run_verify.specs.declared.entry.Entry.{Entry}
 use Rattle.run_verify.specs.declared.entry.Given.{Given}
-use Rattle.run_verify.specs.Fields.{value_given}
+use Rattle.run_verify.specs.Given.{value_given}
 
 -- the node that makes a step
 abbrev pub mover : Step → ℕ

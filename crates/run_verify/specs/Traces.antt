@@ -1,6 +1,6 @@
 -- Which traces hold, and why others do not.
-use Rattle.std.specs.Prelude.{◌≡◌, ◌≢◌, ◌⊎◌, ℕ, ◌<◌, Bool, true, false, IsTrue, List, ◌∷◌, ◌++◌, length, map, slice_index, Option, Ok, Err}
-use Rattle.std.specs.List.{list_any, count_by}
+use Rattle.std.specs.Prelude.{◌≡◌, ◌≢◌, ◌⊎◌, ℕ, ◌<◌, Bool, true, false, IsTrue, List, ◌∷◌, ◌++◌, length, map, slice_index, Option}
+use Rattle.std.specs.List.{AllZip, list_any, count_by}
 use Rattle.std.specs.Option.{is_some}
 use Rattle.import_lines.specs.Texts.{told_from}
 use Rattle.link_net.specs.Neighbours.{Neighbours, degree, neighbour}
@@ -14,17 +14,18 @@ use Rattle.run_verify.specs.declared.entry.Entry.{Entry}
 use Rattle.run_verify.specs.declared.verified.Verified.{Verified}
 use Rattle.run_verify.specs.declared.fault.VerifyFault.{VerifyFault}
 use Rattle.run_verify.specs.declared.fault.VerifyFault.TheVariants.{Stopped, Already, Behind, NotReady, Differs, Memory}
-use Rattle.run_verify.specs.Meaning.{entry_at}
+use Rattle.run_verify.specs.Spelled.{Said}
+use Rattle.run_verify.specs.Unsaid.{IsUnsaid}
 use Rattle.run_verify.specs.Shown.{mover, shown_node, shown_round, shown_state, AllAgree, DiffersFirst}
 
 -- some value is given
 abbrev pub has_value : Entry → Bool
 has_value e = list_any is_some e.given.values
 
--- these lines hold: they say these entries; their steps are a run of the count machine from the plan's start to these counts, each
+-- these lines hold: each says the entry at its place, and there are as many; their steps are a run of the count machine from the plan's start to these counts, each
 -- answered Taken or Moved; and each value is that of the lockstep state which its step shows
 pub record Holds (plan : PlanView) (names : Option (List (List ℕ))) (told : List (ℕ × List ℕ)) (entries : List Entry) (counts : Counts) : Type 0 where
-  pub said : map (entry_at plan names) told ≡ map Ok entries
+  pub said : AllZip (Said plan names) told entries
   pub run : LeadTo plan most_rounds counts (map (λ e. e.step) entries)
   pub agree : AllAgree plan (at_start plan.network plan.start) entries
 
@@ -69,10 +70,10 @@ IsUnheld plan c here e (Differs line by u count t field given due) =
     × (due ≡ slice_index (shown_state plan c e.step).words field) × IsTrue (is_change (answer_of plan.network most_rounds c e.step))
 IsUnheld plan c here e fault = IsRefusal plan.network c here e.step fault
 
--- why a line does not hold at these counts: it says nothing that a line may say, or its entry does not hold
+-- why a line does not hold at these counts: it says nothing, or its entry does not hold
 abbrev pub IsLineFault : PlanView → Option (List (List ℕ)) → Counts → ℕ × List ℕ → VerifyFault → Type 0
 IsLineFault plan names c here fault =
-    (entry_at plan names here ≡ Err fault) ⊎ ((e : Entry) × (entry_at plan names here ≡ Ok e) × IsUnheld plan c here.0 e fault)
+    IsUnsaid plan names here fault ⊎ ((e : Entry) × Said plan names here e × IsUnheld plan c here.0 e fault)
 
 -- of these lines those before one hold, and that one does not behind them
 pub record IsFirstBadLine (plan : PlanView) (names : Option (List (List ℕ))) (told : List (ℕ × List ℕ)) (fault : VerifyFault) : Type 0 where

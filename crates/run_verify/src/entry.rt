@@ -9,6 +9,15 @@ pub(crate) struct Given {
     pub values: [Option<u32>; 8],
 }
 
+/// Values that words have given so far.
+#[derive(Clone, Copy)]
+pub(crate) struct Gathered {
+    /// The first value of each field that has one.
+    pub given: Given,
+    /// Whether a field has been given a value again.
+    pub twice: bool,
+}
+
 /// A step, and what is given of the state that it shows.
 #[derive(Clone, Copy)]
 pub(crate) struct Entry {

@@ -3,9 +3,10 @@ ghost use Rattle.std.specs.Prelude.{◌≡◌, ◌<◌, IfSome};
 ghost use Rattle.std.specs.Option.{option_map};
 ghost use Rattle.rule_check.specs.Value.{names_of};
 ghost use Rattle.run_script.specs.Words.{words_in};
-ghost use Rattle.run_verify.specs.Fields.{field_called, given_by, none_given, split_equals, value_given, with_value, with_words};
+ghost use Rattle.run_verify.specs.Fields.{field_called, given_by, if_once, none_gathered, split_equals, with_word, with_words};
+ghost use Rattle.run_verify.specs.Given.{value_given};
 
-use crate::entry::Given;
+use crate::entry::{Gathered, Given};
 use crate::fault::VerifyFault;
 use rule_check::Program;
 use run_script::{next_said, number_in};
@@ -46,30 +47,51 @@ fn value_given(given: &Given, field: u32) -> Option<u32>
     given.values[field as usize]
 }
 
-/// Values, and the one that a word gives.
-fn with_word(program: &Program, line: u64, given: Given, word: &str) -> Result<Given, VerifyFault>
-    ensures { result ≡ with_value line given (given_by (names_of program.now) word.now) }
+/// What words have given so far, and with the next one.
+fn with_word(
+    program: &Program,
+    line: u64,
+    gathered: Gathered,
+    word: &str,
+) -> Result<Gathered, VerifyFault>
+    ensures { result ≡ with_word line gathered (given_by (names_of program.now) word.now) }
 {
     let Some((field, value)) = given_by(program, word) else {
         return Err(VerifyFault::BadField { line });
     };
+    let mut given = gathered.given;
     if value_given(&given, field).is_some() {
-        return Err(VerifyFault::FieldTwice { line });
+        return Ok(Gathered { given, twice: true });
     }
-    let mut more = given;
-    more.values[field as usize] = Some(value);
-    Ok(more)
+    given.values[field as usize] = Some(value);
+    Ok(Gathered {
+        given,
+        twice: gathered.twice,
+    })
 }
 
-/// The values that the words of a text give.
-pub(crate) fn values_in(program: &Program, line: u64, text: &str) -> Result<Given, VerifyFault>
-    ensures { result ≡ with_words (names_of program.now) line none_given (words_in text.now) }
+/// The values, where none is of a field that has one already.
+fn if_once(line: u64, gathered: Gathered) -> Result<Given, VerifyFault>
+    ensures { result ≡ if_once line gathered }
 {
-    let mut given = Given { values: [None; 8] };
+    if gathered.twice {
+        return Err(VerifyFault::FieldTwice { line });
+    }
+    Ok(gathered.given)
+}
+
+/// The values that the words of a text give: all words are looked at before a field that has two values is told.
+pub(crate) fn values_in(program: &Program, line: u64, text: &str) -> Result<Given, VerifyFault>
+    ensures { result ≡ with_words (names_of program.now) line none_gathered (words_in text.now) }
+{
+    let mut gathered = Gathered {
+        given: Given { values: [None; 8] },
+        twice: false,
+    };
     let mut rest = text;
     while let Some((word, behind)) = next_said(rest) {
-        given = with_word(program, line, given, word)?;
+        gathered = with_word(program, line, gathered, word)?;
         rest = behind;
     }
-    Ok(given)
+    if_once(line, gathered)
 }

@@ -9,7 +9,7 @@ ghost use Rattle.unison_world.specs.Counting.{Counts};
 ghost use Rattle.unison_world.specs.View.{opened};
 ghost use Rattle.run_verify.specs.declared.entry.Entry.{Entry};
 ghost use Rattle.run_verify.specs.Traces.{HoldsAs, IsFound, IsRefused, has_value};
-ghost use Rattle.run_verify.specs.Walks.{HasBefore, Walked};
+ghost use Rattle.run_verify.specs.Walks.{HasBefore, IsStopped, IsWalked, Walked};
 
 use crate::entry::Entry;
 use crate::fault::VerifyFault;
@@ -56,7 +56,7 @@ fn walk(
     requires before { HasBefore world.old before.old }
     ensures walked { IfOk result (λ n. Walked world.old.plan (option_map (λ n. n.now) names.entry) (told_from 1 text.now) [] world.new.counts n.0 n.1) }
     ensures plan { OnOk result (world.new.plan ≡ world.old.plan) }
-    ensures refused { IfErr result (IsRefused world.old.plan (option_map (λ n. n.now) names.entry) text.now) }
+    ensures refused { IfErr result (IsStopped world.old.plan (option_map (λ n. n.now) names.entry) text.now) }
 {
     let mut said = 0;
     let mut valued = 0;
@@ -112,8 +112,8 @@ fn verify_on(
     text: &[u8],
 ) -> Result<Verified, VerifyFault>
     requires opened { world ≡ opened world.plan most_rounds }
-    ensures found { IfOk result (IsFound world.plan (option_map (λ n. n.now) names.entry) text.now) }
-    ensures refused { IfErr result (IsRefused world.plan (option_map (λ n. n.now) names.entry) text.now) }
+    ensures found { IfOk result (IsWalked world.plan (option_map (λ n. n.now) names.entry) text.now) }
+    ensures refused { IfErr result (IsStopped world.plan (option_map (λ n. n.now) names.entry) text.now) }
 {
     let mut before = opening_states(alloc, &world)?;
     let (lines, valued) = walk(alloc, &mut world, &mut before, names, text)?;
@@ -160,6 +160,9 @@ pub fn verify(
     ensures refused { IfErr result (IsRefused (arc_value plan) (option_map (λ n. n.now) names.entry) text.now) }
     ensures accepted { (entries : List Entry) (counts : Counts) → HoldsAs (arc_value plan) (option_map (λ n. n.now) names.entry) text.now entries counts → IfErr result (λ fault. fault ≡ VerifyFault.Memory) }
 {
+    // For the proof alone: the calls tell what holds of every plan, and that its fields have different names.
+    let _phase = plan.phase();
+    let _fields = plan.program().field_count();
     let world = opened(alloc, plan)?;
     verify_on(alloc, world, names, text)
 }

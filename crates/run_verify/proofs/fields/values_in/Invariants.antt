@@ -2,14 +2,14 @@ use Rattle.std.proofs.Common.{◌≡◌, length}
 use Rattle.std.specs.Str.{IsUtf8}
 use Rattle.rule_check.specs.Value.{names_of}
 use Rattle.run_script.specs.Words.{words_in}
-use Rattle.run_verify.specs.Fields.{none_given, with_words}
+use Rattle.run_verify.specs.Fields.{none_gathered, with_words}
 use Rattle.run_verify.proofs.fields.values_in.Given as goal
 
 abbrev pub invariant-loop-word : goal.invariant-loop-word
 invariant-loop-word l =
     record {
       utf8 : IsUtf8 l.rest;
-      said : with_words (names_of l.program) l.line l.given (words_in l.rest) ≡ with_words (names_of l.program) l.line none_given (words_in l.text);
+      said : with_words (names_of l.program) l.line l.gathered (words_in l.rest) ≡ with_words (names_of l.program) l.line none_gathered (words_in l.text);
     }
 
 abbrev pub decreases-loop-word : goal.decreases-loop-word

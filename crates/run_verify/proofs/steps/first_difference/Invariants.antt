@@ -1,5 +1,5 @@
 use Rattle.std.proofs.Common.{◌≡◌, ◌<◌, ℕ, slice_index, Some}
-use Rattle.run_verify.specs.Fields.{value_given}
+use Rattle.run_verify.specs.Given.{value_given}
 use Rattle.run_verify.proofs.steps.first_difference.Given as goal
 
 abbrev pub invariant-loop-field : goal.invariant-loop-field
