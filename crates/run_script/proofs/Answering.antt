@@ -13,7 +13,7 @@ use Rattle.run_script.specs.declared.fault.StepTextFault.TheVariants.{Memory, To
 use Rattle.run_script.specs.Meaning.{and_then}
 use Rattle.run_script.specs.Texts.{made_by, most_deep}
 use Rattle.run_script.specs.Runs.{Reading, IsAnswer, few_steps, repeated, last_open, but_last, ended, behind_line}
-use Rattle.run_script.proofs.Counts.{then-ok, choice}
+use Rattle.run_script.proofs.Choosing.{then-ok, choice}
 use Rattle.run_script.proofs.Readings.{few-ok}
 
 -- a fault that is passed on

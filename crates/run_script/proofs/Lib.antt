@@ -1,8 +1,14 @@
-mod Numbers
-mod Slots
+pub mod Numbers
+pub mod Places
+pub mod Slots
+pub mod Callings
+mod Shapes
+mod Spellings
+mod Reasons
+pub mod Tellings
 mod Following
 mod Endings
-mod Counts
+pub mod Choosing
 mod Readings
 mod Wholes
 mod Saids

@@ -1,5 +1,5 @@
 -- Words that are numbers.
-use Rattle.std.proofs.Common.{◌≡◌, ◌≢◌, ℕ, ◌<◌, ◌^◌, ◌==◌, Bool, true, false, ◌&&◌, List, [], ◌∷◌, ◌++◌, length, nat_lt, refl, sym, ap, ◌∙◌, append-nil, Some, None, inl, inr, arith}
+use Rattle.std.proofs.Common.{◌≡◌, ◌≢◌, ◌↔◌, ℕ, ◌<◌, ◌^◌, ◌==◌, Bool, true, false, ◌&&◌, List, [], ◌∷◌, ◌++◌, length, nat_lt, refl, sym, ap, ◌∙◌, append-nil, Option, Some, None, inl, inr, arith}
 use Rattle.std.specs.Fmt.{decimal}
 use Rattle.std.specs.Str.{bytes_eq}
 use Rattle.std.specs.Str.Parse.{digits_value}
@@ -11,11 +11,11 @@ use Rattle.report_text.specs.Front.{Ends}
 use Rattle.report_text.proofs.Digits.{number_once}
 use Rattle.run_script.specs.Words.{number_in}
 
-and-split : (a b : Bool) → (a && b) ≡ true → (a ≡ true) × (b ≡ true)
+pub and-split : (a b : Bool) → (a && b) ≡ true → (a ≡ true) × (b ≡ true)
 and-split true b h = (refl, h)
 and-split false b h = cc
 
-and-join : (a b : Bool) → a ≡ true → b ≡ true → (a && b) ≡ true
+pub and-join : (a b : Bool) → a ≡ true → b ≡ true → (a && b) ≡ true
 and-join true b h k = k
 and-join false b h k = cc
 
@@ -66,3 +66,24 @@ number-some word bytes [] n same cut small none =
     let is : spells word ≡ true = and-join (bytes_eq (decimal (digits_value 10 word)) word) (nat_lt (digits_value 10 word) (2 ^ 32)) whole fits in
     rw is (ap Some value)
 number-some word bytes (b ∷ rest) n same cut small none = (let e = (Decides-eqb (length (b ∷ rest)) 0).0 (sym none) in absurd (omega arith))
+
+-- a word that is read as a number is its spelling
+pub number-spelled : (word : List ℕ) (n : ℕ) → number_in word ≡ Some n → (word ≡ decimal n) × (n < 2 ^ 32)
+unfolding number_in
+number-spelled word n h =
+    elim (cases_Bool (spells word)) [
+      | inl is ↦ (
+          let w = spelled word is in
+          let some : Some (digits_value 10 word) ≡ Some n = rw is at h in
+          let same : digits_value 10 word ≡ n = cc in
+          (sym w.0 ∙ ap decimal same, omega (arith, w.1)))
+      | inr other ↦ (let none : ◌≡◌ {A = Option ℕ} None (Some n) = rw other at h in absurd (cc))
+    ]
+
+-- and the spelling of a number is read as it
+pub number-of : (n : ℕ) → n < 2 ^ 32 → number_in (decimal n) ≡ Some n
+number-of n small = number-some (decimal n) (decimal n) [] n refl (sym (append-nil (decimal n))) small refl
+
+-- what is read of a word is the number that it spells
+pub numbers-read : (word : List ℕ) (r : Option ℕ) → r ≡ number_in word → (n : ℕ) → (r ≡ Some n) ↔ (n < 2 ^ 32) × (word ≡ decimal n)
+numbers-read word r is n = (λ h. (let s = number-spelled word n (sym is ∙ h) in (s.1, s.0)), λ h. is ∙ ap number_in h.1 ∙ number-of n h.0)

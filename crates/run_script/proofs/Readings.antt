@@ -14,11 +14,13 @@ use Rattle.run_script.specs.declared.line.Line.TheVariants.{Act, Repeat, End}
 use Rattle.run_script.specs.declared.fault.StepTextFault.{StepTextFault}
 use Rattle.run_script.specs.declared.fault.StepTextFault.TheVariants.{TooDeep, EndWithoutRepeat, TooManySteps}
 use Rattle.run_script.specs.Meaning.{line_at}
+use Rattle.run_script.specs.Spelled.{Said}
 use Rattle.run_script.specs.Texts.{Parts, none, act, again, lines_of, steps_of, depth_of, made_by, most_deep, AreSaid}
 use Rattle.run_script.specs.Refusals.{Beginning, whole, inside, begun_lines, begun_steps, begun_depth, open_in, Stand, IsMisplaced}
 use Rattle.run_script.specs.Runs.{Reading, few_steps, repeated, last_open, but_last, ended, behind_line}
-use Rattle.run_script.proofs.Counts.{then-ok, then-err, choice, line-least}
+use Rattle.run_script.proofs.Choosing.{then-ok, then-err, choice}
 use Rattle.run_script.proofs.Following.{grown, lines-grown, steps-grown, depth-grown, open-deep}
+use Rattle.run_script.proofs.Tellings.{line-said, zip-push, zip-length}
 
 -- the number of a line
 abbrev pub numbers : List (ℕ × List ℕ) → List ℕ
@@ -106,15 +108,11 @@ module _ (network : Neighbours) where
 
   module _ (names : Option (List (List ℕ))) where
     said-more : (told : List (ℕ × List ℕ)) (ls : List Line) (l : ℕ × List ℕ) (said : Line) → AreSaid network names told ls → line_at network names l ≡ Ok said → AreSaid network names (told ++ l ∷ []) (ls ++ said ∷ [])
-    said-more told ls l said are is =
-        map-append (line_at network names) told (l ∷ [])
-        ∙ ap (λ rs. rs ++ line_at network names l ∷ []) are
-        ∙ ap (λ r. map Ok ls ++ r ∷ []) is
-        ∙ sym (map-append Ok ls (said ∷ []))
+    said-more told ls l said are is = zip-push (Said network names) told ls l said are (line-said network names l said is)
 
     -- as many lines are said as were told
     said-length : (told : List (ℕ × List ℕ)) (ls : List Line) → AreSaid network names told ls → length told ≡ length ls
-    said-length told ls are = sym (length-map told (line_at network names)) ∙ ap length are ∙ length-map ls Ok
+    said-length told ls are = zip-length (Said network names) told ls are
 
     module _ (told : List (ℕ × List ℕ)) (r : Reading) (b : Beginning) (l : ℕ × List ℕ) (read : HasRead network names told r b) where
       opens-more : AreOpen network (numbers (told ++ l ∷ [])) b r.opens
@@ -177,7 +175,7 @@ module _ (network : Neighbours) where
                     few = subst (λ (xs : List Step). length xs ≤ most_steps) (sym (append-nil (begun_steps network b))) read.stand.few;
                   };
                   steps = made;
-                  opens = (r.opens, new, refl, line-least network names l k is, refl, ap length read.steps, named, opens-more);
+                  opens = (r.opens, new, refl, (line-said network names l (Repeat k) is).spelled.1, refl, ap length read.steps, named, opens-more);
                 }))
             | inr other ↦ (let e = other.1 in cc)
           ]
@@ -216,7 +214,7 @@ module _ (network : Neighbours) where
           let e : last_open r.opens ≡ None = ap last_open o in
           let g : ended l.0 r None ≡ Err fault = subst (λ (x : Option OpenRepeat). ended l.0 r x ≡ Err fault) e h in
           let same : EndWithoutRepeat l.0 ≡ fault = cc in
-          subst (λ f. IsMisplaced network names (whole ps) l f) same (refl, is, refl)
+          subst (λ f. IsMisplaced network names (whole ps) l f) same (refl, line-said network names l End is, refl)
       misplaced-end fault is h (inside outer k ps) o steps =
           let e : last_open r.opens ≡ Some o.1 = ap last_open o.2 ∙ last-push o.0 o.1 in
           let g : ended l.0 r (Some o.1) ≡ Err fault = subst (λ (x : Option OpenRepeat). ended l.0 r x ≡ Err fault) e h in
@@ -225,7 +223,7 @@ module _ (network : Neighbours) where
             | inl few ↦ (
                 let f = few-err l.0 (repeated r.steps o.1) fault few in
                 let more : most_steps < length (begun_steps network outer ++ repeat k (steps_of network ps)) = subst (λ (ss : List Step). most_steps < length ss) rep f.1 in
-                subst (λ f. IsMisplaced network names (inside outer k ps) l f) f.0 (refl, (End, is, more)))
+                subst (λ f. IsMisplaced network names (inside outer k ps) l f) f.0 (refl, (End, line-said network names l End is, more)))
             | inr x ↦ (let bad = x.2 in absurd (cc))
           ]
 
@@ -236,7 +234,7 @@ module _ (network : Neighbours) where
             | inl few ↦ (
                 let f = few-err l.0 (r.steps ++ made_by network action) fault few in
                 let more : most_steps < length (begun_steps network b ++ made_by network action) = subst (λ (ss : List Step). most_steps < length (ss ++ made_by network action)) read.steps f.1 in
-                subst (λ f. IsMisplaced network names b l f) f.0 (refl, (Act action, is, more)))
+                subst (λ f. IsMisplaced network names b l f) f.0 (refl, (Act action, line-said network names l (Act action) is, more)))
             | inr x ↦ (let bad = x.2 in absurd (cc))
           ]
       misplaced (Repeat k) fault is h =
@@ -250,6 +248,6 @@ module _ (network : Neighbours) where
                 let stood = read.stand.deep in
                 let deep = open-deep b in
                 let full : most_deep ≤ length r.opens = grind (arith, nat_tests) in
-                subst (λ f. IsMisplaced network names b l f) same (refl, (k, is), omega arith))
+                subst (λ f. IsMisplaced network names b l f) same (refl, (k, line-said network names l (Repeat k) is), omega arith))
           ]
       misplaced End fault is h = misplaced-end fault is h b read.opens read.steps

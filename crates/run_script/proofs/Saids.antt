@@ -4,7 +4,7 @@ use Rattle.std.specs.List.{repeat}
 use Rattle.std.proofs.lemmas.Bool.Decides.{nat_tests}
 use Rattle.std.proofs.lemmas.List.{map-append}
 use Rattle.import_lines.specs.Texts.{told_from}
-use Rattle.link_net.specs.Neighbours.{Neighbours}
+use Rattle.link_net.specs.Neighbours.{Neighbours, IsNetwork}
 use Rattle.unison_world.specs.declared.step.Step.{Step}
 use Rattle.unison_trace.specs.Histories.{most_steps}
 use Rattle.run_script.specs.declared.action.Action.{Action}
@@ -15,8 +15,8 @@ use Rattle.run_script.specs.declared.fault.StepTextFault.{StepTextFault}
 use Rattle.run_script.specs.Meaning.{and_then, line_at}
 use Rattle.run_script.specs.Texts.{Parts, none, act, again, lines_of, steps_of, depth_of, made_by, most_deep, Says}
 use Rattle.run_script.specs.Runs.{Reading, unread, few_steps, repeated, last_open, but_last, ended, behind_line, behind_all, closed, read_text}
-use Rattle.run_script.proofs.Counts.{line-least}
 use Rattle.run_script.proofs.Readings.{last-push, but-last-push, repeated-is}
+use Rattle.run_script.proofs.Tellings.{line-said, all-read}
 
 few-is : (line : ℕ) (ss : List Step) → length ss ≤ most_steps → few_steps line ss ≡ Ok ss
 few-is line ss few = (let t : nat_le (length ss) most_steps ≡ true = grind (arith, nat_tests) in rw t refl)
@@ -106,7 +106,7 @@ module _ (network : Neighbours) (names : Option (List (List ℕ))) where
       let rest : map (line_at network names) ls ≡ map Ok (lines_of body ++ (End ∷ lines_of ps)) ++ more = cc in
       let others : Tells ls body (Ok End ∷ (map Ok (lines_of ps) ++ more)) =
       rest ∙ ap (λ rs. rs ++ more) (map-append Ok (lines_of body) (End ∷ lines_of ps)) ∙ append_assoc (map Ok (lines_of body)) (Ok End ∷ map Ok (lines_of ps)) more in
-      let least = line-least network names l k is in
+      let least = (line-said network names l (Repeat k) is).spelled.1 in
       let new = opened l.0 r k in
       let q : Reading = record { steps = r.steps; opens = r.opens ++ new ∷ [] } in
       let b = steps_of network body in
@@ -135,10 +135,10 @@ module _ (network : Neighbours) (names : Option (List (List ℕ))) where
   all-behind (l ∷ ls) r h = cc
 
   -- a text that says steps is read as those
-  pub text-read : (text : List ℕ) (steps : List Step) → Says network names text steps → read_text network names text ≡ Ok steps
-  text-read text steps said =
+  pub text-read : IsNetwork network → (text : List ℕ) (steps : List Step) → Says network names text steps → read_text network names text ≡ Ok steps
+  text-read whole text steps said =
       let told = told_from 1 text in
-      let tells : Tells told said.parts [] = said.lines ∙ sym (append-nil (map Ok (lines_of said.parts))) in
+      let tells : Tells told said.parts [] = all-read network names whole told (lines_of said.parts) said.lines ∙ sym (append-nil (map Ok (lines_of said.parts))) in
       let few : length (steps_of network said.parts) ≤ most_steps = subst (λ (ss : List Step). length ss ≤ most_steps) said.made said.few in
       let deeper : depth_of said.parts ≤ most_deep = said.deep in
       let x = goes-all said.parts told [] unread tells few (omega arith) in

@@ -12,7 +12,7 @@ use Rattle.link_net.specs.Neighbours.{Neighbours, row, degree, neighbour_at}
 abbrev pub neighbours_of : Neighbours → ℕ → List ℕ
 neighbours_of network u = map (λ a. a.0) (row network u)
 
-neighbour-is : (network : Neighbours) (u j : ℕ) → neighbour_at network u j ≡ slice_get (neighbours_of network u) j
+pub neighbour-is : (network : Neighbours) (u j : ℕ) → neighbour_at network u j ≡ slice_get (neighbours_of network u) j
 neighbour-is [] u j = refl
 neighbour-is (r ∷ network) zero j = sym (slice_get-map (λ (a : ℕ × ℕ). a.0) r j)
 neighbour-is (r ∷ network) (suc u) j = neighbour-is network u j

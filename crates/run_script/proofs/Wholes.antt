@@ -1,7 +1,7 @@
 -- Texts that are read.
 use Rattle.std.proofs.Common.{◌≡◌, ℕ, ◌≤◌, List, [], ◌∷◌, ◌++◌, length, ◌⊎◌, inl, inr, subst, refl, sym, ap, ◌∙◌, append_assoc, append-nil, Option, Some, None, Ok, Err, arith}
 use Rattle.import_lines.specs.Texts.{told_from}
-use Rattle.link_net.specs.Neighbours.{Neighbours}
+use Rattle.link_net.specs.Neighbours.{Neighbours, IsNetwork}
 use Rattle.unison_world.specs.declared.step.Step.{Step}
 use Rattle.unison_trace.specs.Histories.{most_steps}
 use Rattle.run_script.specs.declared.open_repeat.OpenRepeat.{OpenRepeat}
@@ -13,8 +13,9 @@ use Rattle.run_script.specs.Meaning.{line_at}
 use Rattle.run_script.specs.Texts.{Parts, none, act, Says, steps_of}
 use Rattle.run_script.specs.Refusals.{Beginning, whole, inside, IsFirstBadLine, IsUnclosed}
 use Rattle.run_script.specs.Runs.{Reading, unread, behind_line, behind_told, behind_all, closed, last_open, read_text}
-use Rattle.run_script.proofs.Counts.{then-ok, then-err}
+use Rattle.run_script.proofs.Choosing.{then-ok, then-err}
 use Rattle.run_script.proofs.Following.{grown}
+use Rattle.run_script.proofs.Tellings.{line-unsaid}
 use Rattle.run_script.proofs.Readings.{HasRead, last-push, behind-act, behind-repeat, behind-end, misplaced}
 
 module _ (network : Neighbours) (names : Option (List (List ℕ))) where
@@ -34,22 +35,22 @@ module _ (network : Neighbours) (names : Option (List (List ℕ))) where
       let rest = all-read (told ++ l ∷ []) ls x.0 one.0 q one.1 x.2 in
       (rest.0, subst (λ (t : List (ℕ × List ℕ)). HasRead network names t q rest.0) (append_assoc told (l ∷ []) ls) rest.1)
 
-  bad-line : (told todo : List (ℕ × List ℕ)) (r : Reading) (b : Beginning) (fault : StepTextFault) → HasRead network names told r b → behind_all network names r todo ≡ Err fault → IsFirstBadLine network names (told ++ todo) fault
-  bad-line told [] r b fault read h = cc
-  bad-line told (l ∷ ls) r b fault read h =
+  bad-line : IsNetwork network → (told todo : List (ℕ × List ℕ)) (r : Reading) (b : Beginning) (fault : StepTextFault) → HasRead network names told r b → behind_all network names r todo ≡ Err fault → IsFirstBadLine network names (told ++ todo) fault
+  bad-line valid told [] r b fault read h = cc
+  bad-line valid told (l ∷ ls) r b fault read h =
       elim (then-err (behind_told network names r l) (λ q. behind_all network names q ls) fault h) [
         | inl stops ↦ elim (then-err (line_at network names l) (λ line. behind_line network l.0 r line) fault stops) [
-          | inl own ↦ record { earlier = told; here = l; later = ls; all = refl; begun = b; stand = read.stand; why = inl own }
+          | inl own ↦ record { earlier = told; here = l; later = ls; all = refl; begun = b; stand = read.stand; why = inl (line-unsaid network names valid l fault own) }
           | inr y ↦ record { earlier = told; here = l; later = ls; all = refl; begun = b; stand = read.stand; why = inr (misplaced network names told r b l read y.0 fault y.1 y.2) }
         ]
         | inr x ↦ (
             let y = then-ok (line_at network names l) (λ line. behind_line network l.0 r line) x.0 x.1 in
             let one = one-more told r b l y.0 x.0 read y.1 y.2 in
-            subst (λ (t : List (ℕ × List ℕ)). IsFirstBadLine network names t fault) (append_assoc told (l ∷ []) ls) (bad-line (told ++ l ∷ []) ls x.0 one.0 fault one.1 x.2))
+            subst (λ (t : List (ℕ × List ℕ)). IsFirstBadLine network names t fault) (append_assoc told (l ∷ []) ls) (bad-line valid (told ++ l ∷ []) ls x.0 one.0 fault one.1 x.2))
       ]
 
   begun-unread : HasRead network names [] unread (whole none)
-  begun-unread = record { stand = record { lines = refl; deep = omega arith; few = omega arith }; steps = refl; opens = refl }
+  begun-unread = record { stand = record { lines = tt; deep = omega arith; few = omega arith }; steps = refl; opens = refl }
 
   module _ (told : List (ℕ × List ℕ)) (r : Reading) where
     closed-whole : (steps : List Step) (b : Beginning) → HasRead network names told r b → closed r.steps (last_open r.opens) ≡ Ok steps
@@ -94,10 +95,10 @@ module _ (network : Neighbours) (names : Option (List (List ℕ))) where
           few = subst (λ (ss : List Step). length ss ≤ most_steps) (sym made) read.stand.few;
         }
 
-    pub text-refused : (fault : StepTextFault) → read_text network names text ≡ Err fault → IsFirstBadLine network names (told_from 1 text) fault ⊎ IsUnclosed network names (told_from 1 text) fault
-    text-refused fault h =
+    pub text-refused : IsNetwork network → (fault : StepTextFault) → read_text network names text ≡ Err fault → IsFirstBadLine network names (told_from 1 text) fault ⊎ IsUnclosed network names (told_from 1 text) fault
+    text-refused valid fault h =
         let told = told_from 1 text in
         elim (then-err (behind_all network names unread told) (λ r. closed r.steps (last_open r.opens)) fault h) [
-          | inl stops ↦ inl (bad-line [] told unread (whole none) fault begun-unread stops)
+          | inl stops ↦ inl (bad-line valid [] told unread (whole none) fault begun-unread stops)
           | inr x ↦ (let a = all-read [] told unread (whole none) x.0 begun-unread x.1 in inr (unclosed told x.0 fault a.0 a.1 x.2))
         ]

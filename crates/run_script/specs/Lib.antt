@@ -1,4 +1,6 @@
 pub mod Words
+pub mod Spelled
+pub mod Unsaid
 pub mod Meaning
 pub mod Texts
 pub mod Refusals

@@ -1,4 +1,4 @@
--- What lines say. A line is its number, counted from 1, and its bytes.
+-- How lines are read, function by function: the clauses of private functions speak of this. What lines say stands in Spelled, and why they say nothing in Unsaid.
 use Rattle.std.specs.Prelude.{ℕ, ◌&&◌, List, [], ◌∷◌, codes, Option, Result, Ok, Err, if◌then◌else◌}
 use Rattle.std.specs.Str.{bytes_eq}
 use Rattle.import_lines.specs.Parts.{shown}

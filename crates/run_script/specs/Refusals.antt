@@ -1,5 +1,5 @@
 -- Why a text says no steps.
-use Rattle.std.specs.Prelude.{◌≡◌, ◌≢◌, replicate, ◌⊎◌, ◌<◌, ◌≤◌, ℕ, ◌+◌, max, List, ◌∷◌, ◌++◌, length, map, slice_get, Option, Some, Ok, Err}
+use Rattle.std.specs.Prelude.{◌≡◌, ◌≢◌, replicate, ◌⊎◌, ◌<◌, ◌≤◌, ℕ, ◌+◌, max, List, ◌∷◌, ◌++◌, length, map, slice_get, Option, Some}
 use Rattle.std.specs.List.{repeat}
 use Rattle.import_lines.specs.Texts.{told_from}
 use Rattle.link_net.specs.Neighbours.{Neighbours}
@@ -9,7 +9,8 @@ use Rattle.run_script.specs.declared.line.Line.{Line}
 use Rattle.run_script.specs.declared.line.Line.TheVariants.{Act, Repeat, End}
 use Rattle.run_script.specs.declared.fault.StepTextFault.{StepTextFault}
 use Rattle.run_script.specs.declared.fault.StepTextFault.TheVariants.{TooDeep, EndWithoutRepeat, TooManySteps, RepeatWithoutEnd, Memory}
-use Rattle.run_script.specs.Meaning.{line_at}
+use Rattle.run_script.specs.Spelled.{Said}
+use Rattle.run_script.specs.Unsaid.{IsUnsaid}
 use Rattle.run_script.specs.Texts.{Parts, lines_of, steps_of, made_by, depth_of, most_deep, AreSaid}
 
 -- how texts begin: whole parts; or a beginning, a repeat behind it that is still open, its count, and the parts inside it so far
@@ -60,14 +61,14 @@ IsTooMuch network b End = EndsTooMuch network b
 
 -- why a line that says something can't stand behind a beginning: it opens one repeat too many, it ends none, or it makes too many steps
 abbrev pub IsMisplaced : Neighbours → Option (List (List ℕ)) → Beginning → ℕ × List ℕ → StepTextFault → Type 0
-IsMisplaced network names b here (TooDeep line) = (line ≡ here.0) × ((count : ℕ) × (line_at network names here ≡ Ok (Repeat count))) × (open_in b ≡ most_deep)
-IsMisplaced network names b here (EndWithoutRepeat line) = (line ≡ here.0) × (line_at network names here ≡ Ok End) × (open_in b ≡ 0)
-IsMisplaced network names b here (TooManySteps line) = (line ≡ here.0) × ((said : Line) × (line_at network names here ≡ Ok said) × IsTooMuch network b said)
+IsMisplaced network names b here (TooDeep line) = (line ≡ here.0) × ((count : ℕ) × Said network names here (Repeat count)) × (open_in b ≡ most_deep)
+IsMisplaced network names b here (EndWithoutRepeat line) = (line ≡ here.0) × Said network names here End × (open_in b ≡ 0)
+IsMisplaced network names b here (TooManySteps line) = (line ≡ here.0) × ((line : Line) × Said network names here line × IsTooMuch network b line)
 IsMisplaced network names b here fault = ⊥
 
--- why a line is bad behind a beginning: it says nothing that a line may say, or it can't stand there
+-- why a line is bad behind a beginning: it says nothing, or it can't stand there
 abbrev pub IsLineFault : Neighbours → Option (List (List ℕ)) → Beginning → ℕ × List ℕ → StepTextFault → Type 0
-IsLineFault network names b here fault = (line_at network names here ≡ Err fault) ⊎ IsMisplaced network names b here fault
+IsLineFault network names b here fault = IsUnsaid network names here fault ⊎ IsMisplaced network names b here fault
 
 -- of these lines those before one stand, and that one is bad behind them
 pub record IsFirstBadLine (network : Neighbours) (names : Option (List (List ℕ))) (told : List (ℕ × List ℕ)) (fault : StepTextFault) : Type 0 where

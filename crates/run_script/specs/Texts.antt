@@ -1,6 +1,6 @@
 -- The steps that a text says.
-use Rattle.std.specs.Prelude.{◌≡◌, ℕ, ◌+◌, ◌≤◌, max, List, [], ◌∷◌, ◌++◌, length, map, Option, Ok}
-use Rattle.std.specs.List.{flat_map, repeat}
+use Rattle.std.specs.Prelude.{◌≡◌, ℕ, ◌+◌, ◌≤◌, max, List, [], ◌∷◌, ◌++◌, length, map, Option}
+use Rattle.std.specs.List.{AllZip, flat_map, repeat}
 use Rattle.import_lines.specs.Texts.{told_from}
 use Rattle.link_net.specs.Neighbours.{Neighbours, degree, numbers_below}
 use Rattle.unison_world.specs.declared.step.Step.{Step}
@@ -10,7 +10,7 @@ use Rattle.run_script.specs.declared.action.Action.{Action}
 use Rattle.run_script.specs.declared.action.Action.TheVariants.{ReadSlot, ReadAll, Move, Turn, Sweep}
 use Rattle.run_script.specs.declared.line.Line.{Line}
 use Rattle.run_script.specs.declared.line.Line.TheVariants.{Act, Repeat, End}
-use Rattle.run_script.specs.Meaning.{line_at}
+use Rattle.run_script.specs.Spelled.{Said}
 
 -- the most repeats that may stand inside each other
 abbrev pub most_deep : ℕ
@@ -56,9 +56,9 @@ depth_of none = 0
 depth_of (act action rest) = depth_of rest
 depth_of (again count body rest) = max (depth_of body + 1) (depth_of rest)
 
--- lines say these, one after another
+-- each told line says the line at its place, and there are as many
 abbrev pub AreSaid : Neighbours → Option (List (List ℕ)) → List (ℕ × List ℕ) → List Line → Type 0
-AreSaid network names told lines = map (line_at network names) told ≡ map Ok lines
+AreSaid network names told lines = AllZip (Said network names) told lines
 
 -- the text says these steps: its lines, but for those that say nothing, are the lines of some parts whose steps these are
 pub record Says (network : Neighbours) (names : Option (List (List ℕ))) (text : List ℕ) (steps : List Step) : Type 0 where

@@ -1,4 +1,4 @@
--- What words of a line call: nodes, slots, counts.
+-- Words of a line, and how they are read as nodes, slots and counts.
 use Rattle.std.specs.Prelude.{ℕ, ◌^◌, ◌==◌, Bool, ◌&&◌, List, map, nat_lt, nat_le, length, slice_index, Option, Some, None, Result, if◌then◌else◌}
 use Rattle.std.specs.List.{before_first, position}
 use Rattle.std.specs.Fmt.{decimal}
@@ -21,6 +21,8 @@ is_comment word = slice_index word 0 == 35
 -- the words of a line up to a comment
 abbrev pub words_in : List ℕ → List (List ℕ)
 words_in line = before_first is_comment (words_of line)
+
+-- ---- How words are read, function by function: the clauses of private functions speak of this. What words call stands in Spelled.
 
 -- the number whose decimal spelling the word is, where it fits 32 bits: the value of the word's digits, where the spelling of that is the word again
 unfoldable pub number_in : List ℕ → Option ℕ

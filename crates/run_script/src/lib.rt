@@ -12,7 +12,7 @@ mod put;
 mod text;
 
 pub use fault::StepTextFault;
-pub use laws::beginnings_end;
+pub use laws::{beginnings_end, one_line_is_spelled};
 pub use line_reader::next_said;
 pub use nodes::{node_called, number_in};
 pub use text::written;

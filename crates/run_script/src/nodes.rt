@@ -1,6 +1,8 @@
 //! Nodes, slots and counts that words call.
-ghost use Rattle.std.specs.Prelude.{◌≡◌};
+ghost use Rattle.std.specs.Prelude.{◌≡◌, ◌↔◌, ◌<◌, ◌^◌, ℕ, Some};
+ghost use Rattle.std.specs.Fmt.{decimal};
 ghost use Rattle.std.specs.Option.{option_map};
+ghost use Rattle.run_script.specs.Spelled.{Calls};
 ghost use Rattle.run_script.specs.Words.{number_in, called_in, node_called, node_at, slot_at, count_at};
 
 use crate::fault::StepTextFault;
@@ -14,7 +16,8 @@ const MOST_REPEATS: u32 = 1_000_000;
 /// The number from 0 to 4,294,967,295 whose spelling in decimal digits a word is, without leading zeros; none where it is no
 /// number's.
 pub fn number_in(word: &str) -> Option<u32>
-    ensures { result ≡ number_in word.now }
+    ensures exact { result ≡ number_in word.now }
+    ensures spelled { (n : ℕ) → (result ≡ Some n) ↔ (n < 2 ^ 32) × (word.now ≡ decimal n) }
 {
     let (number, rest) = read_number(word.as_bytes())?;
     if !rest.is_empty() {
@@ -36,10 +39,12 @@ fn called_in(names: Option<&NodeNames>, word: &str) -> Option<u32>
 /// The node of the network that a word calls: by its number, in decimal digits without leading zeros, or, where names are
 /// given, by its name alone; none where it calls none.
 pub fn node_called(network: &Network, names: Option<&NodeNames>, word: &str) -> Option<u32>
-    ensures { result ≡ node_called network.now (option_map (λ n. n.now) names.entry) word.now }
+    ensures exact { result ≡ node_called network.now (option_map (λ n. n.now) names.entry) word.now }
+    ensures calls { (u : ℕ) → (result ≡ Some u) ↔ Calls network.now (option_map (λ n. n.now) names.entry) word.now u }
 {
+    let nodes = network.nodes();
     let node = called_in(names, word)?;
-    if node >= network.nodes() {
+    if node >= nodes {
         return None;
     }
     Some(node)

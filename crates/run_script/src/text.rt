@@ -62,8 +62,8 @@ fn read_text(
 ///
 /// A node is called by its number, in decimal digits without leading zeros. Where names are given, it is called by its
 /// name alone, and numbers call nothing, except as names. So a node can't be called whose name has a blank or a comma
-/// in it, or begins with `#`, or begins with `%` where it is the first word of a line; and a node that is called `all`
-/// can't be read by its name alone.
+/// in it, or begins with `#`, or begins with `%` where it is the first word of a line; a node that is called `all` can't
+/// be read by its name alone, nor can one that is called `{` by one that is called `repeat`.
 ///
 /// The fault is that of the first line that can't stand behind those before it; `RepeatWithoutEnd` comes where all
 /// lines stand. There are at most 1,000,000 steps. `Memory` comes only where memory runs out.
@@ -79,6 +79,8 @@ pub fn written(
     ensures refused { IfErr result (IsRefused network.now (option_map (λ n. n.now) names.entry) text.now) }
     ensures memory { (steps : List Step) → Says network.now (option_map (λ n. n.now) names.entry) text.now steps → IfErr result (λ fault. fault ≡ StepTextFault.Memory) }
 {
+    // For the proof alone: the call tells what holds of every network.
+    let _nodes = network.nodes();
     let steps = read_text(alloc, network, names, text)?;
     Ok(steps)
 }
