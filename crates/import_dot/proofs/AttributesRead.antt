@@ -14,7 +14,7 @@ use Rattle.import_dot.specs.declared.token_kind.TokenKind.TheVariants as kind
 use Rattle.import_dot.specs.declared.fault.DotFault.{DotFault}
 use Rattle.import_dot.specs.declared.state.Owner.{Owner}
 use Rattle.import_dot.specs.declared.state.Owner.TheVariants as whose
-use Rattle.import_dot.specs.Tokens.{DotToken}
+use Rattle.import_dot.specs.Lexing.{DotToken}
 use Rattle.import_dot.specs.Grammar.{turn_at, keyed, valued, is_default, is_edge}
 use Rattle.import_dot.specs.Graphs.{DotEvent, DotGraph, and_then, at_line, unsaid_weight, weighed}
 use Rattle.import_dot.specs.Meaning.{names_weight, list_weights, weights_said, weight_or, last_weight, AreWeights}

@@ -4,8 +4,10 @@ use Rattle.import_lines.specs.declared.weight.Weight.{Weight}
 use Rattle.import_lines.specs.Named.{NamedEdge}
 use Rattle.import_dot.specs.declared.fault.DotFault.{DotFault}
 use Rattle.import_dot.specs.declared.state.State.{State}
-use Rattle.import_dot.specs.Tokens.{DotToken, tokens_of}
-use Rattle.import_dot.specs.Graphs.{DotMention, DotEvent, NoEvent, BeginsEvent, JoinsEvent, WeighsEvent, DotGraph, and_then, at_line, token_turn, events_from, start, mentions, chain, edges_in, unsaid_weight, graph_of}
+use Rattle.import_dot.specs.Lexing.{DotToken}
+use Rattle.import_dot.specs.Tokens.{tokens_of}
+use Rattle.import_dot.specs.Graphs.{DotMention, DotEvent, NoEvent, BeginsEvent, JoinsEvent, WeighsEvent, DotGraph, and_then, at_line, token_turn, events_from, start, mentions, chain, edges_in, unsaid_weight}
+use Rattle.import_dot.specs.Reading.{read_graph}
 
 -- what is built so far: nodes and edges, and of the statement that is begun its nodes and its weight
 pub record Built : Type 0 where
@@ -64,6 +66,6 @@ build_behind undirected factor b s (t ∷ ts) =
     build_turn undirected factor b ts (at_line t.line (token_turn undirected factor s t ts)) (λ c s. build_behind undirected factor c s ts)
 
 -- the graph of a text is what is built from its tokens
-pub graph_of_build : (undirected : Bool) (factor : Option ℕ) (text : List ℕ) → graph_of undirected factor text ≡ build undirected factor (none_built factor) start (tokens_of text)
+pub graph_of_build : (undirected : Bool) (factor : Option ℕ) (text : List ℕ) → read_graph undirected factor text ≡ build undirected factor (none_built factor) start (tokens_of text)
 unfolding graph_behind
 graph_of_build undirected factor text = sym (build_behind undirected factor (none_built factor) start (tokens_of text))

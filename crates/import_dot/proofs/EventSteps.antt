@@ -4,7 +4,7 @@ use Rattle.std.specs.Result.{result_err}
 use Rattle.import_dot.specs.declared.fault.DotFault.{DotFault}
 use Rattle.import_dot.specs.declared.state.State.{State}
 use Rattle.import_dot.specs.declared.builder.Builder.{Builder}
-use Rattle.import_dot.specs.Tokens.{DotToken}
+use Rattle.import_dot.specs.Lexing.{DotToken}
 use Rattle.import_dot.specs.Graphs.{DotEvent, DotGraph, and_then, at_line, token_turn, events_from, graph_in}
 use Rattle.import_dot.specs.View.{finished}
 

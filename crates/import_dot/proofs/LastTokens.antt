@@ -3,8 +3,9 @@ use Rattle.std.proofs.Common.{ℕ, ◌-◌, Bool, List, [], ◌∷◌, Option, R
 use Rattle.import_dot.specs.declared.token_kind.TokenKind.{TokenKind}
 use Rattle.import_dot.specs.declared.token_kind.TokenKind.TheVariants.{End}
 use Rattle.import_dot.specs.declared.fault.DotLineFault.{DotLineFault}
-use Rattle.import_dot.specs.Tokens.{DotToken, Piece, piece_at, line_behind, with_token, tokens_with, tokens_at}
-use Rattle.import_dot.specs.Runs.{is_line_feed}
+use Rattle.import_dot.specs.Lexing.{DotToken, with_token}
+use Rattle.import_dot.specs.Tokens.{Piece, piece_at, line_behind, tokens_with, tokens_at}
+use Rattle.import_dot.specs.Bytes.{is_line_feed}
 use Rattle.import_dot.proofs.Starts.{behind}
 
 -- ---- the tokens of a text

@@ -10,7 +10,7 @@ use Rattle.import_dot.specs.declared.state.Place.TheVariants as stands
 use Rattle.import_dot.specs.declared.state.Act.{Act}
 use Rattle.import_dot.specs.declared.state.Act.TheVariants as does
 use Rattle.import_dot.specs.declared.state.State.{State}
-use Rattle.import_dot.specs.Tokens.{DotToken}
+use Rattle.import_dot.specs.Lexing.{DotToken}
 use Rattle.import_dot.specs.Grammar.{is_assign, turn_at}
 use Rattle.import_dot.specs.Graphs.{DotEvent, DotGraph, and_then, at_line, said, token_turn, unsaid_weight}
 use Rattle.import_dot.specs.Syntax.{Mark, IdMark, SignMark, FaultMark, mark_in, mark_of}

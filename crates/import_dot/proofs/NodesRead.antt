@@ -11,7 +11,7 @@ use Rattle.import_dot.specs.declared.token_kind.TokenKind.TheVariants as kind
 use Rattle.import_dot.specs.declared.fault.DotFault.{DotFault}
 use Rattle.import_dot.specs.declared.state.Owner.{Owner}
 use Rattle.import_dot.specs.declared.state.Owner.TheVariants as whose
-use Rattle.import_dot.specs.Tokens.{DotToken}
+use Rattle.import_dot.specs.Lexing.{DotToken}
 use Rattle.import_dot.specs.Grammar.{assigns, at_statement, named}
 use Rattle.import_dot.specs.Graphs.{DotGraph, unsaid_weight, DotMention, BeginsEvent, JoinsEvent}
 use Rattle.import_dot.specs.Meaning.{IsNodeName, node_of}

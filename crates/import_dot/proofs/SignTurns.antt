@@ -8,7 +8,7 @@ use Rattle.import_dot.specs.declared.state.Place.{Place}
 use Rattle.import_dot.specs.declared.state.Place.TheVariants as stands
 use Rattle.import_dot.specs.declared.state.Act.TheVariants as does
 use Rattle.import_dot.specs.declared.state.State.{State}
-use Rattle.import_dot.specs.Tokens.{DotToken}
+use Rattle.import_dot.specs.Lexing.{DotToken}
 use Rattle.import_dot.specs.Grammar.{Turn, refused, assigns, opened, closed, joined, at_start, at_strict, at_title, at_any, at_titled, at_statement, at_done, at_closed, at_subgraph, at_subgraph_titled, at_node, at_ported, at_sided, at_edge_end, at_key, at_brackets, at_list, at_list_key, at_value, at_valued, at_listed, at_over, turn_at, most_depth}
 use Rattle.import_dot.specs.Graphs.{DotEvent, NoEvent, and_then, said}
 

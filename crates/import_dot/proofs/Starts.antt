@@ -8,7 +8,7 @@ use Rattle.import_dot.specs.declared.state.State.{State}
 use Rattle.import_dot.specs.declared.token_kind.TokenKind.TheVariants as kind
 use Rattle.import_dot.specs.declared.fault.DotFault.{DotFault}
 use Rattle.import_dot.specs.declared.state.Owner.{Owner}
-use Rattle.import_dot.specs.Tokens.{DotToken}
+use Rattle.import_dot.specs.Lexing.{DotToken}
 use Rattle.import_dot.specs.Grammar.{Turn, at_statement, at_done, at_closed, at_node, at_ported, at_sided, at_listed, turn_at}
 use Rattle.import_dot.specs.Graphs.{DotGraph, and_then, at_line, unsaid_weight}
 use Rattle.import_dot.specs.Syntax.{Mark}

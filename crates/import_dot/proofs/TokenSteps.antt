@@ -2,13 +2,14 @@
 use Rattle.std.proofs.Common.{◌≡◌, ℕ, zero, suc, ◌-◌, ◌≤◌, ◌<◌, ◌==◌, Bool, false, List, [], ◌∷◌, length, refl, sym, ap, ◌∙◌, arith, Ok, Err, Option, Some, None, if◌then◌else◌}
 use Rattle.import_dot.specs.declared.token_kind.TokenKind.{TokenKind}
 use Rattle.import_dot.specs.declared.fault.DotLineFault.{DotLineFault}
-use Rattle.import_dot.specs.Tokens.{DotToken, first_piece, line_behind, with_token, tokens_at}
+use Rattle.import_dot.specs.Lexing.{DotToken, with_token}
+use Rattle.import_dot.specs.Tokens.{first_piece, line_behind, tokens_at}
 
 behind_first : (size : ℕ) (fresh : Bool) (line b : ℕ) (bytes : List ℕ) → 1 ≤ size → tokens_at (size - 1) (b == 10) (line_behind line b) bytes ≡ tokens_at size fresh line (b ∷ bytes)
 behind_first zero fresh line b bytes some = absurd (omega arith)
 behind_first (suc size) fresh line b bytes some = (let e : suc size - 1 ≡ size = omega arith in rw e refl)
 
-piece_told : (fresh : Bool) (line : ℕ) (bytes : List ℕ) (kind : Option TokenKind) (text : List ℕ) (size : ℕ) → 0 < length bytes → 1 ≤ size → first_piece fresh bytes ≡ Ok (record { kind = kind; text = text; size = size }) → tokens_at 0 fresh line bytes ≡ with_token line kind text (tokens_at size fresh line bytes)
+pub piece_told : (fresh : Bool) (line : ℕ) (bytes : List ℕ) (kind : Option TokenKind) (text : List ℕ) (size : ℕ) → 0 < length bytes → 1 ≤ size → first_piece fresh bytes ≡ Ok (record { kind = kind; text = text; size = size }) → tokens_at 0 fresh line bytes ≡ with_token line kind text (tokens_at size fresh line bytes)
 piece_told fresh line [] kind text size full some is = absurd (omega arith)
 piece_told fresh line (b ∷ bytes) kind text size full some is = rw is (ap (with_token line kind text) (behind_first size fresh line b bytes some))
 

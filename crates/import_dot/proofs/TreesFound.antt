@@ -12,15 +12,19 @@ use Rattle.import_dot.specs.declared.state.Place.TheVariants as stands
 use Rattle.import_dot.specs.declared.state.Act.{Act}
 use Rattle.import_dot.specs.declared.state.State.{State}
 use Rattle.import_dot.specs.declared.fault.DotFault.{DotFault}
-use Rattle.import_dot.specs.Tokens.{DotToken, tokens_of}
+use Rattle.import_dot.specs.Lexing.{DotToken}
+use Rattle.import_dot.specs.Tokens.{tokens_of}
 use Rattle.import_dot.specs.Grammar.{Turn, turn_at}
-use Rattle.import_dot.specs.Graphs.{DotEvent, DotGraph, and_then, at_line, said, token_turn, start, graph_of, events_from, graph_in}
+use Rattle.import_dot.specs.Graphs.{DotEvent, DotGraph, and_then, at_line, said, token_turn, start, events_from, graph_in}
+use Rattle.import_dot.specs.Reading.{read_graph}
 use Rattle.import_dot.specs.Meaning.{meaning, IsTree, Spells}
-use Rattle.import_dot.specs.Syntax.{Mark, SignMark, mark_in, mark_of, DotTree, name_marks, graph_sign, tree_marks, marks_of}
+use Rattle.import_dot.specs.Syntax.{Mark, SignMark, mark_in, mark_of, DotTree, name_marks, graph_sign, tree_marks}
 use Rattle.import_dot.proofs.SignTurns.{told}
 use Rattle.import_dot.proofs.TreesRead.{tree_read}
 use Rattle.import_dot.proofs.Needs.{After, Needs, StartAt}
 use Rattle.import_dot.proofs.TurnsFound.{turn_found}
+use Rattle.import_dot.proofs.TokensRead.{lexemes_told}
+use Rattle.import_dot.proofs.TextsLexed.{Read, events_ok, read_lexes}
 use Rattle.import_dot.proofs.LastTokens.{Ended, IsLast, tokens_ended}
 
 -- ---- all tokens
@@ -33,13 +37,6 @@ Finishes (Err bad) = Unit {0}
 pub end_turn : (p : Place) (undirected : Bool) (s : State) (text : List ℕ) (a : List DotToken) → Finishes (turn_at p undirected s End text a)
 end_turn stands.Over undirected s text a = refl
 end_turn p undirected s text a = tt
-
-abbrev pub Read : Bool → Option ℕ → State → List DotToken → Type 0
-Read undirected factor s ts = IsOk (events_from undirected factor s ts)
-
-pub events_ok : (e : DotEvent) (read : Result (List DotEvent) DotFault) → IsOk (and_then read (λ es. Ok (e ∷ es))) → IsOk read
-events_ok e (Ok es) is = refl
-events_ok e (Err bad) is = is
 
 abbrev pub read_behind : Bool → Option ℕ → ℕ → List DotToken → Result (State × DotEvent) DotLineFault → Result (List DotEvent) DotFault
 read_behind undirected factor line ts r = and_then (at_line line r) (λ n. and_then (events_from undirected factor n.0 ts) (λ es. Ok (n.1 ∷ es)))
@@ -94,12 +91,14 @@ tree_of undirected factor ms s =
     ))
 
 -- a text that is read spells a tree, and its graph is what the tree means
-pub tree_found : (undirected : Bool) (factor : Option ℕ) (text : List ℕ) (g : DotGraph) → graph_of undirected factor text ≡ Ok g → (tree : DotTree) × Spells undirected factor text tree × (g ≡ meaning factor tree)
+pub tree_found : (undirected : Bool) (factor : Option ℕ) (text : List ℕ) (g : DotGraph) → read_graph undirected factor text ≡ Ok g → (tree : DotTree) × Spells undirected factor text tree × (g ≡ meaning factor tree)
 tree_found undirected factor text g is =
-    (let found = tree_of undirected factor (marks_of text) (tokens_found undirected factor (tokens_of text) start (tokens_ended text 0 true 1) (graph_ok factor (events_from undirected factor start (tokens_of text)) g is) refl) in
-    let spells : Spells undirected factor text found.0 = record { tree = found.1; marks = found.2 } in
+    (let read = graph_ok factor (events_from undirected factor start (tokens_of text)) g is in
+    let found = tree_of undirected factor (map mark_of (tokens_of text)) (tokens_found undirected factor (tokens_of text) start (tokens_ended text 0 true 1) read refl) in
+    let lexed = read_lexes undirected factor text read in
+    let spells : Spells undirected factor text found.0 = record { tree = found.1; lexemes = lexed.0; lexes = lexed.1; marks = sym (ap (map mark_of) (lexemes_told text lexed.0 lexed.1)) ∙ found.2 } in
     let means = tree_read undirected factor text found.0 spells in
-    (found.0, spells, same_ok (graph_of undirected factor text) g (meaning factor found.0) is means))
+    (found.0, spells, same_ok (read_graph undirected factor text) g (meaning factor found.0) is means))
 
 -- ---- a text without a fault
 
@@ -126,11 +125,11 @@ events_line undirected factor (t ∷ ts) s =
     line_then (at_line t.line (token_turn undirected factor s t ts)) (λ n. and_then (events_from undirected factor n.0 ts) (λ es. Ok (n.1 ∷ es))) (has_line t.line (token_turn undirected factor s t ts))
     (λ n. line_then (events_from undirected factor n.0 ts) (λ es. Ok (n.1 ∷ es)) (events_line undirected factor ts n.0) (λ es. tt))
 
-pub no_fault : (undirected : Bool) (factor : Option ℕ) (text : List ℕ) (r : Result DotGraph DotFault) → graph_of undirected factor text ≡ r → HasLine r → unwrap_or (result_err r) Memory ≡ Memory → (tree : DotTree) × Spells undirected factor text tree
+pub no_fault : (undirected : Bool) (factor : Option ℕ) (text : List ℕ) (r : Result DotGraph DotFault) → read_graph undirected factor text ≡ r → HasLine r → unwrap_or (result_err r) Memory ≡ Memory → (tree : DotTree) × Spells undirected factor text tree
 no_fault undirected factor text (Ok g) is has none = (let found = tree_found undirected factor text g is in (found.0, found.1))
 no_fault undirected factor text (Err bad) is has none = absurd (subst IsLineFault none has)
 
 -- a text that has no fault spells a tree
-pub tree_faultless : (undirected : Bool) (factor : Option ℕ) (text : List ℕ) → unwrap_or (result_err (graph_of undirected factor text)) Memory ≡ Memory → (tree : DotTree) × Spells undirected factor text tree
+pub tree_faultless : (undirected : Bool) (factor : Option ℕ) (text : List ℕ) → unwrap_or (result_err (read_graph undirected factor text)) Memory ≡ Memory → (tree : DotTree) × Spells undirected factor text tree
 tree_faultless undirected factor text none =
-    no_fault undirected factor text (graph_of undirected factor text) refl (line_then (events_from undirected factor start (tokens_of text)) (λ es. Ok (graph_in factor es)) (events_line undirected factor (tokens_of text) start) (λ es. tt)) none
+    no_fault undirected factor text (read_graph undirected factor text) refl (line_then (events_from undirected factor start (tokens_of text)) (λ es. Ok (graph_in factor es)) (events_line undirected factor (tokens_of text) start) (λ es. tt)) none

@@ -1,5 +1,5 @@
 -- The spelling of a tree is read, and gives the graph that the tree means.
-use Rattle.std.proofs.Common.{◌≡◌, ℕ, ◌+◌, ◌-◌, ◌==◌, Bool, true, false, List, [], ◌∷◌, refl, ap, ◌∙◌, Option, Result, Ok, if◌then◌else◌, ◌≤◌, ◌<◌, ◌++◌, arith, lt-ltb, ne_eqb, Some, None}
+use Rattle.std.proofs.Common.{◌≡◌, ℕ, ◌+◌, ◌-◌, ◌==◌, Bool, true, false, List, [], ◌∷◌, map, refl, ap, ◌∙◌, Option, Result, Ok, if◌then◌else◌, ◌≤◌, ◌<◌, ◌++◌, arith, lt-ltb, ne_eqb, Some, None}
 use native.Mathlib.Nat.{le-max_left, le-max_right}
 use Rattle.import_lines.specs.Named.{NamedEdge}
 use Rattle.import_dot.specs.declared.token_kind.TokenKind.TheVariants.{Strict, Digraph, Subgraph, BraceOpen, BraceClose, End}
@@ -13,11 +13,13 @@ use Rattle.import_dot.specs.declared.state.Owner.{Owner}
 use Rattle.import_dot.specs.declared.state.Owner.TheVariants as whose
 use Rattle.import_dot.specs.Tokens.{tokens_of}
 use Rattle.import_dot.specs.Grammar.{opened, closed, at_start, begun}
-use Rattle.import_dot.specs.Graphs.{DotGraph, DotMention, start, graph_of}
+use Rattle.import_dot.specs.Graphs.{DotGraph, DotMention, start}
+use Rattle.import_dot.specs.Reading.{read_graph}
 use Rattle.import_dot.specs.Meaning.{statement_nodes, statement_edges, nodes_in, edges_of, meaning, AreStatements, depth_of, IsTree, Spells}
-use Rattle.import_dot.specs.Syntax.{Mark, IdMark, SignMark, DotId, SubgraphHead, NoHead, WordHead, NamedHead, Statements, NoStatement, OneStatement, OneSubgraph, DotTree, head_marks, semicolon_marks, statements_marks, name_marks, graph_sign, tree_marks}
+use Rattle.import_dot.specs.Syntax.{Mark, IdMark, SignMark, mark_of, DotId, SubgraphHead, NoHead, WordHead, NamedHead, Statements, NoStatement, OneStatement, OneSubgraph, DotTree, head_marks, semicolon_marks, statements_marks, name_marks, graph_sign, tree_marks}
 use Rattle.import_dot.proofs.Building.{Built, graph_built, graph_of_build, none_built}
 use Rattle.import_dot.proofs.Marked.{build_marked}
+use Rattle.import_dot.proofs.TokensRead.{lexemes_told}
 use Rattle.import_dot.proofs.Starts.{AtClosed, Fresh, Ready, at, behind, go, ready_place}
 use Rattle.import_dot.proofs.NodesRead.{any_subgraph, any_title}
 use Rattle.import_dot.proofs.StatementsRead.{NotSet, graph_with, plus, plus_none, plus_plus, semicolon_ahead, semicolon_read, sign_first, statement_read, statements_ahead}
@@ -112,7 +114,8 @@ marks_read undirected factor g is =
     ∙ body_read undirected factor g.directed g.statements is.statements is.depth
 
 -- a text that spells a tree has the graph that the tree means
-pub tree_read : (undirected : Bool) (factor : Option ℕ) (text : List ℕ) (g : DotTree) → Spells undirected factor text g → graph_of undirected factor text ≡ Ok (meaning factor g)
+pub tree_read : (undirected : Bool) (factor : Option ℕ) (text : List ℕ) (g : DotTree) → Spells undirected factor text g → read_graph undirected factor text ≡ Ok (meaning factor g)
 tree_read undirected factor text g is =
+    (let marks = ap (map mark_of) (lexemes_told text is.lexemes is.lexes) ∙ is.marks in
     graph_of_build undirected factor text
-    ∙ build_marked undirected factor (tokens_of text) (none_built factor) start (meaning factor g) (ap (λ ms. go undirected factor (none_built factor) start ms) is.marks ∙ marks_read undirected factor g is.tree)
+    ∙ build_marked undirected factor (tokens_of text) (none_built factor) start (meaning factor g) (ap (λ ms. go undirected factor (none_built factor) start ms) marks ∙ marks_read undirected factor g is.tree))

@@ -14,7 +14,7 @@ use Rattle.import_dot.specs.declared.state.State.{State}
 use Rattle.import_dot.specs.declared.state.Owner.{Owner}
 use Rattle.import_dot.specs.declared.state.Owner.TheVariants as whose
 use Rattle.import_dot.specs.declared.fault.DotLineFault.TheVariants as fault
-use Rattle.import_dot.specs.Tokens.{DotToken}
+use Rattle.import_dot.specs.Lexing.{DotToken}
 use Rattle.import_dot.specs.Grammar.{refused, assigns, at_start, at_strict, at_title, at_any, at_titled, at_statement, at_done, at_closed, at_subgraph, at_subgraph_titled, at_node, at_ported, at_sided, at_edge_end, at_key, at_brackets, at_list, at_list_key, at_value, at_valued, at_listed, at_over, turn_at, named, keyed, is_default, is_edge}
 use Rattle.import_dot.specs.Graphs.{said, BeginsEvent, JoinsEvent, weighed}
 use Rattle.import_dot.specs.Meaning.{IsNodeName, names_weight, weights_said, AreStatements, depth_of}

@@ -13,7 +13,7 @@ use Rattle.import_dot.specs.declared.state.Owner.TheVariants as whose
 use Rattle.import_dot.specs.declared.state.Act.{Act}
 use Rattle.import_dot.specs.declared.state.Act.TheVariants as does
 use Rattle.import_dot.specs.declared.state.State.{State}
-use Rattle.import_dot.specs.Tokens.{DotToken}
+use Rattle.import_dot.specs.Lexing.{DotToken}
 
 -- the next state, and what the token does; or a fault
 abbrev pub Turn : Type 0

@@ -16,7 +16,7 @@ use Rattle.import_dot.specs.declared.state.Owner.TheVariants as whose
 use Rattle.import_dot.specs.declared.state.Act.{Act}
 use Rattle.import_dot.specs.declared.state.Act.TheVariants.{Pass, Begin, More, Weigh}
 use Rattle.import_dot.specs.declared.state.State.{State}
-use Rattle.import_dot.specs.Tokens.{DotToken, tokens_of}
+use Rattle.import_dot.specs.Lexing.{DotToken, HasTokens}
 use Rattle.import_dot.specs.Grammar.{turn_at}
 
 -- the next step, at the value of a step that succeeds
@@ -135,9 +135,15 @@ pub record DotGraph : Type 0 where
 abbrev pub graph_in : Option ℕ → List DotEvent → DotGraph
 graph_in factor es = record { nodes = mentions es; edges = edges_in (unsaid_weight factor) (unsaid_weight factor) [] es }
 
--- the graph of a text, or the text's first fault
-abbrev pub graph_of : Bool → Option ℕ → List ℕ → Result DotGraph DotFault
-graph_of undirected factor text = and_then (events_from undirected factor start (tokens_of text)) (λ es. Ok (graph_in factor es))
+-- the graph of the tokens of a text, or the first fault
+abbrev pub graph_of : Bool → Option ℕ → List DotToken → Result DotGraph DotFault
+graph_of undirected factor tokens = and_then (events_from undirected factor start tokens) (λ es. Ok (graph_in factor es))
+
+-- what a text says: the graph of its tokens, or its first fault
+pub record Says (undirected : Bool) (factor : Option ℕ) (text : List ℕ) (said : Result DotGraph DotFault) : Type 0 where
+  pub tokens : List DotToken
+  pub are : HasTokens text tokens
+  pub graph : said ≡ graph_of undirected factor tokens
 
 -- the names of nodes
 abbrev pub names : List DotMention → List (List ℕ)

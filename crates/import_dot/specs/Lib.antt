@@ -1,6 +1,10 @@
+pub mod Bytes
 pub mod Grammar
 pub mod Graphs
+pub mod Lexemes
+pub mod Lexing
 pub mod Meaning
+pub mod Reading
 pub mod Runs
 pub mod Syntax
 pub mod Tokens

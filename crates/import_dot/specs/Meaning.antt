@@ -5,6 +5,8 @@ use Rattle.import_lines.specs.declared.weight_fault.WeightFault.{WeightFault}
 use Rattle.import_lines.specs.declared.weight.Weight.{Weight}
 use Rattle.import_lines.specs.Weights.{weight_of}
 use Rattle.import_lines.specs.Named.{NamedEdge}
+use Rattle.import_dot.specs.Lexemes.{Lexeme}
+use Rattle.import_dot.specs.Lexing.{Lexes}
 use Rattle.import_dot.specs.Grammar.{is_weight, most_depth}
 use Rattle.import_dot.specs.Graphs.{DotMention, DotGraph, is_backslash, is_control, chain, unsaid_weight}
 use Rattle.import_dot.specs.Syntax.{DotId, marks_of, Attribute, NodeId, EdgeDefault, Statement, NodeStatement, EdgeStatement, DefaultStatement, SettingStatement, Statements, NoStatement, OneStatement, OneSubgraph, DotTree, tree_marks}
@@ -103,7 +105,9 @@ pub record IsTree (undirected : Bool) (factor : Option ℕ) (g : DotTree) : Type
   pub depth : depth_of g.statements ≤ most_depth
   pub statements : AreStatements factor g.statements
 
--- the text is the spelling of this tree, which is read
+-- the text is a spelling of this tree, which is read: the marks of the lexemes of which it consists are the tree's
 pub record Spells (undirected : Bool) (factor : Option ℕ) (text : List ℕ) (g : DotTree) : Type 0 where
   pub tree : IsTree undirected factor g
-  pub marks : marks_of text ≡ tree_marks g
+  pub lexemes : List Lexeme
+  pub lexes : Lexes text lexemes
+  pub marks : marks_of lexemes ≡ tree_marks g

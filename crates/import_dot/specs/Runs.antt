@@ -1,27 +1,9 @@
--- Runs of bytes of one sort.
-use Rattle.std.specs.Prelude.{ℕ, ◌+◌, ◌-◌, ◌==◌, Bool, ◌||◌, ◌&&◌, not, List, [], ◌∷◌, nat_lt, nat_le, length, if◌then◌else◌}
+-- How the lexer finds the end of what it reads. Private: clauses of the lexer's own functions speak of these; what a text
+-- means is told by Lexemes.
+use Rattle.std.specs.Prelude.{ℕ, ◌+◌, ◌-◌, ◌==◌, Bool, ◌&&◌, not, List, [], ◌∷◌, nat_lt, nat_le, length, if◌then◌else◌}
 use Rattle.std.specs.List.{count_by}
-use Rattle.std.specs.Char.{is_ascii_alphanumeric, is_ascii_digit}
-
--- LF
-abbrev pub is_line_feed : ℕ → Bool
-is_line_feed b = b == 10
-
--- TAB, LF, CR, a blank
-abbrev pub is_blank : ℕ → Bool
-is_blank b = b == 9 || b == 10 || b == 13 || b == 32
-
--- a letter, a digit, _, or a byte of 128 or more
-abbrev pub is_word_byte : ℕ → Bool
-is_word_byte b = is_ascii_alphanumeric b || b == 95 || nat_le 128 b
-
--- a point
-abbrev pub is_point : ℕ → Bool
-is_point b = b == 46
-
--- what may stand in a numeral, or behind it without a blank
-abbrev pub is_numeral_byte : ℕ → Bool
-is_numeral_byte b = is_word_byte b || is_point b
+use Rattle.std.specs.Char.{is_ascii_digit}
+use Rattle.import_dot.specs.Bytes.{is_point}
 
 -- digits with a point among them or without, one digit at least
 abbrev pub is_numeral : List ℕ → Bool

@@ -4,7 +4,8 @@ use Rattle.std.specs.Prelude.{ℕ, Bool, true, false, List, [], ◌∷◌, map, 
 use Rattle.import_dot.specs.declared.token_kind.TokenKind.{TokenKind}
 use Rattle.import_dot.specs.declared.token_kind.TokenKind.TheVariants as kind
 use Rattle.import_dot.specs.declared.fault.DotLineFault.{DotLineFault}
-use Rattle.import_dot.specs.Tokens.{DotToken, tokens_of}
+use Rattle.import_dot.specs.Lexemes.{Lexeme}
+use Rattle.import_dot.specs.Lexing.{DotToken, tokens_in}
 
 -- ---- what the grammar sees of a text
 
@@ -32,9 +33,9 @@ mark_in line (Err fault) text = FaultMark
 abbrev pub mark_of : DotToken → Mark
 mark_of t = mark_in t.line t.kind t.text
 
--- the marks of a text; the last is its end, or a fault
-abbrev pub marks_of : List ℕ → List Mark
-marks_of text = map mark_of (tokens_of text)
+-- the marks of the lexemes of which a text consists; the last is its end
+abbrev pub marks_of : List Lexeme → List Mark
+marks_of lexemes = map mark_of (tokens_in 1 lexemes (Ok kind.End))
 
 -- ---- trees
 

@@ -1,24 +1,15 @@
--- Tokens of a DOT text.
-use Rattle.std.specs.Prelude.{ℕ, zero, suc, ◌+◌, ◌-◌, ◌==◌, Bool, true, false, ◌||◌, ◌&&◌, List, [], ◌∷◌, nat_lt, length, take, drop, slice_index, codes, Option, Some, None, Result, Ok, Err, if◌then◌else◌}
+-- The tokens of a text as the lexer reads them, byte by byte. Private: clauses of the lexer's own functions speak of
+-- these; what the tokens of a text are is told by Lexing.
+use Rattle.std.specs.Prelude.{ℕ, zero, suc, ◌+◌, ◌-◌, ◌==◌, Bool, true, false, ◌&&◌, List, [], ◌∷◌, nat_lt, length, take, drop, slice_index, Option, Some, None, Result, Ok, Err, if◌then◌else◌}
 use Rattle.std.specs.List.{prefix_len, position_or_len}
-use Rattle.std.specs.Str.{is_utf8, str_eq_ignore_ascii_case}
-use Rattle.std.specs.Char.{is_ascii_digit}
+use Rattle.std.specs.Str.{is_utf8}
 use Rattle.import_dot.specs.declared.token_kind.TokenKind.{TokenKind}
-use Rattle.import_dot.specs.declared.token_kind.TokenKind.TheVariants.{Name, Quoted, Html, Strict, Graph, Digraph, Node, Edge, Subgraph, BraceOpen, BraceClose, BracketOpen, BracketClose, Semicolon, Comma, Assign, Colon, Dashes, Arrow, End}
+use Rattle.import_dot.specs.declared.token_kind.TokenKind.TheVariants.{Name, Quoted, Html, BraceOpen, BraceClose, BracketOpen, BracketClose, Semicolon, Comma, Assign, Colon, Dashes, Arrow, End}
 use Rattle.import_dot.specs.declared.fault.DotLineFault.{DotLineFault}
 use Rattle.import_dot.specs.declared.fault.DotLineFault.TheVariants.{BadByte, BadNumeral, NotUtf8, UnclosedString, UnclosedComment, UnclosedHtml}
-use Rattle.import_dot.specs.Runs.{is_line_feed, is_blank, is_word_byte, is_numeral_byte, is_numeral, quote_place, bracket_place, slash_place}
-
--- the kind of a word: a keyword in any case, or a name
-abbrev pub word_kind : List ℕ → TokenKind
-word_kind word =
-    if str_eq_ignore_ascii_case word (codes "strict") then Strict
-    else if str_eq_ignore_ascii_case word (codes "graph") then Graph
-    else if str_eq_ignore_ascii_case word (codes "digraph") then Digraph
-    else if str_eq_ignore_ascii_case word (codes "node") then Node
-    else if str_eq_ignore_ascii_case word (codes "edge") then Edge
-    else if str_eq_ignore_ascii_case word (codes "subgraph") then Subgraph
-    else Name
+use Rattle.import_dot.specs.Bytes.{is_line_feed, is_blank, is_word_byte, begins_numeral, is_numeral_byte}
+use Rattle.import_dot.specs.Runs.{is_numeral, quote_place, bracket_place, slash_place}
+use Rattle.import_dot.specs.Lexing.{DotToken, word_kind, with_token}
 
 -- what stands at the front of bytes: a token of this kind, or what lies between tokens; the token's text, where it has
 -- one, and how many bytes it takes
@@ -89,10 +80,6 @@ sign_at b =
     else if b == 58 then sign Colon 1
     else Err (BadByte b)
 
--- a numeral begins with this byte
-abbrev pub begins_numeral : ℕ → Bool
-begins_numeral b = is_ascii_digit b || b == 46
-
 -- what begins with this byte, with these behind it; fresh: the byte is the first of its line
 abbrev pub piece_at : Bool → ℕ → List ℕ → Result Piece DotLineFault
 piece_at fresh b bytes =
@@ -111,20 +98,9 @@ abbrev pub first_piece : Bool → List ℕ → Result Piece DotLineFault
 first_piece fresh [] = gap 1
 first_piece fresh (b ∷ bytes) = piece_at fresh b bytes
 
--- a token: the line where it begins, its kind, and its text; or what is wrong where none begins
-pub record DotToken : Type 0 where
-  pub line : ℕ
-  pub kind : Result TokenKind DotLineFault
-  pub text : List ℕ
-
 -- the line of the byte behind this one
 abbrev pub line_behind : ℕ → ℕ → ℕ
 line_behind line b = if is_line_feed b then line + 1 else line
-
--- a token before others, where one stands there
-abbrev pub with_token : ℕ → Option TokenKind → List ℕ → List DotToken → List DotToken
-with_token line None text tokens = tokens
-with_token line (Some kind) text tokens = record { line = line; kind = Ok kind; text = text } ∷ tokens
 
 -- what stands in a line, and the tokens behind as many bytes as it takes; a fault is the last
 abbrev pub tokens_with : ℕ → Result Piece DotLineFault → (ℕ → List DotToken) → List DotToken
@@ -138,6 +114,6 @@ tokens_at passed fresh line [] = record { line = line; kind = Ok End; text = [] 
 tokens_at zero fresh line (b ∷ bytes) = tokens_with line (piece_at fresh b bytes) (λ size. tokens_at (size - 1) (is_line_feed b) (line_behind line b) bytes)
 tokens_at (suc passed) fresh line (b ∷ bytes) = tokens_at passed (is_line_feed b) (line_behind line b) bytes
 
--- the tokens of a text
+-- all tokens of a text
 abbrev pub tokens_of : List ℕ → List DotToken
 tokens_of text = tokens_at 0 true 1 text

@@ -8,7 +8,8 @@ use Rattle.import_dot.specs.declared.builder.Builder.{Builder}
 use Rattle.import_dot.specs.declared.pieces.Cut.{Cut}
 use Rattle.import_dot.specs.declared.tokens.Token.{Token}
 use Rattle.import_dot.specs.declared.tokens.Tokens.{Tokens}
-use Rattle.import_dot.specs.Tokens.{Piece, DotToken, tokens_at}
+use Rattle.import_dot.specs.Lexing.{DotToken}
+use Rattle.import_dot.specs.Tokens.{Piece, tokens_at}
 use Rattle.import_dot.specs.Graphs.{DotMention, DotEvent, NoEvent, BeginsEvent, JoinsEvent, WeighsEvent, DotGraph, mentions, edges_in}
 
 -- what stands at the front of bytes

@@ -1,8 +1,9 @@
 //! What stands at the front of bytes: a token, or what lies between tokens.
 ghost use Rattle.std.specs.Prelude.{◌≡◌, ◌≤◌, ◌<◌, ◌+◌, ◌∷◌, [], length, IfOk, Some, None};
 ghost use Rattle.std.specs.List.{prefix_len};
-ghost use Rattle.import_dot.specs.Runs.{is_blank, is_word_byte};
-ghost use Rattle.import_dot.specs.Tokens.{begins_numeral, gap, sign, texted, comment_at, quoted_at, html_at, numeral_at, word_at, dash_at, sign_at, piece_at, first_piece};
+ghost use Rattle.import_dot.specs.Bytes.{is_blank, is_word_byte};
+ghost use Rattle.import_dot.specs.Bytes.{begins_numeral};
+ghost use Rattle.import_dot.specs.Tokens.{gap, sign, texted, comment_at, quoted_at, html_at, numeral_at, word_at, dash_at, sign_at, piece_at, first_piece};
 ghost use Rattle.import_dot.specs.View.{IsGiven, piece_of};
 
 use crate::fault::DotLineFault;

@@ -1,9 +1,11 @@
 //! Graphs that are read.
-ghost use Rattle.std.specs.Prelude.{◌≡◌, IfOk, IfErr, Ok, Err};
+ghost use Rattle.std.specs.Prelude.{◌≡◌, IfOk, IfErr, Result, Ok, Err};
 ghost use Rattle.std.specs.Option.{unwrap_or};
 ghost use Rattle.std.specs.Result.{result_err};
+ghost use Rattle.import_dot.specs.declared.fault.DotFault.{DotFault};
 ghost use Rattle.import_dot.specs.declared.fault.DotFault.TheVariants.{Memory};
-ghost use Rattle.import_dot.specs.Graphs.{AreNamed, IsAnswer, graph_of, start};
+ghost use Rattle.import_dot.specs.Graphs.{AreNamed, DotGraph, IsAnswer, Says, start};
+ghost use Rattle.import_dot.specs.Reading.{read_graph};
 ghost use Rattle.import_dot.specs.Meaning.{Spells, meaning};
 ghost use Rattle.import_dot.specs.Syntax.{DotTree};
 ghost use Rattle.import_dot.specs.View.{graph_view};
@@ -39,7 +41,7 @@ fn start() -> State
 
 /// The graph of a text.
 fn collect<'a>(alloc: Global, text: &'a [u8], reading: Reading) -> Result<Graph<'a>, DotFault>
-    ensures { IfOk result (λ g. graph_of reading.undirected reading.factor text.now ≡ Ok (graph_view g)) }
+    ensures { IfOk result (λ g. read_graph reading.undirected reading.factor text.now ≡ Ok (graph_view g)) }
 {
     let mut tokens = Tokens::of(text);
     let mut state = start();
@@ -54,7 +56,7 @@ fn collect<'a>(alloc: Global, text: &'a [u8], reading: Reading) -> Result<Graph<
 
 /// The first fault of a text; `Memory` where it has none.
 fn first_fault(text: &[u8], reading: Reading) -> DotFault
-    ensures { result ≡ unwrap_or (result_err (graph_of reading.undirected reading.factor text.now)) Memory }
+    ensures { result ≡ unwrap_or (result_err (read_graph reading.undirected reading.factor text.now)) Memory }
 {
     let mut tokens = Tokens::of(text);
     let mut state = start();
@@ -101,8 +103,8 @@ fn first_fault(text: &[u8], reading: Reading) -> DotFault
 /// `BadLine` names the first fault of the text, also where memory runs out before it. `Memory` comes only where it runs
 /// out.
 pub fn read_dot<'a>(alloc: Global, text: &'a [u8], reading: &Reading) -> Result<Graph<'a>, DotFault>
-    ensures answer { IsAnswer graph_view (graph_of reading.now.undirected reading.now.factor text.now) result }
-    ensures refused { IfErr (graph_of reading.now.undirected reading.now.factor text.now) (λ fault. result ≡ Err fault) }
+    ensures answer { (said : Result DotGraph DotFault) × Says reading.now.undirected reading.now.factor text.now said × IsAnswer graph_view said result }
+    ensures refused { (fault : DotFault) → Says reading.now.undirected reading.now.factor text.now (Err fault) → result ≡ Err fault }
     ensures ends { IfOk result (λ g. AreNamed (graph_view g)) }
     ensures grammar { (tree : DotTree) → Spells reading.now.undirected reading.now.factor text.now tree → IsAnswer graph_view (Ok (meaning reading.now.factor tree)) result }
     ensures tree { IfOk result (λ g. (tree : DotTree) × Spells reading.now.undirected reading.now.factor text.now tree × (graph_view g ≡ meaning reading.now.factor tree)) }

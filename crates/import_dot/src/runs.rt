@@ -2,7 +2,8 @@
 ghost use Rattle.std.specs.Prelude.{◌≡◌, ◌≤◌, false, length};
 ghost use Rattle.std.specs.List.{prefix_len, position_or_len, count_by};
 ghost use Rattle.std.specs.Char.{is_ascii_digit};
-ghost use Rattle.import_dot.specs.Runs.{is_line_feed, is_word_byte, is_numeral_byte, is_point, is_numeral, quote_place, bracket_place, slash_place};
+ghost use Rattle.import_dot.specs.Bytes.{is_line_feed, is_word_byte, is_numeral_byte, is_point};
+ghost use Rattle.import_dot.specs.Runs.{is_numeral, quote_place, bracket_place, slash_place};
 
 /// Whether a byte stands in words: a letter, a digit, `_`, or a byte of 128 or more.
 pub(crate) fn is_word_byte(byte: u8) -> bool

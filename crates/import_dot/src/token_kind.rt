@@ -1,6 +1,6 @@
 //! The kinds of tokens.
 ghost use Rattle.std.specs.Prelude.{◌≡◌};
-ghost use Rattle.import_dot.specs.Tokens.{word_kind};
+ghost use Rattle.import_dot.specs.Lexing.{word_kind};
 
 /// The kind of a token of a DOT text.
 #[derive(Clone, Copy, Debug, PartialEq, Eq)]

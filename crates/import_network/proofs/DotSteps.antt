@@ -1,11 +1,12 @@
 -- Network files of graphs.
-use Rattle.std.proofs.Common.{◌≡◌, inl, inr, ℕ, List, [], ◌∷◌, map, refl, ap, ◌∙◌, Result, Ok, Err, IfOk, IfErr}
+use Rattle.std.proofs.Common.{◌≡◌, ◌≢◌, inl, inr, subst, ℕ, List, [], ◌∷◌, map, refl, ap, ◌∙◌, Result, Ok, Err, IfOk, IfErr}
+use Rattle.std.specs.Result.{IsErrAnd}
 use Rattle.import_lines.specs.declared.mention.Mention.{Mention}
 use Rattle.import_dot.specs.declared.fault.DotFault.{DotFault}
+use Rattle.import_dot.specs.declared.fault.DotFault.TheVariants.{BadLine, Memory as NoDotMemory}
 use Rattle.import_dot.specs.Graphs.{DotGraph, names}
 use Rattle.import_dot.specs.View.{mention_of}
 use Rattle.import_lines.specs.Named.{NamedEdge}
-use Rattle.import_matrix.specs.Steps.{and_then, told_as}
 use Rattle.import_links.specs.declared.join_fault.JoinFault.{JoinFault}
 use Rattle.import_links.specs.declared.join_fault.JoinFault.TheVariants.{BadName, TooManyNodes, Memory as NoMemory}
 use Rattle.import_links.specs.Refusals.{IsMentionRefusal}
@@ -15,8 +16,8 @@ use Rattle.import_network.specs.declared.fault.TakeFault.{TakeFault}
 use Rattle.import_network.specs.declared.fault.TakeFault.TheVariants.{Edges, Table, Matrix, Dot, Json, Join, Numbers, Settle, Memory}
 use Rattle.import_network.specs.declared.taken.Taken.{Taken}
 use Rattle.import_network.specs.Faults.{dot_fault, join_fault}
-use Rattle.import_network.specs.Taking.{IsMadeOf, IsTaken, graph_names, graph_draft, named_draft}
-use Rattle.import_network.specs.Naming.{IsNameFile, IsNamesOfGraph, IsJoinFault, IsGraphFault, IsDotFault}
+use Rattle.import_network.specs.Taking.{IsMadeOf, IsTakenGraph, graph_names, named_draft}
+use Rattle.import_network.specs.Naming.{IsNameFile, IsNamesOfGraph, IsJoinFault, IsGraphFault, IsSaidFault, IsDotFault}
 
 -- the names of mentions are those of the nodes that they are
 pub names_same : (mentions : List Mention) → names_of mentions ≡ names (map mention_of mentions)
@@ -41,18 +42,43 @@ nodes_refused mending g mentions (BadName line) told same why is = rw is (inl (r
 nodes_refused mending g mentions (TooManyNodes line) told same why is = rw is (inl (record { mentions = mentions; are_these = same; some = λ e. cc; why = why }))
 nodes_refused mending g mentions NoMemory told same why is = rw is tt
 
-module _ (mending : Mending) (g : DotGraph) (read : Result DotGraph DotFault) (given : List (List ℕ)) (edges : List NamedEdge) (is_read : read ≡ Ok g) (named : given ≡ graph_names g) (these : edges ≡ g.edges) where
-  pub dot_network : (r : Result Taken TakeFault) → IfOk r (IsMadeOf mending (named_draft given edges)) → IfOk r (IsTaken mending (and_then (told_as dot_fault read) (λ g. Ok (graph_draft g))))
-  dot_network (Ok taken) made = record { draft = graph_draft g; is_said = rw is_read refl; made_of = rw (named, these) at made }
+module _ (mending : Mending) (g : DotGraph) (says : Result DotGraph DotFault → Type 0) (given : List (List ℕ)) (edges : List NamedEdge) (is_said : says (Ok g)) (named : given ≡ graph_names g) (these : edges ≡ g.edges) where
+  pub dot_network : (r : Result Taken TakeFault) → IfOk r (IsMadeOf mending (named_draft given edges)) → IfOk r (IsTakenGraph mending says)
+  dot_network (Ok taken) made = record { graph = g; is_said = is_said; made_of = rw (named, these) at made }
   dot_network (Err fault) made = tt
 
-  pub dot_names : (r : Result Taken TakeFault) → IfOk r (λ taken. IsNameFile (names_with given edges) taken.names.items) → IfOk r (λ taken. IsNamesOfGraph read taken.names.items)
-  dot_names (Ok taken) are = record { graph = g; is_read = is_read; names = rw (named, these) at are }
+  pub dot_names : (r : Result Taken TakeFault) → IfOk r (λ taken. IsNameFile (names_with given edges) taken.names.items) → IfOk r (λ taken. IsNamesOfGraph says taken.names.items)
+  dot_names (Ok taken) are = record { graph = g; is_said = is_said; names = rw (named, these) at are }
   dot_names (Err fault) are = tt
 
-  pub dot_refused : (r : Result Taken TakeFault) → IfErr r (IsJoinFault mending given edges) → IfErr r (IsDotFault mending read)
+  pub dot_refused : (r : Result Taken TakeFault) → IfErr r (IsJoinFault mending given edges) → IfErr r (IsDotFault mending says)
   dot_refused (Ok taken) why = tt
-  dot_refused (Err fault) why = rw is_read (edges_refused mending g fault (rw (named, these) at why))
+  dot_refused (Err fault) why = record { said = Ok g; is_said = is_said; why = edges_refused mending g fault (rw (named, these) at why) }
+
+-- what a text says that was read
+pub said_graph : (says : Result DotGraph DotFault → Type 0) (said : Result DotGraph DotFault) (g : DotGraph) → says said → said ≡ Ok g → says (Ok g)
+said_graph says said g is_said same = subst says same is_said
+
+pub same_fault : {A : Type 0} (read : Result A DotFault) (bad fault : DotFault) → read ≡ Err bad → read ≡ Err fault → bad ≡ fault
+same_fault read bad fault one other = cc
+
+given_fault : (told : Result Taken TakeFault) (bad : DotFault) → IsErrAnd told (λ e. e ≡ dot_fault bad) → told ≡ Err (dot_fault bad)
+given_fault (Ok taken) bad given = absurd given
+given_fault (Err fault) bad given = ap Err given
+
+-- the fault of what a text says that was not read
+said_refused : (mending : Mending) (says : Result DotGraph DotFault → Type 0) (said : Result DotGraph DotFault) (bad : DotFault) → says said → (bad ≢ NoDotMemory → said ≡ Err bad) → ((fault : DotFault) → says (Err fault) → bad ≡ fault) → IsSaidFault mending said (dot_fault bad)
+said_refused mending says (Err fault) bad is_said answer refused = ap dot_fault (refused fault is_said)
+said_refused mending says (Ok g) NoDotMemory is_said answer refused = tt
+said_refused mending says (Ok g) (BadLine line fault) is_said answer refused = absurd (let clash = answer (λ e. cc) in cc)
+
+-- a text that was not read: what was returned is the fault of reading
+module _ (told : Result Taken TakeFault) (bad : DotFault) (given : IsErrAnd told (λ e. e ≡ dot_fault bad)) where
+  pub read_fault : (fault : DotFault) → bad ≡ fault → told ≡ Err (dot_fault fault)
+  read_fault fault same = given_fault told bad given ∙ ap (λ f. Err (dot_fault f)) same
+
+  pub read_refused : (mending : Mending) (says : Result DotGraph DotFault → Type 0) (said : Result DotGraph DotFault) → says said → (bad ≢ NoDotMemory → said ≡ Err bad) → ((fault : DotFault) → says (Err fault) → bad ≡ fault) → IfErr told (IsDotFault mending says)
+  read_refused mending says said is_said answer refused = rw (given_fault told bad given) (record { said = said; is_said = is_said; why = said_refused mending says said bad is_said answer refused })
 
 -- the names that the mentions of a graph gave
 pub given_names : (g : DotGraph) (mentions items : List Mention) (given : List (List ℕ)) → given ≡ names_in [] (names_of mentions) → mentions ≡ items → map mention_of items ≡ g.nodes → given ≡ graph_names g

@@ -1,5 +1,5 @@
 -- Network files of tables of edges.
-use Rattle.std.proofs.Common.{◌≡◌, ◌≢◌, ℕ, List, Result, Ok, Err, IfErr, refl}
+use Rattle.std.proofs.Common.{◌≡◌, ◌≢◌, List, Result, Ok, Err, IfErr, refl}
 use Rattle.import_lines.specs.Named.{NamedEdge}
 use Rattle.import_table.specs.declared.fault.TableFault.{TableFault}
 use Rattle.import_table.specs.declared.fault.TableFault.TheVariants as table

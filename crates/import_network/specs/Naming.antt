@@ -32,10 +32,10 @@ pub record IsNamesOf {E : Type 0} (read : Result (List NamedEdge) E) (bytes : Li
   pub is_read : read ≡ Ok edges
   pub names : IsNameFile (names_with [] edges) bytes
 
--- a graph was read, and the bytes are a file of the names of its nodes, in the order of their first appearance
-pub record IsNamesOfGraph (read : Result DotGraph DotFault) (bytes : List ℕ) : Type 0 where
+-- a text says a graph, and the bytes are a file of the names of its nodes, in the order of their first appearance
+pub record IsNamesOfGraph (says : Result DotGraph DotFault → Type 0) (bytes : List ℕ) : Type 0 where
   pub graph : DotGraph
-  pub is_read : read ≡ Ok graph
+  pub is_said : says (Ok graph)
   pub names : IsNameFile (names_with (graph_names graph) graph.edges) bytes
 
 -- a graph in node-link JSON was read, and the bytes are a file of the names of its nodes, in its order
@@ -72,10 +72,16 @@ abbrev pub IsGraphFault : Mending → DotGraph → TakeFault → Type 0
 IsGraphFault mending g (Join fault) = IsUnnumbered g.nodes fault ⊎ IsJoinFault mending (graph_names g) g.edges (Join fault)
 IsGraphFault mending g fault = IsJoinFault mending (graph_names g) g.edges fault
 
--- why a text in Graphviz's language makes no network: its first fault; where it has none, the fault of its graph
-abbrev pub IsDotFault : Mending → Result DotGraph DotFault → TakeFault → Type 0
-IsDotFault mending (Err bad) fault = fault ≡ dot_fault bad
-IsDotFault mending (Ok g) fault = IsGraphFault mending g fault
+-- why what a text in Graphviz's language says makes no network: the text's first fault, or the fault of its graph
+abbrev pub IsSaidFault : Mending → Result DotGraph DotFault → TakeFault → Type 0
+IsSaidFault mending (Err bad) fault = fault ≡ dot_fault bad
+IsSaidFault mending (Ok g) fault = IsGraphFault mending g fault
+
+-- why a text in Graphviz's language makes no network, by what it says
+pub record IsDotFault (mending : Mending) (says : Result DotGraph DotFault → Type 0) (fault : TakeFault) : Type 0 where
+  pub said : Result DotGraph DotFault
+  pub is_said : says said
+  pub why : IsSaidFault mending said fault
 
 -- a fault of a text of JSON is told, and where the text is no JSON about where
 pub record IsToldOf (bad : JsonFault) (fault : TakeFault) : Type 0 where

@@ -13,12 +13,13 @@ use Rattle.import_links.specs.declared.placed.PlacedLink.{PlacedLink}
 use Rattle.import_links.specs.declared.mending.Mending.{Mending}
 use Rattle.import_links.specs.Settling.{left_by, settled}
 use Rattle.import_matrix.specs.Matrices.{matrix_of}
-use Rattle.import_dot.specs.Graphs.{DotGraph, names, graph_of}
+use Rattle.import_dot.specs.declared.fault.DotFault.{DotFault}
+use Rattle.import_dot.specs.Graphs.{DotGraph, names}
 use Rattle.import_json.specs.Graphs as json
 use Rattle.import_matrix.specs.Steps.{and_then, told_as}
 use Rattle.import_network.specs.declared.fault.TakeFault.{TakeFault}
 use Rattle.import_network.specs.declared.taken.Taken.{Taken}
-use Rattle.import_network.specs.Faults.{edge_fault, table_fault, matrix_fault, dot_fault, json_fault, number_fault, settle_fault}
+use Rattle.import_network.specs.Faults.{edge_fault, table_fault, matrix_fault, json_fault, number_fault, settle_fault}
 
 -- what a text says: how many nodes there are, and the links in its order
 pub record Draft : Type 0 where
@@ -60,10 +61,6 @@ graph_names g = names_in [] (names g.nodes)
 abbrev pub graph_draft : DotGraph → Draft
 graph_draft g = named_draft (graph_names g) g.edges
 
--- what a text says, a graph in Graphviz's language
-abbrev pub dot_draft : Bool → Option ℕ → List ℕ → Result Draft TakeFault
-dot_draft undirected factor text = and_then (told_as dot_fault (graph_of undirected factor text)) (λ g. Ok (graph_draft g))
-
 -- what a graph in node-link JSON says
 abbrev pub node_links_draft : json.NodeLinks → Draft
 node_links_draft g = record { nodes = length g.names; links = g.links }
@@ -98,3 +95,9 @@ pub record IsTaken (mending : Mending) (said : Result Draft TakeFault) (taken : 
   pub draft : Draft
   pub is_said : said ≡ Ok draft
   pub made_of : IsMadeOf mending draft taken
+
+-- a text says a graph, and this was made of it
+pub record IsTakenGraph (mending : Mending) (says : Result DotGraph DotFault → Type 0) (taken : Taken) : Type 0 where
+  pub graph : DotGraph
+  pub is_said : says (Ok graph)
+  pub made_of : IsMadeOf mending (graph_draft graph) taken

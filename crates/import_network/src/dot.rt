@@ -1,8 +1,9 @@
 //! Network files of graphs in Graphviz's language.
 ghost use Rattle.std.specs.Prelude.{◌≡◌, IfOk, IfErr, Err};
-ghost use Rattle.import_dot.specs.Graphs.{graph_of};
+ghost use Rattle.import_dot.specs.declared.fault.DotFault.{DotFault};
+ghost use Rattle.import_dot.specs.Graphs.{Says};
 ghost use Rattle.import_network.specs.Faults.{dot_fault};
-ghost use Rattle.import_network.specs.Taking.{IsTaken, dot_draft};
+ghost use Rattle.import_network.specs.Taking.{IsTakenGraph};
 ghost use Rattle.import_network.specs.Naming.{IsNamesOfGraph, IsDotFault};
 
 use crate::edges::join_and_finish;
@@ -23,10 +24,10 @@ pub fn take_dot(
     reading: &Reading,
     mending: Mending,
 ) -> Result<Taken, TakeFault>
-    ensures network { IfOk result (IsTaken mending (dot_draft reading.now.undirected reading.now.factor text.now)) }
-    ensures names { IfOk result (λ taken. IsNamesOfGraph (graph_of reading.now.undirected reading.now.factor text.now) taken.names.items) }
-    ensures fault { IfErr result (IsDotFault mending (graph_of reading.now.undirected reading.now.factor text.now)) }
-    ensures refused { IfErr (graph_of reading.now.undirected reading.now.factor text.now) (λ fault. result ≡ Err (dot_fault fault)) }
+    ensures network { IfOk result (IsTakenGraph mending (Says reading.now.undirected reading.now.factor text.now)) }
+    ensures names { IfOk result (λ taken. IsNamesOfGraph (Says reading.now.undirected reading.now.factor text.now) taken.names.items) }
+    ensures fault { IfErr result (IsDotFault mending (Says reading.now.undirected reading.now.factor text.now)) }
+    ensures refused { (fault : DotFault) → Says reading.now.undirected reading.now.factor text.now (Err fault) → result ≡ Err (dot_fault fault) }
 {
     let graph = read_dot(alloc, text, reading)?;
     let names = mentioned(alloc, graph.nodes.as_slice())?;

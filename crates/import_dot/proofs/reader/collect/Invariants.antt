@@ -1,5 +1,6 @@
 use Rattle.std.proofs.Common.{◌≡◌, ◌+◌, ◌<◌, ◌≤◌, ◌^◌, length, vec_len}
-use Rattle.import_dot.specs.Graphs.{events_from, graph_of}
+use Rattle.import_dot.specs.Graphs.{events_from}
+use Rattle.import_dot.specs.Reading.{read_graph}
 use Rattle.import_dot.specs.View.{tokens_left}
 use Rattle.import_dot.proofs.EventSteps.{with_built}
 use Rattle.import_dot.proofs.reader.collect.Given as goal
@@ -8,7 +9,7 @@ abbrev pub invariant-loop-token : goal.invariant-loop-token
 invariant-loop-token l = record {
   room : l.tokens.line + length l.tokens.bytes.now < 2 ^ 64;
   bound : l.builder.passed ≤ vec_len l.builder.nodes;
-  read : with_built l.builder (events_from l.reading.undirected l.reading.factor l.state (tokens_left l.tokens)) ≡ graph_of l.reading.undirected l.reading.factor l.text;
+  read : with_built l.builder (events_from l.reading.undirected l.reading.factor l.state (tokens_left l.tokens)) ≡ read_graph l.reading.undirected l.reading.factor l.text;
 }
 
 abbrev pub decreases-loop-token : goal.decreases-loop-token

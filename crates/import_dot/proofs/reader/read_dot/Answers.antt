@@ -1,14 +1,31 @@
-use Rattle.std.proofs.Common.{sym, ap, ◌∙◌}
+use Rattle.std.proofs.Common.{sym, ap, ◌∙◌, Err}
 use Rattle.std.specs.Option.{unwrap_or}
 use Rattle.std.specs.Result.{result_err}
 use Rattle.import_dot.specs.declared.fault.DotFault.TheVariants.{Memory}
 use Rattle.import_dot.specs.Graphs.{events_from, start}
+use Rattle.import_dot.specs.Reading.{read_graph}
 use Rattle.import_dot.specs.Tokens.{tokens_of}
 use Rattle.import_dot.specs.View.{graph_view}
 use Rattle.import_dot.proofs.EndsNamed.{graph_named}
+use Rattle.import_dot.proofs.TextsSaid.{says, no_fault_said, fault_said, fault_given}
 use Rattle.import_dot.proofs.TreesFound.{tree_found, tree_faultless}
 use Rattle.import_dot.proofs.TreesRead.{tree_read}
 use Rattle.import_dot.proofs.reader.read_dot.Goals as goal
+
+pub returns-in-Ok-clause-answer : goal.returns-in-Ok-clause-answer
+returns-in-Ok-clause-answer c =
+    (read_graph c.args.reading.now.undirected c.args.reading.now.factor c.args.text.now, says c.args.reading.now.undirected c.args.reading.now.factor c.args.text.now, c.in-Ok.ensures)
+
+pub returns-in-Err-clause-answer : goal.returns-in-Err-clause-answer
+returns-in-Err-clause-answer c =
+    let said = read_graph c.args.reading.now.undirected c.args.reading.now.factor c.args.text.now in
+    (said, says c.args.reading.now.undirected c.args.reading.now.factor c.args.text.now, fault_said said c.first_fault.result c.first_fault.ensures)
+
+pub returns-in-Ok-clause-refused : goal.returns-in-Ok-clause-refused
+returns-in-Ok-clause-refused c fault says = absurd (no_fault_said c.args.reading.now.undirected c.args.reading.now.factor c.args.text.now fault (graph_view c.in-Ok.graph) says c.in-Ok.ensures)
+
+pub returns-in-Err-clause-refused : goal.returns-in-Err-clause-refused
+returns-in-Err-clause-refused c fault says = ap Err (fault_given c.args.reading.now.undirected c.args.reading.now.factor c.args.text.now fault c.first_fault.result says c.first_fault.ensures)
 
 pub returns-in-Ok-clause-ends : goal.returns-in-Ok-clause-ends
 returns-in-Ok-clause-ends c = graph_named c.args.reading.now.factor (events_from c.args.reading.now.undirected c.args.reading.now.factor start (tokens_of c.args.text.now)) (graph_view c.in-Ok.graph) c.in-Ok.ensures

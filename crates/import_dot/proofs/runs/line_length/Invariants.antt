@@ -1,6 +1,6 @@
 use Rattle.std.proofs.Common.{◌≡◌, ◌+◌, drop}
 use Rattle.std.specs.List.{position_or_len}
-use Rattle.import_dot.specs.Runs.{is_line_feed}
+use Rattle.import_dot.specs.Bytes.{is_line_feed}
 use Rattle.import_dot.proofs.runs.line_length.Given as goal
 
 abbrev pub invariant-loop-place : goal.invariant-loop-place

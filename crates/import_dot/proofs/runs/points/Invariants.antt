@@ -1,6 +1,6 @@
 use Rattle.std.proofs.Common.{◌≡◌, ◌≤◌, take}
 use Rattle.std.specs.List.{count_by}
-use Rattle.import_dot.specs.Runs.{is_point}
+use Rattle.import_dot.specs.Bytes.{is_point}
 use Rattle.import_dot.proofs.runs.points.Given as goal
 
 abbrev pub invariant-loop-byte : goal.invariant-loop-byte

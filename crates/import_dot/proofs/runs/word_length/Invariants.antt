@@ -1,6 +1,6 @@
 use Rattle.std.proofs.Common.{◌≡◌, ◌+◌, drop}
 use Rattle.std.specs.List.{prefix_len}
-use Rattle.import_dot.specs.Runs.{is_word_byte}
+use Rattle.import_dot.specs.Bytes.{is_word_byte}
 use Rattle.import_dot.proofs.runs.word_length.Given as goal
 
 abbrev pub invariant-loop-place : goal.invariant-loop-place
