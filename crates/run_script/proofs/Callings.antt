@@ -145,8 +145,7 @@ count-read line k low high =
     ap (λ o. ok_or o (BadCount line)) (ap (option_and_then (within 1 most_repeats)) (number-of k small) ∙ fits)
 
 pub count-none : (line : ℕ) (word : List ℕ) (fault : StepTextFault) → count_at line word ≡ Err fault → (BadCount line ≡ fault) × ((k : ℕ) → 1 ≤ k → k ≤ most_repeats → word ≢ decimal k)
-count-none line word fault h =
-    (
-      (or-err (option_and_then (within 1 most_repeats) (number_in word)) (BadCount line) fault h).1,
-      λ k low high is. (let good = ap (count_at line) is ∙ count-read line k low high in let bad : ◌≡◌ {A = Result ℕ StepTextFault} (Err fault) (Ok k) = sym h ∙ good in cc),
-    )
+count-none line word fault h = (
+  (or-err (option_and_then (within 1 most_repeats) (number_in word)) (BadCount line) fault h).1,
+  λ k low high is. (let good = ap (count_at line) is ∙ count-read line k low high in let bad : ◌≡◌ {A = Result ℕ StepTextFault} (Err fault) (Ok k) = sym h ∙ good in cc),
+)

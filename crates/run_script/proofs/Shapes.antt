@@ -66,7 +66,7 @@ module _ (first : List ℕ) where
       of-reads reads all =
           let before : List (List Place) =
           (this (codes "sweep") ∷ []) ∷ (this (codes "}") ∷ []) ∷ (a_node ∷ this (codes "moves") ∷ []) ∷ (a_node ∷ this (codes "turn") ∷ []) ∷ (this (codes "repeat") ∷ a_count ∷ this (codes "{") ∷ [])
-            ∷ (a_node ∷ this (codes "reads") ∷ this (codes "all") ∷ []) ∷ [] in
+          ∷ (a_node ∷ this (codes "reads") ∷ this (codes "all") ∷ []) ∷ [] in
           record {
             before = before;
             behind = [];

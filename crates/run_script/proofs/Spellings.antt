@@ -105,7 +105,7 @@ module _ (network : Neighbours) (names : Option (List (List ℕ))) (line : ℕ) 
             let same : ReadSlot x.0 z.0 ≡ action = cc in
             let are : AreOfRead (first ∷ codes "reads" ∷ third ∷ []) first third = record { are = refl; not_all = no-word third (codes "all") b.0; no_repeat = other } in
             subst (λ a. IsSpelled network names (first ∷ codes "reads" ∷ third ∷ []) (Act a)) same
-                (first, third, y.0, are, reader, slot-stands network line x.0 y.0 z.0 z.1, node-calls network names line 3 third y.0 y.1))
+            (first, third, y.0, are, reader, slot-stands network line x.0 y.0 z.0 z.1, node-calls network names line 3 third y.0 y.1))
       ]
 
   three-spelled : (first second third : List ℕ) (said : Line) → three_words network names line first second third ≡ Ok said → IsSpelled network names (first ∷ second ∷ third ∷ []) said
