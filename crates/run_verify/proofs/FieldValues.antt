@@ -58,24 +58,28 @@ cut-parts word p h =
       | inr past ↦ (let none : ◌≡◌ {A = Option (List ℕ × List ℕ)} None (Some p) = rw past at h in absurd (cc))
     ]
 
-behind-mark : (name rest : List ℕ) → drop (length name + 1) (name ++ 61 ∷ rest) ≡ rest
-behind-mark name rest =
-    let more : length (name ++ 61 ∷ []) ≡ length name + 1 = length-append name (61 ∷ []) in
+-- what stands before a = and behind it
+mark-cut : (name rest : List ℕ) (n : ℕ) → n ≡ length name → (take n (name ++ 61 ∷ rest) ≡ name) × (drop (n + 1) (name ++ 61 ∷ rest) ≡ rest)
+mark-cut name rest n at =
+    let more : length (name ++ 61 ∷ []) ≡ n + 1 = omega (arith, length-append name (61 ∷ [])) in
     let same : (name ++ 61 ∷ []) ++ rest ≡ name ++ 61 ∷ rest = append_assoc name (61 ∷ []) rest in
-    subst (λ (w : List ℕ). drop (length name + 1) w ≡ rest) same (drop_at (name ++ 61 ∷ []) rest (length name + 1) more)
+    (take_at name (61 ∷ rest) n (sym at), subst (λ (w : List ℕ). drop (n + 1) w ≡ rest) same (drop_at (name ++ 61 ∷ []) rest (n + 1) more))
+
+-- the first = of a word stands behind what has none
+mark-first : (name rest : List ℕ) → ((i : ℕ) → i < length name → slice_index name i ≢ 61) → position_or_len is_equals (name ++ 61 ∷ rest) ≡ length name
+mark-first name rest none =
+    let long = length-append name (61 ∷ rest) in
+    position_or_len_is is_equals (name ++ 61 ∷ rest) (length name) 0 (omega arith)
+    (λ k low. ap is_equals (get_or_append_left name (61 ∷ rest) 0 k low) ∙ equals-not (get_or name k 0) (none k low))
+    (λ _. (Decides-eqb (get_or (name ++ 61 ∷ rest) (length name) 0) 61).1 (get_or_at name 61 rest 0 (length name) refl))
 
 parts-cut : (name rest : List ℕ) → ((i : ℕ) → i < length name → slice_index name i ≢ 61) → split_equals (name ++ 61 ∷ rest) ≡ Some (name, rest)
 parts-cut name rest none =
-    let word = name ++ 61 ∷ rest in
+    let at = mark-first name rest none in
     let long = length-append name (61 ∷ rest) in
-    let at : position_or_len is_equals word ≡ length name =
-    position_or_len_is is_equals word (length name) 0 (omega arith)
-    (λ k low. ap is_equals (get_or_append_left name (61 ∷ rest) 0 k low) ∙ equals-not (get_or name k 0) (none k low))
-    (λ _. (Decides-eqb (get_or word (length name) 0) 61).1 (get_or_at name 61 rest 0 (length name) refl)) in
-    let test : nat_lt (position_or_len is_equals word) (length word) ≡ true = grind (arith, nat_tests) in
-    let front : before_first is_equals word ≡ name = ap (λ n. take n word) at ∙ take_at name (61 ∷ rest) (length name) refl in
-    let back : after_first is_equals word ≡ rest = ap (λ n. drop (n + 1) word) at ∙ behind-mark name rest in
-    rw test (ap (λ (f : List ℕ). Some (f, after_first is_equals word)) front ∙ ap (λ (r : List ℕ). Some (name, r)) back)
+    let cut = mark-cut name rest (position_or_len is_equals (name ++ 61 ∷ rest)) at in
+    let test : nat_lt (position_or_len is_equals (name ++ 61 ∷ rest)) (length (name ++ 61 ∷ rest)) ≡ true = grind (arith, nat_tests) in
+    rw (test, cut.0, cut.1) refl
 
 -- ---- fields by their names
 

@@ -224,6 +224,16 @@ module _ (fields : List (List ℕ)) where
 
     -- ---- words that give values are read as those
 
+    one-read : (line : ℕ) (g : Gathered) (word : List ℕ) (k v : ℕ) → IsFieldValue fields word k v → value_given g.given k ≡ None → with_word line g (given_by fields word) ≡ Ok (with_one g k v)
+    one-read line g word k v is free =
+        let test : is_some (value_given g.given k) ≡ false = ap is_some free in
+        let made : with_word line g (Some (k, v)) ≡ Ok (with_one g k v) = rw test refl in
+        ap (with_word line g) (value-read fields word k v is) ∙ made
+
+    gather-on : (line : ℕ) (g : Gathered) (word : List ℕ) (words : List (List ℕ)) (one : Gathered) → with_word line g (given_by fields word) ≡ Ok one → ((given : Given) × (with_words fields line one words ≡ Ok given))
+        → (given : Given) × (with_words fields line g (word ∷ words) ≡ Ok given)
+    gather-on line g word words one step r = (r.0, ap (λ m. and_then m (λ more. with_words fields line more words)) step ∙ r.1)
+
     gather : (line : ℕ) (words : List (List ℕ)) (g : Gathered) → length g.given.values ≡ 8 → g.twice ≡ false → AreFieldValues fields words → ((i k v : ℕ) → SaysValue fields words i k v → value_given g.given k ≡ None)
         → ((i j k v w : ℕ) → SaysValue fields words i k v → SaysValue fields words j k w → i ≡ j) → (given : Given) × (with_words fields line g words ≡ Ok given)
     gather line [] g wide fresh each apart once = (g.given, rw fresh refl)
@@ -237,12 +247,12 @@ module _ (fields : List (List ℕ)) where
         let is : IsFieldValue fields word k v = subst (λ w. IsFieldValue fields w k v) (sym same) s.2 in
         let free = apart 0 k v s in
         let one = with_one g k v in
-        let step : with_word line g (given_by fields word) ≡ Ok one = ap (with_word line g) (value-read fields word k v is) ∙ (let test : is_some (value_given g.given k) ≡ false = ap is_some free in rw test refl) in
+        let step = one-read line g word k v is free in
         let off : (i l w : ℕ) → SaysValue fields words i l w → l ≢ k = λ i l w t same. (let e = once 0 (suc i) k v w s (subst (λ x. SaysValue fields (word ∷ words) (suc i) x w) same t) in omega arith) in
         let r =
         gather line words one (length-set g.given.values k (Some v) ∙ wide) fresh (λ i less. each (suc i) (omega arith)) (λ i l w t. one-off g word words k v wide is l (off i l w t) ∙ apart (suc i) l w t)
         (λ i j l w x a b. (let e = once (suc i) (suc j) l w x a b in omega arith)) in
-        (r.0, ap (λ m. and_then m (λ more. with_words fields line more words)) step ∙ r.1)
+        gather-on line g word words one step r
 
     pub give-words : (line : ℕ) (words : List (List ℕ)) (given : Given) → Gives fields words given → with_words fields line none_gathered words ≡ Ok given
     give-words line words given h =
