@@ -5,3 +5,5 @@ pub mod TableLines
 pub mod Tables
 pub mod BadLines
 pub mod Reports
+pub mod AskedFields
+pub mod CsvLines

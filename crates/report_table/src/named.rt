@@ -3,16 +3,16 @@ ghost use Rattle.std.specs.Prelude.{◌≡◌, ◌≢◌, ◌++◌, ◌∷◌, [
 ghost use Rattle.std.specs.String.{string_bytes};
 ghost use Rattle.csv.specs.Records.{fields_of};
 ghost use Rattle.csv.specs.Writing.{default_writer, row_text};
-ghost use Rattle.report_csv.specs.declared.fault.CsvFault.TheVariants.{NameCount};
-ghost use Rattle.report_csv.specs.Csv.{AreNodes, AreRowsOfNodes, IsCsv, IsCsvFault, IsRowFault, IsRowsFault, csv_text, node_cells, node_records, records_text};
-ghost use Rattle.report_csv.specs.Writing.{IsReady, written};
+ghost use Rattle.report_table.specs.declared.csv_fault.CsvFault.TheVariants.{NameCount};
+ghost use Rattle.report_table.specs.Csv.{AreNodes, AreRowsOfNodes, IsCsv, IsCsvFault, IsRowFault, IsRowsFault, csv_text, node_cells, node_records, records_text};
+ghost use Rattle.report_table.specs.Writing.{IsReady, written};
 
 use crate::CsvFault;
 use crate::marks::marks_of;
 use crate::records::{Printing, headings_of, record_of};
 use csv::{ByteRecord, Writer};
 use net_names::NodeNames;
-use report_table::{Row, Table};
+use crate::{Row, Table};
 use std::alloc::{AllocError, Global};
 
 /// Writes a record. What refuses it is running out of memory: the text grows in memory alone.

@@ -1,6 +1,6 @@
 use Rattle.std.proofs.Common.{[], ap, ◌∙◌, unwrap_or}
 use Rattle.std.proofs.lemmas.Option.{unwrap_or-slice_get}
-use Rattle.report_csv.proofs.records.name_of.Goals as goal
+use Rattle.report_table.proofs.records.name_of.Goals as goal
 
 pub returns-in-Some : goal.returns-in-Some
 returns-in-Some c = ap (λ o. unwrap_or o []) c.in-Some.ensures.name ∙ unwrap_or-slice_get c.args.names.now c.args.node []

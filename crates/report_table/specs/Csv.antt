@@ -5,8 +5,8 @@ use Rattle.std.specs.List.{range_with_len}
 use Rattle.csv.specs.Writing.{default_writer, row_text}
 use Rattle.report_table.specs.declared.row.Row.{Row}
 use Rattle.report_table.specs.Tables.{TableView}
-use Rattle.report_csv.specs.declared.fault.CsvFault.{CsvFault}
-use Rattle.report_csv.specs.declared.fault.CsvFault.TheVariants.{NameCount, UnknownField, NoNode, Memory}
+use Rattle.report_table.specs.declared.csv_fault.CsvFault.{CsvFault}
+use Rattle.report_table.specs.declared.csv_fault.CsvFault.TheVariants.{NameCount, UnknownField, NoNode, Memory}
 
 -- ---- the fields that hold nodes
 

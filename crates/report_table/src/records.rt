@@ -1,13 +1,13 @@
 //! The records of a table.
 ghost use Rattle.std.specs.Prelude.{◌≡◌, ◌++◌, ◌∷◌, [], length, map, IfOk, IfErr, OnOk, slice_index_or, true, false};
 ghost use Rattle.csv.specs.Records.{fields_of, partial_of};
-ghost use Rattle.report_csv.specs.Csv.{AreNodes, IsNode, IsRowFault, IsValueFault, cell_of, headings, move_cells, node_cells, value_cells};
+ghost use Rattle.report_table.specs.Csv.{AreNodes, IsNode, IsRowFault, IsValueFault, cell_of, headings, move_cells, node_cells, value_cells};
 
 use crate::CsvFault;
 use crate::cells::{put_node, put_number};
 use csv::ByteRecord;
 use net_names::NodeNames;
-use report_table::{Row, Table};
+use crate::{Row, Table};
 use std::alloc::{AllocError, Global};
 
 /// What a row is printed with.

@@ -1,8 +1,8 @@
 use Rattle.std.proofs.Common.{◌≡◌, ◌∙◌, ◌<◌, get_or, ap, sym, length, Some, slice_get, arith}
 use Rattle.std.proofs.lemmas.Option.{slice_get-get_or}
-use Rattle.report_csv.specs.Writing.{written}
-use Rattle.report_csv.proofs.CsvLines.{text_more, rows_more}
-use Rattle.report_csv.proofs.named.write_rows.Goals as goal
+use Rattle.report_table.specs.Writing.{written}
+use Rattle.report_table.proofs.CsvLines.{text_more, rows_more}
+use Rattle.report_table.proofs.named.write_rows.Goals as goal
 
 pub loop-node-preserved : goal.loop-node-preserved
 loop-node-preserved c =

@@ -1,8 +1,8 @@
 use Rattle.std.proofs.Common.{get_or, []}
 use Rattle.std.specs.Cmp.Lexicographic.{same_text, other_text}
 use Rattle.std.proofs.lemmas.List.{get_or_default}
-use Rattle.report_csv.proofs.AskedFields.{seen_at, pass_more, none_has}
-use Rattle.report_csv.proofs.marks.place_of.Goals as goal
+use Rattle.report_table.proofs.AskedFields.{seen_at, pass_more, none_has}
+use Rattle.report_table.proofs.marks.place_of.Goals as goal
 
 pub returns-then-eq : goal.returns-then-eq
 returns-then-eq c =

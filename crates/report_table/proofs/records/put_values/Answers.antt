@@ -1,6 +1,6 @@
 use Rattle.csv.specs.Records.{fields_of}
-use Rattle.report_csv.proofs.CsvLines.{cells_more, nodes_more}
-use Rattle.report_csv.proofs.records.put_values.Goals as goal
+use Rattle.report_table.proofs.CsvLines.{cells_more, nodes_more}
+use Rattle.report_table.proofs.records.put_values.Goals as goal
 
 pub loop-field-preserved : goal.loop-field-preserved
 loop-field-preserved c =

@@ -7,7 +7,7 @@ use Rattle.std.proofs.lemmas.Option.{slice_get_within, get_or_from_slice_get}
 use Rattle.std.proofs.Math.Seq.{take-suc}
 use Rattle.csv.specs.Writing.{default_writer, row_text}
 use Rattle.report_table.specs.declared.row.Row.{Row}
-use Rattle.report_csv.specs.Csv.{AreNodes, AreRowsOfNodes, IsNode, cell_of, node_cells, node_records, records_text, value_cells}
+use Rattle.report_table.specs.Csv.{AreNodes, AreRowsOfNodes, IsNode, cell_of, node_cells, node_records, records_text, value_cells}
 
 pub cells_more : (names : List (List ℕ)) (marks : List Bool) (words : List ℕ) (k : ℕ) (old before later : List (List ℕ)) → before ≡ old ++ value_cells names marks words k → later ≡ before ++ cell_of names (get_or marks k false) (get_or words k 0) ∷ [] → later ≡ old ++ value_cells names marks words (k + 1)
 cells_more names marks words k old before later so_far one =

@@ -2,8 +2,8 @@ use Rattle.std.proofs.Common.{◌∙◌, map, set, true, refl, sym, arith}
 use Rattle.std.specs.String.{string_bytes}
 use Rattle.std.proofs.lemmas.List.{length-map, length-set}
 use Rattle.std.proofs.lemmas.Option.{slice_get_within}
-use Rattle.report_csv.proofs.AskedFields.{seen_at, one_marked, named_more}
-use Rattle.report_csv.proofs.marks.marks_of.Goals as goal
+use Rattle.report_table.proofs.AskedFields.{seen_at, one_marked, named_more}
+use Rattle.report_table.proofs.marks.marks_of.Goals as goal
 
 pub returns-in_default-clause-refused : goal.returns-in_default-clause-refused
 returns-in_default-clause-refused c = record {

@@ -1,7 +1,7 @@
 use Rattle.std.proofs.Common.{◌≡◌, ◌++◌, []}
 use Rattle.csv.specs.Records.{fields_of, partial_of}
-use Rattle.report_csv.specs.Csv.{AreNodes, value_cells}
-use Rattle.report_csv.proofs.records.put_values.Given as goal
+use Rattle.report_table.specs.Csv.{AreNodes, value_cells}
+use Rattle.report_table.proofs.records.put_values.Given as goal
 
 abbrev pub invariant-loop-field : goal.invariant-loop-field
 invariant-loop-field l = record {

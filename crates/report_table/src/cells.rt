@@ -3,7 +3,7 @@ ghost use Rattle.std.specs.Prelude.{◌≡◌, ◌≢◌, ◌≤◌, ◌++◌, �
 ghost use Rattle.std.specs.Bool.{OnTrue, OnFalse};
 ghost use Rattle.std.specs.Fmt.{decimal};
 ghost use Rattle.csv.specs.Records.{fields_of, partial_of};
-ghost use Rattle.report_csv.specs.Csv.{no_node, cell_of, IsNode};
+ghost use Rattle.report_table.specs.Csv.{no_node, cell_of, IsNode};
 
 use csv::ByteRecord;
 use net_names::NodeNames;

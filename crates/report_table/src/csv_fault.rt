@@ -1,6 +1,6 @@
 //! Why a table is not printed with names.
 ghost use Rattle.std.specs.Prelude.{◌≡◌};
-ghost use Rattle.report_csv.specs.declared.fault.CsvFault.TheVariants.{Memory};
+ghost use Rattle.report_table.specs.declared.csv_fault.CsvFault.TheVariants.{Memory};
 
 use std::alloc::AllocError;
 use thiserror::Error;

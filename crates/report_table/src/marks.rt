@@ -1,7 +1,7 @@
 //! Which fields of a table hold numbers of nodes.
 ghost use Rattle.std.specs.Prelude.{◌≡◌, length, map, MatchOption, IfOk, IfErr};
 ghost use Rattle.std.specs.String.{string_bytes};
-ghost use Rattle.report_csv.specs.Csv.{IsFirstPlace, HasField, AreMarks, IsMarksFault};
+ghost use Rattle.report_table.specs.Csv.{IsFirstPlace, HasField, AreMarks, IsMarksFault};
 
 use crate::CsvFault;
 use std::alloc::Global;

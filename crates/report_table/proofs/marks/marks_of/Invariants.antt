@@ -1,8 +1,8 @@
 use Rattle.std.proofs.Common.{◌≡◌, length, map}
 use Rattle.std.specs.String.{string_bytes}
-use Rattle.report_csv.specs.Csv.{AreNamed}
-use Rattle.report_csv.proofs.AskedFields.{Marked}
-use Rattle.report_csv.proofs.marks.marks_of.Given as goal
+use Rattle.report_table.specs.Csv.{AreNamed}
+use Rattle.report_table.proofs.AskedFields.{Marked}
+use Rattle.report_table.proofs.marks.marks_of.Given as goal
 
 abbrev pub invariant-loop-place : goal.invariant-loop-place
 invariant-loop-place l = record {

@@ -5,7 +5,7 @@ use Rattle.std.specs.Option.{option_map}
 use Rattle.std.proofs.lemmas.Bool.{cases_lt, cases_eq}
 use Rattle.std.proofs.lemmas.List.{get_or-set_same, get_or-set_other, get_or-replicate, get_or_past, length-replicate, length-map}
 use Rattle.std.proofs.lemmas.Option.{slice_get-map, slice_get-get_or, slice_get_within}
-use Rattle.report_csv.specs.Csv.{IsFirstPlace, HasField, IsAsked, AreNamed, AreMarks}
+use Rattle.report_table.specs.Csv.{IsFirstPlace, HasField, IsAsked, AreNamed, AreMarks}
 
 -- the element of a list that is seen through a view
 pub seen_at : {A : Type 0} (view : A → List ℕ) (xs : List A) (k : ℕ) (x : A) (name : List ℕ) → k < length xs → x ≡ get_or xs k x → view x ≡ name → slice_get (map view xs) k ≡ Some name

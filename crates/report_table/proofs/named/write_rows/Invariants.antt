@@ -1,7 +1,7 @@
 use Rattle.std.proofs.Common.{◌≡◌, ◌++◌, length, take}
-use Rattle.report_csv.specs.Csv.{AreRowsOfNodes, node_records, records_text}
-use Rattle.report_csv.specs.Writing.{IsReady, written}
-use Rattle.report_csv.proofs.named.write_rows.Given as goal
+use Rattle.report_table.specs.Csv.{AreRowsOfNodes, node_records, records_text}
+use Rattle.report_table.specs.Writing.{IsReady, written}
+use Rattle.report_table.proofs.named.write_rows.Given as goal
 
 abbrev pub invariant-loop-node : goal.invariant-loop-node
 invariant-loop-node l = record {

@@ -1,2 +1,0 @@
-pub mod AskedFields
-pub mod CsvLines

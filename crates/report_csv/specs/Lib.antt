@@ -1,2 +1,0 @@
-pub mod Csv
-pub mod Writing
