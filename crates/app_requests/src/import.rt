@@ -6,7 +6,7 @@ use app_table::{
     Argument, Choice, Command, OPTION, Reading, Subcommand, Value, WordsFault, number,
 };
 use import_links::{Kept, Mending, ParallelLinks, SelfLoops};
-use import_table::Separator;
+use import_edges::Separator;
 use std::alloc::Global;
 
 /// The greatest number of a column: a line has 65,536 bytes at most.

@@ -1,2 +1,4 @@
 mod EdgeSteps
 mod PlaceCuts
+mod FieldParts
+mod RowSteps

@@ -3,3 +3,5 @@ pub mod Columns
 pub mod Places
 pub mod Headings
 pub mod Edges
+pub mod Tables
+pub mod View

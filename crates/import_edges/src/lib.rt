@@ -1,4 +1,4 @@
-//! Edges that stand in a text, a line for each.
+//! Edges that stand in a text: a line for each, as words, or as the fields of a table, which tabs alone or commas part.
 #![tactic(auto)]
 
 mod columns;
@@ -7,6 +7,11 @@ mod heading;
 mod line_edge;
 mod places;
 mod reader;
+mod row;
+mod row_fault;
+mod row_fields;
+mod row_parts;
+mod row_reader;
 
 pub use columns::Columns;
 pub use fault::{EdgeFault, LineFault};
@@ -14,3 +19,7 @@ pub use heading::is_whole;
 pub use import_lines::Edge;
 pub use line_edge::read_line;
 pub use reader::{Reading, edge_lines, read_edges};
+pub use row::{Row, row_edge};
+pub use row_fault::{RowFault, TableFault};
+pub use row_fields::Separator;
+pub use row_reader::{TableReading, read_rows, row_edges};

@@ -1,8 +1,8 @@
 -- Network files of tables of edges.
 use Rattle.std.proofs.Common.{◌≡◌, ◌≢◌, List, Result, Ok, Err, IfErr, refl}
 use Rattle.import_lines.specs.Named.{NamedEdge}
-use Rattle.import_table.specs.declared.fault.TableFault.{TableFault}
-use Rattle.import_table.specs.declared.fault.TableFault.TheVariants as table
+use Rattle.import_edges.specs.declared.row_fault.TableFault.{TableFault}
+use Rattle.import_edges.specs.declared.row_fault.TableFault.TheVariants as table
 use Rattle.import_links.specs.declared.mending.Mending.{Mending}
 use Rattle.import_network.specs.declared.fault.TakeFault.{TakeFault}
 use Rattle.import_network.specs.declared.fault.TakeFault.TheVariants.{Memory}

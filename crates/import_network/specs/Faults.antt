@@ -1,8 +1,8 @@
 -- The faults of the steps as those of taking. Running out of memory is told in one form, whichever step it comes in.
 use Rattle.import_edges.specs.declared.fault.EdgeFault.{EdgeFault}
 use Rattle.import_edges.specs.declared.fault.EdgeFault.TheVariants as edges
-use Rattle.import_table.specs.declared.fault.TableFault.{TableFault}
-use Rattle.import_table.specs.declared.fault.TableFault.TheVariants as table
+use Rattle.import_edges.specs.declared.row_fault.TableFault.{TableFault}
+use Rattle.import_edges.specs.declared.row_fault.TableFault.TheVariants as table
 use Rattle.import_matrix.specs.declared.fault.MatrixFault.{MatrixFault}
 use Rattle.import_matrix.specs.declared.fault.MatrixFault.TheVariants as matrix
 use Rattle.import_dot.specs.declared.fault.DotFault.{DotFault}

@@ -5,7 +5,7 @@ use Rattle.net_names.specs.NamesFiles.{text_of, HasNames}
 use Rattle.import_lines.specs.declared.mention.Mention.{Mention}
 use Rattle.import_lines.specs.Named.{NamedEdge}
 use Rattle.import_edges.specs.declared.fault.EdgeFault.{EdgeFault}
-use Rattle.import_table.specs.declared.fault.TableFault.{TableFault}
+use Rattle.import_edges.specs.declared.row_fault.TableFault.{TableFault}
 use Rattle.import_json.specs.declared.fault.JsonFault.{JsonFault}
 use Rattle.import_json.specs.Graphs.{NodeLinks, unplaced}
 use Rattle.import_dot.specs.declared.fault.DotFault.{DotFault}

@@ -5,8 +5,8 @@ use Rattle.net_text.specs.Listing.{Listing, described}
 use Rattle.import_lines.specs.Named.{NamedEdge}
 use Rattle.import_edges.specs.declared.reader.Reading.{Reading}
 use Rattle.import_edges.specs.Edges.{edges_of}
-use Rattle.import_table.specs.declared.reader.TableReading.{TableReading}
-use Rattle.import_table.specs.Tables.{table_edges}
+use Rattle.import_edges.specs.declared.row_reader.TableReading.{TableReading}
+use Rattle.import_edges.specs.Tables.{table_edges}
 use Rattle.import_links.specs.Joining.{names_in, names_with, links_of}
 use Rattle.import_links.specs.Numbering.{links_in, nodes_of}
 use Rattle.import_links.specs.declared.placed.PlacedLink.{PlacedLink}

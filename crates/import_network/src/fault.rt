@@ -4,11 +4,10 @@ ghost use Rattle.import_network.specs.declared.fault.TakeFault.TheVariants.{Memo
 ghost use Rattle.import_network.specs.Faults.{edge_fault, table_fault, matrix_fault, dot_fault, json_fault, join_fault, number_fault, settle_fault};
 
 use import_dot::DotFault;
-use import_edges::EdgeFault;
+use import_edges::{EdgeFault, TableFault};
 use import_json::JsonFault;
 use import_links::{JoinFault, NumberFault, SettleFault};
 use import_matrix::MatrixFault;
-use import_table::TableFault;
 use std::alloc::AllocError;
 use thiserror::Error;
 

@@ -1,6 +1,6 @@
 //! Network files of tables of edges.
 ghost use Rattle.std.specs.Prelude.{◌≡◌, ◌≢◌, [], IfOk, IfErr, Err};
-ghost use Rattle.import_table.specs.Tables.{table_edges};
+ghost use Rattle.import_edges.specs.Tables.{table_edges};
 ghost use Rattle.import_network.specs.declared.fault.TakeFault.TheVariants.{Memory};
 ghost use Rattle.import_network.specs.Taking.{IsTaken, table_draft, table_numbers_draft, listing_in};
 ghost use Rattle.import_network.specs.Naming.{IsNamesOf, IsTableFault};
@@ -10,7 +10,7 @@ use crate::fault::TakeFault;
 use crate::numbers::number_and_finish;
 use crate::taken::Taken;
 use import_links::Mending;
-use import_table::{TableReading, read_rows, row_edges};
+use import_edges::{TableReading, read_rows, row_edges};
 use net_names::NodeNames;
 use std::alloc::Global;
 

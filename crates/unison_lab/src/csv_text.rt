@@ -5,8 +5,7 @@ use crate::names::names_from;
 use app_files::{Ending, Told, bytes_at, name_at, print_out, read_once};
 use app_requests::CsvRequest;
 use net_names::NodeNames;
-use report_table::{CsvFault, names_csv};
-use report_table::{Table, TableFault, read_table};
+use report_table::{CsvFault, Table, TableFault, names_csv, read_table};
 use std::alloc::{AllocError, Global};
 
 /// What is told of a text that is no report.

@@ -7,14 +7,13 @@ use crate::refusals::refusal;
 use app_files::{Ending, bytes_at, name_at, put_note, write_file, write_out};
 use app_requests::{Delimiter, Format, ImportRequest};
 use app_table::Draft;
-use import_edges::Columns;
+use import_edges::{Columns, Separator, TableReading};
 use import_json::JsonReading;
 use import_lines::all_digits;
 use import_network::{
     TakeFault, Taken, take_dot, take_edges, take_json, take_matrix, take_numbers, take_table,
     take_table_numbers,
 };
-use import_table::{Separator, TableReading};
 use std::alloc::{AllocError, Global};
 use std::io;
 

@@ -4,8 +4,7 @@ use app_files::{Ending, name_at, put_place};
 use app_requests::{ColumnWord, ColumnWords, Delimiter, ImportRequest};
 use app_table::Draft;
 use csv::ByteRecord;
-use import_edges::{Columns, edge_lines};
-use import_table::{Separator, TableReading, read_rows};
+use import_edges::{Columns, Separator, TableReading, edge_lines, read_rows};
 use std::alloc::{AllocError, Global};
 use std::str;
 

@@ -8,11 +8,10 @@ use app_files::{
 use app_requests::Format;
 use app_table::Draft;
 use import_dot::{DotFault, DotLineFault, TokenKind};
-use import_edges::{EdgeFault, LineFault};
+use import_edges::{EdgeFault, LineFault, RowFault, TableFault};
 use import_lines::{WeightFault, WordsFault};
 use import_links::{JoinFault, NumberFault, SettleFault};
 use import_network::TakeFault;
-use import_table::{RowFault, TableFault};
 use link_net::NetFault;
 use std::alloc::{AllocError, Global};
 

@@ -1,5 +1,5 @@
 use Rattle.std.proofs.Common.{rules, ◌≡◌, Err}
-use Rattle.import_table.specs.Tables.{table_edges}
+use Rattle.import_edges.specs.Tables.{table_edges}
 use Rattle.import_network.specs.declared.fault.TakeFault.TheVariants.{Memory}
 use Rattle.import_network.specs.Faults.{table_fault}
 use Rattle.import_network.proofs.TableSteps.{no_rows, no_edges}

@@ -1,2 +1,0 @@
-mod FieldParts
-mod RowSteps
