@@ -14,7 +14,7 @@ use app_table::{Argument, Choice, Command, OPTION, Reading, Subcommand, Value, W
 use large_matrix::MatrixOptions;
 use large_pack::{PackOptions, Parallel, SelfLoops};
 use large_random::LargeRandom;
-use large_shapes::LargeShape;
+use net_shapes::LargeShape;
 use std::alloc::Global;
 
 const EDGES: Argument = Argument {

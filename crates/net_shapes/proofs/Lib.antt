@@ -18,3 +18,9 @@ mod Cubes
 mod Pairs
 mod Crowds
 mod EachShape
+mod Lines
+mod Rising
+mod LargePlaces
+mod Around
+mod Tables
+mod EachLargeShape

@@ -2,3 +2,8 @@ pub mod Shapes
 pub mod Sizes
 pub mod Ahead
 pub mod Made
+pub mod Rows
+pub mod Frames
+pub mod Tables
+pub mod LargeShapes
+pub mod LargeSizes

@@ -10,7 +10,7 @@ use large_names::{NamedNetwork, pack_names};
 use large_net::{LargeNetwork, large_bytes};
 use large_pack::{PackOptions, Packed, pack_edges};
 use large_random::{LargeRandom, LargeRandomFault, large_random};
-use large_shapes::{LargeShape, LargeShapeFault, large_shape};
+use net_shapes::{LargeShape, LargeShapeFault, large_shape};
 use net_names::list_text;
 use std::alloc::{AllocError, Global};
 use std::thread::Threads;

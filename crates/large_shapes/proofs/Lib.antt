@@ -1,6 +1,0 @@
-mod Lines
-mod Rising
-mod Places
-mod Around
-mod Tables
-mod EachShape

@@ -1,9 +1,0 @@
-use Rattle.std.proofs.Common.{arith}
-use Rattle.large_shapes.specs.Frames.{frame_neighbours}
-use Rattle.large_shapes.proofs.Tables.{hold_more}
-use Rattle.large_shapes.proofs.network.Table.put_node.Goals as goal
-
-pub returns : goal.returns
-returns c =
-    let rows = frame_neighbours c.args.frame.now in
-    record { after = hold_more rows c.args.node c.len.result _ _ _ _ c.requires.before c.in_ok-put_neighbours.ensures (omega arith) c.in_ok-push.ensures.items }
