@@ -13,7 +13,7 @@ use crate::import::{DROP_LOOPS, HEADER, SCALE, TEXT, UNDIRECTED, factor_in};
 use app_table::{Argument, Choice, Command, OPTION, Reading, Subcommand, Value, WordsFault};
 use large_matrix::MatrixOptions;
 use large_pack::{PackOptions, Parallel, SelfLoops};
-use large_random::LargeRandom;
+use net_random::LargeRandom;
 use net_shapes::LargeShape;
 use std::alloc::Global;
 

@@ -12,3 +12,7 @@ mod Ring
 mod Degrees
 mod Chances
 mod Mapped
+mod Directions
+mod Fits
+mod Ordered
+mod Exact

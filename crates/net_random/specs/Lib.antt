@@ -6,3 +6,5 @@ pub mod Chances
 pub mod Growth
 pub mod Weights
 pub mod Changed
+pub mod LargeDrawn
+pub mod LargeSizes

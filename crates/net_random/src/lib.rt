@@ -1,4 +1,4 @@
-//! Random networks, and random weights of links. The same seed gives the same network on every machine.
+//! Random networks, as network files and of any size, and random weights of links. The same seed gives the same network on every machine.
 #![tactic(auto)]
 
 mod bounds;
@@ -8,6 +8,7 @@ mod choice;
 mod draw;
 mod fault;
 mod growth;
+mod large;
 mod lattice;
 mod laws;
 mod listed;
@@ -25,6 +26,7 @@ pub use bounds::NetworkBounds;
 pub use chance::{chance_list, chance_text};
 pub use draw::{drawn, drawn_links};
 pub use fault::RandomFault;
+pub use large::{LargeRandom, LargeRandomFault, large_random};
 pub use laws::each_pair_has_one_place;
 pub use random_network::RandomNetwork;
 pub use text::drawn_text;

@@ -9,7 +9,7 @@ use large_matrix::{MatrixOptions, pack_matrix};
 use large_names::{NamedNetwork, pack_names};
 use large_net::{LargeNetwork, large_bytes};
 use large_pack::{PackOptions, Packed, pack_edges};
-use large_random::{LargeRandom, LargeRandomFault, large_random};
+use net_random::{LargeRandom, LargeRandomFault, large_random};
 use net_shapes::{LargeShape, LargeShapeFault, large_shape};
 use net_names::list_text;
 use std::alloc::{AllocError, Global};

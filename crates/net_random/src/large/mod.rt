@@ -1,5 +1,4 @@
 //! Networks of any size that memory holds, drawn at random. The same seed gives the same network on every machine.
-#![tactic(auto)]
 
 mod arcs;
 mod fault;

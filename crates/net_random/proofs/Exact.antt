@@ -15,7 +15,7 @@ use Rattle.link_net.specs.Neighbours.{Neighbours, numbers_below, row}
 use Rattle.net_text.specs.Listing.{Link}
 use Rattle.net_random.specs.RandomNetworks.{AreSimpleLinks}
 use Rattle.large_pack.specs.Rows.{ends_from, end_cmp, HasArcs}
-use Rattle.large_random.proofs.Ordered.{one_if, times, times_more, Ascends, ascending_same, ascends, kept_ascends, times_kept}
+use Rattle.net_random.proofs.Ordered.{one_if, times, times_more, Ascends, ascending_same, ascends, kept_ascends, times_kept}
 
 -- the nodes of a row
 abbrev nodes_of : List (ℕ × ℕ) → List ℕ

@@ -5,10 +5,10 @@ use Rattle.net_random.specs.declared.bounds.NetworkBounds.{NetworkBounds}
 use Rattle.net_random.specs.declared.fault.RandomFault.{RandomFault}
 use Rattle.net_random.specs.declared.fault.RandomFault.TheVariants.{NodeCount as NoCount, TooManyLinks as ManyLinks}
 use Rattle.net_random.specs.RandomNetworks.{node_count, link_count, pair_count}
-use Rattle.large_random.specs.declared.fault.LargeRandomFault.{LargeRandomFault}
-use Rattle.large_random.specs.declared.fault.LargeRandomFault.TheVariants.{NodeCount, TooManyLinks, Memory}
-use Rattle.large_random.specs.declared.kind.LargeRandom.{LargeRandom}
-use Rattle.large_random.specs.Drawn.{random_of}
+use Rattle.net_random.specs.declared.large.fault.LargeRandomFault.{LargeRandomFault}
+use Rattle.net_random.specs.declared.large.fault.LargeRandomFault.TheVariants.{NodeCount, TooManyLinks, Memory}
+use Rattle.net_random.specs.declared.large.kind.LargeRandom.{LargeRandom}
+use Rattle.net_random.specs.LargeDrawn.{random_of}
 
 -- links of a network: each has two ends
 abbrev pub most_large_links : ℕ

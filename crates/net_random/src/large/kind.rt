@@ -1,9 +1,9 @@
 //! Ways to draw a network of any size.
 ghost use Rattle.std.specs.Prelude.{◌≡◌};
 ghost use Rattle.net_random.specs.RandomNetworks.{node_count};
-ghost use Rattle.large_random.specs.Drawn.{random_of};
+ghost use Rattle.net_random.specs.LargeDrawn.{random_of};
 
-use net_random::RandomNetwork;
+use crate::RandomNetwork;
 
 /// A way to draw a network of any size at random. Nodes are numbered from 0.
 #[derive(Clone, Copy)]

@@ -5,7 +5,7 @@ use Rattle.link_net.specs.Neighbours.{Neighbours}
 use Rattle.net_text.specs.Listing.{Link}
 use Rattle.net_random.specs.declared.random_network.RandomNetwork.{RandomNetwork}
 use Rattle.net_random.specs.RandomNetworks.{node_count, IsOutcome}
-use Rattle.large_random.specs.declared.kind.LargeRandom.{LargeRandom}
+use Rattle.net_random.specs.declared.large.kind.LargeRandom.{LargeRandom}
 
 -- the same as one of the networks of which text is made
 abbrev pub random_of : LargeRandom → RandomNetwork

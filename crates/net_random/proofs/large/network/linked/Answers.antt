@@ -3,11 +3,11 @@ use Rattle.std.proofs.lemmas.Result.{IfOk-weaker}
 use Rattle.net_random.specs.RandomNetworks.{node_count}
 use Rattle.large_pack.specs.Rows.{HasArcs}
 use Rattle.link_net.specs.Arcs.{arcs_of}
-use Rattle.large_random.specs.Drawn.{random_of}
-use Rattle.large_random.proofs.Directions.{arcs_count, arcs_within}
-use Rattle.large_random.proofs.Exact.{network_is}
-use Rattle.large_random.proofs.Fits.{fit}
-use Rattle.large_random.proofs.network.linked.Goals as goal
+use Rattle.net_random.specs.LargeDrawn.{random_of}
+use Rattle.net_random.proofs.Directions.{arcs_count, arcs_within}
+use Rattle.net_random.proofs.Exact.{network_is}
+use Rattle.net_random.proofs.Fits.{fit}
+use Rattle.net_random.proofs.large.network.linked.Goals as goal
 
 pub network_of_arcs-requires-clause-within : goal.network_of_arcs-requires-clause-within
 network_of_arcs-requires-clause-within c =

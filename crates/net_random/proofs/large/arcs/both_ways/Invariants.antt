@@ -1,6 +1,6 @@
 use Rattle.std.proofs.Common.{◌≡◌, ◌++◌, drop}
 use Rattle.link_net.specs.Arcs.{arcs_of}
-use Rattle.large_random.proofs.arcs.both_ways.Given as goal
+use Rattle.net_random.proofs.large.arcs.both_ways.Given as goal
 
 -- the arcs of the links that are left complete them
 abbrev pub invariant-loop-link : goal.invariant-loop-link

@@ -1,9 +1,9 @@
 //! Why no network is drawn.
 ghost use Rattle.std.specs.Prelude.{◌≡◌};
-ghost use Rattle.large_random.specs.declared.fault.LargeRandomFault.TheVariants.{Memory};
-ghost use Rattle.large_random.specs.Sizes.{fault_as};
+ghost use Rattle.net_random.specs.declared.large.fault.LargeRandomFault.TheVariants.{Memory};
+ghost use Rattle.net_random.specs.LargeSizes.{fault_as};
 
-use net_random::RandomFault;
+use crate::RandomFault;
 use std::alloc::AllocError;
 use thiserror::Error;
 

@@ -3,10 +3,10 @@ use Rattle.std.proofs.Common.{◌≡◌, ◌≤◌, Bool, true, false, ◌||◌,
 use Rattle.std.proofs.lemmas.Bool.Decides.{nat_tests}
 use Rattle.link_net.specs.Limits.{most_rows}
 use Rattle.net_random.specs.RandomNetworks.{node_count, link_count, pair_count}
-use Rattle.large_random.specs.declared.fault.LargeRandomFault.TheVariants as large
-use Rattle.large_random.specs.declared.kind.LargeRandom.{LargeRandom}
-use Rattle.large_random.specs.Drawn.{random_of}
-use Rattle.large_random.specs.Sizes.{most_large_links, refusal_of}
+use Rattle.net_random.specs.declared.large.fault.LargeRandomFault.TheVariants as large
+use Rattle.net_random.specs.declared.large.kind.LargeRandom.{LargeRandom}
+use Rattle.net_random.specs.LargeDrawn.{random_of}
+use Rattle.net_random.specs.LargeSizes.{most_large_links, refusal_of}
 
 pub record IsFit (wanted : LargeRandom) : Type 0 where
   pub some : 1 ≤ node_count (random_of wanted)

@@ -1,16 +1,16 @@
 //! Networks that are drawn.
 ghost use Rattle.std.specs.Prelude.{◌≡◌, None, IfOk, IfErr, MatchResult};
 ghost use Rattle.net_random.specs.RandomNetworks.{node_count, IsOutcome};
-ghost use Rattle.large_random.specs.Drawn.{IsDrawn, random_of};
-ghost use Rattle.large_random.specs.Sizes.{large_bounds, refusal_of, refused_by};
+ghost use Rattle.net_random.specs.LargeDrawn.{IsDrawn, random_of};
+ghost use Rattle.net_random.specs.LargeSizes.{large_bounds, refusal_of, refused_by};
 
-use crate::arcs::both_ways;
-use crate::fault::fault_as;
+use crate::large::arcs::both_ways;
+use crate::large::fault::fault_as;
 use crate::{LargeRandom, LargeRandomFault};
 use large_net::LargeNetwork;
 use large_pack::network_of_arcs;
 use link_net::Link;
-use net_random::{NetworkBounds, drawn_links};
+use crate::{NetworkBounds, drawn_links};
 use std::alloc::{AllocError, Global};
 
 /// The bounds of a network of any size: each link has two ends, of which there are 4,294,967,295 at most.
@@ -44,7 +44,7 @@ fn linked(alloc: Global, wanted: LargeRandom, links: Vec<Link>) -> Result<LargeN
 
 /// The random network of any size that a seed draws, each link with weight 1 and seen from both ends, or why there is none.
 ///
-/// It is the network of the same links as [`net_random::drawn`] draws of the same words, where that takes them. What the
+/// It is the network of the same links as [`crate::drawn`] draws of the same words, where that takes them. What the
 /// sizes refuse is refused before anything is drawn and before any memory is taken: `NodeCount`, else `TooManyLinks`;
 /// `Memory` comes only where neither does.
 pub fn large_random(

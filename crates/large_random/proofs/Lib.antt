@@ -1,4 +1,0 @@
-mod Directions
-mod Fits
-mod Ordered
-mod Exact
