@@ -11,7 +11,7 @@ use crate::generate::{
 };
 use crate::import::{DROP_LOOPS, HEADER, SCALE, TEXT, UNDIRECTED, factor_in};
 use app_table::{Argument, Choice, Command, OPTION, Reading, Subcommand, Value, WordsFault};
-use large_matrix::MatrixOptions;
+use import_network::MatrixOptions;
 use large_pack::{PackOptions, Parallel, SelfLoops};
 use net_random::LargeRandom;
 use net_shapes::LargeShape;

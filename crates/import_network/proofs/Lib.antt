@@ -2,3 +2,7 @@ mod DotSteps
 mod JoinFaults
 mod JsonSteps
 mod TableSteps
+mod EntrySteps
+mod Surveying
+mod Numbering
+mod NamedPacks

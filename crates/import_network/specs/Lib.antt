@@ -1,3 +1,9 @@
 pub mod Faults
 pub mod Taking
 pub mod Naming
+pub mod MatrixFaults
+pub mod Entries
+pub mod MatrixSteps
+pub mod NamesFaults
+pub mod PackNaming
+pub mod NameSurveys

@@ -4,8 +4,8 @@ use app_files::{
     Told, edges_told, matrix_told, on_line, put_matrix_detail, put_place, weight_told, words_told,
 };
 use app_table::Draft;
-use large_matrix::MatrixPackFault;
-use large_names::NamesPackFault;
+use import_network::MatrixPackFault;
+use import_network::NamesPackFault;
 use large_pack::{LineFault, NodeFault, PackFault};
 use std::alloc::{AllocError, Global};
 

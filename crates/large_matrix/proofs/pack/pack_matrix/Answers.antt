@@ -1,6 +1,0 @@
-use Rattle.import_matrix.specs.Matrices.{links_left}
-use Rattle.large_matrix.proofs.EntrySteps.{tied}
-use Rattle.large_matrix.proofs.pack.pack_matrix.Goals as goal
-
-pub pack_ranked-requires-clause-tied : goal.pack_ranked-requires-clause-tied
-pack_ranked-requires-clause-tied c h = tied c.packing-packing.result (links_left c.in_ok-entries.entries) c.in_ok-edges.edges.items c.in_ok-edges.ensures.edges h

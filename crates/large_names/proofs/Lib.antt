@@ -1,3 +1,0 @@
-mod Surveying
-mod Numbering
-mod NamedPacks
