@@ -75,20 +75,3 @@ serve_refusal job program network from had left held holds fault.Memory h = h
 pub not_replay : (job : Job) (program network : List ℕ) (from : Option (List ℕ)) (f : ServeFault) (r : ReplayFault)
     → IsRefusal job program network from f → f ≡ fault.Replay r → ⊥
 not_replay job program network from f r h is = subst (IsRefusal job program network from) is h
-
--- a text that is not read is refused as too long where it is
-pub long_lang : (text : List ℕ) (e : LangFault) → IsRefusedAs text e → IsLongFirst text (fault.Lang e)
-long_lang text lang.TooLong h long = refl
-long_lang text (lang.Lex at) h long = absurd (omega (arith, h.0, long))
-long_lang text (lang.Syntax at) h long = absurd (omega (arith, h.0, long))
-long_lang text lang.Memory h long = absurd (omega (arith, h, long))
-
--- a program that is accepted is not too long
-pub not_long : (program : List ℕ) (items : List ItemTree) (f : ServeFault) → IsAccepted program items → IsLongFirst program f
-not_long program items f accepted long = let short = accepted.has.short in absurd (omega (arith, short, long))
-
-pub plan_not_long : (program network : List ℕ) (p : PlanView) (f : ServeFault) → HasPlan program network p → IsLongFirst program f
-plan_not_long program network p f has = not_long program has.items f has.accepted
-
-pub resumed_not_long : (program network : List ℕ) (from : Option (List ℕ)) (p : PlanView) (f : ServeFault) → HasResumed program network from p → IsLongFirst program f
-resumed_not_long program network from p f has = plan_not_long program network has.base f has.plan

@@ -22,22 +22,9 @@ pub built_more : (undirected : Bool) (factor : Option ℕ) (s next : State) (b l
     → with_built later (events_from undirected factor next rest) ≡ with_built b (events_from undirected factor s tokens)
 built_more undirected factor s next b later e t tokens rest shape told takes = rw (shape, told) (more_built b later e (events_from undirected factor next rest) takes)
 
--- at the start
-pub built_first : (b : Builder) (factor : Option ℕ) (read : Result (List DotEvent) DotFault) → ((es : List DotEvent) → finished b es ≡ graph_in factor es) → with_built b read ≡ and_then read (λ es. Ok (graph_in factor es))
-built_first b factor (Ok es) is = ap Ok (is es)
-built_first b factor (Err bad) is = refl
-
--- no token is left
-pub built_all : (undirected : Bool) (factor : Option ℕ) (s : State) (b : Builder) (tokens : List DotToken) (g : DotGraph) (defined : Result DotGraph DotFault) → tokens ≡ [] → g ≡ finished b [] → with_built b (events_from undirected factor s tokens) ≡ defined → defined ≡ Ok g
-built_all undirected factor s b tokens g defined none is read = sym (rw none at read) ∙ ap Ok (sym is)
-
 fault_more : {A B : Type 0} (f : A → B) (read : Result A DotFault) → result_err (and_then read (λ x. Ok (f x))) ≡ result_err read
 fault_more f (Ok x) = refl
 fault_more f (Err bad) = refl
-
--- a graph has the fault of its tokens
-pub graph_fault : (undirected : Bool) (factor : Option ℕ) (s : State) (tokens : List DotToken) → result_err (and_then (events_from undirected factor s tokens) (λ es. Ok (graph_in factor es))) ≡ result_err (events_from undirected factor s tokens)
-graph_fault undirected factor s tokens = fault_more (graph_in factor) (events_from undirected factor s tokens)
 
 -- a token without a fault does not change the first fault
 pub skip_good : (undirected : Bool) (factor : Option ℕ) (s next : State) (e : DotEvent) (t : DotToken) (tokens rest : List DotToken)

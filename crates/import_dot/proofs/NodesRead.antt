@@ -49,9 +49,6 @@ any_title undirected factor b depth directed owner w text false line ms = refl
 
 -- ---- nodes
 
-abbrev pub mention_at : DotId → DotMention
-mention_at id = record { name = id.text; line = id.line }
-
 pub first_named : (html : Bool) → IsFirst (id_kind html)
 first_named true = tt
 first_named false = tt

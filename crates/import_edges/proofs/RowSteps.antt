@@ -34,11 +34,6 @@ front_more : (front : List NamedEdge) (e : NamedEdge) (read : Result (List Named
 front_more front e (Ok es) = ap Ok (append_assoc front (e ∷ []) es)
 front_more front e (Err fault) = refl
 
--- one edge more
-pub edges_more : (reading : TableReading) (front later : List NamedEdge) (e : NamedEdge) (row : Row) (rows rest : List Row) → later ≡ front ++ e ∷ [] → rows ≡ row ∷ rest → Ok e ≡ edge_of reading (row.line, fields_of row.fields)
-    → with_front later (edges_in reading (map row_of rest)) ≡ with_front front (edges_in reading (map row_of rows))
-edges_more reading front later e row rows rest is shape said = rw (is, shape, ← said) (front_more front e (edges_in reading (map row_of rest)))
-
 -- no row is left
 pub edges_all : (reading : TableReading) (front : List NamedEdge) (rows : List Row) (defined : Result (List NamedEdge) TableFault) → rows ≡ [] → with_front front (edges_in reading (map row_of rows)) ≡ defined → defined ≡ Ok front
 edges_all reading front rows defined none is = sym (rw none at is) ∙ ap Ok (append-nil front)

@@ -11,10 +11,6 @@ use Rattle.import_json.specs.Graphs.{and_then, with_node, names_from, link_in, l
 pub names_more : (k : ℕ) (names more : List (List ℕ)) (v : Value) (vs rest : List Value) → vs ≡ v ∷ rest → with_node k names (view v) ≡ Ok more → names_from (k + 1) more (map view rest) ≡ names_from k names (map view vs)
 names_more k names more v vs rest shape is = rw (shape, is) refl
 
--- the first node that is bad
-pub names_stop : (k : ℕ) (names : List (List ℕ)) (fault : JsonFault) (v : Value) (vs rest : List Value) → vs ≡ v ∷ rest → with_node k names (view v) ≡ Err fault → names_from k names (map view vs) ≡ Err fault
-names_stop k names fault v vs rest shape is = rw (shape, is) refl
-
 -- the links so far before those that are left
 abbrev pub with_front : List PlacedLink → Result (List PlacedLink) JsonFault → Result (List PlacedLink) JsonFault
 with_front front read = and_then read (λ ls. Ok (front ++ ls))
@@ -22,10 +18,6 @@ with_front front read = and_then read (λ ls. Ok (front ++ ls))
 front_more : (front : List PlacedLink) (l : PlacedLink) (read : Result (List PlacedLink) JsonFault) → with_front (front ++ l ∷ []) read ≡ with_front front (and_then read (λ ls. Ok (l ∷ ls)))
 front_more front l (Ok ls) = ap Ok (append_assoc front (l ∷ []) ls)
 front_more front l (Err fault) = refl
-
-front_none : (read : Result (List PlacedLink) JsonFault) → with_front [] read ≡ read
-front_none (Ok ls) = refl
-front_none (Err fault) = refl
 
 module _ (names : List (List ℕ)) (factor : Option ℕ) (list : LinkList) where
   -- one link more

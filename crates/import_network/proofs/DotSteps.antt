@@ -36,12 +36,6 @@ edges_refused mending g (Numbers why) bad = bad
 edges_refused mending g (Settle why) bad = bad
 edges_refused mending g Memory bad = bad
 
--- a node that has no number is one of the graph
-pub nodes_refused : (mending : Mending) (g : DotGraph) (mentions : List Mention) (fault : JoinFault) (told : TakeFault) → map mention_of mentions ≡ g.nodes → IsMentionRefusal mentions fault → told ≡ join_fault fault → IsGraphFault mending g told
-nodes_refused mending g mentions (BadName line) told same why is = rw is (inl (record { mentions = mentions; are_these = same; some = λ e. cc; why = why }))
-nodes_refused mending g mentions (TooManyNodes line) told same why is = rw is (inl (record { mentions = mentions; are_these = same; some = λ e. cc; why = why }))
-nodes_refused mending g mentions NoMemory told same why is = rw is tt
-
 module _ (mending : Mending) (g : DotGraph) (says : Result DotGraph DotFault → Type 0) (given : List (List ℕ)) (edges : List NamedEdge) (is_said : says (Ok g)) (named : given ≡ graph_names g) (these : edges ≡ g.edges) where
   pub dot_network : (r : Result Taken TakeFault) → IfOk r (IsMadeOf mending (named_draft given edges)) → IfOk r (IsTakenGraph mending says)
   dot_network (Ok taken) made = record { graph = g; is_said = is_said; made_of = rw (named, these) at made }

@@ -44,7 +44,3 @@ module _ (mending : Mending) (g : NodeLinks) (read : Result NodeLinks JsonFault)
   pub json_refused : (r : Result Taken TakeFault) → IfErr r (λ fault. fault ≢ Memory → made mending (record { nodes = nodes; links = links }) ≡ Err fault) → IfErr r (IsJsonFault mending read)
   json_refused (Ok taken) why = tt
   json_refused (Err fault) why = rw is_read (rw (count, linked) at why)
-
--- the file of the names
-pub json_names : (g : NodeLinks) (read : Result NodeLinks JsonFault) (bytes : List ℕ) → read ≡ Ok g → IsNameFile g.names bytes → IsNamesOfNodes read bytes
-json_names g read bytes is_read are = record { graph = g; is_read = is_read; names = are }

@@ -35,22 +35,6 @@ pub of_counts : (nodes fields words field values rounds room : ℕ) (f : LargeCa
 of_counts nodes fields words field values rounds room f h =
     chosen (not (words == nodes * fields)) (nat_le fields field) (nat_lt most_values values) (nat_lt room (rounds * (values + 1))) f h
 
--- so not for any that is none of them
-pub one_of_four : (f : LargeCallFault) → IsOfCounts f → f ≢ WordCount → f ≢ NoField → f ≢ TooManyValues → f ≢ Call Room → ⊥
-one_of_four (Call (Texts g)) of a b c d = of
-one_of_four (Call (Round g)) of a b c d = of
-one_of_four (Call (Replay g)) of a b c d = of
-one_of_four (Call (Settle g)) of a b c d = of
-one_of_four (Call NotRising) of a b c d = of
-one_of_four (Call NoJob) of a b c d = of
-one_of_four (Call Room) of a b c d = d refl
-one_of_four (Call Memory) of a b c d = of
-one_of_four (Lists g) of a b c d = of
-one_of_four WordCount of a b c d = a refl
-one_of_four (Part g) of a b c d = of
-one_of_four NoField of a b c d = b refl
-one_of_four TooManyValues of a b c d = c refl
-
 -- what is asked for is well
 pub record IsWell (nodes fields words field values rounds room : ℕ) : Type 0 where
   pub count : words ≡ nodes * fields

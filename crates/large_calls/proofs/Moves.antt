@@ -73,16 +73,6 @@ pub some_weights : (neighbours weights : List ℕ) → 0 < length weights → gi
 some_weights neighbours [] some = absurd (omega (arith, some))
 some_weights neighbours (w ∷ weights) some = refl
 
--- why a plan that starts there does not have the round
-pub too_late : (start t : ℕ) → most_rounds < t → IsNoSpan start t TooManyRounds
-too_late start t late p same = let above : nat_lt most_rounds t ≡ true = grind (arith, nat_tests) in rw above refl
-
-pub too_early : (start t : ℕ) → t ≤ most_rounds → t < start → IsNoSpan start t RoundsBelowStart
-too_early start t few early p same =
-    let within : nat_lt most_rounds t ≡ false = grind (arith, nat_tests) in
-    let below : nat_lt t p.start ≡ true = grind (arith, nat_tests) in
-    rw (within, below) refl
-
 -- each plan that starts there has the round
 pub span_there : (start t : ℕ) → start ≤ t → t ≤ most_rounds → HasSpan start t
 span_there start t late there = λ p same. (lockstep_config p t, round_there p t (omega (arith, same, late)) there)

@@ -134,25 +134,6 @@ survey_both o es fs first second both one two reaches outside loop =
 
 -- ---- their arcs
 
-straight_both : (loops : SelfLoops) (es fs : List EdgeLine) → straight_edges loops (es ++ fs) ≡ straight_edges loops es ++ straight_edges loops fs
-straight_both DropLoops es fs = filter-append (λ e. not (is_loop e)) es fs
-straight_both RefuseLoops es fs = refl
-straight_both KeepLoops es fs = refl
-
-pub keyed_both : (o : PackOptions) (es fs : List EdgeLine) (first second both : KeyedEdges) → AreKeyed o es first → AreKeyed o fs second
-    → both.keys.items ≡ first.keys.items ++ second.keys.items → both.lines ≡ first.lines + second.lines → both.dropped_loops ≡ first.dropped_loops + second.dropped_loops → AreKeyed o (es ++ fs) both
-keyed_both o es fs first second both one two keys lines dropped =
-    let weight = usual_weight o.factor in
-    let straight = straight_both o.self_loops es fs in
-    record {
-      arcs =
-          ap (arcs_in weight) keys
-          ∙ (map-append (arc_in weight) first.keys.items second.keys.items
-          ∙ (rw (one.arcs, two.arcs) (sym (flat_map-append (edge_arcs o.is_directed) (straight_edges o.self_loops es) (straight_edges o.self_loops fs))) ∙ ap (arcs_of o.is_directed) (sym straight)));
-      lines = omega (arith, lines, one.lines, two.lines, length-append es fs);
-      straight = omega (arith, dropped, one.straight, two.straight, length-append es fs, ap length straight, length-append (straight_edges o.self_loops es) (straight_edges o.self_loops fs));
-    }
-
 -- ---- what was read
 
 abbrev both_of : Result (List EdgeLine) PackFault → Result (List EdgeLine) PackFault → Result (List EdgeLine) PackFault

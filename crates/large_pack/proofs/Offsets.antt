@@ -50,11 +50,6 @@ from_within n [] within = tt
 from_within n (a ∷ arcs) within = (within.0.0, from_within n arcs within.1)
 
 -- all arcs come from below n
-pub last_first : (n : ℕ) (arcs : List Arc) → AllWithin n arcs → IsFirst arcs n (length arcs)
-last_first n arcs within = record {
-  bound = omega arith;
-  before = λ k d low. All-from_recursion (λ (a : Arc). a.0 < n) arcs (from_within n arcs within) k d low;
-  after = λ k d low high. absurd (omega arith);
 }
 
 -- a lower node's arcs begin no later

@@ -63,13 +63,6 @@ to_end o defined lines keyed was none es is =
     let whole : was.done ≡ es = sym (append-nil was.done) ∙ cc in
     rw (← whole) was.arcs
 
--- a line that is bad
-pub to_fault : (o : PackOptions) (defined : Result (List EdgeLine) PackFault) (lines rest : List (ℕ × List ℕ)) (l : ℕ × List ℕ) (fault : PackFault) (keyed : Option KeyedEdges)
-    → ReadTo o defined (edges_in o lines) keyed → lines ≡ l ∷ rest → Err fault ≡ edge_of o l → defined ≡ Err fault
-to_fault o defined lines rest l fault keyed was shape said =
-    let here : edges_in o lines ≡ Err fault = rw (shape, ← said) refl in
-    sym (rw here at was.told)
-
 -- ---- the whole
 
 counts : (a b c : Option PackFault) (es : List EdgeLine) (n : ℕ) (count : List EdgeLine → ℕ) → n ≡ count es

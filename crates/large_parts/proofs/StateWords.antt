@@ -12,13 +12,6 @@ use Rattle.rounds_plan.specs.Configs.{blank}
 use Rattle.rounds_plan.specs.Lockstep.{state_in}
 use Rattle.large_parts.specs.States.{node_words, state_of, states_of, words_in}
 
--- the words of a node stand within those of all
-pub words_within : (nodes fields u : ℕ) → u < nodes → u * fields + fields ≤ nodes * fields
-words_within nodes fields u inside =
-    let more : u + 1 ≡ suc u = omega arith in
-    let low : suc u ≤ nodes = omega (arith, inside) in
-    omega (arith, suc-mul u fields, mul-le-mul_right fields low)
-
 -- the state of a node
 pub state_there : (fields nodes u : ℕ) (words : List ℕ) → u < nodes → state_in (states_of fields nodes words) u ≡ state_of (node_words fields words u)
 state_there fields nodes u words inside = get_or-map-range_with_len (λ v. state_of (node_words fields words v)) 0 nodes u u blank inside (zero-add u)

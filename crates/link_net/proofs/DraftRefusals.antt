@@ -29,9 +29,6 @@ module _ (n : ℕ) (links : List Arc) where
       let more : nat_lt most_links (length links) ≡ true = grind (arith, nat_tests) in
       rw (straight, once, more) refl
 
-pub nodes_refusal : (d : Draft) → number_in 1 most_nodes d.nodes ≡ None → Some NodeCount ≡ refusal_of (description_of d)
-nodes_refusal d is = rw is refl
-
 module _ (d : Draft) (n : ℕ) (is_n : number_in 1 most_nodes d.nodes ≡ Some n) where
   pub astray_refusal : (link : ℕ) → position (λ l. is_none (placed (n - 1) l)) d.links ≡ Some link → Some BadLink ≡ refusal_of (description_of d)
   astray_refusal link is =

@@ -42,14 +42,6 @@ pub later_fault : (a b : Bool) (g : NetFault) (r : Option NetFault) → None ≡
 later_fault true b g r h k = cc
 later_fault false b g r h k = k
 
-pub test_true : (a : Bool) (f g : NetFault) → Some f ≡ fault_if a g → (a ≡ true) × (f ≡ g)
-test_true true f g h = (refl, cc)
-test_true false f g h = cc
-
-pub test_false : (a : Bool) (g : NetFault) → None ≡ fault_if a g → a ≡ false
-test_false true g h = cc
-test_false false g h = refl
-
 -- the draft of these parts
 abbrev draft_from : ℤ → List Raw → ℤ → List FieldSet → Draft
 draft_from nodes links phase sets = record { nodes = nodes; links = links; phase = phase; sets = sets }
@@ -73,13 +65,6 @@ some_from_not_none (Some x) h = (x, refl)
 pub none_from_is_none : {A : Type 0} (o : Option A) → is_none o ≡ true → o ≡ None
 none_from_is_none None h = refl
 none_from_is_none (Some x) h = cc
-
--- what is refused in a document
-pub key_refused : (ms : Members) → has_unknown_key ms ≡ true → description_in ms ≡ Err UnknownKey
-key_refused ms h = rw h refl
-
-pub shape_refused : (ms : Members) → has_unknown_key ms ≡ false → draft_of ms ≡ None → description_in ms ≡ Err BadShape
-shape_refused ms known none = rw (known, none) refl
 
 pub numbers_of : (ms : Members) (d : Draft) → has_unknown_key ms ≡ false → draft_of ms ≡ Some d → description_in ms ≡ description_of d
 numbers_of ms d known is = rw (known, is) refl
@@ -131,16 +116,3 @@ number_cause_of d n links (cause.LinkTwice link earlier) is_n is_links h = rw (i
 number_cause_of d n links (cause.TooManyLinks count) is_n is_links h = rw (is_n, is_links) h
 number_cause_of d n links (cause.TooManyNeighbours node count) is_n is_links h = rw (is_n, is_links) h
 number_cause_of d n links _ is_n is_links h = absurd h
-
--- a cause that lies in the table at `set`
-pub shape_cause_of : (ms sets : Members) (c : NetCause) → option_and_then as_table (get_member (codes "set") ms) ≡ Some sets → IsSetCause sets c → IsShapeCause ms c
-shape_cause_of ms sets (cause.SetValueShape key) is h = rw is h
-shape_cause_of ms sets (cause.PairShape key entry) is h = rw is h
-shape_cause_of ms sets _ is h = absurd h
-
--- a cause that lies in the numbers of a document
-pub document_cause_of : (ms : Members) (d : Draft) (c : NetCause) → draft_of ms ≡ Some d → IsNumberCause d c → IsDocumentCause ms c
-document_cause_of ms d c is h = inr (at (draft_of ms) is) where
-  at : (o : Option Draft) → o ≡ Some d → IsSomeAnd o (λ e. IsNumberCause e c)
-  at None e = cc
-  at (Some x) e = let same : x ≡ d = cc in rw same h

@@ -46,9 +46,6 @@ absent q (z ∷ zs) above =
     let here : (q == z) ≡ false = grind (arith, nat_tests, above.0) in
     rw here (absent q zs above.1)
 
-all_above : (a y b : ℕ) (ys : List ℕ) → a < y → AllBetween a b ys → AllByRecursion (λ z. y < z) ys → AllBetween (a + 1) b ys
-all_above a y b ys low within above = above_between a y b ys (omega arith) above within
-
 shifted : (a n : ℕ) → a + suc n ≡ (a + 1) + n
 shifted a n = omega arith
 

@@ -26,11 +26,6 @@ unfolding ending_at
 ending_is ending.Round ts rest h = close_is ts rest h
 ending_is ending.Brace ts rest h = brace_close_is ts rest h
 
-ending_reads : (e : Ending) (ts rest : List Placed) → Comes (SignTok (end_sign e)) ts rest → ending_at e ts ≡ Some rest
-unfolding ending_at
-ending_reads ending.Round ts rest h = close_reads ts rest h
-ending_reads ending.Brace ts rest h = brace_close_reads ts rest h
-
 -- names were read behind names
 pub record Listed (e : Ending) (names : List NameAt) (ts : List Placed) (all : List NameAt) (rest : List Placed) : Type 0 where
   pub more : List NameAt

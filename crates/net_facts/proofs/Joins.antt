@@ -140,13 +140,6 @@ pub record PartsOf (network : Neighbours) (nodes : List ℕ) (count : ℕ) : Typ
   pub apart : (i j : ℕ) → i < j → j < length firsts → AreJoined network (get_or firsts i 0) (get_or firsts j 0) → ⊥
   pub all : (u : ℕ) → Contains nodes u → (i : ℕ) × (i < length firsts) × AreJoined network (get_or firsts i 0) u
 
-pub no_parts : (network : Neighbours) (nodes : List ℕ) → nodes ≡ [] → PartsOf network nodes 0
-no_parts network nodes none = record {
-  firsts = [];
-  counted = refl;
-  reached = λ k d inside. absurd (omega arith);
-  apart = λ i j before inside joined. omega arith;
-  all = λ u has. absurd (omega (arith, has.1, ap length none));
 }
 
 module _ (network : Neighbours) (old later : List ℕ) (count node : ℕ) (parts : PartsOf network old count) (closed : IsClosed network old) (grows : Grows (AreJoined network node) old later) (has : Contains later node) (other : Contains old node → ⊥) where

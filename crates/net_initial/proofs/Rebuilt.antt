@@ -22,9 +22,6 @@ tail_up a ends up i j order low = up (suc i) (suc j) (omega arith) (omega arith)
 tail_from : (n : ℕ) (a : ℕ × ℕ) (ends : List (ℕ × ℕ)) → Up (a ∷ ends) → n ≤ a.0 → From (n + 1) ends
 tail_from n a ends up least j low = let more = up 0 (suc j) (omega arith) (omega arith) in omega arith
 
-tail_below : (n : ℕ) (a : ℕ × ℕ) (ends : List (ℕ × ℕ)) → Below n (a ∷ ends) → Below n ends
-tail_below n a ends below j low = below (suc j) (omega arith)
-
 -- what stands at a place has its weight
 pub entry_at : (ends : List (ℕ × ℕ)) (j : ℕ) → Up ends → j < length ends → entry ends (get_or ends j (0, 0)).0 ≡ Some (get_or ends j (0, 0)).1
 entry_at [] j up low = absurd (omega arith)

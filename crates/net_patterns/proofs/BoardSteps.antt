@@ -77,18 +77,8 @@ comes-alive front column row line state n pieces few near low =
     rw (room (length front) column row few near low)
     (front_more front cell (judged (length front + 1) rest (fault_in pieces)) ∙ ap (λ k. with_front (front ++ cell ∷ []) (judged k rest (fault_in pieces))) (sym (length_more front cell)))
 
--- a live cell beyond the limit
-pub comes-far_column : (front : List Cell) (column row line state n : ℕ) (pieces : List (Result Run PatternFault)) → 65536 ≤ column → comes front column row (Ok (record { line = line; count = suc n; mark = Alive state }) ∷ pieces) ≡ Err (TooLarge line)
-comes-far_column front column row line state n pieces far = rw (far_column (length front) column row far) refl
-
-pub comes-far_row : (front : List Cell) (column row line state n : ℕ) (pieces : List (Result Run PatternFault)) → 65536 ≤ row → comes front column row (Ok (record { line = line; count = suc n; mark = Alive state }) ∷ pieces) ≡ Err (TooLarge line)
-comes-far_row front column row line state n pieces far = rw (far_row (length front) column row far) refl
-
 many : (k a r : ℕ) → 65536 ≤ k → (nat_lt k 65536 && nat_lt a 65536 && nat_lt r 65536) ≡ false
 many k a r far = grind (arith, nat_tests)
-
-pub comes-many : (front : List Cell) (column row line state n : ℕ) (pieces : List (Result Run PatternFault)) → 65536 ≤ length front → comes front column row (Ok (record { line = line; count = suc n; mark = Alive state }) ∷ pieces) ≡ Err (TooLarge line)
-comes-many front column row line state n pieces far = rw (many (length front) column row far) refl
 
 -- the next of the live cells of a run
 pub comes-one_less : (front : List Cell) (column row line state count counter : ℕ) (pieces : List (Result Run PatternFault)) → counter < count

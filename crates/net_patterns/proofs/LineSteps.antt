@@ -27,7 +27,3 @@ rest_shorter bs rest is some =
     let full = eqb-false (length bs) 0 (sym some) in
     let less = ap length is ∙ length-drop (position_or_len is_line_feed bs + 1) bs in
     omega (arith, less)
-
-pub nothing_told : (line : ℕ) (text : List ℕ) → true ≡ (length text == 0) → told_from line text ≡ []
-nothing_told line [] none = refl
-nothing_told line (b ∷ bs) none = (let e = (Decides-eqb (length (b ∷ bs)) 0).0 (sym none) in absurd (omega arith))

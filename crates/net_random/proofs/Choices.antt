@@ -18,9 +18,6 @@ once_push x (y ∷ ys) once new =
     let rest = once_push x ys (grind (arith, nat_tests)) (grind (arith, nat_tests)) in
     rw (list_any-append (λ z. z == y) ys (x ∷ []), rest) (grind (arith, nat_tests))
 
-pub none_chosen : (u : ℕ) → IsChoice u []
-none_chosen u = record { below = tt; once = refl }
-
 pub one_more : (u x : ℕ) (xs : List ℕ) → IsChoice u xs → x < u → IsChoice u (with_choice x xs)
 one_more u x xs choice low =
     elim (cases_Bool (has x xs)) [

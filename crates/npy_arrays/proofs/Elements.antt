@@ -12,33 +12,6 @@ use Rattle.npy_arrays.specs.Arrays.{size, value_bound, number_at, is_misfit, val
 use Rattle.npy_arrays.specs.Parts.{AreValues}
 use Rattle.npy_arrays.proofs.Searches.{none_found, found_none}
 
--- the bytes of an element lie within those of all
-pub element_within : (e : Element) (place count : ℕ) → place < count → size e * place + size e ≤ size e * count
-element_within U8 place count low = omega arith
-element_within U16 place count low = omega arith
-element_within U32 place count low = omega arith
-element_within U64 place count low = omega arith
-element_within I32 place count low = omega arith
-element_within I64 place count low = omega arith
-
--- no element has more than eight bytes
-pub small_size : (e : Element) → size e ≤ 8
-small_size U8 = omega arith
-small_size U16 = omega arith
-small_size U32 = omega arith
-small_size U64 = omega arith
-small_size I32 = omega arith
-small_size I64 = omega arith
-
--- each value fits in a word
-pub small_value : (e : Element) → value_bound e ≤ 4294967296
-small_value U8 = omega arith
-small_value U16 = omega arith
-small_value U32 = omega arith
-small_value U64 = omega arith
-small_value I32 = omega arith
-small_value I64 = omega arith
-
 -- where no misfit is found, each element is a value
 pub fitting : (e : Element) (count : ℕ) (body : List ℕ) → find (is_misfit e body) (range_with_len 0 count) ≡ None → AreValues e count body
 fitting e count body none place low =

@@ -24,10 +24,6 @@ Marked fields asked marks count = (place : ℕ) → (get_or marks place false �
 no_mark : (n place : ℕ) → get_or (replicate n false) place false ≡ false
 no_mark n place = elim (cases_lt place n) [ inl near ↦ get_or-replicate n place false false near | inr far ↦ get_or_past (replicate n false) place false (omega (arith, length-replicate n false)) ]
 
-pub none_marked : (fields asked : List (List ℕ)) (marks : List Bool) (n : ℕ) → marks ≡ replicate n false → Marked fields asked marks 0
-none_marked fields asked marks n is place =
-    ((λ marked. let bad : true ≡ false = sym marked ∙ ap (λ ms. get_or ms place false) is ∙ no_mark n place in cc), λ ask. absurd (omega (arith, ask.within)))
-
 asked_more : (fields asked : List (List ℕ)) (k place : ℕ) → IsAsked fields asked k place → IsAsked fields asked (k + 1) place
 asked_more fields asked k place ask = record { k = ask.k; name = ask.name; within = omega (arith, ask.within); asks = ask.asks; first = ask.first }
 
@@ -58,9 +54,6 @@ named_more fields asked k name asks has before j other within is = elim (cases_l
       let one : other ≡ name = cc in
       rw one has)
 ]
-
-pub all_marks : (fields asked : List (List ℕ)) (marks : List Bool) (k : ℕ) → length marks ≡ length fields → length asked ≡ k → Marked fields asked marks k → AreNamed fields asked k → AreMarks fields asked marks
-all_marks fields asked marks k size all marked named = record { size = size; each = subst (Marked fields asked marks) (sym all) marked; named = subst (AreNamed fields asked) (sym all) named }
 
 -- ---- the first field of a name
 

@@ -53,6 +53,3 @@ rows_more names marks fields rows k row is one before j other within here = elim
       let alike : other ≡ row = cc in
       subst (λ r. AreNodes names marks r.state.words fields) (sym alike) one)
 ]
-
-pub all_rows : (names : List (List ℕ)) (marks : List Bool) (fields : ℕ) (rows : List Row) (k : ℕ) (old text : List ℕ) → length rows ≤ k → text ≡ old ++ records_text (node_records names marks fields 0 (take k rows)) → text ≡ old ++ records_text (node_records names marks fields 0 rows)
-all_rows names marks fields rows k old text all is = is ∙ ap (λ rs. old ++ records_text (node_records names marks fields 0 rs)) (take_all k rows all)

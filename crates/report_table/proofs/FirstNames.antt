@@ -121,10 +121,6 @@ is_named (x ∷ word) name b each first letter same none =
 pub is_reserved : (word name : List ℕ) (k : Keyword) → name ≡ word → Some k ≡ keyword_of name → IsFieldName word → ⊥
 is_reserved word name k same some is = let none : Some k ≡ None = some ∙ ap keyword_of same ∙ none_of_name word is.1 in cc
 
-pub no_letter : (word : List ℕ) (b : ℕ) → Some b ≡ slice_get word 0 → is_ascii_alphabetic b ≡ false → IsFieldName word → ⊥
-no_letter [] b first other is = cc
-no_letter (x ∷ word) b first other is = let one : b ≡ x = cc in let bad : true ≡ false = sym is.0.0 ∙ ap is_ascii_alphabetic (sym one) ∙ other in cc
-
 pub all_eight : (found tail names : List (List ℕ)) → names ≡ found ++ tail → length names ≤ 8 → 8 ≤ length found → found ≡ names
 all_eight found [] names whole few full = sym (whole ∙ append-nil found)
 all_eight found (n ∷ tail) names whole few full = (let size : length names ≡ length found + length (n ∷ tail) = ap length whole ∙ length-append found (n ∷ tail) in absurd (omega arith))

@@ -58,12 +58,6 @@ window_more first end before window after order once here are =
     (subst (λ ys. IsPermutation (numbers_below first ++ range_with_len first (end - first)) ys) (sym are)
     (IsPermutation-append (numbers_below first) before (range_with_len first (end - first)) window once here))
 
--- all of them are below their number
-pub numbers_within : (n : ℕ) → All (λ u. u < n) (numbers_below n)
-numbers_within n k d h =
-    let inside : k < n = omega (arith, h, length-range_with_len 0 n) in
-    omega (arith, inside, get_or-range_with_len 0 n k d inside)
-
 -- what holds of the nodes in any order holds of each
 pub each_number : (P : ℕ → Type 0) (n : ℕ) (nodes : List ℕ) → IsPermutation (numbers_below n) nodes → All P nodes → (u : ℕ) → u < n → P u
 each_number P n nodes once all u inside =

@@ -15,22 +15,6 @@ pub set_cases : {X : Type 0} (xs : List X) (v : ℕ) (b d : X) (u : ℕ) → v <
     → ((u ≡ v) × (slice_index_or (slice_set xs v b) u d ≡ b)) ⊎ ((u ≡ v → ⊥) × (slice_index_or (slice_set xs v b) u d ≡ slice_index_or xs u d))
 set_cases {X} xs v b d u inside = cases_of xs v b d u inside (cases_eq u v)
 
--- what is marked stays marked where something else is marked
-pub mark_kept : (marks : List Bool) (v u : ℕ) → v < length marks → IsDue marks u → IsDue (slice_set marks v true) u
-mark_kept marks v u inside is = elim (set_cases marks v true false u inside) as (λ _. IsDue (slice_set marks v true) u) [ inl a ↦ a.1 | inr b ↦ b.1 ∙ is ]
-
--- and that is marked
-pub mark_set : (marks : List Bool) (v : ℕ) → v < length marks → IsDue (slice_set marks v true) v
-mark_set marks v inside = get_or-set_same marks v true false inside
-
-due_within : (marks : List Bool) (i : ℕ) → IsDue marks i → ((i < length marks) ⊎ (length marks ≤ i)) → i < length marks
-due_within marks i is (inl h) = h
-due_within marks i is (inr h) = let past : slice_index_or marks i false ≡ false = get_or_past marks i false h in let e : true ≡ false = sym is ∙ past in cc
-
--- a marked place is within
-pub due_inside : (marks : List Bool) (i : ℕ) → IsDue marks i → i < length marks
-due_inside marks i is = due_within marks i is (cases_lt i (length marks))
-
 module _ (marks : List Bool) (i : ℕ) (b : Bool) (inside : i < length marks) where
   other_mark : (j : ℕ) → j < i → slice_index_or (slice_set marks i b) j false ≡ slice_index_or marks j false
   other_mark j h = get_or-set_other marks i j b false (λ same. absurd (omega (arith, h, same)))

@@ -43,10 +43,6 @@ or_more false true l x e = refl
 or_more false false true x e = refl
 or_more false false false x e = cc
 
-or_digit : (d u l x : Bool) → d ≡ true → (((d || u) || l) || x) ≡ true
-or_digit true u l x e = refl
-or_digit false u l x e = cc
-
 pub letter_in_word : (b : ℕ) → is_ascii_alphabetic b ≡ true → is_word_byte b ≡ true
 letter_in_word b e = or_more (is_in_range 48 57 b) (is_in_range 65 90 b) (is_in_range 97 122 b) _ e
 

@@ -44,9 +44,6 @@ head_above (NearTok w) b h = (omega arith, λ q. omega arith)
 head_above (NumberTok n) b h = let p = digit_bounds b h in (omega arith, λ q. omega arith)
 head_above (SignTok s) b h = (h.above, h.hash)
 
-letter_only : (t : Tok) (b : ℕ) → is_ascii_alphabetic b ≡ true → (n : ℕ) (s : Sign) → (HeadOf (NumberTok n) b → ⊥) × (HeadOf (SignTok s) b → ⊥)
-letter_only t b e n s = ((λ h. let p = letter_bounds b e in let q = digit_bounds b h in omega arith), (λ h. let p : is_ascii_alphabetic b ≡ false = h.letter in let c : false ≡ true = sym p ∙ e in cc))
-
 pub word_all : (w : List ℕ) → IsWord w → AllByRecursion (λ b. IsTrue (is_word_byte b)) w
 word_all [] f = absurd f
 word_all (b ∷ w) f = (letter_in_word b f.0, f.1)

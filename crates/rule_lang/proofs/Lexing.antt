@@ -108,9 +108,6 @@ lexes_step text at ts ls found after h x r y =
     let c : drop at text ≡ r.front ++ after = sym (cut_at at text) ∙ r.cut in
     rw (behind text r.front after at c h) (lexes_more text ts (tokens_of found) ls (lefts_of (length text - at) found) (drop at text) after x y'')
 
-pub lexes_shorter : (text : List ℕ) (at : ℕ) (after : List ℕ) → IsRest (take (length text - at) (drop at text)) after → length after + at < length text
-lexes_shorter text at after r = let h = r.shorter in let k : length after < length text - at = simp length-drop at (rw (cut_at at text) at h) in omega arith
-
 pub empty_list : (bytes : List ℕ) (ts : List Tok) → HasTokens bytes ts → bytes ≡ [] → ts ≡ []
 empty_list _ _ at_end e = refl
 empty_list _ _ (after_blank c r ts k d) e = absurd (cc)

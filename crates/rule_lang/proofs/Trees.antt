@@ -135,14 +135,6 @@ choice_complete : (expr : Reads Tree) (ts u1 u2 u3 u4 rest : List Tok) (a b c : 
 unfolding choice_at
 choice_complete expr ts u1 u2 u3 u4 rest a b c ea et eb ee ec = rw (ea, et, eb, ee, ec) refl
 
-agg_word_of : Agg → Keyword
-agg_word_of Total = word.Total
-agg_word_of Least = word.Least
-agg_word_of Most = word.Most
-agg_word_of Count = word.Count
-agg_word_of Some1 = word.Any
-agg_word_of Every = word.All
-
 over_complete : (expr : Reads Tree) (agg : Agg) (ts rest : List Tok) (a : Tree) → expr ts ≡ Some (a, rest) → form_at expr (WordTok (agg_word agg) ∷ ts) ≡ Some (OverTree agg a, rest)
 unfolding form_at prefix_at over_at agg_of
 over_complete expr Total ts rest a e = rw (word_keyword word.Total, e) refl

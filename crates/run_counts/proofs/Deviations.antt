@@ -38,12 +38,6 @@ scaled_is k n b some =
     let parts : b * (k * (n / b)) + k * (n % b) ≡ k * n = taken_in k b (n / b) (n % b) ∙ ap (λ (m : ℕ). k * m) (div-add-mod n b) in
     sym (mul-add-div some (k * (n / b)) (k * (n % b))) ∙ ap (λ (m : ℕ). m / b) parts
 
-pub divisor_few : (n : ℕ) → n ≤ 1000 → n * n * (n - 1) < 2 ^ 64
-divisor_few n few = omega (arith, mul-le-mul {n₁ = n * n} {m₁ = n - 1} {n₂ = 1000 * 1000} {m₂ = 1000} (mul-le-mul {n₁ = n} {m₁ = n} {n₂ = 1000} {m₂ = 1000} few few) (omega (arith, few)))
-
-pub divisor_some : (n : ℕ) → 2 ≤ n → 1 ≤ n * n * (n - 1)
-divisor_some n several = several_some n several
-
 -- the squares are not too many for the divisor
 pub squares_fit : (n x s : ℕ) → 2 ≤ n → s ≤ n * ((n * x) * (n * x)) → s ≤ n * n * (n - 1) * (2 * (x * x))
 squares_fit n x s several few =

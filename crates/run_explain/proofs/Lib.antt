@@ -1,5 +1,4 @@
 pub mod Looking
-pub mod Folding
 pub mod Texts
 pub mod Nearing
 pub mod Way

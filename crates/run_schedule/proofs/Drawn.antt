@@ -132,31 +132,12 @@ all-chosen w us e =
       none = λ none. none-free w None us e none;
     }
 
-none-chosen : (us : List ℕ) → us ≡ [] → 0 < length us → ⊥
-none-chosen us e some = (let m = ap length e in omega arith)
-
 one-some : (us : List ℕ) (u : ℕ) → us ≡ u ∷ [] → us ≡ [] → ⊥
 one-some us u e none = (let m = ap length (sym e ∙ none) in omega arith)
 
 pub if-ok : {X E : Type 0} (r : Result X E) (P Q : X → Type 0) → ((x : X) → P x → Q x) → IfOk r P → IfOk r Q
 if-ok (Ok x) P Q f h = f x h
 if-ok (Err e) P Q f h = h
-
--- the central daemon
-pub central-one : (w : WorldView) (seed u : ℕ) (us : List ℕ) → us ≡ u ∷ [] → is_free w None u ≡ true → AreChosen w (Central seed) us
-central-one w seed u us e free =
-    record { choice = λ some. record { may = subst (MayMove w.plan.network w.stop w.counts) (sym e) (one-may w u free); chosen = ap length e }; none = λ none. absurd (one-some us u e none) }
-
-pub central-none : (w : WorldView) (seed : ℕ) (us : List ℕ) → us ≡ [] → NoneFree w None → AreChosen w (Central seed) us
-central-none w seed us e rest = record { choice = λ some. absurd (none-chosen us e some); none = λ _. rest }
-
--- the distributed daemon
-pub share-drawn : (w : WorldView) (seed share : ℕ) (us : List ℕ) → AreDrawn w share us → 0 < length us → AreChosen w (Distributed seed share) us
-share-drawn w seed share us is some =
-    record {
-      choice = λ _. record { may = record { some = some; enabled = is.enabled; rising = is.rising }; chosen = record { one = λ z. absurd (none-chosen us (is.none z) some); all = is.all } };
-      none = λ none. absurd (none-chosen us none some);
-    }
 
 pub share-one : (w : WorldView) (seed share u : ℕ) (drawn us : List ℕ) → AreDrawn w share drawn → drawn ≡ [] → us ≡ u ∷ [] → is_free w None u ≡ true → AreChosen w (Distributed seed share) us
 share-one w seed share u drawn us is empty e free =
@@ -168,72 +149,6 @@ share-one w seed share u drawn us is empty e free =
       none = λ none. absurd (one-some us u e none);
     }
 
-pub share-none : (w : WorldView) (seed share : ℕ) (us : List ℕ) → us ≡ [] → NoneFree w None → AreChosen w (Distributed seed share) us
-share-none w seed share us e rest = record { choice = λ some. absurd (none-chosen us e some); none = λ _. rest }
-
-and-parts : (a b : Bool) → a && b ≡ true → (a ≡ true) × (b ≡ true)
-and-parts true b e = (refl, e)
-and-parts false b e = cc
-
-but-other : (v u : ℕ) → is_but (Some v) u ≡ true → u ≢ v
-but-other v u e = grind (arith, nat_tests)
-
-other-but : (v u : ℕ) → u ≢ v → is_but (Some v) u ≡ true
-other-but v u e = grind (arith, nat_tests)
-
 and-then : (a b : Bool) → a && b ≡ false → a ≡ true → b ≡ false
 and-then true b e t = e
 and-then false b e t = cc
-
-same-one : (u v : ℕ) → u ∷ [] ≡ v ∷ [] → u ≡ v
-same-one u v e = ap (λ xs. get_or xs 0 0) e
-
--- where none but one is free, no other is enabled
-others-wait : (w : WorldView) (v u : ℕ) → NoneFree w (Some v) → u ≢ v → is_free w None u ≡ false
-others-wait w v u rest other = and-then (is_but (Some v) u) _ (rest u) (other-but v u other)
-
--- an adversary: its first node
-pub against-first : (w : WorldView) (seed ahead behind : ℕ) (us : List ℕ) → ahead ≢ behind → us ≡ ahead ∷ [] → is_free w None ahead ≡ true → AreChosen w (Adversary seed ahead behind) us
-against-first w seed ahead behind us apart e free =
-    record {
-      choice = λ _. record {
-        may = subst (MayMove w.plan.network w.stop w.counts) (sym e) (one-may w ahead free);
-        chosen = record { one = ap length e; first = λ _. e; last = λ l v n. absurd (apart (same-one ahead behind (sym e ∙ l))) };
-      };
-      none = λ none. absurd (one-some us ahead e none);
-    }
-
--- one of the others
-pub against-other : (w : WorldView) (seed ahead behind u : ℕ) (us : List ℕ) → is_free w None ahead ≡ false → us ≡ u ∷ [] → is_free w (Some behind) u ≡ true → AreChosen w (Adversary seed ahead behind) us
-against-other w seed ahead behind u us waits e free =
-    let parts = and-parts (is_but (Some behind) u) _ free in
-    record {
-      choice = λ _. record {
-        may = subst (MayMove w.plan.network w.stop w.counts) (sym e) (one-may w u parts.1);
-        chosen = record {
-          one = ap length e;
-          first = λ t. absurd (false≢true (sym waits ∙ t));
-          last = λ l v n. absurd (but-other behind u parts.0 (same-one u behind (sym e ∙ l)));
-        };
-      };
-      none = λ none. absurd (one-some us u e none);
-    }
-
--- its second node
-pub against-last : (w : WorldView) (seed ahead behind : ℕ) (us : List ℕ) → is_free w None ahead ≡ false → NoneFree w (Some behind) → us ≡ behind ∷ [] → is_free w None behind ≡ true → AreChosen w (Adversary seed ahead behind) us
-against-last w seed ahead behind us waits rest e free =
-    record {
-      choice = λ _. record {
-        may = subst (MayMove w.plan.network w.stop w.counts) (sym e) (one-may w behind free);
-        chosen = record { one = ap length e; first = λ t. absurd (false≢true (sym waits ∙ t)); last = λ l v n. others-wait w behind v rest n };
-      };
-      none = λ none. absurd (one-some us behind e none);
-    }
-
--- no node
-pub against-none : (w : WorldView) (seed ahead behind : ℕ) (us : List ℕ) → NoneFree w (Some behind) → is_free w None behind ≡ false → us ≡ [] → AreChosen w (Adversary seed ahead behind) us
-against-none w seed ahead behind us rest waits e =
-    record {
-      choice = λ some. absurd (none-chosen us e some);
-      none = λ _ u. ⊎_elim (λ s. rw s waits) (λ n. others-wait w behind u rest n) (cases_eq u behind);
-    }

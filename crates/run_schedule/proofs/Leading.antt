@@ -22,20 +22,6 @@ use Rattle.run_schedule.specs.Walks.{WalkView, GoesOn, IsSound, IsWalk, is_open,
 use Rattle.run_schedule.specs.Ways.{IsWay}
 use Rattle.run_schedule.proofs.Resting.{all-marked, answer-fresh}
 
-neighbour-there : (network : Neighbours) (u j : ℕ) → u < length network → j < degree network u → neighbour_at network u j ≡ Some (neighbour network u j)
-neighbour-there network u j h l = rw (slice_get-get_or network u [] h, slice_get-get_or (row network u) j (0, 0) l) refl
-
-neighbour-past : (network : Neighbours) (u j : ℕ) → u < length network → degree network u ≤ j → neighbour_at network u j ≡ None
-neighbour-past network u j h l = rw (slice_get-get_or network u [] h, slice_get_past (row network u) j l) refl
-
--- the neighbour that a turn reads next, if there is one
-pub next-there : (network : Neighbours) (u j v : ℕ) (o : Option ℕ) → u < length network → o ≡ neighbour_at network u j → o ≡ Some v → (j < degree network u) × (v ≡ neighbour network u j)
-next-there network u j v o h e f =
-    ⊎_elim (λ l. (let g = neighbour-there network u j h l in (l, cc))) (λ l. (let g = neighbour-past network u j h l in cc)) (cases_lt j (degree network u))
-
-pub next-none : (network : Neighbours) (u j : ℕ) (o : Option ℕ) → u < length network → o ≡ neighbour_at network u j → o ≡ None → degree network u ≤ j
-next-none network u j o h e f = ⊎_elim (λ l. (let g = neighbour-there network u j h l in cc)) (λ l. l) (cases_lt j (degree network u))
-
 slice_get-last : {X : Type 0} (xs : List X) (x : X) → slice_get (xs ++ x ∷ []) (length xs) ≡ Some x
 slice_get-last [] x = refl
 slice_get-last (y ∷ xs) x = slice_get-last xs x

@@ -92,30 +92,6 @@ so_far-more w percent limit n old now next refused s is r some e =
       put = front-more limit old refused (s ∷ []) now next is.put e;
     }
 
--- the draws end: at the last one, or before where there are fewer than a hundred of a hundred
-pub so_far-ends : (w : WorldView) (percent limit n : ℕ) (old now refused : List Step) → PutSoFar w percent limit n old now refused → n ≤ most_refused → (100 ≤ percent → n ≡ most_refused) → ArePut w percent limit old now
-so_far-ends w percent limit n old now refused is most last =
-    let few = is.few in
-    record {
-      put = (
-        refused,
-        record { each = is.each; most = omega arith; none = is.none; all = λ full link. is.all full link ∙ last full },
-        is.put,
-      );
-    }
-
--- they end where none is found, which is in a network with no link alone
-pub so_far-lacks : (w : WorldView) (percent limit n : ℕ) (old now refused : List Step) → PutSoFar w percent limit n old now refused → n ≤ most_refused → (HasLink w.plan.network → ⊥) → ArePut w percent limit old now
-so_far-lacks w percent limit n old now refused is most unlinked =
-    let few = is.few in
-    record {
-      put = (
-        refused,
-        record { each = is.each; most = omega arith; none = is.none; all = λ _ link. absurd (unlinked link) },
-        is.put,
-      );
-    }
-
 -- a step more, behind refused ones
 pub among-more : (network : Neighbours) (stop percent : ℕ) (c : Counts) (xs : List Step) (s : Step) (mixed refused : List Step) → StandAmong network stop percent c xs mixed → MayStand network stop percent (run network stop c xs) refused
     → StandAmong network stop percent c (xs ++ s ∷ []) (mixed ++ (refused ++ s ∷ []))

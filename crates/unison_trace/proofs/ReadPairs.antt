@@ -57,8 +57,3 @@ module _ (bytes rest : List ℕ) where
   pub step-no_number : bytes ≡ codes "write " ++ rest → IsFront number_line Small Anything rest None → (step : Step) (behind : List ℕ) → IsStep step → Anything behind → bytes ≢ line_of step ++ behind
   step-no_number is h (Read n s) behind fits any e = apart (pair_line (n, s) ++ behind) rest (sym e ∙ is)
   step-no_number is h (Write n) behind fits any e = h n behind fits tt (append_cancel_left (codes "write ") rest (number_line n ++ behind) (sym is ∙ e))
-
--- without one of the two words no line of a step stands at the front
-pub step-no_word : (bytes : List ℕ) → ((rest : List ℕ) → bytes ≢ codes "read " ++ rest) → ((rest : List ℕ) → bytes ≢ codes "write " ++ rest) → (step : Step) (behind : List ℕ) → IsStep step → Anything behind → bytes ≢ line_of step ++ behind
-step-no_word bytes no_read no_write (Read n s) behind fits any e = no_read (pair_line (n, s) ++ behind) e
-step-no_word bytes no_read no_write (Write n) behind fits any e = no_write (number_line n ++ behind) e

@@ -143,9 +143,6 @@ pub record IsReadTo (text rest : List ℕ) (count : ℕ) (kept : List Step) : Ty
   pub many : count ≡ length good
   pub first : kept ≡ take most_steps good
 
-pub read_none : (text : List ℕ) → IsReadTo text text 0 []
-read_none text = record { good = []; cut = refl; numbers = All-nil IsStep; many = refl; first = refl }
-
 take-again : (n : ℕ) (xs : List Step) (x : Step) → take n (take n xs ++ x ∷ []) ≡ take n (xs ++ x ∷ [])
 take-again zero xs x = refl
 take-again (suc n) [] x = refl
