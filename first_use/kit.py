@@ -10,7 +10,7 @@ import subprocess
 import sys
 
 TOP = pathlib.Path(__file__).resolve().parent.parent
-PROGRAMS = ("unison_cli", "unison_lab", "unison_large")
+PROGRAMS = ("unison_cli", "unison_lab")
 LEVELS = {  # what the levels name, in the words of /proc/cpuinfo
     "x86-64-v3": {"avx", "avx2", "bmi1", "bmi2", "f16c", "fma", "abm", "movbe", "xsave"},
 }

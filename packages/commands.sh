@@ -29,7 +29,6 @@ TEXT
 find_name() {
   case $1 in
   check | lockstep | run | replay | compare) name=unison_cli ;;
-  pack | large) name=unison_large ;;
   *) name=unison_lab ;;
   esac
 }
@@ -253,7 +252,7 @@ try_five() {
   fi
 }
 
-# Runs a command of unison_lab or unison_large, which is chosen, and tells below it what is told besides.
+# Runs a command of unison_lab, which is chosen, and tells below it what is told besides.
 run_other() {
   local nearest_to='' status
   case ${1-} in

@@ -58,19 +58,19 @@ V3 = _programs.LEVELS["x86-64-v3"]
 def test_the_folder_of_the_variable_comes_first():
     with folder_of("unison_lab") as folder, named(folder):
         assert _programs.path_of("unison_lab") == folder / "unison_lab"
-        told = str(raised(unison.ProgramsMissing, lambda: _programs.path_of("unison_large")))
-        assert told.startswith(f"the program unison_large is not there: looked for {folder / 'unison_large'}. ")
+        told = str(raised(unison.ProgramsMissing, lambda: _programs.path_of("unison_cli")))
+        assert told.startswith(f"the program unison_cli is not there: looked for {folder / 'unison_cli'}. ")
         assert "UNISON_PROGRAMS" in told and "./unison prove" in told
 
 
 def test_the_best_level_that_the_processor_can_run_is_taken():
-    both = ("programs/x86-64-v3/unison_lab", "programs/default/unison_lab", "programs/default/unison_large")
+    both = ("programs/x86-64-v3/unison_lab", "programs/default/unison_lab", "programs/default/unison_cli")
     for has, name, level in [
         (V3, "unison_lab", "x86-64-v3"),
         (V3 | {"avx512f"}, "unison_lab", "x86-64-v3"),
         (V3 - {"avx2"}, "unison_lab", "default"),
         ((), "unison_lab", "default"),
-        (V3, "unison_large", "default"),
+        (V3, "unison_cli", "default"),
     ]:
         with folder_of(*both) as folder, package_in(folder, has):
             assert _programs.path_of(name) == folder / "programs" / level / name, (sorted(has), name)
@@ -142,10 +142,10 @@ def test_a_launcher_without_programs_says_why():
 
 
 def test_each_command_goes_to_its_program():
-    with folder_of("unison_lab", "unison_large", script='echo "${0##*/} $*"; cat') as folder, named(folder):
+    with folder_of("unison_cli", "unison_lab", script='echo "${0##*/} $*"; cat') as folder, named(folder):
         assert _programs.run(["generate", "ring", "5"]) == b"unison_lab generate ring 5\n"
-        assert _programs.run(["pack", "ring", "5"], b"more") == b"unison_large pack ring 5\nmore"
-        assert _programs.run(["large", "info", "x"]) == b"unison_large large info x\n"
+        assert _programs.run(["pack", "ring", "5"], b"more") == b"unison_lab pack ring 5\nmore"
+        assert _programs.run(["check", "x"]) == b"unison_cli check x\n"
 
 
 def test_files_are_there_by_their_names_and_gone_afterwards():

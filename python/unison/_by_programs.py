@@ -144,7 +144,7 @@ class Rows:
 
 
 class Programs:
-    """The programs `unison_cli`, `unison_lab` and `unison_large`."""
+    """The programs `unison_cli` and `unison_lab`."""
 
     lends_lists = False
 

@@ -1,4 +1,4 @@
-"""The programs `unison_cli`, `unison_lab` and `unison_large`: where they are found, and how they are run.
+"""The programs `unison_cli` and `unison_lab`: where they are found, and how they are run.
 
 They are looked for in this order: in the folder that the environment variable UNISON_PROGRAMS names, and in no other where it is set; in
 `programs/` of the installed package, by levels of processor, the best one that this processor has first; by the launcher `./unison` of the
@@ -31,7 +31,6 @@ LEVELS: Dict[str, FrozenSet[str]] = {
 #: The commands that a program has; `unison_lab` has all others.
 COMMANDS = {
     **dict.fromkeys(("check", "lockstep", "run", "replay", "compare"), "unison_cli"),
-    **dict.fromkeys(("pack", "large"), "unison_large"),
 }
 QUIET = "UNISON_QUIET"  # leaves out what is told of quick programs, where it is 1
 
@@ -77,7 +76,7 @@ def launcher() -> Optional[Path]:
 
 def are_there() -> bool:
     """Whether all programs are, or can be built."""
-    names = ("unison_cli", "unison_lab", "unison_large")
+    names = ("unison_cli", "unison_lab")
     return launcher() is not None or all(any(is_program(folder / name) for folder in folders()) for name in names)
 
 

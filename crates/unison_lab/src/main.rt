@@ -18,6 +18,7 @@ mod info;
 mod init;
 mod json_refusals;
 mod labels;
+mod large;
 mod naive;
 mod names;
 mod notes;
@@ -47,6 +48,7 @@ use crate::help::{help_text, print_completion, print_manual};
 use crate::import::import_network;
 use crate::info::show_info;
 use crate::init::init_network;
+use crate::large::{pack_network, run_large};
 use crate::naive::tell_naive;
 use crate::page::make_page;
 use crate::picture::{make_dot, make_image};
@@ -65,15 +67,6 @@ use std::thread::Threads;
 fn no_command(rt: &HostRuntime, word: &str) -> Result<u8, Ending> {
     let text = format!(in rt.alloc();
         "there is no command `{word}`: unison --help tells which there are"
-    )?;
-    Err(Ending::Usage(text))
-}
-
-/// The ending where a command is of the program for networks of any size.
-fn of_large(rt: &HostRuntime, task: Task) -> Result<u8, Ending> {
-    let name = task.command().name;
-    let text = format!(in rt.alloc();
-        "{name} is a command of the program unison_large: ./unison {name} leads there"
     )?;
     Err(Ending::Usage(text))
 }
@@ -99,9 +92,10 @@ fn run_task(
         Task::Import => import_network(rt, words),
         Task::Info => show_info(rt, words),
         Task::Init => init_network(rt, words),
-        Task::Large | Task::Pack => of_large(rt, task),
+        Task::Large => run_large(rt, threads, words),
         Task::Manual => print_manual(rt, words),
         Task::Naive => tell_naive(rt, words),
+        Task::Pack => pack_network(rt, threads, words),
         Task::Page => make_page(rt, threads, words),
         Task::Schedule => make_schedule(rt, words),
         Task::Settle => settle_rounds(rt, threads, words),

@@ -87,10 +87,21 @@ impl<'a> Telling<'a> {
     /// What tells of these rounds of so many nodes.
     pub(crate) fn new(rt: &'a HostRuntime, span: &Span, nodes: u32) -> Telling<'a> {
         let lines = (span.last() as u64).saturating_mul(nodes as u64);
+        let watch = Stopwatch::new(rt, lines >= LONG);
+        Telling::by(watch, span.first(), span.round_at(span.steps()))
+    }
+
+    /// What tells of the rounds from one on to the last one, which are long work.
+    pub(crate) fn of_rounds(rt: &'a HostRuntime, first: u32, last: u32) -> Telling<'a> {
+        Telling::by(Stopwatch::new(rt, true), first, last)
+    }
+
+    /// What tells of the rounds from one on to the last one by a watch that runs.
+    fn by(watch: Stopwatch<'a>, first: u32, last: u32) -> Telling<'a> {
         Telling {
-            watch: Stopwatch::new(rt, lines >= LONG),
-            first: span.first(),
-            last: span.round_at(span.steps()),
+            watch,
+            first,
+            last,
             waited: 0,
             next: 1,
             is_open: false,

@@ -1,11 +1,11 @@
 //! `large lockstep`: the states after a round.
 
-use crate::arrays::array_of;
-use crate::binary::check_output;
-use crate::columns::column_of;
-use crate::counts::{counted, put_counts};
+use crate::large::arrays::array_of;
+use crate::large::binary::check_output;
+use crate::large::columns::column_of;
+use crate::large::counts::{counted, put_counts};
 use crate::progress::Telling;
-use crate::start::{Start, start_at};
+use crate::large::start::{Start, start_at};
 use app_files::{Ending, field_place, names_of_field, print_out};
 use app_jobs::ServeFault;
 use app_requests::{LargeTexts, StatesFormat, StatesView};
@@ -109,7 +109,7 @@ fn go_told(
     walk: &mut LargeWalk<'_>,
     way: &Span,
 ) {
-    let mut telling = Telling::new(rt, way.first(), way.last());
+    let mut telling = Telling::of_rounds(rt, way.first(), way.last());
     for part in 0..way.steps() {
         let round = way.round_at(part);
         move_to(threads, walk, round);

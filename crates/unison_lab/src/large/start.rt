@@ -1,8 +1,8 @@
 //! What rounds on a network of any size begin with: a program, a network, and the state of each node at a round.
 
-use crate::arrays::column_at;
-use crate::network::network_at;
-use crate::reports::report_at;
+use crate::large::arrays::column_at;
+use crate::large::network::network_at;
+use crate::large::reports::report_at;
 use app_files::{
     Ending, NamedProgram, NodeCalls, drawn_parts, field_place, list_path, listed_nodes,
     named_program_at, path_in, read_once,

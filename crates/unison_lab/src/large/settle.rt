@@ -1,7 +1,7 @@
 //! `large settle`: from which round on nothing changes, or all states come again.
 
-use crate::rounds::{plan_of, states_after, threads_for};
-use crate::start::{Start, start_at};
+use crate::large::rounds::{plan_of, states_after, threads_for};
+use crate::large::start::{Start, start_at};
 use app_files::{Ending, not_settled, print_out, settled_round, settling_line};
 use app_requests::LargeTexts;
 use large_rounds::LargePlan;

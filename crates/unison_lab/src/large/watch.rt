@@ -1,10 +1,10 @@
 //! `large watch`: how many nodes changed, or have each value, round by round.
 
-use crate::columns::watch_column;
-use crate::counts::{counted, put_counts};
+use crate::large::columns::watch_column;
+use crate::large::counts::{counted, put_counts};
 use crate::progress::Telling;
-use crate::rounds::{no_round, plan_of, states_at, threads_for};
-use crate::start::{Start, start_at};
+use crate::large::rounds::{no_round, plan_of, states_at, threads_for};
+use crate::large::start::{Start, start_at};
 use app_files::{Ending, names_of_field, print_out};
 use app_requests::{LargeTexts, RoundsView};
 use large_rounds::{LargePlan, LargeWalk, changed_nodes};
@@ -127,7 +127,7 @@ fn put_along<'a>(
 ) -> Result<(), AllocError> {
     let alloc = rt.alloc();
     let mut walk = plan.shared_walk(alloc, count)?;
-    let mut telling = Telling::new(rt, start.opening.round, span.round_at(span.steps()));
+    let mut telling = Telling::of_rounds(rt, start.opening.round, span.round_at(span.steps()));
     let names = start.names.as_slice();
     put_rounds(
         threads,

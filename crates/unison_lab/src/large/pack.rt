@@ -1,7 +1,7 @@
 //! `pack`: a network of any size as a binary file.
 
-use crate::binary::check_output;
-use crate::refusals::{matrix_refusal, names_refusal, refusal};
+use crate::large::binary::check_output;
+use crate::large::refusals::{matrix_refusal, names_refusal, refusal};
 use app_files::{Ending, bytes_at, file_at, name_at, print_out, put_note, write_file};
 use app_requests::PackRequest;
 use app_table::Draft;

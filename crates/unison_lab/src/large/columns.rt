@@ -1,10 +1,10 @@
 //! `large watch --field`: the values of a field in all nodes, round by round.
 
-use crate::arrays::array_of;
-use crate::binary::check_output;
+use crate::large::arrays::array_of;
+use crate::large::binary::check_output;
 use crate::progress::Telling;
-use crate::rounds::{plan_of, states_at};
-use crate::start::Start;
+use crate::large::rounds::{plan_of, states_at};
+use crate::large::start::Start;
 use app_files::{Ending, field_place, names_of_field, print_out};
 use app_requests::ColumnFormat;
 use large_rounds::{LargePlan, LargeWalk, push_column};
@@ -142,7 +142,7 @@ fn output_along<'a>(
 ) -> Result<Vec<u8>, Ending> {
     let alloc = rt.alloc();
     let mut walk = plan.shared_walk(alloc, count)?;
-    let mut telling = Telling::new(rt, start.opening.round, span.round_at(span.steps()));
+    let mut telling = Telling::of_rounds(rt, start.opening.round, span.round_at(span.steps()));
     match format {
         ColumnFormat::Csv => Ok(lines_of(alloc, threads, &mut walk, span, field, &mut telling)?),
         ColumnFormat::Npy => {

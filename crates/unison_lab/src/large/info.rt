@@ -1,6 +1,6 @@
 //! `large info`: what one wants to know of a network of any size.
 
-use crate::network::network_at;
+use crate::large::network::network_at;
 use app_files::{Ending, print_out};
 use large_net::LargeNetwork;
 use link_net::NetRows;
