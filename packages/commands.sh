@@ -4,8 +4,8 @@
 # find_built NAME sets `program` alone, and fails where that one is to be built first;
 # list_names sets `names` to those of the commands, and is_named NAME tells whether this is one; more_help tells what the script does besides,
 # below the help of the programs, and own_help NAME more of one of these; tell_version tells the version.
-work=
-trap '[ -z "$work" ] || rm -rf "$work"' EXIT
+work= input=
+trap '[ -z "$input" ] || kill "$input" 2>/dev/null; [ -z "$work" ] || rm -rf "$work"' EXIT
 
 say() { echo "unison: $*" >&2; }
 
@@ -209,6 +209,70 @@ expand_model() {
   words=("${others[@]}")
 }
 
+# Looks at the first bytes of standard input where that is a pipe: sets `first` to them, and gives all of it to what reads it.
+look_at_input() {
+  first=
+  [ "$reads" = 1 ] && [ -p /dev/stdin ] || return
+  make_work
+  head -c 8 >"$work/first"
+  [ "$(tr -d '\0' <"$work/first")" != UNISONW1 ] || first=UNISONW1
+  exec < <(exec cat "$work/first" -)
+  input=$!
+}
+
+# Sets `packed` to the word among `words` that names a packed network, which begins with UNISONW1, where one does.
+find_packed() {
+  local word begin first
+  packed=
+  look_at_input
+  for word in "${words[@]}"; do
+    begin=
+    if [ "$word" = /dev/stdin ] && [ -n "$first" ]; then
+      begin=$first
+    elif [ -f "$word" ]; then
+      IFS= read -r -N 8 begin 2>/dev/null <"$word"
+    fi
+    [ "$begin" != UNISONW1 ] || packed=$word
+  done
+}
+
+# Sets `others` to `words` with another word in the place of the packed network.
+instead_of_packed() {
+  local word
+  others=()
+  for word in "${words[@]}"; do
+    if [ "$word" = "$packed" ]; then others+=("$1"); else others+=("$word"); fi
+  done
+}
+
+# Puts the network file that says the same as a packed network in its place among `words`. Where no network file says it, `lockstep` is done by
+# `large lockstep`, and another command ends with the reason.
+unpack_network() {
+  local status others kept=$packed named=$packed
+  make_work
+  choose unison_lab
+  if [ "$packed" = /dev/stdin ]; then
+    kept=$work/stdin named=-
+    cat >"$kept"
+  fi
+  "$program" init -- "$named" >"$work/network.toml" 2>"$work/refused" <"$kept"
+  status=$?
+  if [ "$status" = 0 ]; then
+    instead_of_packed "$work/network.toml"
+    words=("${others[@]}") reads=0
+    return
+  fi
+  instead_of_packed "$named"
+  if [ "${words[0]}" = lockstep ]; then
+    "$program" large "${others[@]}" <"$kept"
+    status=$?
+  else
+    cat "$work/refused" >&2
+  fi
+  tell_note
+  exit "$status"
+}
+
 # Runs one of the five commands, of which standard output, the fault line and the status are what the program gives. Standard input is read
 # once, by the command; what it read is there for what is told of a fault.
 run_five() {
@@ -243,13 +307,12 @@ try_five() {
   standard_input "$@"
   find_model "$@"
   [ "$reads" -le 1 ] || return
-  if [ -n "$model" ]; then
-    expand_model
-    choose unison_cli
-    run_five "$@"
-  elif [ "${#constants[@]}" = 0 ]; then
-    run_five "$@"
-  fi
+  [ -z "$model" ] || expand_model
+  [ -n "$model" ] || [ "${#constants[@]}" = 0 ] || return
+  find_packed
+  [ -z "$packed" ] || unpack_network
+  [ -z "$model$packed" ] || choose unison_cli
+  run_five "$@"
 }
 
 # Runs a command of unison_lab, which is chosen, and tells below it what is told besides.

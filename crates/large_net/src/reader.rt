@@ -113,3 +113,33 @@ pub fn read_large<R: Threads>(
     let header = read_header(bytes)?;
     read_rows(rt, alloc, bytes, header)
 }
+
+/// The network of a file with this header, read in one thread, or what is wrong with its rows.
+fn read_rows_in_turn(
+    alloc: Global,
+    bytes: &[u8],
+    header: FileHeader,
+) -> Result<LargeNetwork, LargeFault>
+    requires some { 1 ≤ header.nodes }
+    requires few { header.nodes ≤ most_rows }
+    requires whole { length bytes.now ≡ asked_length header }
+    requires header { header_of bytes.now ≡ Ok header }
+    ensures answer { IsAnswer (large_of bytes.now) result }
+    ensures refused { IfErr (large_of bytes.now) (λ fault. result ≡ Err fault) }
+{
+    let starts = eights(bytes, HEADER, header.offsets());
+    let neighbours = fours(bytes, header.neighbours_start(), header.ends as usize);
+    check_rows(starts, neighbours)?;
+    let offsets = read_longs(alloc, starts)?;
+    let (neighbours, weights) = read_in_turn(alloc, bytes, header, neighbours)?;
+    Ok(LargeNetwork::new(offsets, neighbours, weights))
+}
+
+/// What `read_large` reads, in one thread: for callers that start none.
+pub fn read_sequentially(alloc: Global, bytes: &[u8]) -> Result<LargeNetwork, LargeFault>
+    ensures answer { IsAnswer (large_of bytes.now) result }
+    ensures refused { IfErr (large_of bytes.now) (λ fault. result ≡ Err fault) }
+{
+    let header = read_header(bytes)?;
+    read_rows_in_turn(alloc, bytes, header)
+}

@@ -6,7 +6,7 @@ use Rattle.std.proofs.lemmas.Slice.Eq.{bytes_eq-Decides}
 use Rattle.std.proofs.lemmas.List.{drop-drop, take-append-drop, drop_all}
 use Rattle.std.proofs.lemmas.List.FromFn.{take-map-range_with_len, fill_by_all}
 use Rattle.link_net.specs.Neighbours.{Neighbours, numbers_below}
-use Rattle.link_net.specs.Layout.{part, rows_of, AreOffsets, IsLaidOut}
+use Rattle.link_net.specs.Layout.{part, rows_of, AreOffsets, HoldRows}
 use Rattle.link_net.proofs.Parts.{length_zip, firsts_zip, seconds_zip, sum_below}
 use Rattle.link_net.proofs.Looks.{rows_count}
 
@@ -32,7 +32,7 @@ from_parts offsets items good (suc n) u at_end =
     let up : get_or offsets u 0 ≤ get_or offsets (u + 1) 0 = good.rising u (u + 1) 0 (omega arith) (omega arith) in
     ap (λ t. part offsets items u ++ t) (from_parts offsets items good n (u + 1) (omega arith)) ∙ part_and_rest (get_or offsets u 0) (get_or offsets (u + 1) 0) items up
 
-module _ (offsets ns ws : List ℕ) (laid : IsLaidOut offsets ns ws) where
+module _ (offsets ns ws : List ℕ) (laid : HoldRows offsets ns ws) where
   abbrev net : Neighbours
   net = rows_of offsets ns ws
 
@@ -74,7 +74,7 @@ module _ (o o' ns ns' ws ws' : List ℕ) (now now' : Neighbours) (is : rows_of o
       let g = equal ws ws' r in
       sym is ∙ rw (e, f, g) is'
 
-  module _ (laid : IsLaidOut o ns ws) (laid' : IsLaidOut o' ns' ws') (same : now ≡ now') where
+  module _ (laid : HoldRows o ns ws) (laid' : HoldRows o' ns' ws') (same : now ≡ now') where
     nets : rows_of o ns ws ≡ rows_of o' ns' ws'
     nets = is ∙ same ∙ sym is'
 

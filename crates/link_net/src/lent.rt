@@ -1,5 +1,5 @@
 //! The rows of a network, lent.
-ghost use Rattle.std.specs.Prelude.{◌≡◌, ◌≤◌, length, map, slice_get, option_map, IfSome};
+ghost use Rattle.std.specs.Prelude.{◌≡◌, ◌↔◌, ◌≤◌, length, map, slice_get, option_map, IfSome, IsTrue};
 ghost use Rattle.link_net.specs.Neighbours.{AreRows, degree, neighbour, neighbour_at, row, weight, weight_at};
 ghost use Rattle.link_net.specs.Layout.{rows_of, HoldRows};
 
@@ -132,5 +132,15 @@ impl<'a> NetRows<'a> {
         ensures exact { result ≡ weight self.now node slot }
     {
         self.weight(node, slot).unwrap_or(0)
+    }
+
+    /// Whether the two are the same rows: as many nodes, and of each the same neighbours with the same weights, in the
+    /// same slots.
+    pub fn same(&self, other: &NetRows<'_>) -> bool
+        ensures exact { IsTrue result ↔ (self.now ≡ other.now) }
+    {
+        self.offsets == other.offsets
+            && self.neighbours == other.neighbours
+            && self.weights == other.weights
     }
 }

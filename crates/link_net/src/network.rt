@@ -174,8 +174,6 @@ impl Network {
     pub fn same(&self, other: &Network) -> bool
         ensures exact { IsTrue result ↔ (self.now ≡ other.now) }
     {
-        self.offsets == other.offsets
-            && self.neighbours == other.neighbours
-            && self.weights == other.weights
+        self.rows().same(&other.rows())
     }
 }

@@ -1,2 +1,4 @@
 pub mod Listing
 pub mod Written
+pub mod Faults
+pub mod RowLinks

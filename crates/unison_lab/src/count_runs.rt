@@ -7,7 +7,9 @@ use crate::count::Counted;
 use crate::plan_texts::plan_of;
 use crate::progress::RunsTelling;
 use crate::watch::no_rounds;
-use app_files::{Ending, bytes_at, bytes_where, check_model, expanded_text, state_names};
+use app_files::{
+    Ending, bytes_at, bytes_where, check_model, expanded_text, network_at, state_names,
+};
 use app_requests::{CountRequest, PlanPaths, Varied};
 use model_rules::Given;
 use rounds_plan::Plan;
@@ -33,7 +35,7 @@ struct Run {
 
 /// Reads the texts at these paths beside that of the program.
 fn read_rest(rt: &HostRuntime, paths: &PlanPaths, texts: &mut Texts) -> Result<(), Ending> {
-    texts.network = bytes_at(rt, paths.network.as_str())?;
+    texts.network = network_at(rt, paths.network.as_str())?;
     texts.report = bytes_where(rt, &paths.from)?;
     Ok(())
 }

@@ -1,15 +1,23 @@
-//! `generate SHAPE NUMBERS..`: the network file of a shape, or of a random network.
+//! `generate SHAPE NUMBERS..`: a network of a shape, or at random, as a network file or packed.
 
 use crate::endings::asked_by;
+use crate::large::{Output, check_output, packed_text, put_output, random_of, shape_of};
 use app_files::{Ending, print_out};
 use app_requests::{GenerateRequest, Topology, Weights};
+use link_net::{MOST_LINKS, MOST_NODES};
 use net_random::{
-    RandomFault, RandomNetwork, WeightFault, chance_list, chance_text, drawn, drawn_text,
-    weighted_text,
+    LargeRandom, RandomFault, RandomNetwork, WeightFault, chance_list, chance_text, drawn,
+    drawn_text, weighted_text,
 };
-use net_shapes::{Shape, ShapeFault, links_of, made_text};
+use net_shapes::{LargeShape, Shape, ShapeFault, links_of, made_text};
 use net_text::LinkList;
 use std::alloc::Global;
+
+/// The most nodes of a packed network.
+const MOST_PACKED_NODES: u64 = 4_294_967_295;
+
+/// The most links of a packed network that is drawn.
+const MOST_PACKED_LINKS: u64 = 2_147_483_647;
 
 /// How many nodes a shape has.
 fn size_text(shape: &Shape) -> &'static str {
@@ -177,9 +185,141 @@ fn text_for(alloc: Global, asked: &GenerateRequest) -> Result<Vec<u8>, Ending> {
     }
 }
 
-/// Prints the network file of a shape or a random network. The status with which the program ends.
+/// The shape among those of any size, where it is one of them.
+fn large_shape_of(shape: &Shape) -> Option<LargeShape> {
+    match *shape {
+        Shape::Path { nodes } => Some(LargeShape::Path { nodes }),
+        Shape::Ring { nodes } => Some(LargeShape::Ring { nodes }),
+        Shape::Grid { width, height } => Some(LargeShape::Grid { width, height }),
+        Shape::Torus {
+            width,
+            height,
+            diagonals,
+        } => Some(LargeShape::Torus {
+            width,
+            height,
+            diagonals,
+        }),
+        _ => None,
+    }
+}
+
+/// The way to draw among those of any size, where it is one of them.
+fn large_random_of(random: &RandomNetwork) -> Option<LargeRandom> {
+    match *random {
+        RandomNetwork::Random { nodes, links } => Some(LargeRandom::Random { nodes, links }),
+        RandomNetwork::Preferential { nodes, each } => {
+            Some(LargeRandom::Preferential { nodes, each })
+        }
+        RandomNetwork::SmallWorld {
+            nodes,
+            near,
+            rewire,
+            of,
+        } => Some(LargeRandom::SmallWorld {
+            nodes,
+            near,
+            rewire,
+            of,
+        }),
+        _ => None,
+    }
+}
+
+/// How many nodes and links a random network has that may have any size where it is packed.
+fn drawn_size(random: &RandomNetwork) -> Option<(u64, u64)> {
+    match *random {
+        RandomNetwork::Random { nodes, links } => Some((nodes as u64, links as u64)),
+        RandomNetwork::Preferential { nodes, each } => {
+            Some((nodes as u64, nodes as u64 * each as u64))
+        }
+        RandomNetwork::SmallWorld { nodes, near, .. } => {
+            Some((nodes as u64, nodes as u64 * near as u64))
+        }
+        _ => None,
+    }
+}
+
+/// How many nodes and links a network has that may have any size where it is packed; of a shape the nodes alone.
+fn packed_size(topology: &Topology) -> Option<(u64, u64)> {
+    match topology {
+        Topology::Shape(Shape::Path { nodes } | Shape::Ring { nodes }) => Some((*nodes as u64, 0)),
+        Topology::Shape(Shape::Grid { width, height } | Shape::Torus { width, height, .. }) => {
+            Some((*width as u64 * *height as u64, 0))
+        }
+        Topology::RandomNetwork(random) => drawn_size(random),
+        _ => None,
+    }
+}
+
+/// Whether no network file has so many nodes or links as are asked for, and a packed network has.
+fn fits_packed_alone(asked: &GenerateRequest) -> bool {
+    match packed_size(&asked.topology) {
+        Some((nodes, links)) =>
+            asked.weights.is_none()
+                && nodes <= MOST_PACKED_NODES
+                && links <= MOST_PACKED_LINKS
+                && (nodes > MOST_NODES as u64 || links > MOST_LINKS as u64),
+        None => false,
+    }
+}
+
+/// What is told where no network file is made, with the way to a packed network where there is one.
+fn told_with_way(alloc: Global, asked: &GenerateRequest, text: String) -> Ending {
+    if !fits_packed_alone(asked) {
+        return Ending::Usage(text);
+    }
+    Ending::usage(format!(in alloc;
+        "{text}\nwith --packed it is written as a packed network, of any size"
+    ))
+}
+
+/// The ending where no network file is made.
+fn no_file(alloc: Global, asked: &GenerateRequest, ending: Ending) -> Ending {
+    match ending {
+        Ending::Usage(text) => told_with_way(alloc, asked, text),
+        ending => ending,
+    }
+}
+
+/// The packed network that is asked for, where it may have any size.
+fn large_for(alloc: Global, asked: &GenerateRequest) -> Option<Result<Output, Ending>> {
+    if asked.weights.is_some() {
+        return None;
+    }
+    match &asked.topology {
+        Topology::Shape(shape) => Some(shape_of(alloc, large_shape_of(shape)?)),
+        Topology::RandomNetwork(random) => {
+            Some(random_of(alloc, large_random_of(random)?, asked.seed))
+        }
+        Topology::Chance { .. } => None,
+    }
+}
+
+/// The packed network that is asked for.
+fn packed_for(alloc: Global, asked: &GenerateRequest) -> Result<Output, Ending> {
+    if let Some(output) = large_for(alloc, asked) {
+        return output;
+    }
+    let text = text_for(alloc, asked)?;
+    packed_text(alloc, &text)
+}
+
+/// Prints the packed network that is asked for. The status with which the program ends.
+fn put_packed(rt: &HostRuntime, asked: &GenerateRequest) -> Result<u8, Ending> {
+    check_output(rt)?;
+    let output = packed_for(rt.alloc(), asked)?;
+    put_output(rt, &output)
+}
+
+/// Prints the network file of a shape or a random network, or the packed network. The status with which the program ends.
 pub(crate) fn generate_network(rt: &HostRuntime, words: &[String]) -> Result<u8, Ending> {
     let asked = asked_by(GenerateRequest::parse(rt.alloc(), words))?;
-    let text = text_for(rt.alloc(), &asked)?;
-    print_out(rt, &text)
+    if asked.packed {
+        return put_packed(rt, &asked);
+    }
+    match text_for(rt.alloc(), &asked) {
+        Ok(text) => print_out(rt, &text),
+        Err(ending) => Err(no_file(rt.alloc(), &asked, ending)),
+    }
 }

@@ -2,12 +2,10 @@
 
 use crate::notes::{put_cut_note, put_slip_notes};
 use app_files::{
-    Ending, NamedProgram, bytes_at, bytes_where, is_packed, named_program_at, packed_ending,
-    path_in, program_at, read_once,
+    Ending, NamedProgram, bytes_where, named_program_at, network_at, path_in, program_at, read_once,
 };
-use app_jobs::{ServeFault, plan_from};
+use app_jobs::plan_from;
 use app_requests::PlanPaths;
-use link_net::NetFault;
 use rounds_plan::Plan;
 use std::alloc::Global;
 use std::sync::Arc;
@@ -44,7 +42,6 @@ pub(crate) fn plan_of(
     };
     match plan_from(alloc, program, network, report) {
         Ok(plan) => Ok(plan),
-        Err(ServeFault::Net(NetFault::NotToml)) if is_packed(network) => Err(packed_ending(alloc)),
         Err(fault) => Err(Ending::Served(fault)),
     }
 }
@@ -55,7 +52,7 @@ pub(crate) fn plan_with(
     paths: &PlanPaths,
     program: &[u8],
 ) -> Result<Plan, Ending> {
-    let network = bytes_at(rt, paths.network.as_str())?;
+    let network = network_at(rt, paths.network.as_str())?;
     let report = bytes_where(rt, &paths.from)?;
     plan_of(rt.alloc(), program, &network, &report)
 }

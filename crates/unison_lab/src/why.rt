@@ -3,8 +3,8 @@
 use crate::endings::asked_by;
 use crate::plan_texts::noted_plan_at;
 use app_files::{
-    Ending, ModelRefusal, Text, check_constants, is_model, path_in, print_fault, program_name,
-    read_once, refusal_of, slips_in, text_at, text_where, write_out,
+    Ending, ModelRefusal, Text, check_constants, is_model, network_where, path_in, print_fault,
+    program_name, read_once, refusal_of, slips_in, text_at, text_where, write_out,
 };
 use app_jobs::ServeFault;
 use app_requests::{PlanPaths, constants_among};
@@ -101,7 +101,7 @@ struct ReadTexts {
 
 /// Reads the texts of a request beside the program, in the order in which its command reads them.
 fn read_rest(rt: &HostRuntime, request: &Request, read: &mut ReadTexts) -> Result<(), Ending> {
-    read.network = text_where(rt, &request.network)?;
+    read.network = network_where(rt, &request.network)?;
     read.report = text_where(rt, &request.from)?;
     read.schedule = text_where(rt, &request.schedule)?;
     Ok(())

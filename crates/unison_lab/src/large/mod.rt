@@ -14,7 +14,8 @@ mod settle;
 mod start;
 mod watch;
 
-pub(crate) use pack::pack_network;
+pub(crate) use binary::check_output;
+pub(crate) use pack::{Output, pack_network, packed_text, put_output, random_of, shape_of};
 
 use crate::large::info::show_info;
 use crate::large::rounds::report_round;

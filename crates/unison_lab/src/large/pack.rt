@@ -5,13 +5,13 @@ use crate::large::refusals::{matrix_refusal, names_refusal, refusal};
 use app_files::{Ending, bytes_at, file_at, name_at, print_out, put_note, write_file};
 use app_requests::PackRequest;
 use app_table::Draft;
-use import_network::{MatrixOptions, pack_matrix};
-use import_network::{NamedNetwork, pack_names};
+use import_network::{MatrixOptions, NamedNetwork, pack_matrix, pack_names};
 use large_net::{LargeNetwork, large_bytes};
 use large_pack::{PackOptions, Packed, pack_edges};
+use link_net::{NetFile, read_network};
+use net_names::list_text;
 use net_random::{LargeRandom, LargeRandomFault, large_random};
 use net_shapes::{LargeShape, LargeShapeFault, large_shape};
-use net_names::list_text;
 use std::alloc::{AllocError, Global};
 use std::thread::Threads;
 
@@ -31,7 +31,7 @@ fn notes_text(alloc: Global, packed: &Packed) -> Result<String, AllocError> {
 
 /// A binary file, and what is told beside it.
 #[derive(Drop)]
-struct Output {
+pub(crate) struct Output {
     bytes: Vec<u8>,
     notes: String,
 }
@@ -102,11 +102,24 @@ fn names_at(
     }
 }
 
+/// The binary file of a network file's network.
+fn copied(alloc: Global, file: &NetFile) -> Result<Output, Ending> {
+    let network = LargeNetwork::of_network(alloc, file.network())?;
+    output_of(alloc, &network, String::new(alloc))
+}
+
 /// The binary file of the network file at a path.
 fn copied_at(rt: &HostRuntime, path: &str) -> Result<Output, Ending> {
     let file = file_at(rt, path)?;
-    let network = LargeNetwork::of_network(rt.alloc(), file.network())?;
-    output_of(rt.alloc(), &network, String::new(rt.alloc()))
+    copied(rt.alloc(), &file)
+}
+
+/// The binary file of the network file with this text.
+pub(crate) fn packed_text(alloc: Global, text: &[u8]) -> Result<Output, Ending> {
+    match read_network(alloc, text) {
+        Ok(file) => copied(alloc, &file),
+        Err(fault) => Err(Ending::Network(fault)),
+    }
 }
 
 /// The ending where a shape has no network.
@@ -122,7 +135,7 @@ fn no_shape(alloc: Global, fault: LargeShapeFault) -> Ending {
 }
 
 /// The binary file of a shape.
-fn shape_of(alloc: Global, shape: LargeShape) -> Result<Output, Ending> {
+pub(crate) fn shape_of(alloc: Global, shape: LargeShape) -> Result<Output, Ending> {
     match large_shape(alloc, shape) {
         Ok(network) => output_of(alloc, &network, String::new(alloc)),
         Err(fault) => Err(no_shape(alloc, fault)),
@@ -142,7 +155,7 @@ fn no_random(alloc: Global, fault: LargeRandomFault) -> Ending {
 }
 
 /// The binary file of the random network that a seed draws.
-fn random_of(alloc: Global, wanted: LargeRandom, seed: u32) -> Result<Output, Ending> {
+pub(crate) fn random_of(alloc: Global, wanted: LargeRandom, seed: u32) -> Result<Output, Ending> {
     match large_random(alloc, wanted, seed as u64) {
         Ok(network) => output_of(alloc, &network, String::new(alloc)),
         Err(fault) => Err(no_random(alloc, fault)),
@@ -174,7 +187,7 @@ fn output_for(
 }
 
 /// Prints a binary file, and tells what was dropped or merged. The status with which the program ends.
-fn put_output(rt: &HostRuntime, output: &Output) -> Result<u8, Ending> {
+pub(crate) fn put_output(rt: &HostRuntime, output: &Output) -> Result<u8, Ending> {
     let status = print_out(rt, &output.bytes)?;
     if !output.notes.is_empty() {
         let _ = eprintln!(rt; "{}", output.notes.as_str());
