@@ -32,9 +32,10 @@ use Rattle.model_rules.specs.Bounds.{IsAccepted}
 use Rattle.model_rules.specs.Models.{fields_of}
 use Rattle.model_rules.proofs.Values.{neither}
 use Rattle.model_program.specs.Lines.{line_feeds, line_of, rule_place, lines_of}
-use Rattle.model_program.specs.Written.{comment, commented, text_made, HasNumbers, HasRuleNumbers}
+use Rattle.rule_lang.specs.Numbers.{HasNumbers, HasItemNumbers}
+use Rattle.model_program.specs.Written.{comment, commented, text_made}
 use Rattle.model_program.proofs.Names.{names_of_fields}
-use Rattle.model_program.proofs.Puts.{put_item, front_of}
+use Rattle.rule_lang.proofs.Canonical.{put_item, all_left as front_of}
 
 -- a declared name is one of the names
 not_false : (t : Bool) → not t ≡ false → t ≡ true
@@ -107,7 +108,7 @@ tree_spelled names h (ChoiceTree a b c) e k =
     }
 
 -- the tokens of rules whose names are among these
-rules_spelled : (names : List (List ℕ)) → AllByRecursion IsFieldName names → (rules : List RuleTree) → AllByRecursion IsFieldName (names_of (program_of rules)) → list_any (is_unknown names) (nexts_of rules) ≡ false → AllByRecursion (λ n. depth n.body ≤ 64) (nexts_of rules) → AllByRecursion HasRuleNumbers rules → AllByRecursion IsItem rules × AllByRecursion IsTok (flat_map spell_item rules)
+rules_spelled : (names : List (List ℕ)) → AllByRecursion IsFieldName names → (rules : List RuleTree) → AllByRecursion IsFieldName (names_of (program_of rules)) → list_any (is_unknown names) (nexts_of rules) ≡ false → AllByRecursion (λ n. depth n.body ≤ 64) (nexts_of rules) → AllByRecursion HasItemNumbers rules → AllByRecursion IsItem rules × AllByRecursion IsTok (flat_map spell_item rules)
 rules_spelled names h [] own e d k = (tt, tt)
 rules_spelled names h (FieldRule w n ∷ rules) own e d k =
     let r = rules_spelled names h rules own.1 e d k.1 in
@@ -134,7 +135,7 @@ none_unknown rules e =
     fourth_not (nat_lt 8 (length (rule_fields rules))) (has_twice (names_of (program_of rules))) (has_twice (next_names (program_of rules))) (list_any (is_unknown (names_of (program_of rules))) (nexts_of rules))
     TooManyFields FieldTwice NextTwice UnknownName _ e
 
-pub is_program : (text : List ℕ) (items : List ItemTree) (rules : List RuleTree) → HasModel text items → names_of (program_of rules) ≡ fields_of items → IsAccepted rules → AllByRecursion HasRuleNumbers rules → IsProgram rules
+pub is_program : (text : List ℕ) (items : List ItemTree) (rules : List RuleTree) → HasModel text items → names_of (program_of rules) ≡ fields_of items → IsAccepted rules → AllByRecursion HasItemNumbers rules → IsProgram rules
 is_program text items rules model same fit k =
     let own : AllByRecursion IsFieldName (names_of (program_of rules)) = subst (AllByRecursion IsFieldName) (sym same) (names_of_fields (length text) text model.tokens items model.words model.tree) in
     rules_spelled (names_of (program_of rules)) own rules own (none_unknown rules fit.faultless) fit.shallow k
@@ -180,7 +181,7 @@ lines_small : (text : List ℕ) (ps : List ℕ) → length text ≤ 65536 → Al
 lines_small text [] h = tt
 lines_small text (p ∷ ps) h = ((let k = feeds_few text p in omega arith), lines_small text ps h)
 
-pub text_has_program : (text : List ℕ) (items : List ItemTree) (rules : List RuleTree) → length text ≤ 65536 → HasModel text items → names_of (program_of rules) ≡ fields_of items → IsAccepted rules → AllByRecursion HasRuleNumbers rules → HasProgram (text_made (lines_of text items) rules) rules
+pub text_has_program : (text : List ℕ) (items : List ItemTree) (rules : List RuleTree) → length text ≤ 65536 → HasModel text items → names_of (program_of rules) ≡ fields_of items → IsAccepted rules → AllByRecursion HasItemNumbers rules → HasProgram (text_made (lines_of text items) rules) rules
 text_has_program text items rules short model same fit k =
     text_case (nat_le (length (commented (lines_of text items) rules)) 65536) (lines_of text items) rules (lines_small text (filter_map rule_place items) short) (is_program text items rules model same fit k)
 

@@ -7,7 +7,8 @@ ghost use Rattle.model_text.specs.View.{items_of};
 ghost use Rattle.model_rules.specs.ScopeView.{givens_of};
 ghost use Rattle.model_program.specs.Lines.{lines_of};
 ghost use Rattle.model_program.specs.Programs.{IsExpanded, IsRefusedAs};
-ghost use Rattle.model_program.specs.Written.{text_made, HasRuleNumbers};
+ghost use Rattle.model_program.specs.Written.{text_made};
+ghost use Rattle.rule_lang.specs.Numbers.{HasItemNumbers};
 
 use crate::fault::ModelProgramFault;
 use crate::places::rule_lines;
@@ -30,7 +31,7 @@ fn text_of(
     rules: &[Rule],
 ) -> Result<Vec<u8>, AllocError>
     ensures exact { IfOk result (λ bytes. bytes.items ≡ text_made (lines_of text.now (items_of items.now)) (rules_of rules.now)) }
-    ensures numbers { OnOk result (AllByRecursion HasRuleNumbers (rules_of rules.now)) }
+    ensures numbers { OnOk result (AllByRecursion HasItemNumbers (rules_of rules.now)) }
 {
     let lines = rule_lines(alloc, text, items)?;
     let bytes = spelled(alloc, &lines, rules)?;

@@ -127,7 +127,7 @@ put_semicolon : (rest : List ℕ) (ts : List Tok) → HasTokens rest ts → HasT
 unfolding long_sign_of
 put_semicolon rest ts d = put_short sign.Semicolon 59 rest ts refl (λ h. refl) d
 
-all_left : (xs ys : List Tok) → AllByRecursion IsTok (xs ++ ys) → AllByRecursion IsTok xs
+pub all_left : (xs ys : List Tok) → AllByRecursion IsTok (xs ++ ys) → AllByRecursion IsTok xs
 all_left [] ys h = tt
 all_left (x ∷ xs) ys h = (h.0, all_left xs ys h.1)
 
@@ -173,7 +173,7 @@ put_tree (ChoiceTree a b c) h = λ rest ts k d.
 put_assign : (rest : List ℕ) (ts : List Tok) → HasTokens rest ts → HasTokens (61 ∷ 32 ∷ rest) (SignTok sign.Assign ∷ ts)
 put_assign rest ts d = put_short sign.Assign 61 (32 ∷ rest) ts refl (λ h. cc) (put_space rest ts d)
 
-put_item : (i : ItemTree) → AllByRecursion IsTok (spell_item i) → (rest : List ℕ) (ts : List Tok) → HasTokens rest ts → HasTokens (item_text i ++ rest) (spell_item i ++ ts)
+pub put_item : (i : ItemTree) → AllByRecursion IsTok (spell_item i) → (rest : List ℕ) (ts : List Tok) → HasTokens rest ts → HasTokens (item_text i ++ rest) (spell_item i ++ ts)
 put_item (FieldTree w n) h rest ts d =
     let end = put_semicolon _ _ (put_line rest ts d) in
     let value = put_space _ _ (put_assign _ _ (put_number n _ _ h.1.1.1.0 (refl, refl, refl) end)) in

@@ -9,3 +9,4 @@ pub mod Program
 pub mod Signs
 pub mod Lexing
 pub mod Canonical
+pub mod Numbers

@@ -22,4 +22,4 @@ pub use lex::read_tokens;
 pub use source::{Source, canonical_is_read_back, diagnose, one_program, read_program};
 pub use token::{Lexeme, Sign, Token};
 pub use tree::{Agg, Expr, Item, Op};
-pub use write::write_program;
+pub use write::{put_item, write_program};

@@ -6,6 +6,7 @@ ghost use Rattle.rule_lang.specs.View.{tree_of, item_of, items_of};
 ghost use Rattle.rule_lang.specs.Tree.{agg_word};
 ghost use Rattle.rule_lang.specs.Program.{HasProgram};
 ghost use Rattle.rule_lang.specs.Canonical.{op_text, tree_text, item_text, program_text};
+ghost use Rattle.rule_lang.specs.Numbers.{HasNumbers, HasItemNumbers};
 
 use crate::source::Source;
 use crate::tree::{Agg, Expr, Item, Op};
@@ -59,7 +60,8 @@ fn put_number(alloc: Global, out: &mut String, value: u32) -> Result<(), AllocEr
 /// Adds an expression.
 #[cycle(expression)]
 fn put_expression(alloc: Global, out: &mut String, expr: &Expr) -> Result<(), AllocError>
-    ensures { OnOk result (string_bytes out.new ≡ string_bytes out.old ++ tree_text (tree_of expr.now)) }
+    ensures text { OnOk result (string_bytes out.new ≡ string_bytes out.old ++ tree_text (tree_of expr.now)) }
+    ensures numbers { OnOk result (HasNumbers (tree_of expr.now)) }
 {
     match expr {
         Expr::Number(value) => put_number(alloc, out, *value),
@@ -91,7 +93,8 @@ fn put_expression(alloc: Global, out: &mut String, expr: &Expr) -> Result<(), Al
 /// Adds what stands before an expression, and the expression.
 #[cycle(expression)]
 fn put_part(alloc: Global, out: &mut String, before: &str, expr: &Expr) -> Result<(), AllocError>
-    ensures { OnOk result (string_bytes out.new ≡ string_bytes out.old ++ (before.now ++ tree_text (tree_of expr.now))) }
+    ensures text { OnOk result (string_bytes out.new ≡ string_bytes out.old ++ (before.now ++ tree_text (tree_of expr.now))) }
+    ensures numbers { OnOk result (HasNumbers (tree_of expr.now)) }
 {
     out.push_str(before)?;
     put_expression(alloc, out, expr)
@@ -106,9 +109,10 @@ fn put_head(out: &mut String, word: &str, name: &str) -> Result<(), AllocError>
     out.push_str(" = ")
 }
 
-/// Adds an item, a line.
-fn put_item(alloc: Global, out: &mut String, item: &Item) -> Result<(), AllocError>
-    ensures { OnOk result (string_bytes out.new ≡ string_bytes out.old ++ item_text (item_of item.now)) }
+/// Adds an item in the canonical spelling, a line. Where memory runs out, some of it may stand there.
+pub fn put_item(alloc: Global, out: &mut String, item: &Item) -> Result<(), AllocError>
+    ensures text { OnOk result (string_bytes out.new ≡ string_bytes out.old ++ item_text (item_of item.now)) }
+    ensures numbers { OnOk result (HasItemNumbers (item_of item.now)) }
 {
     match item {
         Item::Field { name, value } => {

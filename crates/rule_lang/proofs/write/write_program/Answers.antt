@@ -13,7 +13,7 @@ loop-item-preserved c =
     let items = c.items-item-items.result.now in
     let i = c.loop-item.item-index in
     let begins = drop_more items i c.item-item.result c.loop-item-test.true ∙ ap (λ x. x ∷ drop (i + 1) items) (sym c.item-item.is) in
-    rw (c.in_ok-put_item.ensures, append_assoc) (rw begins at c.loop-item.invariant)
+    rw (c.in_ok-put_item.ensures.text, append_assoc) (rw begins at c.loop-item.invariant)
 
 pub returns-clause-text : goal.returns-clause-text
 returns-clause-text c = whole c
