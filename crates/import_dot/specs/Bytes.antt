@@ -1,10 +1,7 @@
 -- Sorts of bytes. Bytes are numbers: 10 is LF, 46 is a point, 95 is _.
 use Rattle.std.specs.Prelude.{ℕ, ◌==◌, Bool, ◌||◌, not, nat_le}
 use Rattle.std.specs.Char.{is_ascii_alphanumeric, is_ascii_digit}
-
--- LF
-abbrev pub is_line_feed : ℕ → Bool
-is_line_feed b = b == 10
+pub use Rattle.import_lines.specs.Texts.{is_line_feed}
 
 -- any byte but LF
 abbrev pub is_inside_line : ℕ → Bool

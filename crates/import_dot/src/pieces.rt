@@ -8,10 +8,10 @@ ghost use Rattle.import_dot.specs.View.{IsGiven, piece_of};
 
 use crate::fault::DotLineFault;
 use crate::runs::{
-    bracket_place, is_numeral, is_word_byte, line_length, numeral_length, quote_place, slash_place,
-    word_length,
+    bracket_place, is_numeral, is_word_byte, numeral_length, quote_place, slash_place, word_length,
 };
 use crate::token_kind::{TokenKind, word_kind};
+use import_lines::line_length;
 use std::str;
 
 /// A token of this kind, or what lies between tokens; the token's text, where it has one, and how many bytes it takes.

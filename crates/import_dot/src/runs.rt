@@ -1,8 +1,8 @@
 //! How many bytes of one sort stand at the front.
 ghost use Rattle.std.specs.Prelude.{◌≡◌, ◌≤◌, false, length};
-ghost use Rattle.std.specs.List.{prefix_len, position_or_len, count_by};
+ghost use Rattle.std.specs.List.{prefix_len, count_by};
 ghost use Rattle.std.specs.Char.{is_ascii_digit};
-ghost use Rattle.import_dot.specs.Bytes.{is_line_feed, is_word_byte, is_numeral_byte, is_point};
+ghost use Rattle.import_dot.specs.Bytes.{is_word_byte, is_numeral_byte, is_point};
 ghost use Rattle.import_dot.specs.Runs.{is_numeral, quote_place, bracket_place, slash_place};
 
 /// Whether a byte stands in words: a letter, a digit, `_`, or a byte of 128 or more.
@@ -10,19 +10,6 @@ pub(crate) fn is_word_byte(byte: u8) -> bool
     ensures { result ≡ is_word_byte byte }
 {
     byte.is_ascii_alphanumeric() || byte == b'_' || byte >= 128
-}
-
-/// How many bytes stand before the first LF.
-pub(crate) fn line_length(bytes: &[u8]) -> usize
-    ensures exact { result ≡ position_or_len is_line_feed bytes.now }
-    ensures bound { result ≤ length bytes.now }
-{
-    for (place, byte) in bytes.iter().enumerate() {
-        if *byte == b'\n' {
-            return place;
-        }
-    }
-    bytes.len()
 }
 
 /// How many bytes of a word stand at the front.

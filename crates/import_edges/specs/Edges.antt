@@ -2,7 +2,7 @@
 use Rattle.std.specs.Prelude.{◌≡◌, ◌≢◌, ℕ, Bool, true, ◌&&◌, ◌||◌, not, List, [], ◌∷◌, drop, map, MatchResult, Option, Some, None, is_some, Result, Ok, Err, if◌then◌else◌}
 use Rattle.std.specs.List.{slice_split}
 use Rattle.std.specs.Option.{unwrap_or}
-use Rattle.import_lines.specs.Texts.{words_of, told_from}
+use Rattle.import_lines.specs.Texts.{words_of, edge_lines}
 use Rattle.import_lines.specs.Parts.{shown}
 use Rattle.import_lines.specs.declared.weight_fault.WeightFault.{WeightFault}
 use Rattle.import_lines.specs.declared.weight.Weight.{Weight}
@@ -45,10 +45,6 @@ edge_of reading l = fault_as (λ fault. BadLine l.0 fault) (edge_in reading l.0 
 abbrev pub edges_in : Reading → List (ℕ × List ℕ) → Result (List NamedEdge) EdgeFault
 edges_in reading [] = Ok []
 edges_in reading (l ∷ ls) = and_then (edge_of reading l) (λ e. and_then (edges_in reading ls) (λ es. Ok (e ∷ es)))
-
--- the lines of a text that say edges: those that say something, but for the first where that is a header
-abbrev pub edge_lines : Bool → List ℕ → List (ℕ × List ℕ)
-edge_lines header text = drop (if header then 1 else 0) (told_from 1 text)
 
 -- the first line, where it looks like headings, and nothing says that it is one or which columns are meant
 abbrev pub unsaid_heading : Bool → Option Columns → List (ℕ × List (List ℕ)) → Option ℕ

@@ -8,14 +8,14 @@ use Rattle.csv.specs.Reading.{default_config, strip_bom}
 use Rattle.csv.specs.declared.parser.Config.{Config}
 use Rattle.csv.specs.declared.parser.State.TheVariants as state
 use Rattle.csv.specs.declared.parser.Terminator.TheVariants as ends
-use Rattle.import_lines.specs.Texts.{is_line_feed}
+use Rattle.import_lines.specs.Texts.{edge_lines, is_line_feed}
 use Rattle.import_lines.specs.Parts.{shown}
 use Rattle.import_lines.specs.Weights.{weight_of}
 use Rattle.import_lines.specs.Named.{NamedEdge}
 use Rattle.import_lines.specs.declared.weight.Weight.{Weight}
 use Rattle.import_edges.specs.Steps.{and_then, fault_as}
 use Rattle.import_edges.specs.Columns.{parts_in}
-use Rattle.import_edges.specs.Edges.{edge_lines, unsaid_heading, unless_heading}
+use Rattle.import_edges.specs.Edges.{unsaid_heading, unless_heading}
 use Rattle.import_edges.specs.declared.row_fields.Separator.{Separator}
 use Rattle.import_edges.specs.declared.row_fields.Separator.TheVariants.{Tab, Comma}
 use Rattle.import_edges.specs.declared.row_fault.RowFault.{RowFault}

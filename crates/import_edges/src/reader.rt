@@ -3,15 +3,15 @@ ghost use Rattle.std.specs.Prelude.{◌≡◌, ◌+◌, ◌<◌, ◌^◌, length
 ghost use Rattle.std.specs.Option.{unwrap_or};
 ghost use Rattle.std.specs.Result.{result_err};
 ghost use Rattle.import_edges.specs.declared.fault.EdgeFault.TheVariants.{Memory};
-ghost use Rattle.import_lines.specs.Texts.{told_from};
+ghost use Rattle.import_lines.specs.Texts.{edge_lines, told_from};
 ghost use Rattle.import_edges.specs.Headings.{words_in};
-ghost use Rattle.import_edges.specs.Edges.{IsAnswer, edge_lines, edges_in, edges_of, unsaid_heading};
+ghost use Rattle.import_edges.specs.Edges.{IsAnswer, edges_in, edges_of, unsaid_heading};
 
 use crate::columns::Columns;
 use crate::fault::{EdgeFault, LineFault};
 use crate::heading::heading_line;
 use crate::line_edge::read_line;
-use import_lines::{Edge, Lines};
+use import_lines::{Edge, Lines, edge_lines};
 use std::alloc::Global;
 
 /// How a text is read.
@@ -26,18 +26,6 @@ pub struct Reading {
     /// What each weight is multiplied by, and whether decimal ones are taken. None: a weight is a whole number. Some: it
     /// is any number, times this, rounded to the nearest whole number.
     pub factor: Option<u32>,
-}
-
-/// The lines of a text that say edges: those that say something, but for the first of them where it is a header.
-pub fn edge_lines(text: &[u8], header: bool) -> Lines<'_>
-    ensures room { result.passed + length result.bytes.now < 2 ^ 64 }
-    ensures lines { told_from (result.passed + 1) result.bytes.now ≡ edge_lines header text.now }
-{
-    let mut lines = Lines::of(text);
-    if header {
-        lines.next_told();
-    }
-    lines
 }
 
 /// The edges of the lines that are left.

@@ -1,5 +1,5 @@
 -- Lines and words of a text.
-use Rattle.std.specs.Prelude.{ℕ, ◌==◌, Bool, true, false, ◌||◌, not, List, [], ◌∷◌, slice_index}
+use Rattle.std.specs.Prelude.{ℕ, ◌==◌, Bool, true, false, ◌||◌, not, List, [], ◌∷◌, drop, slice_index, if◌then◌else◌}
 use Rattle.std.specs.List.{filter, slice_split, enumerate_from}
 
 -- LF
@@ -27,3 +27,7 @@ say_nothing (word ∷ words) = slice_index word 0 == 35 || slice_index word 0 ==
 -- the lines that say something, each with its number; the first line of the bytes has this number
 abbrev pub told_from : ℕ → List ℕ → List (ℕ × List ℕ)
 told_from number bytes = filter (λ l. not (say_nothing (words_of l.1))) (enumerate_from number (slice_split is_line_feed bytes))
+
+-- the lines of a text that say edges: those that say something, but for the first of them where it is a header
+abbrev pub edge_lines : Bool → List ℕ → List (ℕ × List ℕ)
+edge_lines header text = drop (if header then 1 else 0) (told_from 1 text)

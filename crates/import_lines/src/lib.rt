@@ -16,7 +16,7 @@ mod words_fault;
 
 pub use cuts::cut_at;
 pub use edge::Edge;
-pub use lines::{Lines, split_line};
+pub use lines::{Lines, edge_lines, line_length, split_line};
 pub use mention::Mention;
 pub use number::all_digits;
 pub use parts::{Parts, line_parts, line_text};

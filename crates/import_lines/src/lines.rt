@@ -1,7 +1,7 @@
 //! The lines of a text that say something.
-ghost use Rattle.std.specs.Prelude.{◌≡◌, ◌+◌, ◌<◌, ◌^◌, ◌++◌, ◌∷◌, [], length, MatchOption};
+ghost use Rattle.std.specs.Prelude.{◌≡◌, ◌+◌, ◌<◌, ◌≤◌, ◌^◌, ◌++◌, ◌∷◌, [], length, MatchOption};
 ghost use Rattle.std.specs.List.{position_or_len, before_first, after_first};
-ghost use Rattle.import_lines.specs.Texts.{is_line_feed, told_from};
+ghost use Rattle.import_lines.specs.Texts.{edge_lines, is_line_feed, told_from};
 
 use crate::cuts::cut_at;
 use crate::words::says_nothing;
@@ -16,8 +16,9 @@ pub struct Lines<'a> {
 }
 
 /// How many bytes stand before the first LF.
-fn line_length(bytes: &[u8]) -> usize
-    ensures { result ≡ position_or_len is_line_feed bytes.now }
+pub fn line_length(bytes: &[u8]) -> usize
+    ensures exact { result ≡ position_or_len is_line_feed bytes.now }
+    ensures bound { result ≤ length bytes.now }
 {
     for (place, byte) in bytes.iter().enumerate() {
         if *byte == b'\n' {
@@ -64,4 +65,16 @@ impl<'a> Lines<'a> {
         }
         None
     }
+}
+
+/// The lines of a text that say edges: those that say something, but for the first of them where it is a header.
+pub fn edge_lines(text: &[u8], header: bool) -> Lines<'_>
+    ensures room { result.passed + length result.bytes.now < 2 ^ 64 }
+    ensures lines { told_from (result.passed + 1) result.bytes.now ≡ edge_lines header text.now }
+{
+    let mut lines = Lines::of(text);
+    if header {
+        lines.next_told();
+    }
+    lines
 }

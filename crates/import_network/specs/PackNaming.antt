@@ -6,7 +6,8 @@ use Rattle.link_net.specs.Limits.{most_rows}
 use Rattle.import_lines.specs.Named.{NamedEdge}
 use Rattle.import_edges.specs.declared.reader.Reading.{Reading}
 use Rattle.import_edges.specs.Steps.{and_then, fault_as}
-use Rattle.import_edges.specs.Edges.{edges_in, edge_lines}
+use Rattle.import_lines.specs.Texts.{edge_lines}
+use Rattle.import_edges.specs.Edges.{edges_in}
 use Rattle.import_links.specs.Joining.{names_with}
 use Rattle.net_names.specs.Naming.{place_in}
 use Rattle.large_pack.specs.declared.edge_line.EdgeLine.{EdgeLine}

@@ -3,7 +3,7 @@ use Rattle.std.proofs.Common.{◌≡◌, ℕ, ◌+◌, ◌<◌, ◌≤◌, Bool,
 use Rattle.std.proofs.lemmas.Bool.{cases_Bool}
 use Rattle.std.proofs.lemmas.Bool.Decides.{nat_tests}
 use Rattle.std.specs.List.{filter_map, cons_option, slice_get, fold, AllByRecursion}
-use Rattle.import_lines.specs.Texts.{words_of, told_from}
+use Rattle.import_lines.specs.Texts.{edge_lines, words_of, told_from}
 use Rattle.import_lines.specs.Parts.{shown, parts_of}
 use Rattle.large_pack.specs.declared.edge_line.EdgeLine.{EdgeLine}
 use Rattle.large_pack.specs.declared.options.PackOptions.{PackOptions}
@@ -13,7 +13,7 @@ use Rattle.large_pack.specs.declared.fault.PackFault.TheVariants.{BadLine}
 use Rattle.large_pack.specs.declared.fault.PackFault.{PackFault}
 use Rattle.large_pack.specs.declared.fault.LineFault.{LineFault}
 use Rattle.large_pack.specs.declared.ranked.Ranked.{Ranked}
-use Rattle.large_pack.specs.Lines.{and_then, fault_as, end_in, weight_in, edge_in, turned, edge_of, edges_in, edge_lines, edges_of}
+use Rattle.large_pack.specs.Lines.{and_then, fault_as, end_in, weight_in, edge_in, turned, edge_of, edges_in, edges_of}
 use Rattle.large_pack.specs.Sound.{node_count, outside_fault, loop_fault, first_fault, node_fault, unless, sound_in, sound_of}
 use Rattle.large_pack.specs.Packing.{refuses}
 use Rattle.large_pack.specs.Ranks.{ranked, ranked_in, LinesRise, AreTied, RankedWithin}

@@ -3,7 +3,7 @@ use Rattle.std.specs.Prelude.{ℕ, Bool, not, List, [], ◌∷◌, drop, nat_le,
 use Rattle.std.specs.Option.{unwrap_or}
 use Rattle.std.specs.Result.{result_map_both}
 use Rattle.std.specs.Str.Parse.{digits_value}
-use Rattle.import_lines.specs.Texts.{words_of, told_from}
+use Rattle.import_lines.specs.Texts.{words_of, edge_lines}
 use Rattle.import_lines.specs.Parts.{shown, parts_of}
 use Rattle.import_lines.specs.Weights.{is_whole, weight_of}
 use Rattle.import_lines.specs.declared.weight_fault.WeightFault.{WeightFault}
@@ -69,10 +69,6 @@ edge_of options l = and_then (fault_as (λ fault. BadLine l.0 fault) (edge_in op
 abbrev pub edges_in : PackOptions → List (ℕ × List ℕ) → Result (List EdgeLine) PackFault
 edges_in options [] = Ok []
 edges_in options (l ∷ ls) = and_then (edge_of options l) (λ e. and_then (edges_in options ls) (λ es. Ok (e ∷ es)))
-
--- the lines of a text that say edges: those that say something, but for the first where that is a header
-abbrev pub edge_lines : Bool → List ℕ → List (ℕ × List ℕ)
-edge_lines header text = drop (if header then 1 else 0) (told_from 1 text)
 
 -- the edges of a text, or the first bad line
 abbrev pub edges_of : PackOptions → List ℕ → Result (List EdgeLine) PackFault

@@ -1,7 +1,7 @@
 //! What a list of edges tells before it is kept.
 ghost use Rattle.std.specs.Prelude.{◌≡◌, ◌+◌, ◌<◌, ◌≤◌, ◌^◌, length};
 ghost use Rattle.import_lines.specs.Texts.{told_from};
-ghost use Rattle.large_pack.specs.Lines.{edge_lines, most_node};
+ghost use Rattle.large_pack.specs.Lines.{most_node};
 ghost use Rattle.large_pack.specs.Sound.{outside_fault, loop_fault};
 ghost use Rattle.large_pack.specs.Surveys.{with_edge, count_in};
 ghost use Rattle.large_pack.specs.Keys.{IsReadOf};
@@ -120,14 +120,3 @@ pub(crate) fn count_nodes(survey: &Survey, options: &PackOptions) -> Result<u32,
     Ok(nodes)
 }
 
-/// The lines of a text that say edges.
-pub(crate) fn edge_lines(text: &[u8], header: bool) -> Lines<'_>
-    ensures room { result.passed + length result.bytes.now < 2 ^ 64 }
-    ensures lines { told_from (result.passed + 1) result.bytes.now ≡ edge_lines header text.now }
-{
-    let mut lines = Lines::of(text);
-    if header {
-        lines.next_told();
-    }
-    lines
-}

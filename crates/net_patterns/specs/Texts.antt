@@ -1,6 +1,7 @@
 -- Texts of patterns, of two kinds.
 use Rattle.std.specs.Prelude.{◌≡◌, ℕ, ◌+◌, ◌==◌, Bool, true, false, ◌&&◌, ◌||◌, not, List, [], ◌∷◌, slice_index, Option, Some, None, Result, Err, if◌then◌else◌}
 use Rattle.std.specs.List.{filter, list_any, before_first, after_first}
+pub use Rattle.import_lines.specs.Texts.{is_line_feed}
 use Rattle.net_patterns.specs.declared.board.Cell.{Cell}
 use Rattle.net_patterns.specs.declared.board.Mark.{Mark}
 use Rattle.net_patterns.specs.declared.board.Mark.TheVariants.{Dead, Alive, RowEnd}
@@ -8,10 +9,6 @@ use Rattle.net_patterns.specs.declared.fault.PatternFault.{PatternFault}
 use Rattle.net_patterns.specs.declared.fault.PatternFault.TheVariants.{NoPattern}
 use Rattle.net_patterns.specs.Cells.{Run, pattern_of}
 use Rattle.net_patterns.specs.Rle.{AreRuns, is_blank, run_of}
-
--- LF
-abbrev pub is_line_feed : ℕ → Bool
-is_line_feed b = b == 10
 
 -- where the lines behind this one begin: the number of each, and the text from its first byte to the end
 abbrev pub lines_behind : ℕ → List ℕ → List (ℕ × List ℕ)

@@ -2,7 +2,6 @@
 #![tactic(auto)]
 
 mod board;
-mod cuts;
 mod fault;
 mod grid_text;
 mod lines;

@@ -1,11 +1,11 @@
 //! The line that says of which kind a text is.
 ghost use Rattle.std.specs.Prelude.{◌≡◌, ◌+◌, ◌<◌, ◌≤◌, ◌^◌, ◌∷◌, ◌==◌, [], length, Option, MatchOption, not, slice_index};
-ghost use Rattle.std.specs.List.{list_any, position_or_len, before_first, after_first};
+ghost use Rattle.std.specs.List.{list_any, after_first};
 ghost use Rattle.net_patterns.specs.Rle.{is_blank};
 ghost use Rattle.net_patterns.specs.Texts.{is_line_feed, says_nothing, told_from};
 
-use crate::cuts::cut_at;
 use crate::runs::is_blank;
+use import_lines::split_line;
 
 /// A line that says something.
 #[derive(Clone, Copy)]
@@ -16,26 +16,6 @@ pub(crate) struct Opening<'a> {
     pub(crate) text: &'a [u8],
     /// The text behind it.
     pub(crate) rest: &'a [u8],
-}
-
-/// How many bytes stand before the first LF.
-fn line_length(bytes: &[u8]) -> usize
-    ensures { result ≡ position_or_len is_line_feed bytes.now }
-{
-    for (place, byte) in bytes.iter().enumerate() {
-        if *byte == b'\n' {
-            return place;
-        }
-    }
-    bytes.len()
-}
-
-/// The first line without its LF, and what stands behind it.
-fn split_line(bytes: &[u8]) -> (&[u8], &[u8])
-    ensures line { result.0.now ≡ before_first is_line_feed bytes.now }
-    ensures rest { result.1.now ≡ after_first is_line_feed bytes.now }
-{
-    cut_at(bytes, line_length(bytes))
 }
 
 /// Whether a byte other than blanks, TAB, CR and LF stands in a line.
