@@ -93,10 +93,7 @@ fn unpacked(alloc: Global, path: &str, bytes: &[u8]) -> Result<Vec<u8>, Ending> 
 }
 
 /// The text of the network file at a path; of a packed network there the one that says the same.
-pub fn network_at(
-    rt: &(impl Files + Input + AllocGlobal),
-    path: &str,
-) -> Result<Vec<u8>, Ending> {
+pub fn network_at(rt: &(impl Files + Input + AllocGlobal), path: &str) -> Result<Vec<u8>, Ending> {
     let bytes = bytes_at(rt, path)?;
     if is_packed(&bytes) {
         return unpacked(rt.alloc(), path, &bytes);

@@ -5,8 +5,8 @@ use crate::arguments::{FILE, FILE_OPTION, FLAG};
 use app_table::{
     Argument, Choice, Command, OPTION, Reading, Subcommand, Value, WordsFault, number,
 };
-use import_links::{Kept, Mending, ParallelLinks, SelfLoops};
 use import_edges::Separator;
+use import_links::{Kept, Mending, ParallelLinks, SelfLoops};
 use std::alloc::Global;
 
 /// The greatest number of a column: a line has 65,536 bytes at most.

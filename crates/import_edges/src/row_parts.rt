@@ -9,9 +9,9 @@ ghost use Rattle.import_edges.specs.Columns.{column_where, parts_at, parts_in};
 ghost use Rattle.import_edges.specs.declared.row_fault.RowFault.TheVariants.{Words as BadWords, NoColumn};
 ghost use Rattle.import_edges.specs.Tables.{is_unclosed, has_line_feed_at};
 
+use crate::Columns;
 use crate::row_fault::RowFault;
 use csv::ByteRecord;
-use crate::Columns;
 use import_lines::WordsFault;
 
 /// The fields of a record that has two or three.

@@ -10,12 +10,12 @@ ghost use Rattle.import_edges.specs.Edges.{unsaid_heading};
 ghost use Rattle.import_edges.specs.Tables.{IsAnswer, edges_in, row_edges, rows_of};
 ghost use Rattle.import_edges.specs.View.{row_of};
 
+use crate::row::{Row, row_edge};
 use crate::row_fault::{RowFault, TableFault};
 use crate::row_fields::{Separator, fields_in};
 use crate::row_parts::field_in;
-use crate::row::{Row, row_edge};
-use csv::ByteRecord;
 use crate::{Columns, edge_lines, is_whole};
+use csv::ByteRecord;
 use import_lines::Edge;
 use std::alloc::{AllocError, Global};
 

@@ -9,8 +9,8 @@ use crate::edges::join_and_finish;
 use crate::fault::TakeFault;
 use crate::numbers::number_and_finish;
 use crate::taken::Taken;
-use import_links::Mending;
 use import_edges::{TableReading, read_rows, row_edges};
+use import_links::Mending;
 use net_names::NodeNames;
 use std::alloc::Global;
 

@@ -119,4 +119,3 @@ pub(crate) fn count_nodes(survey: &Survey, options: &PackOptions) -> Result<u32,
     }
     Ok(nodes)
 }
-

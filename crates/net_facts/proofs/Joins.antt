@@ -140,8 +140,6 @@ pub record PartsOf (network : Neighbours) (nodes : List ℕ) (count : ℕ) : Typ
   pub apart : (i j : ℕ) → i < j → j < length firsts → AreJoined network (get_or firsts i 0) (get_or firsts j 0) → ⊥
   pub all : (u : ℕ) → Contains nodes u → (i : ℕ) × (i < length firsts) × AreJoined network (get_or firsts i 0) u
 
-}
-
 module _ (network : Neighbours) (old later : List ℕ) (count node : ℕ) (parts : PartsOf network old count) (closed : IsClosed network old) (grows : Grows (AreJoined network node) old later) (has : Contains later node) (other : Contains old node → ⊥) where
   size : length (parts.firsts ++ node ∷ []) ≡ length parts.firsts + 1
   size = length-append parts.firsts (node ∷ [])

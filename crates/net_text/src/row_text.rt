@@ -32,7 +32,12 @@ fn links_of(alloc: Global, rows: &NetRows<'_>) -> Result<Vec<Link>, AllocError>
 {
     let mut links = Vec::new(alloc);
     for node in 0..rows.nodes() {
-        push_links(&mut links, node, rows.neighbours_of(node), rows.weights_of(node))?;
+        push_links(
+            &mut links,
+            node,
+            rows.neighbours_of(node),
+            rows.weights_of(node),
+        )?;
     }
     Ok(links)
 }

@@ -7,12 +7,11 @@ ghost use Rattle.report_table.specs.declared.csv_fault.CsvFault.TheVariants.{Nam
 ghost use Rattle.report_table.specs.Csv.{AreNodes, AreRowsOfNodes, IsCsv, IsCsvFault, IsRowFault, IsRowsFault, csv_text, node_cells, node_records, records_text};
 ghost use Rattle.report_table.specs.Writing.{IsReady, written};
 
-use crate::CsvFault;
 use crate::marks::marks_of;
 use crate::records::{Printing, headings_of, record_of};
+use crate::{CsvFault, Row, Table};
 use csv::{ByteRecord, Writer};
 use net_names::NodeNames;
-use crate::{Row, Table};
 use std::alloc::{AllocError, Global};
 
 /// Writes a record. What refuses it is running out of memory: the text grows in memory alone.

@@ -3,11 +3,10 @@ ghost use Rattle.std.specs.Prelude.{◌≡◌, ◌++◌, ◌∷◌, [], length, 
 ghost use Rattle.csv.specs.Records.{fields_of, partial_of};
 ghost use Rattle.report_table.specs.Csv.{AreNodes, IsNode, IsRowFault, IsValueFault, cell_of, headings, move_cells, node_cells, value_cells};
 
-use crate::CsvFault;
 use crate::cells::{put_node, put_number};
+use crate::{CsvFault, Row, Table};
 use csv::ByteRecord;
 use net_names::NodeNames;
-use crate::{Row, Table};
 use std::alloc::{AllocError, Global};
 
 /// What a row is printed with.

@@ -255,11 +255,10 @@ fn packed_size(topology: &Topology) -> Option<(u64, u64)> {
 /// Whether no network file has so many nodes or links as are asked for, and a packed network has.
 fn fits_packed_alone(asked: &GenerateRequest) -> bool {
     match packed_size(&asked.topology) {
-        Some((nodes, links)) =>
-            asked.weights.is_none()
-                && nodes <= MOST_PACKED_NODES
-                && links <= MOST_PACKED_LINKS
-                && (nodes > MOST_NODES as u64 || links > MOST_LINKS as u64),
+        Some((nodes, links)) => asked.weights.is_none()
+            && nodes <= MOST_PACKED_NODES
+            && links <= MOST_PACKED_LINKS
+            && (nodes > MOST_NODES as u64 || links > MOST_LINKS as u64),
         None => false,
     }
 }

@@ -6,11 +6,10 @@ ghost use Rattle.net_random.specs.LargeSizes.{large_bounds, refusal_of, refused_
 
 use crate::large::arcs::both_ways;
 use crate::large::fault::fault_as;
-use crate::{LargeRandom, LargeRandomFault};
+use crate::{LargeRandom, LargeRandomFault, NetworkBounds, drawn_links};
 use large_net::LargeNetwork;
 use large_pack::network_of_arcs;
 use link_net::Link;
-use crate::{NetworkBounds, drawn_links};
 use std::alloc::{AllocError, Global};
 
 /// The bounds of a network of any size: each link has two ends, of which there are 4,294,967,295 at most.

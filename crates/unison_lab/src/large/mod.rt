@@ -14,15 +14,14 @@ mod settle;
 mod start;
 mod watch;
 
-pub(crate) use binary::check_output;
-pub(crate) use pack::{Output, pack_network, packed_text, put_output, random_of, shape_of};
-
 use crate::large::info::show_info;
 use crate::large::rounds::report_round;
 use crate::large::settle::settle_rounds;
 use crate::large::watch::watch_rounds;
 use app_files::Ending;
 use app_requests::LargeRequest;
+pub(crate) use binary::check_output;
+pub(crate) use pack::{Output, pack_network, packed_text, put_output, random_of, shape_of};
 use std::thread::Threads;
 
 /// Does what `large` is asked for. The status with which the program ends.

@@ -4,8 +4,7 @@ use app_files::{
     Told, edges_told, matrix_told, on_line, put_matrix_detail, put_place, weight_told, words_told,
 };
 use app_table::Draft;
-use import_network::MatrixPackFault;
-use import_network::NamesPackFault;
+use import_network::{MatrixPackFault, NamesPackFault};
 use large_pack::{LineFault, NodeFault, PackFault};
 use std::alloc::{AllocError, Global};
 
