@@ -1,6 +1,7 @@
 //! Configurations: the states of all nodes after a round.
 ghost use Rattle.std.specs.Prelude.{◌≡◌, ◌≤◌, length, vec_len, All, slice_get};
 ghost use Rattle.rounds_plan.specs.Configs.{IsPlain, IsConfiguration, most_rounds};
+ghost use Rattle.rounds_plan.specs.Lockstep.{state_in};
 
 use crate::plan::Plan;
 use rule_check::State;
@@ -81,5 +82,15 @@ impl Config {
         ensures states { result.now ≡ self.now.states }
     {
         self.states.as_slice()
+    }
+}
+
+/// The state of a node; 0 in each word where there is no such node.
+pub fn state_at(states: &[State], node: u32) -> State
+    ensures exact { result ≡ state_in states.now node }
+{
+    match states.get(node as usize) {
+        Some(state) => *state,
+        None => State { words: [0; 8] },
     }
 }

@@ -8,7 +8,7 @@ mod opening;
 mod plan;
 mod plan_cause;
 
-pub use config::{Config, MOST_ROUNDS};
+pub use config::{Config, MOST_ROUNDS, state_at};
 pub use difference::{Difference, compare};
 pub use fault::{PlanFault, ResumeFault, RoundFault};
 pub use plan::Plan;

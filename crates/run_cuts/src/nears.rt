@@ -4,18 +4,9 @@ ghost use Rattle.rounds_plan.specs.Lockstep.{nears_in, state_in};
 ghost use Rattle.run_cuts.specs.Counting.{nears_from};
 
 use link_net::Network;
+use rounds_plan::state_at;
 use rule_check::{Near, State};
 use std::alloc::AllocError;
-
-/// The state of a node; 0 in each word where there is no such node.
-pub(crate) fn state_at(states: &[State], node: u32) -> State
-    ensures exact { result ≡ state_in states.now node }
-{
-    match states.get(node as usize) {
-        Some(state) => *state,
-        None => State { words: [0; 8] },
-    }
-}
 
 /// Puts neighbours, with the weights of the links to them and their states among these.
 fn put_nears(

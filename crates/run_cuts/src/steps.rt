@@ -4,10 +4,10 @@ ghost use Rattle.rounds_plan.specs.Lockstep.{lockstep_states, state_in};
 ghost use Rattle.run_cuts.specs.Cuts.{here_by, occasion, step_occasions};
 ghost use Rattle.run_cuts.specs.Counting.{after_all, after_one};
 
-use crate::nears::{fill_nears, state_at};
+use crate::nears::fill_nears;
 use crate::tally::{Counted, note_all};
 use crate::values::Node;
-use rounds_plan::Plan;
+use rounds_plan::{Plan, state_at};
 use rule_check::{Near, State};
 use std::alloc::AllocError;
 

@@ -1,22 +1,12 @@
 //! Moves to one count, beside the states of that lockstep round.
 ghost use Rattle.std.specs.Prelude.{◌≡◌, ◌==◌, ◌+◌, ◌-◌, if◌then◌else◌, length, map, option_map, slice_get};
-ghost use Rattle.rounds_plan.specs.Lockstep.{lockstep_states, state_in};
+ghost use Rattle.rounds_plan.specs.Lockstep.{lockstep_states};
 ghost use Rattle.run_naive.specs.Keeping.{AreCompared, AreKnown, Before, difference_at, past_of, shown};
 
 use crate::difference::{Difference, with_found};
 use crate::node::Node;
-use rounds_plan::Plan;
+use rounds_plan::{Plan, state_at};
 use rule_check::State;
-
-/// The state of a node; 0 in each word where there is no such node.
-pub(crate) fn state_at(states: &[State], node: u32) -> State
-    ensures exact { result ≡ state_in states.now node }
-{
-    match states.get(node as usize) {
-        Some(state) => *state,
-        None => State { words: [0; 8] },
-    }
-}
 
 /// The move at a place of a node, beside the node's lockstep state after it, where there is such a move.
 fn move_at(this: &Node, index: usize, node: u32, moves: u32, lockstep: State) -> Option<Difference>

@@ -9,13 +9,12 @@ ghost use Rattle.run_naive.specs.Differences.{differing, is_same};
 ghost use Rattle.run_naive.specs.Telling.{IsTold, differing_line, lockstep_part, node_line, refusal_of, standing};
 ghost use Rattle.run_naive.specs.Keeping.{AreAllKnown, difference_line, shown};
 
-use crate::comparing::state_at;
 use crate::difference::{Difference, is_same};
 use crate::node::Node;
 use crate::rounds::compare;
 use crate::stepping::nodes_after;
 use report_text::put_fields;
-use rounds_plan::{MOST_ROUNDS, Plan};
+use rounds_plan::{MOST_ROUNDS, Plan, state_at};
 use rule_check::{Program, State};
 use std::alloc::{AllocError, Global};
 use unison_world::{OpenFault, Step};
