@@ -4,3 +4,11 @@ mod Passing
 mod Shown
 mod FirstNumbers
 mod Unread
+mod Counting
+mod LaidOut
+mod Moves
+mod PartMade
+mod RoundFaults
+mod StateWords
+mod Tallies
+mod Watches

@@ -3,3 +3,11 @@ pub mod Words
 pub mod Answers
 pub mod Refusals
 pub mod Jobs
+pub mod ListNumbers
+pub mod Lists
+pub mod Counted
+pub mod Tellings
+pub mod LargeAnswers
+pub mod PartAnswers
+pub mod WatchAnswers
+pub mod CountAnswers

@@ -1,7 +1,9 @@
-//! The calls for C, as they work on slices: from texts to answers in the caller's memory, with no state and no threads.
+//! The calls for C, as they work on slices: from texts, and from the lists of networks of any size, to answers in the
+//! caller's memory, with no state and no threads.
 #![tactic(auto)]
 
 mod fault;
+mod large;
 mod plans;
 mod reasons;
 mod replays;
@@ -11,6 +13,10 @@ mod spelling;
 mod words;
 
 pub use fault::Fault;
+pub use large::{
+    LargeCallFault, ListsFault, check_lists, write_large_counts, write_large_rounds,
+    write_large_watch, write_part_round,
+};
 pub use reasons::{Reason, reason_for, write_reason};
 pub use replays::write_replay;
 pub use rounds::{write_round, write_rounds};

@@ -9,19 +9,17 @@ ghost use Rattle.app_calls.specs.Jobs.{HasJobWith, IsFirstNumber};
 ghost use Rattle.app_calls.specs.Numbers.{IsNumberOf};
 ghost use Rattle.app_calls.specs.Refusals.{AreNoRounds, IsNoReplay, IsNoRound, IsNoSettling, IsRefusedPlan, IsUnspelled, IsUntold, is_job};
 ghost use Rattle.large_net.specs.Large.{AreLaidOut};
-ghost use Rattle.large_calls.specs.CountAnswers.{HaveLargeCounts, IsRefusedCounts};
-ghost use Rattle.large_calls.specs.LargeAnswers.{HasLargeRounds, IsRefusedRounds};
-ghost use Rattle.large_calls.specs.PartAnswers.{HasPartRound, IsRefusedPart};
-ghost use Rattle.large_calls.specs.WatchAnswers.{HaveLargeRounds, IsRefusedWatch};
-ghost use Rattle.large_calls.specs.Lists.{given_weights, lists_fault};
-ghost use Rattle.large_calls.specs.ListNumbers.{IsLargeNumberOf, IsToldLists};
+ghost use Rattle.app_calls.specs.CountAnswers.{HaveLargeCounts, IsRefusedCounts};
+ghost use Rattle.app_calls.specs.LargeAnswers.{HasLargeRounds, IsRefusedRounds};
+ghost use Rattle.app_calls.specs.PartAnswers.{HasPartRound, IsRefusedPart};
+ghost use Rattle.app_calls.specs.WatchAnswers.{HaveLargeRounds, IsRefusedWatch};
+ghost use Rattle.app_calls.specs.Lists.{given_weights, lists_fault};
+ghost use Rattle.app_calls.specs.ListNumbers.{IsLargeNumberOf, IsToldLists};
 
 use app_calls::{
-    reason_for, write_reason, write_replay, write_round, write_rounds, write_settling,
+    check_lists, reason_for, write_large_counts, write_large_rounds, write_large_watch,
+    write_part_round, write_reason, write_replay, write_round, write_rounds, write_settling,
     write_spelling,
-};
-use large_calls::{
-    check_lists, write_large_counts, write_large_rounds, write_large_watch, write_part_round,
 };
 use std::alloc::Global;
 

@@ -1,8 +1,0 @@
-mod Counting
-mod LaidOut
-mod Moves
-mod PartMade
-mod RoundFaults
-mod StateWords
-mod Tallies
-mod Watches
