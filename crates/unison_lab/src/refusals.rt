@@ -11,6 +11,7 @@ use import_dot::{DotFault, DotLineFault, TokenKind};
 use import_edges::{EdgeFault, LineFault, RowFault, TableFault};
 use import_lines::{WeightFault, WordsFault};
 use import_links::{JoinFault, NumberFault, SettleFault};
+use import_matrix::{MatrixFault, MatrixLineFault};
 use import_network::TakeFault;
 use link_net::NetFault;
 use std::alloc::{AllocError, Global};
@@ -272,6 +273,33 @@ fn put_detail(draft: &mut Draft, fault: TakeFault) {
     }
 }
 
+/// Whether a text says more than a network file may have.
+fn is_too_large(fault: TakeFault) -> bool {
+    match fault {
+        TakeFault::Join(JoinFault::TooManyNodes { .. })
+        | TakeFault::Numbers(NumberFault::NumberTooLarge { .. })
+        | TakeFault::Settle(SettleFault::Net(NetFault::TooManyLinks | NetFault::TooManyNeighbours))
+        | TakeFault::Matrix(
+            MatrixFault::BadLine {
+                fault: MatrixLineFault::TooManyNodes,
+                ..
+            },
+        ) => true,
+        _ => false,
+    }
+}
+
+/// Adds by which command a text of this format is packed, where it is too large for a network file.
+fn put_way(draft: &mut Draft, format: Format, fault: TakeFault) {
+    if is_too_large(fault) {
+        draft.put(match format {
+            Format::Edges => "; unison pack edges takes networks of any size",
+            Format::MatrixMarket => "; unison pack matrix-market takes networks of any size",
+            Format::Dot | Format::Json => "",
+        });
+    }
+}
+
 /// What is told where a text of this format has no network.
 pub(crate) fn refusal(
     alloc: Global,
@@ -292,5 +320,6 @@ pub(crate) fn refusal(
     draft.put(": ");
     draft.put(why);
     put_detail(&mut draft, fault);
+    put_way(&mut draft, format, fault);
     draft.end()
 }
