@@ -1,6 +1,6 @@
 //! Rows that are laid out one behind the other.
 ghost use Rattle.std.specs.Prelude.{◌≡◌, ◌∷◌, ◌++◌, ◌<◌, ◌≤◌, [], length, zip, IfOk};
-ghost use Rattle.link_net.specs.Neighbours.{row, AreRows};
+ghost use Rattle.link_net.specs.Neighbours.{AreRows};
 
 use crate::network::LargeNetwork;
 use link_net::NetRows;
@@ -74,7 +74,7 @@ impl LaidRows {
     {
         let mut laid = self;
         for node in 0..rows.nodes() {
-            let (neighbours, weights) = row_at(rows, node);
+            let (neighbours, weights) = rows.row_of(node);
             laid = laid.with_row(neighbours, weights)?;
         }
         Ok(laid)
@@ -88,15 +88,4 @@ impl LaidRows {
     {
         LargeNetwork::new(self.offsets, self.neighbours, self.weights)
     }
-}
-
-/// The neighbours of a node and the weights of the links to them.
-fn row_at<'a>(rows: &'a NetRows<'_>, node: u32) -> (&'a [u32], &'a [u32])
-    requires within { node < length rows.now }
-    ensures paired { length result.1.now ≡ length result.0.now }
-    ensures value { zip result.0.now result.1.now ≡ row rows.now node }
-{
-    let neighbours = rows.neighbours(node).unwrap_or(&[]);
-    let weights = rows.weights(node).unwrap_or(&[]);
-    (neighbours, weights)
 }

@@ -14,11 +14,6 @@ known f [] u = refl
 known f (r ∷ network) zero = refl
 known f (r ∷ network) (suc u) = known f network u
 
--- what is lent of a row
-pub lent_row : (f : ℕ × ℕ → ℕ) (network : Neighbours) (u : ℕ) (o : Option (Bor (List ℕ))) (d : Bor (List ℕ)) → d.now ≡ []
-    → option_map (λ s. s.now) o ≡ option_map (λ r. map f r) (slice_get network u) → (unwrap_or o d).now ≡ map f (row network u)
-lent_row f network u o d none is = shown o d none ∙ ap (λ (x : Option (List ℕ)). unwrap_or x []) is ∙ known f network u
-
 -- one part of each link of a row: as many, and slot by slot
 pub so_many : (f : ℕ × ℕ → ℕ) (links : List (ℕ × ℕ)) (xs : List ℕ) → xs ≡ map f links → length xs ≡ length links
 so_many f links xs is = ap length is ∙ length-map links f

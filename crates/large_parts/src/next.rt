@@ -44,16 +44,6 @@ fn near_of(part: &Part<'_>, neighbour: u32, weight: u32) -> Near
     }
 }
 
-/// The neighbours of a node, and the weights of the links to them.
-fn row_of<'a>(rows: &'a NetRows<'_>, node: u32) -> (&'a [u32], &'a [u32])
-    ensures neighbours { result.0.now ≡ map (λ a. a.0) (row rows.now node) }
-    ensures weights { result.1.now ≡ map (λ a. a.1) (row rows.now node) }
-{
-    let neighbours = rows.neighbours(node).unwrap_or(&[]);
-    let weights = rows.weights(node).unwrap_or(&[]);
-    (neighbours, weights)
-}
-
 /// The values of the aggregates of a node with this state over all its neighbours.
 fn gather(part: &Part<'_>, node: u32, own: State, neighbours: &[u32], weights: &[u32]) -> Sums
     requires part { Fits part.now }
@@ -81,7 +71,7 @@ pub(crate) fn next_of(part: &Part<'_>, node: u32, own: State) -> State
     requires own { own ≡ state_in (states_in part.now) node }
     ensures next { result ≡ part_next part.now.program.now part.now.ids.now part.now.rows.now part.now.round (states_in part.now) node }
 {
-    let (neighbours, weights) = row_of(part.rows, node);
+    let (neighbours, weights) = part.rows.row_of(node);
     let sums = gather(part, node, own, neighbours, weights);
     let id = part.ids[node as usize];
     part.program

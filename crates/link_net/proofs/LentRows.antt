@@ -1,6 +1,6 @@
 -- Rows that are lent.
-use Rattle.std.proofs.Common.{◌≡◌, ℕ, ◌≤◌, List, [], length, map, ap, arith, Option, Some, None, option_map, IfSome, Bor}
-use Rattle.std.specs.List.{slice_get}
+use Rattle.std.proofs.Common.{◌≡◌, ℕ, ◌≤◌, List, [], ◌∷◌, length, map, refl, ap, arith, Option, Some, None, option_map, IfSome, Bor}
+use Rattle.std.specs.List.{slice_get, zip}
 use Rattle.std.proofs.lemmas.List.{length-map}
 use Rattle.std.proofs.lemmas.Option.{get_or_from_slice_get}
 use Rattle.link_net.specs.Neighbours.{Neighbours, IsNetwork, AreRows}
@@ -27,3 +27,8 @@ row_short None f net u whole is = tt
 row_short (Some s) f net u whole is =
     column f s.now net u is (λ row e same.
     omega (arith, ap length same, length-map row f, ap length (get_or_from_slice_get net u row [] e), whole.degrees u))
+
+-- both columns of a row, side by side
+pub both_columns : (row : List (ℕ × ℕ)) → zip (map (λ a. a.0) row) (map (λ a. a.1) row) ≡ row
+both_columns [] = refl
+both_columns (a ∷ row) = ap (λ r. a ∷ r) (both_columns row)

@@ -1,5 +1,5 @@
 //! The rows of a network, lent.
-ghost use Rattle.std.specs.Prelude.{◌≡◌, ◌↔◌, ◌≤◌, length, map, slice_get, option_map, IfSome, IsTrue};
+ghost use Rattle.std.specs.Prelude.{◌≡◌, ◌↔◌, ◌≤◌, length, map, zip, slice_get, option_map, IfSome, IsTrue};
 ghost use Rattle.link_net.specs.Neighbours.{AreRows, degree, neighbour, neighbour_at, row, weight, weight_at};
 ghost use Rattle.link_net.specs.Layout.{rows_of, HoldRows};
 
@@ -108,6 +108,16 @@ impl<'a> NetRows<'a> {
             Some(weights) => weights,
             None => &[],
         }
+    }
+
+    /// The neighbours of a node and the weights of the links to them, slot by slot; none where there is no such node.
+    pub fn row_of(&self, node: u32) -> (&[u32], &[u32])
+        ensures neighbours { result.0.now ≡ map (λ a. a.0) (row self.now node) }
+        ensures weights { result.1.now ≡ map (λ a. a.1) (row self.now node) }
+        ensures paired { length result.1.now ≡ length result.0.now }
+        ensures slots { zip result.0.now result.1.now ≡ row self.now node }
+    {
+        (self.neighbours_of(node), self.weights_of(node))
     }
 
     /// How many neighbours a node has, and 0 where there is no such node.

@@ -32,12 +32,8 @@ fn links_of(alloc: Global, rows: &NetRows<'_>) -> Result<Vec<Link>, AllocError>
 {
     let mut links = Vec::new(alloc);
     for node in 0..rows.nodes() {
-        push_links(
-            &mut links,
-            node,
-            rows.neighbours_of(node),
-            rows.weights_of(node),
-        )?;
+        let (neighbours, weights) = rows.row_of(node);
+        push_links(&mut links, node, neighbours, weights)?;
     }
     Ok(links)
 }
