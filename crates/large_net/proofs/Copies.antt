@@ -77,10 +77,6 @@ module _ (offsets : List ℕ) (items row : List (ℕ × ℕ)) (good : AreOffsets
     rising = IsNonDecreasingBy-push (λ x. x) offsets (length items + length row) good.rising (λ d some. omega (arith, good.last, get_or_default_zero offsets (length offsets - 1) d (omega (arith, some))));
   }
 
--- the two columns of a row, side by side
-pub zip_columns : (row : List (ℕ × ℕ)) → zip (map (λ a. a.0) row) (map (λ a. a.1) row) ≡ row
-zip_columns row = zip_more [] [] row refl
-
 module _ (offsets ns ws xs ys : List ℕ) (placed : AreOffsets offsets (length ns)) (paired : length ws ≡ length ns) (same : length ys ≡ length xs) where
   both_behind : zip (ns ++ xs) (ws ++ ys) ≡ zip ns ws ++ zip xs ys
   both_behind = append_zip ns ws paired where
@@ -109,19 +105,3 @@ module _ (offsets ns ws xs ys : List ℕ) (placed : AreOffsets offsets (length n
 -- no rows
 pub no_rows : AreOffsets (0 ∷ []) 0
 no_rows = record { some = omega arith; first = refl; last = refl; rising = IsNonDecreasingBy-short (λ x. x) (0 ∷ []) (omega arith) }
-
--- what an option that holds these items has
-held_items : (r : Option (Bor (List ℕ))) (d : Bor (List ℕ)) (xs : List ℕ) → option_map (λ s. s.now) r ≡ Some xs → (unwrap_or r d).now ≡ xs
-held_items None d xs is = cc
-held_items (Some s) d xs is = cc
-
--- the two columns that are lent are a row's
-pub row_is : (net : Neighbours) (u : ℕ) (r t : Option (Bor (List ℕ))) (x y : Bor (List ℕ)) → u < length net
-    → option_map (λ s. s.now) r ≡ option_map (λ row. map (λ a. a.0) row) (slice_get net u)
-    → option_map (λ s. s.now) t ≡ option_map (λ row. map (λ a. a.1) row) (slice_get net u)
-    → zip (unwrap_or r x).now (unwrap_or t y).now ≡ row net u
-row_is net u r t x y low first second =
-    let there = slice_get-get_or net u [] low in
-    let one = held_items r x (map (λ a. a.0) (row net u)) (first ∙ ap (option_map (λ (e : List (ℕ × ℕ)). map (λ (a : ℕ × ℕ). a.0) e)) there) in
-    let two = held_items t y (map (λ a. a.1) (row net u)) (second ∙ ap (option_map (λ (e : List (ℕ × ℕ)). map (λ (a : ℕ × ℕ). a.1) e)) there) in
-    rw (one, two) (zip_columns (row net u))

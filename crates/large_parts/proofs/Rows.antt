@@ -3,17 +3,6 @@ use Rattle.std.proofs.Common.{◌≡◌, ◌∙◌, ℕ, zero, suc, List, [], �
 use Rattle.std.proofs.lemmas.List.{get_or-map, length-map}
 use Rattle.link_net.specs.Neighbours.{Neighbours, row}
 
--- what a lent list shows, where there is none an empty one
-shown : (o : Option (Bor (List ℕ))) (d : Bor (List ℕ)) → d.now ≡ [] → (unwrap_or o d).now ≡ unwrap_or (option_map (λ s. s.now) o) []
-shown None d none = none
-shown (Some s) d none = refl
-
--- what a row gives, where there is none an empty one
-known : (f : ℕ × ℕ → ℕ) (network : Neighbours) (u : ℕ) → unwrap_or (option_map (λ r. map f r) (slice_get network u)) [] ≡ map f (row network u)
-known f [] u = refl
-known f (r ∷ network) zero = refl
-known f (r ∷ network) (suc u) = known f network u
-
 -- one part of each link of a row: as many, and slot by slot
 pub so_many : (f : ℕ × ℕ → ℕ) (links : List (ℕ × ℕ)) (xs : List ℕ) → xs ≡ map f links → length xs ≡ length links
 so_many f links xs is = ap length is ∙ length-map links f
