@@ -3,3 +3,4 @@ mod ReadBack
 mod LinkLines
 mod Texts
 mod Listings
+mod RowSteps

@@ -5,11 +5,11 @@ mod document;
 mod fault;
 mod link_lines;
 mod link_list;
-mod row_text;
+mod row_file;
 mod writer;
 
 pub use fault::RowsFault;
 pub use link_list::LinkList;
 pub use link_net::Link;
-pub use row_text::row_text;
+pub use row_file::row_text;
 pub use writer::write_network;

@@ -5,7 +5,7 @@ use Rattle.large_net.proofs.Sound.{sound_lists}
 use Rattle.large_net.proofs.reader.read_rows_in_turn.Goals as goal
 
 pub new-requires : goal.new-requires
-new-requires g c =
+new-requires c =
     let offsets = c.eights-starts.result.now in
     let neighbours = c.fours-neighbours.result.now in
     let nodes : length (map (from_le_bytes w64) offsets) ≡ length offsets = length-map offsets (from_le_bytes w64) in

@@ -16,11 +16,12 @@ fn push_links(
     neighbours: &[u32],
     weights: &[u32],
 ) -> Result<(), AllocError>
+    requires paired { length weights.now ≡ length neighbours.now }
     ensures pushed { OnOk result (links.new.items ≡ links.old.items ++ links_up node (zip neighbours.now weights.now)) }
 {
-    for (neighbour, weight) in neighbours.iter().zip(weights) {
+    for (slot, neighbour) in neighbours.iter().enumerate() {
         if *neighbour >= node {
-            links.push((node, *neighbour, *weight))?;
+            links.push((node, *neighbour, weights[slot]))?;
         }
     }
     Ok(())
