@@ -49,9 +49,6 @@ from_within : (n : ℕ) (arcs : List Arc) → AllWithin n arcs → AllByRecursio
 from_within n [] within = tt
 from_within n (a ∷ arcs) within = (within.0.0, from_within n arcs within.1)
 
--- all arcs come from below n
-}
-
 -- a lower node's arcs begin no later
 firsts_in_order : (arcs : List Arc) (u v i j : ℕ) → u ≤ v → IsFirst arcs u i → IsFirst arcs v j → i ≤ j
 firsts_in_order arcs u v i j order low high =
