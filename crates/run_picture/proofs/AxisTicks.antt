@@ -1,5 +1,5 @@
 -- The numbers at an axis are the multiples of the least step of which ten reach over it.
-use Rattle.std.proofs.Common.{◌≡◌, ◌∙◌, ◌⊎◌, ◌<◌, ◌≤◌, ◌+◌, ◌-◌, ◌*◌, ◌/◌, ◌^◌, ◌==◌, ◌&&◌, ◌↔◌, ℕ, zero, suc, List, [], ◌∷◌, Bool, true, false, Contains, if◌then◌else◌, ap, arith, get_or, inl, inr, length, map, nat_le, refl, slice_index, subst, sym}
+use Rattle.std.proofs.Common.{◌≡◌, ◌∙◌, ◌⊎◌, ◌<◌, ◌≤◌, ◌+◌, ◌-◌, ◌*◌, ◌/◌, ◌^◌, ◌==◌, ◌&&◌, ◌↔◌, ℕ, List, [], ◌∷◌, Bool, true, false, Contains, if◌then◌else◌, ap, arith, get_or, inl, inr, length, nat_le, refl, subst, sym}
 use Rattle.std.proofs.Math.Nat.{div-mul-le_self, mul-le-mul_right, one-le-pow, pow-le-pow_right}
 use Rattle.std.proofs.lemmas.Bool.{and_parts, cases_Bool, cases_lt, or_cases}
 use Rattle.std.proofs.lemmas.Bool.Decides.{nat_tests}
@@ -20,23 +20,196 @@ Each P [] = Unit {0}
 Each P (x ∷ xs) = P x × Each P xs
 
 all_steps : Each IsAxisStep axis_steps
-all_steps =
-    ((0, inl refl), ((0, inr (inl refl)), ((0, inr (inr refl)), ((1, inl refl), ((1, inr (inl refl)), ((1, inr (inr refl)), ((2, inl refl),
-    ((2, inr (inl refl)), ((2, inr (inr refl)), ((3, inl refl), ((3, inr (inl refl)), ((3, inr (inr refl)), ((4, inl refl), ((4, inr (inl refl)),
-    ((4, inr (inr refl)), ((5, inl refl), ((5, inr (inl refl)), ((5, inr (inr refl)), ((6, inl refl), ((6, inr (inl refl)), ((6, inr (inr refl)),
-    ((7, inl refl), ((7, inr (inl refl)), ((7, inr (inr refl)), ((8, inl refl), ((8, inr (inl refl)), ((8, inr (inr refl)), tt)))))))))))))))))))))))))))
+all_steps = (
+  (0, inl refl),
+  (
+    (0, inr (inl refl)),
+    (
+      (0, inr (inr refl)),
+      (
+        (1, inl refl),
+        (
+          (1, inr (inl refl)),
+          (
+            (1, inr (inr refl)),
+            (
+              (2, inl refl),
+              (
+                (2, inr (inl refl)),
+                (
+                  (2, inr (inr refl)),
+                  (
+                    (3, inl refl),
+                    (
+                      (3, inr (inl refl)),
+                      (
+                        (3, inr (inr refl)),
+                        (
+                          (4, inl refl),
+                          (
+                            (4, inr (inl refl)),
+                            (
+                              (4, inr (inr refl)),
+                              (
+                                (5, inl refl),
+                                (
+                                  (5, inr (inl refl)),
+                                  (
+                                    (5, inr (inr refl)),
+                                    (
+                                      (6, inl refl),
+                                      (
+                                        (6, inr (inl refl)),
+                                        (
+                                          (6, inr (inr refl)),
+                                          ((7, inl refl), ((7, inr (inl refl)), ((7, inr (inr refl)), ((8, inl refl), ((8, inr (inl refl)), ((8, inr (inr refl)), tt)))))),
+                                        ),
+                                      ),
+                                    ),
+                                  ),
+                                ),
+                              ),
+                            ),
+                          ),
+                        ),
+                      ),
+                    ),
+                  ),
+                ),
+              ),
+            ),
+          ),
+        ),
+      ),
+    ),
+  ),
+)
 
 all_rise : Rising 0 axis_steps
-all_rise =
-    (omega arith, (omega arith, (omega arith, (omega arith, (omega arith, (omega arith, (omega arith, (omega arith, (omega arith, (omega arith,
-    (omega arith, (omega arith, (omega arith, (omega arith, (omega arith, (omega arith, (omega arith, (omega arith, (omega arith, (omega arith,
-    (omega arith, (omega arith, (omega arith, (omega arith, (omega arith, (omega arith, (omega arith, tt)))))))))))))))))))))))))))
+all_rise = (
+  omega arith,
+  (
+    omega arith,
+    (
+      omega arith,
+      (
+        omega arith,
+        (
+          omega arith,
+          (
+            omega arith,
+            (
+              omega arith,
+              (
+                omega arith,
+                (
+                  omega arith,
+                  (
+                    omega arith,
+                    (
+                      omega arith,
+                      (
+                        omega arith,
+                        (
+                          omega arith,
+                          (
+                            omega arith,
+                            (
+                              omega arith,
+                              (
+                                omega arith,
+                                (
+                                  omega arith,
+                                  (
+                                    omega arith,
+                                    (
+                                      omega arith,
+                                      (
+                                        omega arith,
+                                        (omega arith, (omega arith, (omega arith, (omega arith, (omega arith, (omega arith, (omega arith, tt))))))),
+                                      ),
+                                    ),
+                                  ),
+                                ),
+                              ),
+                            ),
+                          ),
+                        ),
+                      ),
+                    ),
+                  ),
+                ),
+              ),
+            ),
+          ),
+        ),
+      ),
+    ),
+  ),
+)
 
 all_small : Each (λ (s : ℕ). s ≤ 1000000000) axis_steps
-all_small =
-    (omega arith, (omega arith, (omega arith, (omega arith, (omega arith, (omega arith, (omega arith, (omega arith, (omega arith, (omega arith,
-    (omega arith, (omega arith, (omega arith, (omega arith, (omega arith, (omega arith, (omega arith, (omega arith, (omega arith, (omega arith,
-    (omega arith, (omega arith, (omega arith, (omega arith, (omega arith, (omega arith, (omega arith, tt)))))))))))))))))))))))))))
+all_small = (
+  omega arith,
+  (
+    omega arith,
+    (
+      omega arith,
+      (
+        omega arith,
+        (
+          omega arith,
+          (
+            omega arith,
+            (
+              omega arith,
+              (
+                omega arith,
+                (
+                  omega arith,
+                  (
+                    omega arith,
+                    (
+                      omega arith,
+                      (
+                        omega arith,
+                        (
+                          omega arith,
+                          (
+                            omega arith,
+                            (
+                              omega arith,
+                              (
+                                omega arith,
+                                (
+                                  omega arith,
+                                  (
+                                    omega arith,
+                                    (
+                                      omega arith,
+                                      (
+                                        omega arith,
+                                        (omega arith, (omega arith, (omega arith, (omega arith, (omega arith, (omega arith, (omega arith, tt))))))),
+                                      ),
+                                    ),
+                                  ),
+                                ),
+                              ),
+                            ),
+                          ),
+                        ),
+                      ),
+                    ),
+                  ),
+                ),
+              ),
+            ),
+          ),
+        ),
+      ),
+    ),
+  ),
+)
 
 one_of : (P : ℕ → Type 0) (b : Bool) (step rest : ℕ) → P step → P rest → P (if b then step else rest)
 one_of P true step rest here later = here
@@ -105,6 +278,7 @@ is_in_list k other few (inr form) = ap_form form where
   rest =
       and_parts (is_among axis_steps (2 * 10 ^ k)) (is_among axis_steps (5 * 10 ^ k))
       (and_parts (is_among axis_steps (10 ^ k)) (is_among axis_steps (2 * 10 ^ k) && is_among axis_steps (5 * 10 ^ k)) (listed k few)).1
+
   ap_form : (other ≡ 2 * 10 ^ k) ⊎ (other ≡ 5 * 10 ^ k) → is_among axis_steps other ≡ true
   ap_form (inl is) = ap (is_among axis_steps) is ∙ rest.0
   ap_form (inr is) = ap (is_among axis_steps) is ∙ rest.1
@@ -166,20 +340,19 @@ module _ (step first last : ℕ) (some : 1 ≤ step) where
       omega (arith, here, next, some)
 
   pub multiples_are : (n : ℕ) → Contains (multiples step first last) n ↔ ((first ≤ n) × (n ≤ last) × IsMultiple step n)
-  multiples_are n =
-      (
-        λ there.
-            (let inside : there.0 < many = omega (arith, there.1, count) in
-            let e : n ≡ (lowest + there.0) * step = sym there.2 ∙ item there.0 n inside in
-            (omega (arith, e, first_reached), omega (arith, e, not_past (lowest + there.0) (omega (arith, inside))), (lowest + there.0, e))),
-        λ is.
-            (let times = is.2.0 in
-            let low = not_lower times (omega (arith, is.0, is.2.1)) in
-            let high : times ≤ last / step = le-div times last step some (omega (arith, is.1, is.2.1)) in
-            let inside : times - lowest < many = omega (arith, low, high) in
-            let e : lowest + (times - lowest) ≡ times = omega (arith, low) in
-            (times - lowest, omega (arith, inside, count), item (times - lowest) n inside ∙ ap of_step e ∙ sym is.2.1)),
-      )
+  multiples_are n = (
+    λ there.
+        (let inside : there.0 < many = omega (arith, there.1, count) in
+        let e : n ≡ (lowest + there.0) * step = sym there.2 ∙ item there.0 n inside in
+        (omega (arith, e, first_reached), omega (arith, e, not_past (lowest + there.0) (omega (arith, inside))), (lowest + there.0, e))),
+    λ is.
+        (let times = is.2.0 in
+        let low = not_lower times (omega (arith, is.0, is.2.1)) in
+        let high : times ≤ last / step = le-div times last step some (omega (arith, is.1, is.2.1)) in
+        let inside : times - lowest < many = omega (arith, low, high) in
+        let e : lowest + (times - lowest) ≡ times = omega (arith, low) in
+        (times - lowest, omega (arith, inside, count), item (times - lowest) n inside ∙ ap of_step e ∙ sym is.2.1)),
+  )
 
   pub multiples_few : last - first ≤ 10 * step → length (multiples step first last) ≤ 11
   multiples_few near =
@@ -191,6 +364,7 @@ module _ (step first last : ℕ) (some : 1 ≤ step) where
 -- ---- the ticks
 
 pub are_ticks : (first last : ℕ) → last - first ≤ 10000000000 → AreTicks first last (ticks first last)
+unfolding ticks
 are_ticks first last near =
     let step = step_over (last - first) in
     let even = step_is axis_steps (last - first) all_steps in

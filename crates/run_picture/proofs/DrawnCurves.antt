@@ -1,5 +1,5 @@
 -- A text that is made of counted rounds is the picture of their curves.
-use Rattle.std.proofs.Common.{◌≡◌, ◌<◌, ◌≤◌, ◌-◌, ℕ, List, Bool, true, false, if◌then◌else◌, arith, length, nat_le, nat_lt, refl}
+use Rattle.std.proofs.Common.{◌≡◌, ◌≤◌, ℕ, List, Bool, true, false, if◌then◌else◌, arith, length, nat_le, nat_lt, refl}
 use Rattle.std.proofs.lemmas.Bool.Decides.{nat_tests}
 use Rattle.std.specs.Option.{option_or}
 use Rattle.std.specs.Prelude.{Option, Some, None}

@@ -1,5 +1,5 @@
 -- The steps of a scale are even.
-use Rattle.std.proofs.Common.{◌≡◌, ◌∙◌, ◌⊎◌, ◌↔◌, ◌<◌, ◌≤◌, ◌+◌, ◌-◌, ◌*◌, ◌/◌, ◌==◌, ℕ, zero, suc, List, [], ◌∷◌, Bool, true, false, cond, ap, arith, inl, inr, min, nat_lt, refl, sym}
+use Rattle.std.proofs.Common.{◌≡◌, ◌∙◌, ◌⊎◌, ◌↔◌, ◌<◌, ◌≤◌, ◌+◌, ◌-◌, ◌*◌, ◌/◌, ◌==◌, ℕ, zero, suc, List, ◌∷◌, Bool, true, false, cond, ap, arith, inl, inr, min, nat_lt, refl, sym}
 use Rattle.std.proofs.Math.Nat.{div-mul-le_self, mul-le-mul_right}
 use Rattle.std.proofs.lemmas.Bool.{cases_Bool, cases_lt}
 use Rattle.std.proofs.lemmas.Bool.Decides.{nat_tests}
@@ -47,14 +47,13 @@ count_between p a (suc n) b c order tells =
 below_step : (x width s : ℕ) → x < width → s ≤ 16 → (min 15 (x * 16 / width) < s) ↔ (x < (s * width + 15) / 16)
 below_step x width s inside few =
     let some : 0 < width = omega (arith, inside) in
-    let top : x * 16 / width < 16 = div_below (x * 16) width 16 some (omega (arith, inside)) in
-    (
+    let top : x * 16 / width < 16 = div_below (x * 16) width 16 some (omega (arith, inside)) in (
       λ less. reached x width s (cases_lt (x * 16) (s * width)) some (omega (arith, less, top)),
       λ less. (let below : x * 16 / width < s = div_below (x * 16) width s some (omega (arith, less)) in omega (arith, below)),
     ) where
-  reached : (x width s : ℕ) → (x * 16 < s * width) ⊎ (s * width ≤ x * 16) → 0 < width → x * 16 / width < s → x < (s * width + 15) / 16
-  reached x width s (inl short) some less = omega (arith, short)
-  reached x width s (inr over) some less = absurd (let high : s ≤ x * 16 / width = le-div s (x * 16) width some over in omega (arith, high, less))
+      reached : (x width s : ℕ) → (x * 16 < s * width) ⊎ (s * width ≤ x * 16) → 0 < width → x * 16 / width < s → x < (s * width + 15) / 16
+      reached x width s (inl short) some less = omega (arith, short)
+      reached x width s (inr over) some less = absurd (let high : s ≤ x * 16 / width = le-div s (x * 16) width some over in omega (arith, high, less))
 
 module _ (key : KeyView) (order : least_of key ≤ key.greatest) where
   abbrev least : ℕ
@@ -74,9 +73,10 @@ module _ (key : KeyView) (order : least_of key ≤ key.greatest) where
 
   test_below : (v s : ℕ) → least ≤ v → v < least + width → s ≤ 16 → Between (λ (w : ℕ). nat_lt (step_of key w) s) 0 (first s) v
   test_below v s from inside few =
-      let tells = below v s from inside few in
-      (λ is. (let less : step_of key v < s = grind (arith, nat_tests, is) in (omega arith, tells.0 less)),
-      λ found. (let less : step_of key v < s = tells.1 found.1 in grind (arith, nat_tests, less)))
+      let tells = below v s from inside few in (
+        λ is. (let less : step_of key v < s = grind (arith, nat_tests, is) in (omega arith, tells.0 less)),
+        λ found. (let less : step_of key v < s = tells.1 found.1 in grind (arith, nat_tests, less)),
+      )
 
   share_whole : (s : ℕ) → s ≤ 16 → (s * width + 15) / 16 ≤ width
   share_whole s few = (let most : s * width ≤ 16 * width = mul-le-mul_right width few in omega (arith, most))
@@ -100,8 +100,7 @@ module _ (key : KeyView) (order : least_of key ≤ key.greatest) where
   test_at : (v s : ℕ) → least ≤ v → v < least + width → s < 16 → Between (λ (w : ℕ). step_of key w == s) (first s) (first (s + 1)) v
   test_at v s from inside few =
       let here = below v s from inside (omega (arith, few)) in
-      let next = below v (s + 1) from inside (omega (arith, few)) in
-      (
+      let next = below v (s + 1) from inside (omega (arith, few)) in (
         λ is.
             (let same : step_of key v ≡ s = grind (arith, nat_tests, is) in
             (not_less v (first s) (cases_lt v (first s)) (λ less. omega (arith, here.1 less, same)), next.0 (omega (arith, same)))),
@@ -111,9 +110,9 @@ module _ (key : KeyView) (order : least_of key ≤ key.greatest) where
             let same : step_of key v ≡ s = omega (arith, less, more) in
             grind (arith, nat_tests, same)),
       ) where
-    not_less : (a b : ℕ) → (a < b) ⊎ (b ≤ a) → (a < b → ⊥) → b ≤ a
-    not_less a b (inl less) none = absurd (none less)
-    not_less a b (inr more) none = more
+        not_less : (a b : ℕ) → (a < b) ⊎ (b ≤ a) → (a < b → ⊥) → b ≤ a
+        not_less a b (inl less) none = absurd (none less)
+        not_less a b (inr more) none = more
 
   pub share_even : (s : ℕ) → s < 16 → (share_of key s ≡ width / 16) ⊎ (share_of key s ≡ (width + 15) / 16)
   share_even s few =
@@ -122,9 +121,9 @@ module _ (key : KeyView) (order : least_of key ≤ key.greatest) where
       let counted = count_between (λ (v : ℕ). step_of key v == s) least width (first s) (first (s + 1)) ordered (λ v from inside. test_at v s from inside few) in
       let n : share_of key s + (s * width + 15) / 16 ≡ (s * width + width + 15) / 16 = omega (arith, counted, e, share_whole s (omega (arith, few)), share_whole (s + 1) (omega (arith, few))) in
       split (share_of key s) (s * width) width (cases_lt (width / 16) (share_of key s)) n where
-    split : (n m w : ℕ) → (w / 16 < n) ⊎ (n ≤ w / 16) → n + (m + 15) / 16 ≡ (m + w + 15) / 16 → (n ≡ w / 16) ⊎ (n ≡ (w + 15) / 16)
-    split n m w (inl more) e = inr (omega (arith, more, e))
-    split n m w (inr less) e = inl (omega (arith, less, e))
+        split : (n m w : ℕ) → (w / 16 < n) ⊎ (n ≤ w / 16) → n + (m + 15) / 16 ≡ (m + w + 15) / 16 → (n ≡ w / 16) ⊎ (n ≡ (w + 15) / 16)
+        split n m w (inl more) e = inr (omega (arith, more, e))
+        split n m w (inr less) e = inl (omega (arith, less, e))
 
   top_step : (s : ℕ) → s ≤ 16 → first s ≤ key.greatest → s ≤ step_of key key.greatest
   top_step s few reached =
@@ -179,8 +178,8 @@ count_tells p a (suc n) v closed from inside =
           let counted = count_between p a (suc n) 0 0 (omega arith) (λ w late below. (λ is. absurd (fails w late below is), λ found. absurd (omega (arith, found.1)))) in
           (λ is. absurd (fails v from inside is), λ less. absurd (omega (arith, less, counted, from)))
     ] where
-  refuted : (b : Bool) → b ≡ false → b ≡ true → ⊥
-  refuted b is are = (let e : false ≡ true = sym is ∙ are in cc)
+      refuted : (b : Bool) → b ≡ false → b ≡ true → ⊥
+      refuted b is are = (let e : false ≡ true = sym is ∙ are in cc)
 
 step_tells : (least width : ℕ) (step : ℕ → ℕ) (v s : ℕ) → AreSteps least width step → least ≤ v → v < least + width → s ≤ 16 → (step v < s) ↔ (v < least + (s * width + 15) / 16)
 step_tells least width step v s are from inside few =
@@ -188,12 +187,14 @@ step_tells least width step v s are from inside few =
     let tells = count_tells test least width v (λ u w late order below is. lower (step u) (step w) s (are.rising u w late order below) is) from inside in
     let share = are.shares s few in
     (λ less. (let short = tells.0 (passes (step v) s less) in omega (arith, short, share)), λ less. passed (step v) s (tells.1 (omega (arith, less, share)))) where
-  lower : (a b s : ℕ) → a ≤ b → nat_lt b s ≡ true → nat_lt a s ≡ true
-  lower a b s order is = grind (arith, nat_tests, order, is)
-  passes : (a s : ℕ) → a < s → nat_lt a s ≡ true
-  passes a s less = grind (arith, nat_tests, less)
-  passed : (a s : ℕ) → nat_lt a s ≡ true → a < s
-  passed a s is = grind (arith, nat_tests, is)
+      lower : (a b s : ℕ) → a ≤ b → nat_lt b s ≡ true → nat_lt a s ≡ true
+      lower a b s order is = grind (arith, nat_tests, order, is)
+
+      passes : (a s : ℕ) → a < s → nat_lt a s ≡ true
+      passes a s less = grind (arith, nat_tests, less)
+
+      passed : (a s : ℕ) → nat_lt a s ≡ true → a < s
+      passed a s is = grind (arith, nat_tests, is)
 
 no_more : (least width : ℕ) (step other : ℕ → ℕ) (v : ℕ) → AreSteps least width step → AreSteps least width other → least ≤ v → v < least + width → other v ≤ step v
 no_more least width step other v one two from inside =

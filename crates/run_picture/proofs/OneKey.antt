@@ -157,8 +157,8 @@ next_has false all c v cells is has =
       | inl here ↦ inr (or_left (c == v) (is_among cells v) here, other_number c v is here)
       | inr there ↦ inl there
     ] where
-  other_number : (c v : ℕ) → (c == no_value) ≡ false → (c == v) ≡ true → v ≢ no_value
-  other_number c v is here none = absurd (grind (arith, nat_tests, is, here, none))
+      other_number : (c v : ℕ) → (c == no_value) ≡ false → (c == v) ≡ true → v ≢ no_value
+      other_number c v is here none = absurd (grind (arith, nat_tests, is, here, none))
 
 held_has : (cells all : List ℕ) (v : ℕ) → is_among (held all cells) v ≡ true → (is_among all v ≡ true) ⊎ ((is_among cells v ≡ true) × (v ≢ no_value))
 held_has [] all v has = inl has
@@ -247,12 +247,14 @@ increasing a (x ∷ y ∷ ys) rising (suc k) inside =
 
 pub rises : (a : ℕ) (xs : List ℕ) → IsStrictlyIncreasing xs → (0 < length xs → a ≤ slice_index xs 0) → Rising a xs
 rises a [] up late = tt
-rises a (x ∷ xs) up late =
-    (late (omega arith), rises (x + 1) xs
-    (λ k inside.
-    let e : suc k + 1 ≡ suc (k + 1) = omega arith in
-    subst (λ (m : ℕ). slice_index xs k < slice_index (x ∷ xs) m) e (up (suc k) (omega (arith, inside))))
-    (λ some. omega (arith, up 0 (omega (arith, some)))))
+rises a (x ∷ xs) up late = (
+  late (omega arith),
+  rises (x + 1) xs
+      (λ k inside.
+      let e : suc k + 1 ≡ suc (k + 1) = omega arith in
+      subst (λ (m : ℕ). slice_index xs k < slice_index (x ∷ xs) m) e (up (suc k) (omega (arith, inside))))
+      (λ some. omega (arith, up 0 (omega (arith, some)))),
+)
 
 below_first : (x y v : ℕ) (ys : List ℕ) → x ≡ y → Rising (y + 1) ys → x + 1 ≤ v → is_among (y ∷ ys) v ≡ true → is_among ys v ≡ true
 below_first x y v ys same rising above has =
@@ -323,7 +325,7 @@ is_key styles cells =
       each = λ v. (λ there. shown_is styles cells v (held_has cells (held [] states) v (among_of shown v there)), λ is. contained shown v (is_shown styles cells v is));
       least = whole.values;
       below = λ k d inside. whole.below (slice_index_or shown k d) (among_of shown (slice_index_or shown k d) (Contains-get_or shown k d inside));
-      reached = elim whole.reached [ | inl there ↦ inl (contained shown (key_of styles cells).greatest there) | inr none ↦ inr none ];
+      reached = elim whole.reached [ inl there ↦ inl (contained shown (key_of styles cells).greatest there) | inr none ↦ inr none ];
       none = (
         λ there. contained cells no_value (sym (key_none cells (state_key styles) ∙ ap (λ (b : Bool). b || is_among cells no_value) (none_first styles)) ∙ there),
         λ there. key_none cells (state_key styles) ∙ ap (λ (b : Bool). b || is_among cells no_value) (none_first styles) ∙ among_of cells no_value there,

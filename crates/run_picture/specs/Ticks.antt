@@ -60,5 +60,5 @@ abbrev pub multiples : ℕ → ℕ → ℕ → List ℕ
 multiples step first last = map (λ times. times * step) (range_with_len (lowest_times step first) (last / step + 1 - lowest_times step first))
 
 -- the numbers that stand at an axis from a first number to a last one
-abbrev pub ticks : ℕ → ℕ → List ℕ
+unfoldable pub ticks : ℕ → ℕ → List ℕ
 ticks first last = multiples (step_over (last - first)) first last

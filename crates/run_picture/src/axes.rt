@@ -79,6 +79,7 @@ fn multiples(alloc: Global, step: u32, first: u32, last: u32) -> Result<Vec<u32>
 }
 
 /// The numbers that stand at an axis from a first number to a last one.
+#[tactic(auto, unfolding(crate::specs::Ticks::ticks))]
 fn ticks(alloc: Global, first: u32, last: u32) -> Result<Vec<u32>, AllocError>
     ensures numbers { IfOk result (λ numbers. numbers.items ≡ ticks first last) }
 {
