@@ -6,7 +6,7 @@ use Rattle.std.proofs.lemmas.Bool.Decides.{nat_tests}
 use Rattle.std.proofs.lemmas.List.Folds.{list_all_at}
 use Rattle.std.proofs.lemmas.List.FromFn.{get_or-map-range_with_len, get_or-range_with_len, length-map-range_with_len, length-range_with_len}
 use Rattle.std.proofs.lemmas.Nat.{div_below, le-div}
-use Rattle.std.specs.List.{list_all, range_with_len}
+use Rattle.std.specs.List.{flat_map, list_all, range_with_len}
 use Rattle.std.specs.List.Sorted.{IsStrictlyIncreasing}
 use Rattle.run_picture.specs.Keys.{is_among}
 use Rattle.run_picture.specs.Ticks.{AreTicks, EachAxisHasTicks, IsAxisStep, IsMultiple, TicksAreFew, TicksAreOne, axis_steps, first_step, lowest_times, multiples, step_over, ticks}
@@ -19,197 +19,22 @@ abbrev Each : (ℕ → Type 0) → List ℕ → Type 0
 Each P [] = Unit {0}
 Each P (x ∷ xs) = P x × Each P xs
 
+-- 1, 2 and 5 times a power of ten
+abbrev of_power : ℕ → List ℕ
+of_power n = 10 ^ n ∷ 2 * 10 ^ n ∷ 5 * 10 ^ n ∷ []
+
+powers_are : (ns : List ℕ) → Each IsAxisStep (flat_map of_power ns)
+powers_are [] = tt
+powers_are (n ∷ ns) = ((n, inl refl), ((n, inr (inl refl)), ((n, inr (inr refl)), powers_are ns)))
+
 all_steps : Each IsAxisStep axis_steps
-all_steps = (
-  (0, inl refl),
-  (
-    (0, inr (inl refl)),
-    (
-      (0, inr (inr refl)),
-      (
-        (1, inl refl),
-        (
-          (1, inr (inl refl)),
-          (
-            (1, inr (inr refl)),
-            (
-              (2, inl refl),
-              (
-                (2, inr (inl refl)),
-                (
-                  (2, inr (inr refl)),
-                  (
-                    (3, inl refl),
-                    (
-                      (3, inr (inl refl)),
-                      (
-                        (3, inr (inr refl)),
-                        (
-                          (4, inl refl),
-                          (
-                            (4, inr (inl refl)),
-                            (
-                              (4, inr (inr refl)),
-                              (
-                                (5, inl refl),
-                                (
-                                  (5, inr (inl refl)),
-                                  (
-                                    (5, inr (inr refl)),
-                                    (
-                                      (6, inl refl),
-                                      (
-                                        (6, inr (inl refl)),
-                                        (
-                                          (6, inr (inr refl)),
-                                          ((7, inl refl), ((7, inr (inl refl)), ((7, inr (inr refl)), ((8, inl refl), ((8, inr (inl refl)), ((8, inr (inr refl)), tt)))))),
-                                        ),
-                                      ),
-                                    ),
-                                  ),
-                                ),
-                              ),
-                            ),
-                          ),
-                        ),
-                      ),
-                    ),
-                  ),
-                ),
-              ),
-            ),
-          ),
-        ),
-      ),
-    ),
-  ),
-)
+all_steps = powers_are (range_with_len 0 9)
 
 all_rise : Rising 0 axis_steps
-all_rise = (
-  omega arith,
-  (
-    omega arith,
-    (
-      omega arith,
-      (
-        omega arith,
-        (
-          omega arith,
-          (
-            omega arith,
-            (
-              omega arith,
-              (
-                omega arith,
-                (
-                  omega arith,
-                  (
-                    omega arith,
-                    (
-                      omega arith,
-                      (
-                        omega arith,
-                        (
-                          omega arith,
-                          (
-                            omega arith,
-                            (
-                              omega arith,
-                              (
-                                omega arith,
-                                (
-                                  omega arith,
-                                  (
-                                    omega arith,
-                                    (
-                                      omega arith,
-                                      (
-                                        omega arith,
-                                        (omega arith, (omega arith, (omega arith, (omega arith, (omega arith, (omega arith, (omega arith, tt))))))),
-                                      ),
-                                    ),
-                                  ),
-                                ),
-                              ),
-                            ),
-                          ),
-                        ),
-                      ),
-                    ),
-                  ),
-                ),
-              ),
-            ),
-          ),
-        ),
-      ),
-    ),
-  ),
-)
+all_rise = omega arith
 
 all_small : Each (λ (s : ℕ). s ≤ 1000000000) axis_steps
-all_small = (
-  omega arith,
-  (
-    omega arith,
-    (
-      omega arith,
-      (
-        omega arith,
-        (
-          omega arith,
-          (
-            omega arith,
-            (
-              omega arith,
-              (
-                omega arith,
-                (
-                  omega arith,
-                  (
-                    omega arith,
-                    (
-                      omega arith,
-                      (
-                        omega arith,
-                        (
-                          omega arith,
-                          (
-                            omega arith,
-                            (
-                              omega arith,
-                              (
-                                omega arith,
-                                (
-                                  omega arith,
-                                  (
-                                    omega arith,
-                                    (
-                                      omega arith,
-                                      (
-                                        omega arith,
-                                        (omega arith, (omega arith, (omega arith, (omega arith, (omega arith, (omega arith, (omega arith, tt))))))),
-                                      ),
-                                    ),
-                                  ),
-                                ),
-                              ),
-                            ),
-                          ),
-                        ),
-                      ),
-                    ),
-                  ),
-                ),
-              ),
-            ),
-          ),
-        ),
-      ),
-    ),
-  ),
-)
+all_small = omega arith
 
 one_of : (P : ℕ → Type 0) (b : Bool) (step rest : ℕ) → P step → P rest → P (if b then step else rest)
 one_of P true step rest here later = here
