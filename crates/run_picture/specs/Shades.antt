@@ -61,7 +61,7 @@ is_few key = nat_le (length key.values) 8
 abbrev pub least_of : KeyView → ℕ
 least_of key = slice_index key.values 0
 
--- the step of a value, of 16 even ones from the least value to the greatest
+-- the step of a value, of 16 even ones from the least value to the greatest: how many sixteenths of the numbers between them lie below it (`Steps.AreSteps`)
 abbrev pub step_of : KeyView → ℕ → ℕ
 step_of key v = min 15 ((v - least_of key) * 16 / (key.greatest - least_of key + 1))
 

@@ -1,7 +1,8 @@
 -- The 16 steps of the scale on which many values are shown.
-use Rattle.std.specs.Prelude.{◌≡◌, ◌⊎◌, ◌<◌, ◌≤◌, ℕ, ◌+◌, ◌-◌, ◌*◌, ◌/◌, ◌==◌, nat_lt}
+use Rattle.std.specs.Prelude.{◌≡◌, ◌⊎◌, ◌<◌, ◌≤◌, ℕ, ◌+◌, ◌-◌, ◌*◌, ◌/◌, ◌==◌, List, false, nat_lt}
 use Rattle.std.specs.List.{count_by, range_with_len}
-use Rattle.run_picture.specs.Shades.{KeyView, least_of, step_of}
+use Rattle.run_picture.specs.Chosen.{StylesView}
+use Rattle.run_picture.specs.Shades.{IsKey, KeyView, is_few, least_of, step_of}
 
 -- These are the steps of so many numbers from a least one on: they rise with the numbers, and the first s of the 16 steps, for each s, have together s sixteenths of the numbers, rounded
 -- up.
@@ -27,6 +28,10 @@ StepsAreEven = (key : KeyView) → least_of key ≤ key.greatest → AreSteps (l
 abbrev pub StepsAreOne : Type 0
 StepsAreOne =
     (least width : ℕ) (step other : ℕ → ℕ) (v : ℕ) → AreSteps least width step → AreSteps least width other → least ≤ v → v < least + width → step v ≡ other v
+
+-- A scale, on which a picture has more values than eight, goes over nine numbers at least.
+abbrev pub ScalesAreWide : Type 0
+ScalesAreWide = (styles : StylesView) (cells : List ℕ) (key : KeyView) → IsKey styles cells key → is_few key ≡ false → (least_of key ≤ key.greatest) × (9 ≤ width_of key)
 
 -- Each of the 16 steps has a sixteenth of the numbers, rounded down or up.
 abbrev pub EachStepHasItsShare : Type 0

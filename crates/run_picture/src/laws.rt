@@ -5,7 +5,7 @@ ghost use Rattle.run_picture.specs.Moving.{EachFrameHasItsColours, EachFrameHasI
 ghost use Rattle.run_picture.specs.Nets.{EachLinkHasItsLine};
 ghost use Rattle.run_picture.specs.Placed.{EachCellHasItsPlace, TextTellsCells};
 ghost use Rattle.run_picture.specs.Shades.{EachPictureHasAKey, KeysAreOne, SameClassSameValue, SameColourSameValue, StatesKeepTheirColours, ValuesLieBetween};
-ghost use Rattle.run_picture.specs.Steps.{EachStepHasItsShare, StepsAreEven, StepsAreOne, StepsGoFromEndToEnd};
+ghost use Rattle.run_picture.specs.Steps.{EachStepHasItsShare, ScalesAreWide, StepsAreEven, StepsAreOne, StepsGoFromEndToEnd};
 ghost use Rattle.run_picture.specs.Ticks.{EachAxisHasTicks, TicksAreFew, TicksAreOne};
 
 /// Each picture has one key, from which its colours and its legend follow: the least nine of the values that are shown,
@@ -17,14 +17,15 @@ pub fn each_picture_has_one_key()
     ensures ends { ValuesLieBetween }
 {}
 
-/// Many values are shown on 16 steps, which rise with the numbers from the least value to the greatest: the first s of them
-/// have together s sixteenths of these numbers, rounded up, so that each has a sixteenth, rounded down or up. There are no
-/// other such steps. The least value has the first step and the greatest the last, or that before it where the numbers are
-/// fewer than 16.
+/// More than eight values are shown on 16 steps, which rise with the numbers from the least value to the greatest: the first
+/// s of them have together s sixteenths of these numbers, rounded up, so that each has a sixteenth, rounded down or up.
+/// There are no other such steps. These numbers are nine at least. The least value has the first step, and the greatest the
+/// last, or that before it where they are fewer than 16.
 pub fn steps_are_even()
     ensures steps { StepsAreEven }
     ensures one { StepsAreOne }
     ensures shares { EachStepHasItsShare }
+    ensures wide { ScalesAreWide }
     ensures ends { StepsGoFromEndToEnd }
 {}
 
