@@ -1,13 +1,14 @@
 -- Colours of the palette that differ.
-use Rattle.std.proofs.Common.{◌≡◌, ◌∙◌, ◌<◌, ◌≤◌, ◌==◌, ℕ, List, [], ◌∷◌, Bool, true, false, not, ap, arith, inl, inr, length, nat_lt, get_or, refl, sym}
+use Rattle.std.proofs.Common.{◌≡◌, ◌∙◌, ◌↔◌, ◌<◌, ◌≤◌, ◌==◌, ℕ, List, [], ◌∷◌, Bool, true, false, not, ap, arith, inl, inr, length, nat_lt, get_or, refl, sym}
 use Rattle.std.proofs.lemmas.Bool.{cases_Bool}
 use Rattle.std.proofs.lemmas.Bool.Decides.{nat_tests}
 use Rattle.std.proofs.lemmas.List.Folds.{list_all_at}
 use Rattle.std.proofs.lemmas.List.FromFn.{get_or-range_with_len, length-range_with_len}
-use Rattle.std.specs.List.{list_all, prefix_len, range_with_len}
+use Rattle.std.specs.List.{IsAmong, list_all, prefix_len, range_with_len}
 use Rattle.std.specs.Str.{bytes_eq}
 use Rattle.run_picture.specs.Chosen.{StylesView, has_own}
-use Rattle.run_picture.specs.Shades.{KeyView, SameColourSameValue, blank_key, class_count, class_of, colour_of, colours, fill_of, key_from, key_of, no_value, shade_of, state_count, state_key, with_cell}
+use Rattle.run_picture.specs.Keys.{blank_key, key_from, key_of, state_key, with_cell}
+use Rattle.run_picture.specs.Shades.{KeyView, class_count, class_of, colour_of, colours, fill_of, no_value, shade_of, state_count}
 use Rattle.run_picture.proofs.Told.{among, cell_by, shades_told, small}
 
 -- where a colour stands in the palette
@@ -43,7 +44,7 @@ styles_kept : (cells : List ℕ) (key : KeyView) → (key_from key cells).styles
 styles_kept [] key = refl
 styles_kept (c ∷ cells) key = styles_kept cells (with_cell key c) ∙ cell_by (λ (k : KeyView). k.styles ≡ key.styles) key c (c == no_value) refl refl
 
-key_styles : (styles : StylesView) (cells : List ℕ) → (key_of styles cells).styles ≡ styles
+pub key_styles : (styles : StylesView) (cells : List ℕ) → (key_of styles cells).styles ≡ styles
 key_styles styles cells = styles_kept cells (state_key styles) ∙ styles_kept (range_with_len 0 (state_count styles)) (blank_key styles)
 
 -- the colour of a value that has none of its own is that of its shade
@@ -53,8 +54,9 @@ shown key v own few =
     let inside : nat_lt (shade_of key v) class_count ≡ true = grind (arith, nat_tests, few) in
     ap (fill_of key) shaded ∙ rw inside refl
 
-pub same_colour_same_value : SameColourSameValue
-same_colour_same_value styles cells v w few own_v own_w among_v among_w =
+pub colours_told : (styles : StylesView) (cells : List ℕ) (v w : ℕ) → length (key_of styles cells).values ≤ 8 → has_own styles.colours v ≡ false → has_own styles.colours w ≡ false → IsAmong cells v
+    → IsAmong cells w → (fill_of (key_of styles cells) (class_of (key_of styles cells) v) ≡ fill_of (key_of styles cells) (class_of (key_of styles cells) w)) ↔ (v ≡ w)
+colours_told styles cells v w few own_v own_w among_v among_w =
     let key = key_of styles cells in
     let is_styles : key.styles ≡ styles = key_styles styles cells in
     let has_v = among cells v among_v.0 among_v.1.0 among_v.1.1 in

@@ -12,3 +12,8 @@ pub mod RoundParts
 pub mod Joined
 pub mod StateColours
 pub mod StrokeSlots
+pub mod OneKey
+pub mod KeyLaws
+pub mod EvenSteps
+pub mod AxisTicks
+pub mod DrawnCurves

@@ -12,8 +12,9 @@ use Rattle.run_watch.proofs.Ranges.{range_left}
 use Rattle.run_picture.specs.declared.each_round.Layout.{Layout}
 use Rattle.run_picture.specs.Chosen.{StylesView}
 use Rattle.run_picture.specs.Frames.{values_after, values_in}
+use Rattle.run_picture.specs.Keys.{key_of}
 use Rattle.run_picture.specs.Series.{round_sheet, round_sheets}
-use Rattle.run_picture.specs.Shades.{KeyView, key_of}
+use Rattle.run_picture.specs.Shades.{KeyView}
 use Rattle.run_picture.proofs.Counts.{values_count}
 
 -- of lists of one length, one behind the other, the r-th
@@ -66,7 +67,7 @@ sheets_by layout network key values rounds = map (λ (r : ℕ). round_sheet layo
 -- those of all rounds of a span are the pictures of these rounds
 pub sheets_are : (styles : StylesView) (p : PlanView) (span : SpanView) (field : ℕ) (layout : Layout) (network : Neighbours) (key : KeyView) (values : List ℕ) (rounds : ℕ)
     → network ≡ p.network → key ≡ key_of styles (values_in p span field) → values ≡ values_in p span field → rounds ≡ count_of span
-    → sheets_by layout network key values rounds ≡ round_sheets styles p span field layout
+    → sheets_by layout network key values rounds ≡ round_sheets (key_of styles (values_in p span field)) p span field layout
 sheets_are styles p span field layout network key values rounds same_network same_key same_values same_count =
     let own = key_of styles (values_in p span field) in
     ap (λ (net : Neighbours). sheets_by layout net key values rounds) same_network

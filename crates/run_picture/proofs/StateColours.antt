@@ -3,7 +3,8 @@ use Rattle.std.proofs.Common.{◌≡◌, ◌≢◌, ◌∙◌, ◌<◌, ◌≤�
 use Rattle.std.proofs.lemmas.Bool.Decides.{nat_tests}
 use Rattle.std.specs.List.{range_with_len}
 use Rattle.run_picture.specs.Chosen.{StylesView}
-use Rattle.run_picture.specs.Shades.{IsState, KeyView, StatesKeepTheirColours, blank_key, class_of, is_among, key_from, key_of, no_value, state_count, state_key, with_cell}
+use Rattle.run_picture.specs.Keys.{blank_key, is_among, key_from, key_of, state_key, with_cell}
+use Rattle.run_picture.specs.Shades.{IsState, KeyView, class_of, no_value, state_count}
 use Rattle.run_picture.proofs.Told.{below, cell_by, comes, grown, marked, or_right, put, same_number}
 
 -- the same key, but for whether a cell has none
@@ -63,7 +64,7 @@ cells_same (c ∷ cells) key other few same known =
     cells_same cells key (with_cell other c) few (joined key other (with_cell other c) same step) (λ k d inside. known (suc k) d (omega (arith, inside)))
 
 -- a state is among the states
-state_among : (a n v : ℕ) → a ≤ v → v < a + n → is_among (range_with_len a n) v ≡ true
+pub state_among : (a n v : ℕ) → a ≤ v → v < a + n → is_among (range_with_len a n) v ≡ true
 state_among a zero v late inside = absurd (omega (arith, late, inside))
 state_among a (suc n) v late inside = among_by (a == v) refl (λ other. state_among (a + 1) n v (omega (arith, late, other)) (omega (arith, inside))) where
   among_by : (b : Bool) → (a == v) ≡ b → (a ≢ v → is_among (range_with_len (a + 1) n) v ≡ true) → is_among (range_with_len a (suc n)) v ≡ true
@@ -80,8 +81,9 @@ known_state styles v few (inl state) =
     inr (comes states (blank_key styles) v there some (omega arith) few, below states (blank_key styles) v there some)
 known_state styles v few (inr none) = inl (ap (λ (w : ℕ). w == no_value) none ∙ same_number no_value)
 
-pub states_keep_their_colours : StatesKeepTheirColours
-states_keep_their_colours styles cells others v few first second =
+pub states_told : (styles : StylesView) (cells others : List ℕ) (v : ℕ) → length (state_key styles).values ≤ 8 → All (IsState styles) cells → All (IsState styles) others
+    → class_of (key_of styles cells) v ≡ class_of (key_of styles others) v
+states_told styles cells others v few first second =
     let key = state_key styles in
     let start : IsSame key key = record { styles = refl; values = refl; greatest = refl } in
     let known = λ (cs : List ℕ) (all : All (IsState styles) cs) (k d : ℕ) (inside : k < length cs). known_state styles (slice_index_or cs k d) few (all k d inside) in

@@ -1,11 +1,12 @@
 -- Values that are told apart by their colours.
-use Rattle.std.proofs.Common.{◌≡◌, ◌≢◌, ◌∙◌, ◌<◌, ◌≤◌, ◌+◌, ◌==◌, ◌||◌, ℕ, zero, suc, List, [], ◌∷◌, Bool, true, false, cond, if◌then◌else◌, ap, arith, length, max, nat_le, nat_lt, not, refl, slice_index, slice_index_or, subst, sym, take}
+use Rattle.std.proofs.Common.{◌≡◌, ◌≢◌, ◌∙◌, ◌↔◌, ◌<◌, ◌≤◌, ◌+◌, ◌==◌, ◌||◌, ℕ, zero, suc, List, [], ◌∷◌, Bool, true, false, cond, if◌then◌else◌, ap, arith, length, max, nat_le, nat_lt, not, refl, slice_index, slice_index_or, subst, sym, take}
 use Rattle.std.proofs.lemmas.Bool.Decides.{nat_tests}
 use Rattle.std.proofs.lemmas.List.Sums.{prefix_len-le-length}
-use Rattle.std.specs.List.{insert, list_any, range_with_len}
+use Rattle.std.specs.List.{IsAmong, insert, list_any, range_with_len}
 use Rattle.run_picture.specs.declared.chosen.ValueColour.{ValueColour}
 use Rattle.run_picture.specs.Chosen.{StylesView, has_own, own_place}
-use Rattle.run_picture.specs.Shades.{KeyView, SameClassSameValue, blank_key, class_count, class_of, is_among, is_few, key_from, key_of, no_value, rank, shade_of, state_count, state_key, step_of, with_cell, with_value}
+use Rattle.run_picture.specs.Keys.{blank_key, is_among, key_from, key_of, state_key, with_cell, with_value}
+use Rattle.run_picture.specs.Shades.{KeyView, class_count, class_of, is_few, no_value, rank, shade_of, state_count, step_of}
 
 -- each is above those before it, and from a on
 abbrev pub Rising : ℕ → List ℕ → Type 0
@@ -26,14 +27,14 @@ pub or_right : (a b : Bool) → b ≡ true → (a || b) ≡ true
 or_right true b is = refl
 or_right false b is = is
 
-or_left : (a b : Bool) → a ≡ true → (a || b) ≡ true
+pub or_left : (a b : Bool) → a ≡ true → (a || b) ≡ true
 or_left a b is = ap (λ (x : Bool). x || b) is
 
 pub same_number : (v : ℕ) → (v == v) ≡ true
 same_number v = grind (arith, nat_tests)
 
 -- a list with one more at some place has it, and those that it had
-any_insert : (f : ℕ → Bool) (xs : List ℕ) (i v : ℕ) → list_any f (insert xs i v) ≡ (f v || list_any f xs)
+pub any_insert : (f : ℕ → Bool) (xs : List ℕ) (i v : ℕ) → list_any f (insert xs i v) ≡ (f v || list_any f xs)
 any_insert f [] zero v = refl
 any_insert f [] (suc i) v = refl
 any_insert f (x ∷ xs) zero v = refl
@@ -55,10 +56,10 @@ rank_less x v xs less =
 rank_more : (x v : ℕ) (xs : List ℕ) → nat_lt x v ≡ false → rank (x ∷ xs) v ≡ 0
 rank_more x v xs more = ap (λ (b : Bool). cond b (1 + rank xs v) 0) more
 
-put_less : (x v : ℕ) (xs : List ℕ) → nat_lt x v ≡ true → put (x ∷ xs) v ≡ x ∷ put xs v
+pub put_less : (x v : ℕ) (xs : List ℕ) → nat_lt x v ≡ true → put (x ∷ xs) v ≡ x ∷ put xs v
 put_less x v xs less = ap (λ (i : ℕ). insert (x ∷ xs) i v) (rank_less x v xs less)
 
-put_more : (x v : ℕ) (xs : List ℕ) → nat_lt x v ≡ false → put (x ∷ xs) v ≡ v ∷ x ∷ xs
+pub put_more : (x v : ℕ) (xs : List ℕ) → nat_lt x v ≡ false → put (x ∷ xs) v ≡ v ∷ x ∷ xs
 put_more x v xs more = ap (λ (i : ℕ). insert (x ∷ xs) i v) (rank_more x v xs more)
 
 put_by : (b : Bool) (a x v : ℕ) (xs : List ℕ) → nat_lt x v ≡ b → Rising a (x ∷ xs) → (x == v) ≡ false → a ≤ v → (x + 1 ≤ v → Rising (x + 1) (put xs v)) → Rising a (put (x ∷ xs) v)
@@ -75,7 +76,7 @@ put_rising a v (x ∷ xs) rising other late =
     let apart = or_false (x == v) (is_among xs v) other in
     put_by (nat_lt x v) a x v xs refl rising apart.0 late (λ above. put_rising (x + 1) v xs rising.1 apart.1 above)
 
-take_rising : (n a : ℕ) (xs : List ℕ) → Rising a xs → Rising a (take n xs)
+pub take_rising : (n a : ℕ) (xs : List ℕ) → Rising a xs → Rising a (take n xs)
 take_rising zero a xs rising = tt
 take_rising (suc n) a [] rising = tt
 take_rising (suc n) a (x ∷ xs) rising = (rising.0, take_rising n (x + 1) xs rising.1)
@@ -105,10 +106,10 @@ with_own_by : (b : Bool) (xs : List ℕ) (v : ℕ) → is_among xs v ≡ b → i
 with_own_by true xs v is = is
 with_own_by false xs v is = any_insert (λ (x : ℕ). x == v) xs (rank xs v) v ∙ or_left (v == v) (is_among xs v) (same_number v)
 
-with_own : (xs : List ℕ) (v : ℕ) → is_among (with_value xs v) v ≡ true
+pub with_own : (xs : List ℕ) (v : ℕ) → is_among (with_value xs v) v ≡ true
 with_own xs v = with_own_by (is_among xs v) xs v refl
 
-with_has : (xs : List ℕ) (v y : ℕ) → is_among xs y ≡ true → is_among (with_value xs v) y ≡ true
+pub with_has : (xs : List ℕ) (v y : ℕ) → is_among xs y ≡ true → is_among (with_value xs v) y ≡ true
 with_has xs v y has =
     with_by (λ (ys : List ℕ). is_among ys y ≡ true) (is_among xs v) xs v refl has
     (λ _. any_insert (λ (x : ℕ). x == y) xs (rank xs v) v ∙ or_right (v == y) (is_among xs y) has)
@@ -116,7 +117,7 @@ with_has xs v y has =
 with_longer : (xs : List ℕ) (v : ℕ) → length xs ≤ length (with_value xs v)
 with_longer xs v = with_by (λ (ys : List ℕ). length xs ≤ length ys) (is_among xs v) xs v refl (omega arith) (λ _. longer xs (rank xs v) v)
 
-with_rising : (xs : List ℕ) (v : ℕ) → Rising 0 xs → Rising 0 (with_value xs v)
+pub with_rising : (xs : List ℕ) (v : ℕ) → Rising 0 xs → Rising 0 (with_value xs v)
 with_rising xs v rising = with_by (Rising 0) (is_among xs v) xs v refl rising (λ other. put_rising 0 v xs rising other (omega arith))
 
 -- the two keys that a cell leads to
@@ -212,7 +213,7 @@ least_by true a x v xs is late has later =
     omega (arith, same, late)
 least_by false a x v xs is late has later = omega (arith, late, later has)
 
-rising_least : (a v : ℕ) (xs : List ℕ) → Rising a xs → is_among xs v ≡ true → a ≤ v
+pub rising_least : (a v : ℕ) (xs : List ℕ) → Rising a xs → is_among xs v ≡ true → a ≤ v
 rising_least a v [] rising has = absurd (let e : false ≡ true = has in cc)
 rising_least a v (x ∷ xs) rising has = least_by (x == v) a x v xs refl rising.0 has (λ later. rising_least (x + 1) v xs rising.1 later)
 
@@ -295,7 +296,7 @@ stays_few : (cells : List ℕ) (key : KeyView) → length key.values ≤ 9 → l
 stays_few [] key few = few
 stays_few (c ∷ cells) key few = stays_few cells (with_cell key c) (cell_more key c few).few
 
-states_few : (styles : StylesView) → length (state_key styles).values ≤ 9
+pub states_few : (styles : StylesView) → length (state_key styles).values ≤ 9
 states_few styles = stays_few (range_with_len 0 (state_count styles)) (blank_key styles) (omega arith)
 
 module _ (styles : StylesView) (cells : List ℕ) (few : length (key_of styles cells).values ≤ 8) where
@@ -350,6 +351,7 @@ module _ (styles : StylesView) (cells : List ℕ) (few : length (key_of styles c
       let colours = (key_of styles cells).styles.colours in
       told_by (has_own colours v) (has_own colours w) v w has_v has_w refl same
 
-pub same_class_same_value : SameClassSameValue
-same_class_same_value styles cells v w few among_v among_w =
+pub classes_told : (styles : StylesView) (cells : List ℕ) (v w : ℕ) → length (key_of styles cells).values ≤ 8 → IsAmong cells v → IsAmong cells w
+    → (class_of (key_of styles cells) v ≡ class_of (key_of styles cells) w) ↔ (v ≡ w)
+classes_told styles cells v w few among_v among_w =
     (told styles cells few v w (among cells v among_v.0 among_v.1.0 among_v.1.1) (among cells w among_w.0 among_w.1.0 among_w.1.1), λ same. ap (class_of (key_of styles cells)) same)

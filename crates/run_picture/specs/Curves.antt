@@ -1,7 +1,7 @@
 -- Curves of counts as SVG: how many nodes have each value, round by round.
-use Rattle.std.specs.Prelude.{◌≡◌, ◌↔◌, ◌⊎◌, ℕ, ◌+◌, ◌-◌, ◌*◌, ◌/◌, ◌<◌, ◌≤◌, List, [], ◌∷◌, ◌++◌, codes, if◌then◌else◌, length, map, nat_le, nat_lt, Contains, Option, Some, None}
+use Rattle.std.specs.Prelude.{◌≡◌, ◌↔◌, ◌⊎◌, ℕ, ◌+◌, ◌-◌, ◌*◌, ◌/◌, ◌<◌, ◌≤◌, List, ◌++◌, codes, if◌then◌else◌, length, nat_le, nat_lt, Contains, Option, Some, None}
 use Rattle.std.specs.Fmt.{decimal}
-use Rattle.std.specs.List.{count_by, flat_map, range_with_len}
+use Rattle.std.specs.List.{count_by, flat_map}
 use Rattle.std.specs.Option.{option_or}
 use Rattle.large_rounds.specs.Counts.{has_value}
 use Rattle.rounds_plan.specs.Lockstep.{lockstep_states}
@@ -13,8 +13,9 @@ use Rattle.run_picture.specs.declared.fault.PictureFault.{PictureFault}
 use Rattle.run_picture.specs.declared.fault.PictureFault.TheVariants.{OneRound, TooManyPoints, TooManyValues}
 use Rattle.run_picture.specs.Frames.{refusal_of}
 use Rattle.run_picture.specs.Chosen.{StylesView}
-use Rattle.run_picture.specs.Shades.{KeyView, class_of, fill_of, key_of}
+use Rattle.run_picture.specs.Shades.{IsKey, KeyView, class_of, fill_of}
 use Rattle.run_picture.specs.Sheets.{legend_lines, legend_text, opening_text, style_text, value_text}
+use Rattle.run_picture.specs.Ticks.{AreTicks}
 
 -- ---- what is drawn
 
@@ -61,33 +62,6 @@ round_place span t = 64 + (t - span.first) * 640 / (span.last - span.first)
 abbrev pub count_place : ℕ → ℕ → ℕ
 count_place nodes n = 344 - n * 320 / nodes
 
--- the steps that an axis may have
-abbrev pub axis_steps : List ℕ
-axis_steps =
-    1 ∷ 2 ∷ 5 ∷ 10 ∷ 20 ∷ 50 ∷ 100 ∷ 200 ∷ 500 ∷ 1000 ∷ 2000 ∷ 5000 ∷ 10000 ∷ 20000 ∷ 50000 ∷ 100000 ∷ 200000 ∷ 500000 ∷ 1000000 ∷ 2000000 ∷ 5000000 ∷ 10000000 ∷ 20000000
-    ∷ 50000000 ∷ 100000000 ∷ []
-
--- the first of these steps of which ten reach over a distance, and 1000000000 where none does
-abbrev pub first_step : List ℕ → ℕ → ℕ
-first_step [] distance = 1000000000
-first_step (step ∷ steps) distance = if nat_le distance (10 * step) then step else first_step steps distance
-
--- the step of an axis that goes over a distance
-abbrev pub step_over : ℕ → ℕ
-step_over distance = first_step axis_steps distance
-
--- how often a step goes into a number, rounded up
-abbrev pub lowest_times : ℕ → ℕ → ℕ
-lowest_times step number = (number + step - 1) / step
-
--- the multiples of a step from a first number to a last one
-abbrev pub multiples : ℕ → ℕ → ℕ → List ℕ
-multiples step first last = map (λ times. times * step) (range_with_len (lowest_times step first) (last / step + 1 - lowest_times step first))
-
--- the numbers that stand at an axis from a first number to a last one
-abbrev pub ticks : ℕ → ℕ → List ℕ
-ticks first last = multiples (step_over (last - first)) first last
-
 -- the line of a round from the top of the plot to its bottom, and the round below
 unfoldable pub round_line : ℕ → ℕ → List ℕ
 round_line x t = codes "<path class=\"grid\" d=\"M" ++ (decimal x ++ (codes " 24v320\"/><text x=\"" ++ (decimal x ++ (codes "\" y=\"360\" text-anchor=\"middle\">" ++ (decimal t ++ codes "</text>\n")))))
@@ -96,12 +70,12 @@ round_line x t = codes "<path class=\"grid\" d=\"M" ++ (decimal x ++ (codes " 24
 unfoldable pub count_line : ℕ → ℕ → List ℕ
 count_line y n = codes "<path class=\"grid\" d=\"M64 " ++ (decimal y ++ (codes "h640\"/><text x=\"58\" y=\"" ++ (decimal (y + 4) ++ (codes "\" text-anchor=\"end\">" ++ (decimal n ++ codes "</text>\n")))))
 
--- the lines of an axis of rounds, and of one of numbers of nodes
-abbrev pub round_lines : SpanView → List ℕ
-round_lines span = flat_map (λ t. round_line (round_place span t) t) (ticks span.first span.last)
+-- the lines of these rounds, and of these numbers of nodes
+abbrev pub round_lines : SpanView → List ℕ → List ℕ
+round_lines span rounds = flat_map (λ t. round_line (round_place span t) t) rounds
 
-abbrev pub count_lines : ℕ → List ℕ
-count_lines nodes = flat_map (λ n. count_line (count_place nodes n) n) (ticks 0 nodes)
+abbrev pub count_lines : ℕ → List ℕ → List ℕ
+count_lines nodes numbers = flat_map (λ n. count_line (count_place nodes n) n) numbers
 
 -- the styles of all that is drawn
 unfoldable pub styles_text : KeyView → List ℕ
@@ -150,22 +124,18 @@ view_text first across nodes =
 abbrev pub curves_text : SpanView → ℕ → KeyView → List RowView → List ℕ → List ℕ
 curves_text span nodes key rows values = view_text span.first (span.last - span.first) nodes ++ (flat_map (curve_text key rows) values ++ codes "</g></svg>\n")
 
--- the plot: its axes, and the curves of values
-unfoldable pub plot_text : SpanView → ℕ → KeyView → List RowView → List ℕ → List ℕ
-plot_text span nodes key rows values = round_lines span ++ (count_lines nodes ++ (axes_text ++ curves_text span nodes key rows values))
+-- the plot: its axes with these rounds and numbers of nodes, and the curves of values
+unfoldable pub plot_text : SpanView → ℕ → List ℕ → List ℕ → KeyView → List RowView → List ℕ → List ℕ
+plot_text span nodes rounds numbers key rows values = round_lines span rounds ++ (count_lines nodes numbers ++ (axes_text ++ curves_text span nodes key rows values))
 
 -- the size of the whole in pixels from the top to the bottom
 abbrev pub curves_height : KeyView → ℕ
 curves_height key = curves_legend + 18 * legend_lines key
 
 -- the plot of values in the colours of a key, and the legend of the key
-unfoldable pub plotted : SpanView → ℕ → KeyView → List RowView → List ℕ → List ℕ
-plotted span nodes key rows values =
-    opening_text 744 (curves_height key) ++ (styles_text key ++ (plot_text span nodes key rows values ++ (legend_text key curves_legend ++ codes "</svg>\n")))
-
--- the picture of the curves of values in the rounds of a span
-abbrev pub curves_picture : StylesView → SpanView → ℕ → List RowView → List ℕ → List ℕ
-curves_picture styles span nodes rows values = plotted span nodes (key_of styles values) rows values
+unfoldable pub plotted : SpanView → ℕ → List ℕ → List ℕ → KeyView → List RowView → List ℕ → List ℕ
+plotted span nodes rounds numbers key rows values =
+    opening_text 744 (curves_height key) ++ (styles_text key ++ (plot_text span nodes rounds numbers key rows values ++ (legend_text key curves_legend ++ codes "</svg>\n")))
 
 -- the text is the picture of how many nodes have each value of a field, in each round of a span
 pub record IsCountPicture (styles : StylesView) (p : PlanView) (span : SpanView) (field : ℕ) (text : List ℕ) : Type 0 where
@@ -173,7 +143,14 @@ pub record IsCountPicture (styles : StylesView) (p : PlanView) (span : SpanView)
   pub values : List ℕ
   pub counted : AreCounted p span field (states_drawn styles) rows values
   pub few : length values ≤ most_curves
-  pub spelled : text ≡ curves_picture styles span (length p.network) rows values
+  pub key : KeyView
+  pub is_key : IsKey styles values key
+  -- what stands at the axes
+  pub rounds : List ℕ
+  pub are_rounds : AreTicks span.first span.last rounds
+  pub numbers : List ℕ
+  pub are_numbers : AreTicks 0 (length p.network) numbers
+  pub spelled : text ≡ plotted span (length p.network) rounds numbers key rows values
 
 -- more values of a field are drawn in the rounds of a span than there may be curves
 pub record HasManyValues (styles : StylesView) (p : PlanView) (span : SpanView) (field : ℕ) : Type 0 where

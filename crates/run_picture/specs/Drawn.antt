@@ -1,5 +1,5 @@
 -- Networks as text for Graphviz.
-use Rattle.std.specs.Prelude.{ℕ, ◌+◌, ◌==◌, List, [], ◌∷◌, ◌++◌, codes, if◌then◌else◌, length, nat_lt, slice_get, Option, Some, None}
+use Rattle.std.specs.Prelude.{◌≡◌, ℕ, ◌+◌, ◌==◌, List, [], ◌∷◌, ◌++◌, codes, if◌then◌else◌, length, nat_lt, slice_get, Option, Some, None}
 use Rattle.std.specs.Char.{encode_utf8}
 use Rattle.std.specs.Fmt.{decimal}
 use Rattle.std.specs.List.{flat_map}
@@ -8,7 +8,7 @@ use Rattle.link_net.specs.Neighbours.{Neighbours, degree, neighbour, numbers_bel
 use Rattle.rounds_plan.specs.Plans.{PlanView}
 use Rattle.run_picture.specs.Frames.{values_after}
 use Rattle.run_picture.specs.Chosen.{StylesView}
-use Rattle.run_picture.specs.Shades.{KeyView, class_of, fill_of, ink_of, key_of, no_value}
+use Rattle.run_picture.specs.Shades.{IsKey, KeyView, class_of, fill_of, ink_of, no_value}
 
 -- a character in a quoted label: `"`, `\` and `&` mean something there
 abbrev pub escaped_char : ℕ → List ℕ
@@ -72,10 +72,11 @@ link_lines network = flat_map (links_at network) (numbers_below (length network)
 unfoldable pub head_text : ℕ → List ℕ
 head_text t = codes "graph run {\n  label=\"round " ++ (decimal t ++ codes "\";\n  node [shape=circle, style=filled];\n")
 
--- a network with a value at each node, after round t
-abbrev pub graph_text : StylesView → Neighbours → List (List ℕ) → ℕ → List ℕ → List ℕ
-graph_text styles network names t values = head_text t ++ (node_lines (key_of styles values) names 0 values ++ (link_lines network ++ codes "}\n"))
+-- a network with a value at each node, after round t, coloured by a key
+abbrev pub graph_text : KeyView → Neighbours → List (List ℕ) → ℕ → List ℕ → List ℕ
+graph_text key network names t values = head_text t ++ (node_lines key names 0 values ++ (link_lines network ++ codes "}\n"))
 
--- the network of a plan with the values of a field after round t
-abbrev pub network_text : StylesView → PlanView → List (List ℕ) → ℕ → ℕ → List ℕ
-network_text styles p names t field = graph_text styles p.network names t (values_after p field t)
+-- the text is the network of a plan with the values of a field after round t
+abbrev pub IsNetworkText : StylesView → PlanView → List (List ℕ) → ℕ → ℕ → List ℕ → Type 0
+IsNetworkText styles p names t field text =
+    (key : KeyView) × IsKey styles (values_after p field t) key × (text ≡ graph_text key p.network names t (values_after p field t))

@@ -1,11 +1,14 @@
 pub mod Chosen
 pub mod Styling
 pub mod Shades
+pub mod Keys
+pub mod Steps
 pub mod Sheets
 pub mod Frames
 pub mod Drawn
 pub mod DrawnLinks
 pub mod Placed
+pub mod Ticks
 pub mod Curves
 pub mod Moving
 pub mod Standing

@@ -11,7 +11,7 @@ use Rattle.run_picture.specs.declared.fault.PictureFault.{PictureFault}
 use Rattle.run_picture.specs.declared.fault.PictureFault.TheVariants.{NoWidth, TooManyCells, TooManyFrames}
 use Rattle.run_picture.specs.Chosen.{StylesView}
 use Rattle.run_picture.specs.Frames.{most_cells, refusal_of, values_after, values_in}
-use Rattle.run_picture.specs.Shades.{KeyView, class_of, fill_of, key_of}
+use Rattle.run_picture.specs.Shades.{IsKey, KeyView, class_of, fill_of}
 use Rattle.run_picture.specs.declared.chosen.CellShape.{CellShape}
 use Rattle.run_picture.specs.Sheets.{cell_text, lattice, legend_text, legend_top, opening_text, outline, sheet_height, sheet_width, side_of, style_text}
 
@@ -121,13 +121,10 @@ moving_sheet key frames time width nodes values =
     opening_text (sheet_width key width nodes) (sheet_height key width nodes)
     ++ (style_text key ++ (moving_group key frames time width nodes values ++ (legend_text key (legend_top width nodes) ++ codes "</svg>\n")))
 
--- the moving picture of values that stand frame by frame
-abbrev pub moving_picture : StylesView → ℕ → ℕ → ℕ → ℕ → List ℕ → List ℕ
-moving_picture styles frames time width nodes values = moving_sheet (key_of styles values) frames time width nodes values
-
--- the moving picture of a field in the rounds of a span: a frame for each, which is seen for so many milliseconds
-abbrev pub rounds_picture : StylesView → PlanView → SpanView → ℕ → ℕ → ℕ → List ℕ
-rounds_picture styles p span field width time = moving_picture styles (count_of span) time width (length p.network) (values_in p span field)
+-- the text is the moving picture of a field in the rounds of a span: a frame for each, which is seen for so many milliseconds
+abbrev pub IsMovingPicture : StylesView → PlanView → SpanView → ℕ → ℕ → ℕ → List ℕ → Type 0
+IsMovingPicture styles p span field width time text =
+    (key : KeyView) × IsKey styles (values_in p span field) key × (text ≡ moving_sheet key (count_of span) time width (length p.network) (values_in p span field))
 
 -- why there is none
 abbrev pub moving_refusal : PlanView → SpanView → ℕ → ℕ → Option PictureFault

@@ -14,7 +14,7 @@ use Rattle.run_picture.specs.Chosen.{StylesView}
 use Rattle.run_picture.specs.DrawnLinks.{AreAllLinks}
 use Rattle.run_picture.specs.Frames.{most_cells, refusal_of, values_in}
 use Rattle.run_picture.specs.Moving.{animate_text, changes_of, classes_of, most_frames}
-use Rattle.run_picture.specs.Shades.{KeyView, key_of}
+use Rattle.run_picture.specs.Shades.{IsKey, KeyView}
 use Rattle.run_picture.specs.Sheets.{legend_lines, legend_text, legend_width, opening_text, style_text}
 use Rattle.run_picture.specs.Standing.{across, place_of, radius_of}
 
@@ -102,9 +102,10 @@ net_sheet key frames time network values =
     ++ (style_text key
     ++ (strokes_group network ++ (circles_group key frames time (length network) values ++ (legend_text key (net_legend (length network)) ++ codes "</svg>\n"))))
 
--- the picture of a plan's network in the rounds of a span, coloured by a field: a frame for each, which is seen for so many milliseconds
-abbrev pub net_picture : StylesView → PlanView → SpanView → ℕ → ℕ → List ℕ
-net_picture styles p span field time = net_sheet (key_of styles (values_in p span field)) (count_of span) time p.network (values_in p span field)
+-- the text is the picture of a plan's network in the rounds of a span, coloured by a field: a frame for each, which is seen for so many milliseconds
+abbrev pub IsNetPicture : StylesView → PlanView → SpanView → ℕ → ℕ → List ℕ → Type 0
+IsNetPicture styles p span field time text =
+    (key : KeyView) × IsKey styles (values_in p span field) key × (text ≡ net_sheet key (count_of span) time p.network (values_in p span field))
 
 -- why there is none
 abbrev pub net_refusal : PlanView → SpanView → ℕ → Option PictureFault

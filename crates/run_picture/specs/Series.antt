@@ -1,5 +1,5 @@
 -- A picture of its own for each round of a span, all in the same colours.
-use Rattle.std.specs.Prelude.{ℕ, ◌*◌, ◌/◌, ◌==◌, ◌≤◌, List, if◌then◌else◌, length, map, nat_lt, sum_by, Option, Some, None}
+use Rattle.std.specs.Prelude.{◌≡◌, ℕ, ◌*◌, ◌/◌, ◌==◌, ◌≤◌, List, if◌then◌else◌, length, map, nat_lt, sum_by, Option, Some, None}
 use Rattle.std.specs.Option.{option_or}
 use Rattle.link_net.specs.Neighbours.{Neighbours}
 use Rattle.rounds_plan.specs.Plans.{PlanView}
@@ -12,7 +12,7 @@ use Rattle.run_picture.specs.Chosen.{StylesView}
 use Rattle.run_picture.specs.Frames.{most_cells, refusal_of, values_after, values_in}
 use Rattle.run_picture.specs.Moving.{most_frames}
 use Rattle.run_picture.specs.Nets.{net_sheet}
-use Rattle.run_picture.specs.Shades.{KeyView, key_of}
+use Rattle.run_picture.specs.Shades.{IsKey, KeyView}
 use Rattle.run_picture.specs.Sheets.{sheet_text}
 
 -- the picture of the values of all nodes in one round, coloured by a key: cells in rows of a width, or the network
@@ -20,9 +20,13 @@ abbrev pub round_sheet : Layout → KeyView → Neighbours → List ℕ → List
 round_sheet (Cells width) key network values = sheet_text key width values
 round_sheet Network key network values = net_sheet key 1 1 network values
 
--- The pictures of the rounds of a span, in order. The colours follow from the values in all of these rounds, so that a value has the same one in each.
-abbrev pub round_sheets : StylesView → PlanView → SpanView → ℕ → Layout → List (List ℕ)
-round_sheets styles p span field layout = map (λ t. round_sheet layout (key_of styles (values_in p span field)) p.network (values_after p field t)) (rounds_in span)
+-- the pictures of the rounds of a span, in order, all coloured by one key
+abbrev pub round_sheets : KeyView → PlanView → SpanView → ℕ → Layout → List (List ℕ)
+round_sheets key p span field layout = map (λ t. round_sheet layout key p.network (values_after p field t)) (rounds_in span)
+
+-- The texts are these pictures. The colours follow from the values in all of these rounds, so that a value has the same one in each.
+abbrev pub AreRoundPictures : StylesView → PlanView → SpanView → ℕ → Layout → List (List ℕ) → Type 0
+AreRoundPictures styles p span field layout texts = (key : KeyView) × IsKey styles (values_in p span field) key × (texts ≡ round_sheets key p span field layout)
 
 -- the most lines of links in all pictures together
 abbrev pub most_strokes : ℕ

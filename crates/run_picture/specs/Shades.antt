@@ -1,6 +1,7 @@
 -- How values are coloured.
-use Rattle.std.specs.Prelude.{◌≡◌, ◌↔◌, ◌⊎◌, ◌<◌, ◌≤◌, ℕ, All, ◌+◌, ◌-◌, ◌*◌, ◌/◌, ◌==◌, ◌||◌, ◌&&◌, max, min, Bool, true, false, List, [], ◌∷◌, codes, if◌then◌else◌, length, nat_le, nat_lt, slice_get, slice_index, slice_index_or, take, Option, Some, None}
-use Rattle.std.specs.List.{IsAmong, insert, list_any, prefix_len, range_with_len}
+use Rattle.std.specs.Prelude.{◌≡◌, ◌≢◌, ◌↔◌, ◌⊎◌, ◌<◌, ◌≤◌, ℕ, All, Contains, ◌+◌, ◌-◌, ◌*◌, ◌/◌, ◌==◌, ◌||◌, ◌&&◌, min, Bool, true, false, List, [], ◌∷◌, codes, if◌then◌else◌, length, nat_le, nat_lt, slice_get, slice_index, slice_index_or, take, Option, Some, None}
+use Rattle.std.specs.List.{IsAmong, list_any, prefix_len, range_with_len}
+use Rattle.std.specs.List.Sorted.{IsStrictlyIncreasing}
 use Rattle.std.specs.Str.{bytes_eq}
 use Rattle.run_picture.specs.declared.chosen.Colour.{Colour}
 use Rattle.run_picture.specs.declared.chosen.ValueColour.{ValueColour}
@@ -14,55 +15,43 @@ no_value = 4294967295
 pub record KeyView : Type 0 where
   -- how values are shown
   pub styles : StylesView
-  -- the states and the values in the cells, rising, each once and without `no_value`; where there are more than nine, the least nine
+  -- the values that are shown, rising, each once; where there are more than nine, the least nine
   pub values : List ℕ
-  -- the greatest of them, or 0
+  -- the greatest of all that are shown, or 0
   pub greatest : ℕ
   -- whether `no_value` is in a cell
   pub none : Bool
-
--- the key where there are no cells
-abbrev pub blank_key : StylesView → KeyView
-blank_key styles = record { styles = styles; values = []; greatest = 0; none = false }
 
 -- how many of rising values are below this one
 abbrev pub rank : List ℕ → ℕ → ℕ
 rank values v = prefix_len (λ x. nat_lt x v) values
 
--- the value is one of these
-abbrev pub is_among : List ℕ → ℕ → Bool
-is_among values v = list_any (λ x. x == v) values
-
--- rising values, and this one at its place among them, once
-abbrev pub with_value : List ℕ → ℕ → List ℕ
-with_value values v = if is_among values v then values else insert values (rank values v) v
-
--- the key where there is one cell more
-abbrev pub with_cell : KeyView → ℕ → KeyView
-with_cell key v =
-    if v == no_value then record { styles = key.styles; values = key.values; greatest = key.greatest; none = true }
-    else record { styles = key.styles; values = take 9 (with_value key.values v); greatest = max key.greatest v; none = key.none }
-
--- the key where there are these cells more
-abbrev pub key_from : KeyView → List ℕ → KeyView
-key_from key [] = key
-key_from key (v ∷ cells) = key_from (with_cell key v) cells
-
 -- how many states a field has whose values have these names: each value below this is one. A field has 256 states at most.
 abbrev pub state_count : StylesView → ℕ
 state_count styles = min 256 (length styles.names)
-
--- the key of the states, whether or not a cell has one
-abbrev pub state_key : StylesView → KeyView
-state_key styles = key_from (blank_key styles) (range_with_len 0 (state_count styles))
 
 -- the value is one of the states, or says that there is none
 abbrev pub IsState : StylesView → ℕ → Type 0
 IsState styles v = (v < state_count styles) ⊎ (v ≡ no_value)
 
+-- the value is shown: it is one of the states, whether or not a cell has it, or it is the value of a cell and does not say that there is none
+abbrev pub IsShown : StylesView → List ℕ → ℕ → Type 0
+IsShown styles cells v = (v < state_count styles) ⊎ (Contains cells v × (v ≢ no_value))
+
 -- the key of cells whose values are shown in these styles
-abbrev pub key_of : StylesView → List ℕ → KeyView
-key_of styles cells = key_from (state_key styles) cells
+pub record IsKey (styles : StylesView) (cells : List ℕ) (key : KeyView) : Type 0 where
+  pub same_styles : key.styles ≡ styles
+  -- all values that are shown, rising, each once
+  pub shown : List ℕ
+  pub rising : IsStrictlyIncreasing shown
+  pub each : (v : ℕ) → Contains shown v ↔ IsShown styles cells v
+  -- the least nine of them; all of them where there are no more
+  pub least : key.values ≡ take 9 shown
+  -- the greatest of them, or 0 where there are none
+  pub below : All (λ v. v ≤ key.greatest) shown
+  pub reached : Contains shown key.greatest ⊎ (key.greatest ≡ 0)
+  -- whether `no_value` is in a cell
+  pub none : (key.none ≡ true) ↔ Contains cells no_value
 
 -- there are so few values that each has a colour of its own
 abbrev pub is_few : KeyView → Bool
@@ -72,7 +61,7 @@ is_few key = nat_le (length key.values) 8
 abbrev pub least_of : KeyView → ℕ
 least_of key = slice_index key.values 0
 
--- the step of a value, of 16 even ones from the least value to the greatest
+-- the step of a value, of 16 even ones from the least value to the greatest: how many sixteenths of the numbers between them lie below it (`Steps.AreSteps`)
 abbrev pub step_of : KeyView → ℕ → ℕ
 step_of key v = min 15 ((v - least_of key) * 16 / (key.greatest - least_of key + 1))
 
@@ -139,21 +128,34 @@ is_dark key class = if nat_lt class class_count then shade_is_dark class else ow
 abbrev pub ink_of : KeyView → ℕ → List ℕ
 ink_of key class = if is_dark key class then codes "#ffffff" else codes "#000000"
 
+-- ---- laws
+
+-- Each picture has a key.
+abbrev pub EachPictureHasAKey : Type 0
+EachPictureHasAKey = (styles : StylesView) (cells : List ℕ) → (key : KeyView) × IsKey styles cells key
+
+-- It has one key at most.
+abbrev pub KeysAreOne : Type 0
+KeysAreOne = (styles : StylesView) (cells : List ℕ) (key other : KeyView) → IsKey styles cells key → IsKey styles cells other → key ≡ other
+
+-- Each value that is shown lies from the least to the greatest.
+abbrev pub ValuesLieBetween : Type 0
+ValuesLieBetween = (styles : StylesView) (cells : List ℕ) (key : KeyView) (v : ℕ) → IsKey styles cells key → IsShown styles cells v → (least_of key ≤ v) × (v ≤ key.greatest)
+
 -- In a picture with few values two cells have the same class exactly where they have the same value.
 abbrev pub SameClassSameValue : Type 0
 SameClassSameValue =
-    (styles : StylesView) (cells : List ℕ) (v w : ℕ) → length (key_of styles cells).values ≤ 8 → IsAmong cells v → IsAmong cells w
-    → (class_of (key_of styles cells) v ≡ class_of (key_of styles cells) w) ↔ (v ≡ w)
+    (styles : StylesView) (cells : List ℕ) (key : KeyView) (v w : ℕ) → IsKey styles cells key → length key.values ≤ 8 → IsAmong cells v → IsAmong cells w
+    → (class_of key v ≡ class_of key w) ↔ (v ≡ w)
 
 -- Two cells in a picture with few values, neither of whose values has a colour of its own, have the same colour exactly where they have the same value.
 abbrev pub SameColourSameValue : Type 0
 SameColourSameValue =
-    (styles : StylesView) (cells : List ℕ) (v w : ℕ) → length (key_of styles cells).values ≤ 8 → has_own styles.colours v ≡ false → has_own styles.colours w ≡ false
-    → IsAmong cells v → IsAmong cells w
-    → (fill_of (key_of styles cells) (class_of (key_of styles cells) v) ≡ fill_of (key_of styles cells) (class_of (key_of styles cells) w)) ↔ (v ≡ w)
+    (styles : StylesView) (cells : List ℕ) (key : KeyView) (v w : ℕ) → IsKey styles cells key → length key.values ≤ 8 → has_own styles.colours v ≡ false → has_own styles.colours w ≡ false
+    → IsAmong cells v → IsAmong cells w → (fill_of key (class_of key v) ≡ fill_of key (class_of key w)) ↔ (v ≡ w)
 
 -- Where a field has states, few enough for a colour each, a state has the same class in each picture whose values are states: it does not hang on which of them occur.
 abbrev pub StatesKeepTheirColours : Type 0
 StatesKeepTheirColours =
-    (styles : StylesView) (cells others : List ℕ) (v : ℕ) → length (state_key styles).values ≤ 8 → All (IsState styles) cells → All (IsState styles) others
-    → class_of (key_of styles cells) v ≡ class_of (key_of styles others) v
+    (styles : StylesView) (cells others : List ℕ) (key other : KeyView) (v : ℕ) → state_count styles ≤ 8 → All (IsState styles) cells → All (IsState styles) others → IsKey styles cells key
+    → IsKey styles others other → class_of key v ≡ class_of other v

@@ -1,5 +1,5 @@
 -- Pictures of cells as SVG.
-use Rattle.std.specs.Prelude.{ℕ, ◌+◌, ◌-◌, ◌*◌, ◌/◌, ◌%◌, ◌==◌, max, min, List, [], ◌∷◌, ◌++◌, codes, if◌then◌else◌, length, slice_get, Option, Some, None}
+use Rattle.std.specs.Prelude.{◌≡◌, ℕ, ◌+◌, ◌-◌, ◌*◌, ◌/◌, ◌%◌, ◌==◌, max, min, List, [], ◌∷◌, ◌++◌, codes, if◌then◌else◌, length, slice_get, Option, Some, None}
 use Rattle.std.specs.Char.{encode_utf8}
 use Rattle.std.specs.Fmt.{decimal}
 use Rattle.std.specs.List.{flat_map}
@@ -9,7 +9,7 @@ use Rattle.run_picture.specs.declared.chosen.CellShape.{CellShape}
 use Rattle.run_picture.specs.declared.chosen.CellShape.TheVariants.{Square, Hexagon}
 use Rattle.run_picture.specs.declared.chosen.ValueColour.{ValueColour}
 use Rattle.run_picture.specs.Chosen.{StylesView, longest}
-use Rattle.run_picture.specs.Shades.{KeyView, class_of, class_total, fill_of, is_few, key_of, least_of, no_value}
+use Rattle.run_picture.specs.Shades.{IsKey, KeyView, class_of, class_total, fill_of, is_few, least_of, no_value}
 
 -- a character in the text of a picture: `&`, `<` and `>` mean something there
 abbrev pub markup_char : ℕ → List ℕ
@@ -161,6 +161,6 @@ sheet_text key width cells =
     opening_text (sheet_width key width (length cells)) (sheet_height key width (length cells))
     ++ (style_text key ++ (cells_text key width cells ++ (legend_text key (legend_top width (length cells)) ++ codes "</svg>\n")))
 
--- the picture of values in rows of a width
-abbrev pub picture_text : StylesView → ℕ → List ℕ → List ℕ
-picture_text styles width values = sheet_text (key_of styles values) width values
+-- the text is the picture of values in rows of a width
+abbrev pub IsPicture : StylesView → ℕ → List ℕ → List ℕ → Type 0
+IsPicture styles width values text = (key : KeyView) × IsKey styles values key × (text ≡ sheet_text key width values)

@@ -1,7 +1,10 @@
 //! Moving pictures of rounds.
-ghost use Rattle.std.specs.Prelude.{◌≡◌, ◌≢◌, Err, IfOk, IfErr, MatchOption, None, Some};
+ghost use Rattle.std.specs.Prelude.{◌≡◌, ◌≢◌, Err, IfOk, IfErr, MatchOption, None, Some, length};
 ghost use Rattle.run_picture.specs.declared.fault.PictureFault.TheVariants.{Memory};
-ghost use Rattle.run_picture.specs.Moving.{moving_refusal, rounds_picture};
+ghost use Rattle.run_picture.specs.Frames.{values_in};
+ghost use Rattle.run_picture.specs.Keys.{key_of};
+ghost use Rattle.run_picture.specs.Moving.{IsMovingPicture, moving_refusal, moving_sheet};
+ghost use Rattle.run_watch.specs.Spans.{count_of};
 
 use crate::fault::PictureFault;
 use crate::moving::{Pace, moving_of};
@@ -49,7 +52,7 @@ fn moving_text<P: Progress>(
     progress: &mut P,
 ) -> Result<Vec<u8>, AllocError>
     requires fits { moving_refusal plan.now span.now field width ≡ None }
-    ensures text { IfOk result (λ v. v.items ≡ rounds_picture styles.now plan.now span.now field width time) }
+    ensures text { IfOk result (λ v. v.items ≡ moving_sheet (key_of styles.now (values_in plan.now span.now field)) (count_of span.now) time width (length plan.now.network) (values_in plan.now span.now field)) }
 {
     // For the proof: how many nodes a plan may have.
     let _phase = plan.phase();
@@ -81,7 +84,7 @@ pub fn moving_picture<P: Progress>(
     styles: &ValueStyles<'_>,
     progress: &mut P,
 ) -> Result<Vec<u8>, PictureFault>
-    ensures text { IfOk result (λ v. v.items ≡ rounds_picture styles.now plan.now span.now field width time) }
+    ensures text { IfOk result (λ v. IsMovingPicture styles.now plan.now span.now field width time v.items) }
     ensures fits { IfOk result (λ _. moving_refusal plan.now span.now field width ≡ None) }
     ensures refused { IfErr result (λ fault. fault ≢ Memory → moving_refusal plan.now span.now field width ≡ Some fault) }
     ensures memory { IfErr result (λ fault. fault ≡ Memory → moving_refusal plan.now span.now field width ≡ None) }

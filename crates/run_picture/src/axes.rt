@@ -1,13 +1,14 @@
 //! The axes of curves.
 ghost use Rattle.std.specs.Prelude.{◌≡◌, ◌++◌, ◌<◌, ◌≤◌, OnOk, IfOk, string_bytes};
 ghost use Rattle.std.specs.List.{flat_map};
-ghost use Rattle.run_picture.specs.Curves.{count_line, count_lines, count_place, first_step, lowest_times, multiples, round_line, round_lines, round_place, step_over, ticks};
+ghost use Rattle.run_picture.specs.Curves.{count_line, count_lines, count_place, round_line, round_lines, round_place};
+ghost use Rattle.run_picture.specs.Ticks.{first_step, lowest_times, multiples, step_over, ticks};
 
 use run_watch::Span;
 use std::alloc::{AllocError, Global};
 
 /// The steps that an axis may have.
-const AXIS_STEPS: [u32; 25] = [
+const AXIS_STEPS: [u32; 27] = [
     1,
     2,
     5,
@@ -33,6 +34,8 @@ const AXIS_STEPS: [u32; 25] = [
     20_000_000,
     50_000_000,
     100_000_000,
+    200_000_000,
+    500_000_000,
 ];
 
 /// The first of some steps of which ten reach over a distance, and 1,000,000,000 where none does.
@@ -76,6 +79,7 @@ fn multiples(alloc: Global, step: u32, first: u32, last: u32) -> Result<Vec<u32>
 }
 
 /// The numbers that stand at an axis from a first number to a last one.
+#[tactic(auto, unfolding(crate::specs::Ticks::ticks))]
 fn ticks(alloc: Global, first: u32, last: u32) -> Result<Vec<u32>, AllocError>
     ensures numbers { IfOk result (λ numbers. numbers.items ≡ ticks first last) }
 {
@@ -132,7 +136,7 @@ pub(crate) fn put_round_lines(
     span: &Span,
 ) -> Result<(), AllocError>
     requires wide { span.now.first < span.now.last }
-    ensures text { OnOk result (string_bytes out.new ≡ string_bytes out.old ++ round_lines span.now) }
+    ensures text { OnOk result (string_bytes out.new ≡ string_bytes out.old ++ round_lines span.now (ticks span.now.first span.now.last)) }
 {
     let rounds = ticks(alloc, span.first(), span.last())?;
     for round in &rounds {
@@ -144,7 +148,7 @@ pub(crate) fn put_round_lines(
 /// The lines of an axis of numbers of nodes.
 pub(crate) fn put_count_lines(out: &mut String, alloc: Global, nodes: u32) -> Result<(), AllocError>
     requires some { 1 ≤ nodes }
-    ensures text { OnOk result (string_bytes out.new ≡ string_bytes out.old ++ count_lines nodes) }
+    ensures text { OnOk result (string_bytes out.new ≡ string_bytes out.old ++ count_lines nodes (ticks 0 nodes)) }
 {
     let counts = ticks(alloc, 0, nodes)?;
     for count in &counts {

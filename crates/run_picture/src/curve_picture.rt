@@ -112,7 +112,7 @@ fn count_text<P: Progress>(
 /// The curves of a field as SVG: how many nodes have each value in each round of a span of a plan, the rounds to the
 /// right and the nodes upwards, with axes. Each state has a curve, where there are 64 at most, and each value that a node
 /// has in one of these rounds, named and coloured as in `time_picture`, and below the curves stands which colour is which value. The points of a curve are whole numbers,
-/// `each_round_has_its_point` says which. In one pass over the rounds: none is computed twice. Each round is shared among
+/// `each_round_has_its_point` says which, and `each_axis_has_its_ticks` which numbers stand at the axes. In one pass over the rounds: none is computed twice. Each round is shared among
 /// as many threads as there are processors where it has enough to compute for them.
 ///
 /// `TooManyRounds` comes where the last round is above 1,000,000,000, else `RoundsBelowStart` where the first lies

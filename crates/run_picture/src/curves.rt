@@ -1,7 +1,9 @@
 //! Curves of counts, as SVG.
 ghost use Rattle.std.specs.Prelude.{◌≡◌, ◌++◌, ◌<◌, ◌≤◌, OnOk, IfOk, string_bytes};
 ghost use Rattle.std.specs.List.{flat_map};
-ghost use Rattle.run_picture.specs.Curves.{axes_text, curve_text, curves_height, curves_picture, curves_text, line_text, plot_text, plotted, point_text, points_text, styles_text, title_text, view_text};
+ghost use Rattle.run_picture.specs.Curves.{axes_text, curve_text, curves_height, curves_text, line_text, plot_text, plotted, point_text, points_text, styles_text, title_text, view_text};
+ghost use Rattle.run_picture.specs.Keys.{key_of};
+ghost use Rattle.run_picture.specs.Ticks.{ticks};
 
 use crate::axes::{put_count_lines, put_round_lines};
 use crate::colour::{class_of, fill_of};
@@ -145,7 +147,7 @@ fn put_plot(
 ) -> Result<(), AllocError>
     requires wide { span.now.first < span.now.last }
     requires some { 1 ≤ nodes }
-    ensures text { OnOk result (string_bytes out.new ≡ string_bytes out.old ++ plot_text span.now nodes key.now rows.now values.now) }
+    ensures text { OnOk result (string_bytes out.new ≡ string_bytes out.old ++ plot_text span.now nodes (ticks span.now.first span.now.last) (ticks 0 nodes) key.now rows.now values.now) }
 {
     put_round_lines(out, alloc, span)?;
     put_count_lines(out, alloc, nodes)?;
@@ -184,7 +186,7 @@ fn put_sheet(
 ) -> Result<(), AllocError>
     requires wide { span.now.first < span.now.last }
     requires some { 1 ≤ nodes }
-    ensures text { OnOk result (string_bytes out.new ≡ string_bytes out.old ++ plotted span.now nodes key.now rows.now values.now) }
+    ensures text { OnOk result (string_bytes out.new ≡ string_bytes out.old ++ plotted span.now nodes (ticks span.now.first span.now.last) (ticks 0 nodes) key.now rows.now values.now) }
 {
     put_opening(out, 744, curves_height(key))?;
     put_styles(out, key)?;
@@ -204,7 +206,7 @@ pub(crate) fn curves_picture(
 ) -> Result<Vec<u8>, AllocError>
     requires wide { span.now.first < span.now.last }
     requires some { 1 ≤ nodes }
-    ensures text { IfOk result (λ v. v.items ≡ curves_picture styles.now span.now nodes rows.now values.now) }
+    ensures text { IfOk result (λ v. v.items ≡ plotted span.now nodes (ticks span.now.first span.now.last) (ticks 0 nodes) (key_of styles.now values.now) rows.now values.now) }
 {
     let key = key_of(alloc, styles, values)?;
     let mut out = String::new(alloc);

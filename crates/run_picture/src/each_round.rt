@@ -2,7 +2,9 @@
 ghost use Rattle.std.specs.Prelude.{◌≡◌, ◌≢◌, ◌≤◌, ◌+◌, ◌*◌, Err, IfOk, IfErr, MatchOption, None, Some, drop, length, map, take};
 ghost use Rattle.link_net.specs.Neighbours.{numbers_below};
 ghost use Rattle.run_picture.specs.declared.fault.PictureFault.TheVariants.{Memory};
-ghost use Rattle.run_picture.specs.Series.{HasCells, layout_refusal, round_sheet, round_sheets, series_refusal};
+ghost use Rattle.run_picture.specs.Frames.{values_in};
+ghost use Rattle.run_picture.specs.Keys.{key_of};
+ghost use Rattle.run_picture.specs.Series.{AreRoundPictures, HasCells, layout_refusal, round_sheet, round_sheets, series_refusal};
 
 use crate::animation::MOST_FRAMES;
 use crate::fault::PictureFault;
@@ -133,7 +135,7 @@ fn series_texts<P: Progress>(
     progress: &mut P,
 ) -> Result<Vec<Vec<u8>>, AllocError>
     requires fits { series_refusal plan.now span.now field layout ≡ None }
-    ensures texts { IfOk result (λ v. map (λ text. text.items) v.items ≡ round_sheets styles.now plan.now span.now field layout) }
+    ensures texts { IfOk result (λ v. map (λ text. text.items) v.items ≡ round_sheets (key_of styles.now (values_in plan.now span.now field)) plan.now span.now field layout) }
 {
     let values = values_in(rt, alloc, plan, span, field, progress)?;
     let key = key_of(alloc, styles, &values)?;
@@ -162,7 +164,7 @@ pub fn round_pictures<P: Progress>(
     styles: &ValueStyles<'_>,
     progress: &mut P,
 ) -> Result<Vec<Vec<u8>>, PictureFault>
-    ensures texts { IfOk result (λ v. map (λ text. text.items) v.items ≡ round_sheets styles.now plan.now span.now field layout) }
+    ensures texts { IfOk result (λ v. AreRoundPictures styles.now plan.now span.now field layout (map (λ text. text.items) v.items)) }
     ensures fits { IfOk result (λ _. series_refusal plan.now span.now field layout ≡ None) }
     ensures refused { IfErr result (λ fault. fault ≢ Memory → series_refusal plan.now span.now field layout ≡ Some fault) }
     ensures memory { IfErr result (λ fault. fault ≡ Memory → series_refusal plan.now span.now field layout ≡ None) }

@@ -1,6 +1,7 @@
 //! What the colours of cells follow from.
 ghost use Rattle.std.specs.Prelude.{◌≡◌, OnOk, IfOk, take};
-ghost use Rattle.run_picture.specs.Shades.{blank_key, is_among, is_few, key_of, least_of, rank, state_count, state_key, with_cell, with_value};
+ghost use Rattle.run_picture.specs.Keys.{blank_key, is_among, key_of, state_key, with_cell, with_value};
+ghost use Rattle.run_picture.specs.Shades.{is_few, least_of, rank, state_count};
 
 use crate::styles::ValueStyles;
 use std::alloc::{AllocError, AllocFailed, Global};

@@ -4,7 +4,39 @@ ghost use Rattle.run_picture.specs.DrawnLinks.{EachLinkIsDrawnOnce, LinesTellLin
 ghost use Rattle.run_picture.specs.Moving.{EachFrameHasItsColours, EachFrameHasItsTime};
 ghost use Rattle.run_picture.specs.Nets.{EachLinkHasItsLine};
 ghost use Rattle.run_picture.specs.Placed.{EachCellHasItsPlace, TextTellsCells};
-ghost use Rattle.run_picture.specs.Shades.{SameClassSameValue, SameColourSameValue, StatesKeepTheirColours};
+ghost use Rattle.run_picture.specs.Shades.{EachPictureHasAKey, KeysAreOne, SameClassSameValue, SameColourSameValue, StatesKeepTheirColours, ValuesLieBetween};
+ghost use Rattle.run_picture.specs.Steps.{EachStepHasItsShare, ScalesAreWide, StepsAreEven, StepsAreOne, StepsGoFromEndToEnd};
+ghost use Rattle.run_picture.specs.Ticks.{EachAxisHasTicks, TicksAreFew, TicksAreOne};
+
+/// Each picture has one key, from which its colours and its legend follow: the least nine of the values that are shown,
+/// rising, the greatest of them, and whether a cell says that there is none. Each value that is shown, a state or the value
+/// of a cell, lies from the least to the greatest.
+pub fn each_picture_has_one_key()
+    ensures some { EachPictureHasAKey }
+    ensures one { KeysAreOne }
+    ensures ends { ValuesLieBetween }
+{}
+
+/// More than eight values are shown on 16 steps, which rise with the numbers from the least value to the greatest: the first
+/// s of them have together s sixteenths of these numbers, rounded up, so that each has a sixteenth, rounded down or up.
+/// There are no other such steps. These numbers are nine at least. The least value has the first step, and the greatest the
+/// last, or that before it where they are fewer than 16.
+pub fn steps_are_even()
+    ensures steps { StepsAreEven }
+    ensures one { StepsAreOne }
+    ensures shares { EachStepHasItsShare }
+    ensures wide { ScalesAreWide }
+    ensures ends { StepsGoFromEndToEnd }
+{}
+
+/// At an axis stand the multiples of a step, rising, from its first number to its last one: of the least step that is 1, 2 or
+/// 5 times a power of ten and of which ten reach over the axis. Each axis of numbers of 32 bits has such numbers, no axis has
+/// others, and they are eleven at most.
+pub fn each_axis_has_its_ticks()
+    ensures some { EachAxisHasTicks }
+    ensures one { TicksAreOne }
+    ensures few { TicksAreFew }
+{}
 
 /// In a picture with few values two cells have the same class of colours exactly where they have the same value, and, where
 /// neither value has a colour of its own, the same colour. Where a field has states, few enough for a colour each, the class

@@ -35,8 +35,9 @@ pub use curve_picture::{MOST_CURVES, MOST_POINTS, count_picture};
 pub use each_round::{Layout, MOST_STROKES, round_pictures};
 pub use fault::PictureFault;
 pub use laws::{
-    each_cell_has_its_place, each_frame_has_its_colours, each_link_has_its_line,
-    each_link_is_drawn_once, each_round_has_its_point, same_class_same_value,
+    each_axis_has_its_ticks, each_cell_has_its_place, each_frame_has_its_colours,
+    each_link_has_its_line, each_link_is_drawn_once, each_picture_has_one_key,
+    each_round_has_its_point, same_class_same_value, steps_are_even,
 };
 pub use net_rounds::network_picture;
 pub use network::network_dot;

@@ -1,6 +1,7 @@
 //! Cells that change from frame to frame, as SVG.
 ghost use Rattle.std.specs.Prelude.{◌≡◌, ◌++◌, ◌≤◌, ◌<◌, ◌*◌, OnOk, IfOk, length, slice_index, string_bytes};
-ghost use Rattle.run_picture.specs.Moving.{animate_text, begins, changing_text, clock_text, course_text, fills_text, fraction_text, last_text, most_frames, moving_cells, moving_group, moving_picture, moving_text, node_cell, node_text, place_text, times_text, turn_text};
+ghost use Rattle.run_picture.specs.Keys.{key_of};
+ghost use Rattle.run_picture.specs.Moving.{animate_text, begins, changing_text, clock_text, course_text, fills_text, fraction_text, last_text, most_frames, moving_cells, moving_group, moving_sheet, moving_text, node_cell, node_text, place_text, times_text, turn_text};
 
 use crate::changes::{Change, changes_of, classes_of};
 use crate::chosen::CellShape;
@@ -282,7 +283,7 @@ pub(crate) fn moving_of(
     requires some { 1 ≤ pace.frames }
     requires few { pace.frames ≤ most_frames }
     requires nodes { nodes ≤ 65536 }
-    ensures text { IfOk result (λ v. v.items ≡ moving_picture styles.now pace.frames pace.time width nodes values.now) }
+    ensures text { IfOk result (λ v. v.items ≡ moving_sheet (key_of styles.now values.now) pace.frames pace.time width nodes values.now) }
 {
     let key = key_of(alloc, styles, values)?;
     let mut out = String::new(alloc);

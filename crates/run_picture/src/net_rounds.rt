@@ -1,7 +1,10 @@
 //! Pictures of a network in the rounds of a plan.
 ghost use Rattle.std.specs.Prelude.{◌≡◌, ◌≢◌, Err, IfOk, IfErr, MatchOption, None, Some};
 ghost use Rattle.run_picture.specs.declared.fault.PictureFault.TheVariants.{Memory};
-ghost use Rattle.run_picture.specs.Nets.{net_picture, net_refusal};
+ghost use Rattle.run_picture.specs.Frames.{values_in};
+ghost use Rattle.run_picture.specs.Keys.{key_of};
+ghost use Rattle.run_picture.specs.Nets.{IsNetPicture, net_refusal, net_sheet};
+ghost use Rattle.run_watch.specs.Spans.{count_of};
 
 use crate::animation::MOST_FRAMES;
 use crate::fault::PictureFault;
@@ -45,7 +48,7 @@ fn net_text<P: Progress>(
     progress: &mut P,
 ) -> Result<Vec<u8>, AllocError>
     requires fits { net_refusal plan.now span.now field ≡ None }
-    ensures text { IfOk result (λ v. v.items ≡ net_picture styles.now plan.now span.now field time) }
+    ensures text { IfOk result (λ v. v.items ≡ net_sheet (key_of styles.now (values_in plan.now span.now field)) (count_of span.now) time plan.now.network (values_in plan.now span.now field)) }
 {
     let values = values_in(rt, alloc, plan, span, field, progress)?;
     let key = key_of(alloc, styles, &values)?;
@@ -74,7 +77,7 @@ pub fn network_picture<P: Progress>(
     styles: &ValueStyles<'_>,
     progress: &mut P,
 ) -> Result<Vec<u8>, PictureFault>
-    ensures text { IfOk result (λ v. v.items ≡ net_picture styles.now plan.now span.now field time) }
+    ensures text { IfOk result (λ v. IsNetPicture styles.now plan.now span.now field time v.items) }
     ensures fits { IfOk result (λ _. net_refusal plan.now span.now field ≡ None) }
     ensures refused { IfErr result (λ fault. fault ≢ Memory → net_refusal plan.now span.now field ≡ Some fault) }
     ensures memory { IfErr result (λ fault. fault ≡ Memory → net_refusal plan.now span.now field ≡ None) }

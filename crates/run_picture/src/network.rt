@@ -1,8 +1,9 @@
 //! Networks for Graphviz.
 ghost use Rattle.std.specs.Prelude.{◌≡◌, ◌≢◌, ◌≤◌, ◌++◌, Err, IfOk, IfErr, MatchOption, None, OnOk, Some, length, map, string_bytes};
 ghost use Rattle.run_picture.specs.declared.fault.PictureFault.TheVariants.{Memory};
-ghost use Rattle.run_picture.specs.Drawn.{graph_text, head_text, network_text};
-ghost use Rattle.run_picture.specs.Frames.{refusal_of};
+ghost use Rattle.run_picture.specs.Drawn.{IsNetworkText, graph_text, head_text};
+ghost use Rattle.run_picture.specs.Frames.{refusal_of, values_after};
+ghost use Rattle.run_picture.specs.Keys.{key_of};
 
 use crate::fault::PictureFault;
 use crate::graph::put_nodes;
@@ -36,7 +37,7 @@ fn graph_of(
     values: &[u32],
 ) -> Result<Vec<u8>, AllocError>
     requires few { length values.now ≤ 65536 }
-    ensures text { IfOk result (λ v. v.items ≡ graph_text styles.now network.now (map string_bytes labels.now) round values.now) }
+    ensures text { IfOk result (λ v. v.items ≡ graph_text (key_of styles.now values.now) network.now (map string_bytes labels.now) round values.now) }
 {
     let key = key_of(alloc, styles, values)?;
     let mut out = String::new(alloc);
@@ -58,7 +59,7 @@ fn text_of(
     styles: &ValueStyles<'_>,
 ) -> Result<Vec<u8>, AllocError>
     requires fits { refusal_of plan.now round round field ≡ None }
-    ensures text { IfOk result (λ v. v.items ≡ network_text styles.now plan.now (map string_bytes labels.now) round field) }
+    ensures text { IfOk result (λ v. v.items ≡ graph_text (key_of styles.now (values_after plan.now field round)) plan.now.network (map string_bytes labels.now) round (values_after plan.now field round)) }
 {
     // For the proof: how many nodes a plan may have.
     let _phase = plan.phase();
@@ -84,7 +85,7 @@ pub fn network_dot(
     labels: &[String],
     styles: &ValueStyles<'_>,
 ) -> Result<Vec<u8>, PictureFault>
-    ensures text { IfOk result (λ v. v.items ≡ network_text styles.now plan.now (map string_bytes labels.now) round field) }
+    ensures text { IfOk result (λ v. IsNetworkText styles.now plan.now (map string_bytes labels.now) round field v.items) }
     ensures fits { IfOk result (λ _. refusal_of plan.now round round field ≡ None) }
     ensures refused { IfErr result (λ fault. fault ≢ Memory → refusal_of plan.now round round field ≡ Some fault) }
     ensures memory { IfErr result (λ fault. fault ≡ Memory → refusal_of plan.now round round field ≡ None) }

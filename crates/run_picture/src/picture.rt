@@ -2,7 +2,8 @@
 ghost use Rattle.std.specs.Prelude.{◌≡◌, ◌≢◌, Err, IfOk, IfErr, MatchOption, None, Some, length};
 ghost use Rattle.run_picture.specs.declared.fault.PictureFault.TheVariants.{Memory};
 ghost use Rattle.run_picture.specs.Frames.{grid_refusal, time_refusal, values_after, values_in};
-ghost use Rattle.run_picture.specs.Sheets.{picture_text};
+ghost use Rattle.run_picture.specs.Keys.{key_of};
+ghost use Rattle.run_picture.specs.Sheets.{IsPicture, sheet_text};
 
 use crate::fault::PictureFault;
 use crate::sheet::picture_of;
@@ -54,7 +55,7 @@ fn time_text<P: Progress>(
     progress: &mut P,
 ) -> Result<Vec<u8>, AllocError>
     requires fits { time_refusal plan.now span.now field ≡ None }
-    ensures text { IfOk result (λ v. v.items ≡ picture_text styles.now (length plan.now.network) (values_in plan.now span.now field)) }
+    ensures text { IfOk result (λ v. v.items ≡ sheet_text (key_of styles.now (values_in plan.now span.now field)) (length plan.now.network) (values_in plan.now span.now field)) }
 {
     let values = values_in(rt, alloc, plan, span, field, progress)?;
     picture_of(alloc, styles, plan.network().nodes(), &values)
@@ -71,7 +72,7 @@ fn grid_text(
     styles: &ValueStyles<'_>,
 ) -> Result<Vec<u8>, AllocError>
     requires fits { grid_refusal plan.now round field width ≡ None }
-    ensures text { IfOk result (λ v. v.items ≡ picture_text styles.now width (values_after plan.now field round)) }
+    ensures text { IfOk result (λ v. v.items ≡ sheet_text (key_of styles.now (values_after plan.now field round)) width (values_after plan.now field round)) }
 {
     // For the proof: how many nodes a plan may have.
     let _phase = plan.phase();
@@ -83,9 +84,10 @@ fn grid_text(
 /// across by rising number, and each value a cell with the colour of its value. Below the cells stands which colour is
 /// which value: each of up to eight values has a colour of its own, more are on a scale of 16 steps, and 4294967295 is
 /// grey, but for values for which the styles have a colour; a value is called by its name in the styles, and past the last
-/// name by its number. `each_cell_has_its_place` says where each cell stands, and `same_class_same_value` when two have the same
-/// colour. In one pass over the rounds: none is computed twice. Each round is shared among as many threads as there are
-/// processors where it has enough to compute for them.
+/// name by its number. `each_picture_has_one_key` says which values these are, `steps_are_even` what the steps are,
+/// `each_cell_has_its_place` where each cell stands, and `same_class_same_value` when two have the same colour. In one pass
+/// over the rounds: none is computed twice. Each round is shared among as many threads as there are processors where it has
+/// enough to compute for them.
 ///
 /// `TooManyRounds` comes where the last round is above 1,000,000,000, else `RoundsBelowStart` where the first lies
 /// before the plan's start, else `NoField` where the program has no field at this place, and else `TooManyCells` where
@@ -99,7 +101,7 @@ pub fn time_picture<P: Progress>(
     styles: &ValueStyles<'_>,
     progress: &mut P,
 ) -> Result<Vec<u8>, PictureFault>
-    ensures text { IfOk result (λ v. v.items ≡ picture_text styles.now (length plan.now.network) (values_in plan.now span.now field)) }
+    ensures text { IfOk result (λ v. IsPicture styles.now (length plan.now.network) (values_in plan.now span.now field) v.items) }
     ensures fits { IfOk result (λ _. time_refusal plan.now span.now field ≡ None) }
     ensures refused { IfErr result (λ fault. fault ≢ Memory → time_refusal plan.now span.now field ≡ Some fault) }
     ensures memory { IfErr result (λ fault. fault ≡ Memory → time_refusal plan.now span.now field ≡ None) }
@@ -127,7 +129,7 @@ pub fn grid_picture(
     width: u32,
     styles: &ValueStyles<'_>,
 ) -> Result<Vec<u8>, PictureFault>
-    ensures text { IfOk result (λ v. v.items ≡ picture_text styles.now width (values_after plan.now field round)) }
+    ensures text { IfOk result (λ v. IsPicture styles.now width (values_after plan.now field round) v.items) }
     ensures fits { IfOk result (λ _. grid_refusal plan.now round field width ≡ None) }
     ensures refused { IfErr result (λ fault. fault ≢ Memory → grid_refusal plan.now round field width ≡ Some fault) }
     ensures memory { IfErr result (λ fault. fault ≡ Memory → grid_refusal plan.now round field width ≡ None) }

@@ -2,8 +2,9 @@
 ghost use Rattle.std.specs.Prelude.{◌≡◌, ◌++◌, ◌≤◌, OnOk, IfOk, length, string_bytes};
 ghost use Rattle.std.specs.List.{flat_map};
 ghost use Rattle.link_net.specs.Neighbours.{numbers_below};
+ghost use Rattle.run_picture.specs.Keys.{key_of};
 ghost use Rattle.run_picture.specs.Shades.{class_total};
-ghost use Rattle.run_picture.specs.Sheets.{cell_text, cells_text, class_style, columns_of, lattice, legend_top, opening_text, outline, overhang, picture_text, rows_of, rows_text, sheet_height, sheet_text, sheet_width, side_of, style_text};
+ghost use Rattle.run_picture.specs.Sheets.{cell_text, cells_text, class_style, columns_of, lattice, legend_top, opening_text, outline, overhang, rows_of, rows_text, sheet_height, sheet_text, sheet_width, side_of, style_text};
 
 use crate::chosen::CellShape;
 use crate::colour::{class_of, class_total, put_fill};
@@ -239,7 +240,7 @@ pub(crate) fn picture_of(
 ) -> Result<Vec<u8>, AllocError>
     requires width { 1 ≤ width }
     requires count { length values.now ≤ 1000000 }
-    ensures text { IfOk result (λ v. v.items ≡ picture_text styles.now width values.now) }
+    ensures text { IfOk result (λ v. v.items ≡ sheet_text (key_of styles.now values.now) width values.now) }
 {
     let key = key_of(alloc, styles, values)?;
     sheet_of(alloc, &key, width, values)

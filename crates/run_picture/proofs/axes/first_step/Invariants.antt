@@ -1,5 +1,5 @@
 use Rattle.std.proofs.Common.{◌≡◌, drop}
-use Rattle.run_picture.specs.Curves.{first_step}
+use Rattle.run_picture.specs.Ticks.{first_step}
 use Rattle.run_picture.proofs.axes.first_step.Given as goal
 
 abbrev pub invariant-loop-step : goal.invariant-loop-step

@@ -1,6 +1,6 @@
 use Rattle.std.proofs.Common.{◌≡◌, ◌++◌, ◌+◌, ◌-◌, ◌*◌, ◌/◌, ℕ, map}
 use Rattle.std.specs.List.{range_with_len}
-use Rattle.run_picture.specs.Curves.{multiples}
+use Rattle.run_picture.specs.Ticks.{multiples}
 use Rattle.run_picture.proofs.axes.multiples.Given as goal
 
 abbrev pub invariant-loop-times : goal.invariant-loop-times

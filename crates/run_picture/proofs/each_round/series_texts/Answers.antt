@@ -1,6 +1,6 @@
 use Rattle.std.proofs.Common.{◌∙◌, ◌+◌, ◌*◌, ℕ, ap, length, sym}
 use Rattle.link_net.specs.Neighbours.{Neighbours}
-use Rattle.run_picture.specs.Shades.{key_of}
+use Rattle.run_picture.specs.Keys.{key_of}
 use Rattle.run_picture.proofs.Counts.{values_total}
 use Rattle.run_picture.proofs.RoundParts.{sheets_are}
 use Rattle.run_picture.proofs.each_round.series_texts.Goals as goal

@@ -1,5 +1,5 @@
 use Rattle.std.proofs.Common.{◌≡◌, drop}
-use Rattle.run_picture.specs.Shades.{is_among}
+use Rattle.run_picture.specs.Keys.{is_among}
 use Rattle.run_picture.proofs.key.is_among.Given as goal
 
 abbrev pub invariant-loop-known : goal.invariant-loop-known

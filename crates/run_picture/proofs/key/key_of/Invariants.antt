@@ -1,5 +1,5 @@
 use Rattle.std.proofs.Common.{◌≡◌, drop}
-use Rattle.run_picture.specs.Shades.{key_from, key_of}
+use Rattle.run_picture.specs.Keys.{key_from, key_of}
 use Rattle.run_picture.proofs.key.key_of.Given as goal
 
 abbrev pub invariant-loop-cell : goal.invariant-loop-cell

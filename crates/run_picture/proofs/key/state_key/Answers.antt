@@ -1,6 +1,7 @@
 use Rattle.std.proofs.Common.{◌≡◌, ◌∙◌, ◌<◌, ◌+◌, ◌-◌, ℕ, suc, ◌∷◌, List, ap, arith, sym}
 use Rattle.std.specs.List.{range_with_len}
-use Rattle.run_picture.specs.Shades.{KeyView, key_from, state_count}
+use Rattle.run_picture.specs.Keys.{key_from}
+use Rattle.run_picture.specs.Shades.{KeyView, state_count}
 use Rattle.run_picture.proofs.key.state_key.Goals as goal
 
 range_left : (k n : ℕ) → k < n → range_with_len k (n - k) ≡ k ∷ range_with_len (k + 1) (n - (k + 1))

@@ -1,6 +1,4 @@
-use Rattle.run_picture.proofs.Fills.{same_colour_same_value}
-use Rattle.run_picture.proofs.StateColours.{states_keep_their_colours}
-use Rattle.run_picture.proofs.Told.{same_class_same_value}
+use Rattle.run_picture.proofs.KeyLaws.{same_class_same_value, same_colour_same_value, states_keep_their_colours}
 use Rattle.run_picture.proofs.laws.same_class_same_value.Goals as goal
 
 pub returns : goal.returns
