@@ -5,7 +5,7 @@ ghost use Rattle.large_calls.specs.Tellings.{told_count, told_in};
 
 use crate::states::add_states;
 use crate::tally::add_counts;
-use large_rounds::push_column;
+use rounds_walk::push_column;
 use rule_check::State;
 use std::alloc::{AllocError, Global};
 

@@ -1,6 +1,6 @@
 use Rattle.std.proofs.Common.{◌≡◌, ◌∙◌, ap, arith, length}
 use Rattle.rounds_plan.specs.Lockstep.{lockstep_states}
-use Rattle.lockstep.specs.Walking.{RoundView}
+use Rattle.rounds_walk.specs.Walking.{RoundView}
 use Rattle.large_calls.proofs.Moves.{round_count}
 use Rattle.large_calls.proofs.Watches.{config_count}
 use Rattle.large_calls.proofs.told.add_round.Goals as goal
