@@ -9,7 +9,7 @@ use Rattle.std.proofs.lemmas.List.FromFn.{get_or-map-range_with_len, length-map-
 use Rattle.rule_check.specs.declared.state.State.{State}
 use Rattle.rule_check.specs.Value.{Rules}
 use Rattle.link_net.specs.Neighbours.{Neighbours}
-use Rattle.large_rounds.specs.LargePlans.{is_stray, large_plan_of}
+use Rattle.rounds_walk.specs.Starts.{is_stray, start_of}
 use Rattle.rounds_plan.specs.declared.fault.RoundFault.TheVariants.{RoundsBelowStart, TooManyRounds}
 use Rattle.rounds_plan.specs.Configs.{most_rounds}
 use Rattle.rounds_plan.specs.Lockstep.{lockstep, lockstep_config, lockstep_states, rounds_of}
@@ -42,7 +42,7 @@ plain_states fields nodes words =
 
 -- there is a plan that opens with them
 pub plan_there : (program : Rules) (rows : Neighbours) (words : List ℕ) (start : ℕ) → 1 ≤ length rows → start ≤ most_rounds
-    → large_plan_of program rows (states_of (length program.fields) (length rows) words) start ≡ Ok (words_plan program rows words start)
+    → start_of program rows (states_of (length program.fields) (length rows) words) start ≡ Ok (words_plan program rows words start)
 plan_there program rows words start some early =
     let fields = length program.fields in
     let opening = states_of fields (length rows) words in

@@ -2,7 +2,7 @@
 use Rattle.std.specs.Prelude.{ℕ, ◌==◌, Bool, not, List, [], ◌∷◌, ◌++◌, count_by, map}
 use Rattle.std.specs.List.{list_any}
 use Rattle.rule_check.specs.declared.state.State.{State}
-use Rattle.large_rounds.specs.Columns.{column}
+use Rattle.rounds_walk.specs.Columns.{column}
 
 -- the value is one of these
 abbrev pub is_in : List ℕ → ℕ → Bool

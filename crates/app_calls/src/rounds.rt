@@ -10,8 +10,9 @@ ghost use Rattle.app_calls.specs.Words.{entry_fault, list_fault, words_at, words
 use crate::fault::Fault;
 use crate::plans::{plan_of, put_shape, word_count};
 use crate::words::{add_config, put_words};
-use lockstep::{Course, RoundWalk, lockstep};
+use lockstep::lockstep;
 use rounds_plan::{MOST_ROUNDS, Plan, RoundFault};
+use rounds_walk::{RoundWalk, Start};
 use std::alloc::{AllocError, Global};
 
 /// Why the plan does not have a round, if it does not.
@@ -113,9 +114,11 @@ fn check_rounds(plan: &Plan, rounds: &[u32]) -> Result<(), Fault>
 fn add_round(
     alloc: Global,
     words: &mut Vec<u32>,
+    plan: &Plan,
     walk: &mut RoundWalk<'_>,
     round: u32,
 ) -> Result<(), AllocError>
+    requires plan { walk.old.plan ≡ plan.now }
     requires late { walk.old.round ≤ round }
     requires few { round ≤ most_rounds }
     ensures added { OnOk result (words.new.items ≡ words.old.items ++ words_of (lockstep_config walk.old.plan round)) }
@@ -123,7 +126,7 @@ fn add_round(
     ensures there { OnOk result (walk.new ≡ record { plan = walk.old.plan; round = round }) }
 {
     walk.go_to(round);
-    let config = walk.config(alloc)?;
+    let config = walk.config(alloc, plan)?;
     add_config(words, &config)?;
     Ok(())
 }
@@ -134,11 +137,11 @@ fn rounds_words(alloc: Global, plan: &Plan, rounds: &[u32]) -> Result<Vec<u32>, 
     ensures words { IfOk result (λ v. v.items ≡ words_at plan.now rounds.now) }
     ensures count { IfOk result (λ v. length v.items ≡ length rounds.now * word_count plan.now) }
 {
-    let course = Course::new(alloc, plan)?;
-    let mut walk = course.walk(alloc)?;
+    let start = Start::of_plan(alloc, plan)?;
+    let mut walk = start.walk(alloc)?;
     let mut words = Vec::new(alloc);
     for round in rounds {
-        add_round(alloc, &mut words, &mut walk, *round)?;
+        add_round(alloc, &mut words, plan, &mut walk, *round)?;
     }
     Ok(words)
 }

@@ -10,4 +10,4 @@ mod states;
 pub use fault::PartFault;
 pub use laws::parts_make_the_round;
 pub use round::part_round;
-pub use states::{put_state, put_words, state_of};
+pub use states::{put_state, put_words, state_of, state_rows};

@@ -1,9 +1,10 @@
 //! States, and the words of their fields, node by node.
-ghost use Rattle.std.specs.Prelude.{◌≡◌, ◌+◌, ◌*◌, ◌++◌, ◌<◌, ◌≤◌, length, take, drop};
+ghost use Rattle.std.specs.Prelude.{◌≡◌, ◌+◌, ◌*◌, ◌++◌, ◌<◌, ◌≤◌, IfOk, length, take, drop};
 ghost use Rattle.rounds_plan.specs.Lockstep.{state_in};
-ghost use Rattle.large_parts.specs.States.{state_of, states_of};
+ghost use Rattle.large_parts.specs.States.{state_of, states_of, words_in};
 
 use rule_check::State;
+use std::alloc::{AllocError, Global};
 
 /// Puts words at a place.
 pub fn put_words(words: &mut [u32], first: usize, new: &[u32])
@@ -42,4 +43,22 @@ pub fn put_state(words: &mut [u32], first: usize, state: &State, fields: usize)
     ensures count { length (take fields state.now.words) ≡ fields }
 {
     put_words(words, first, &state.words[..fields]);
+}
+
+/// The values of the first so many fields; all eight words where there are not so many.
+fn first_fields(state: &State, fields: u32) -> &[u32]
+    ensures { result.now ≡ take fields state.now.words }
+{
+    &state.words[..(fields as usize).min(8)]
+}
+
+/// The values of the first so many fields, state by state, each in order of declaration.
+pub fn state_rows(alloc: Global, states: &[State], fields: u32) -> Result<Vec<u32>, AllocError>
+    ensures rows { IfOk result (λ v. v.items ≡ words_in fields states.now) }
+{
+    let mut words = Vec::new(alloc);
+    for state in states {
+        words.extend_from_slice(first_fields(state, fields))?;
+    }
+    Ok(words)
 }

@@ -1,4 +1,1 @@
-pub mod Held
-pub mod Stays
-pub mod Alike
 mod RoundAnswers

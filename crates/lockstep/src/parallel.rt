@@ -3,11 +3,20 @@ ghost use Rattle.std.specs.Prelude.{◌≡◌, IfErr, Err};
 ghost use Rattle.rounds_plan.specs.Answer.{IsAnswer};
 ghost use Rattle.rounds_plan.specs.Lockstep.{rounds_of};
 
-use crate::round_walk::{Course, is_worth_threads};
-use crate::rounds::{check_round, lockstep};
+use crate::rounds::lockstep;
+use rayon::current_num_threads;
+use rounds_blocks::is_worth_sharing;
 use rounds_plan::{Config, Plan, RoundFault};
+use rounds_walk::{Start, check_round};
 use std::alloc::Global;
 use std::thread::Threads;
+
+/// Whether a whole round of a plan has as much work as threads have to save.
+fn is_worth_threads(plan: &Plan) -> bool {
+    let network = plan.network();
+    let ends = 2 * network.links() as u64;
+    is_worth_sharing(plan.program(), network.nodes() as u64, ends)
+}
 
 /// The configuration of a round, as `lockstep` gives it. Each round is shared among as many threads as there are
 /// processors, or made sequentially where what has to be computed is too little to pay for them.
@@ -26,9 +35,9 @@ pub fn lockstep_par(
     if rounds == plan.start() || !is_worth_threads(plan) {
         return lockstep(alloc, plan, rounds);
     }
-    check_round(plan, rounds)?;
-    let course = Course::to_share(alloc, plan)?;
-    let mut walk = course.shared_walk(rt, alloc)?;
+    check_round(plan.start(), rounds)?;
+    let start = Start::of_plan_to_share(alloc, plan)?;
+    let mut walk = start.shared_walk(alloc, current_num_threads(rt))?;
     walk.go_to_shared(rt, rounds);
-    Ok(walk.config(alloc)?)
+    Ok(walk.config(alloc, plan)?)
 }

@@ -1,25 +1,11 @@
 //! Lockstep rounds.
-ghost use Rattle.std.specs.Prelude.{◌≡◌, ◌≤◌, IfOk, IfErr, MatchResult, Err};
+ghost use Rattle.std.specs.Prelude.{◌≡◌, IfOk, IfErr, Err};
 ghost use Rattle.rounds_plan.specs.Answer.{IsAnswer};
-ghost use Rattle.rounds_plan.specs.Configs.{most_rounds};
 ghost use Rattle.rounds_plan.specs.Lockstep.{rounds_of, lockstep_config};
 
-use crate::round_walk::Course;
-use rounds_plan::{Config, MOST_ROUNDS, Plan, RoundFault};
+use rounds_plan::{Config, Plan, RoundFault};
+use rounds_walk::{Start, check_round};
 use std::alloc::{AllocError, Global};
-
-/// Why there is no such round of the plan, if there is none.
-pub(crate) fn check_round(plan: &Plan, rounds: u32) -> Result<(), RoundFault>
-    ensures there { MatchResult result (λ _. (plan.now.start ≤ rounds) × (rounds ≤ most_rounds)) (λ fault. rounds_of plan.now rounds ≡ Err fault) }
-{
-    if rounds > MOST_ROUNDS {
-        return Err(RoundFault::TooManyRounds);
-    }
-    if rounds < plan.start() {
-        return Err(RoundFault::RoundsBelowStart);
-    }
-    Ok(())
-}
 
 /// The configuration of the plan's start.
 fn opening_config(alloc: Global, plan: &Plan) -> Result<Config, AllocError>
@@ -41,12 +27,12 @@ pub fn lockstep(alloc: Global, plan: &Plan, rounds: u32) -> Result<Config, Round
     ensures exact { IsAnswer RoundFault.Memory (rounds_of plan.now rounds) result }
     ensures at_once { IfErr (rounds_of plan.now rounds) (λ fault. result ≡ Err fault) }
 {
-    check_round(plan, rounds)?;
+    check_round(plan.start(), rounds)?;
     if rounds == plan.start() {
         return Ok(opening_config(alloc, plan)?);
     }
-    let course = Course::new(alloc, plan)?;
-    let mut walk = course.walk(alloc)?;
+    let start = Start::of_plan(alloc, plan)?;
+    let mut walk = start.walk(alloc)?;
     walk.go_to(rounds);
-    Ok(walk.config(alloc)?)
+    Ok(walk.config(alloc, plan)?)
 }

@@ -4,7 +4,7 @@ use Rattle.std.proofs.lemmas.Bool.Decides.{nat_tests}
 use Rattle.std.proofs.lemmas.List.Sums.{length-filter}
 use Rattle.std.specs.List.{count_by, filter}
 use Rattle.rule_check.specs.declared.state.State.{State}
-use Rattle.large_rounds.specs.Counts.{has_value}
+use Rattle.rounds_walk.specs.Counts.{has_value}
 use Rattle.run_counts.specs.Counts.{CellsAreCounts}
 use Rattle.run_counts.specs.Rows.{count_in}
 

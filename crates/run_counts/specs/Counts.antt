@@ -4,7 +4,7 @@ use Rattle.std.specs.Option.{option_map}
 use Rattle.rule_check.specs.Value.{names_of}
 use Rattle.rounds_plan.specs.Configs.{Configuration, most_rounds}
 use Rattle.rounds_plan.specs.Plans.{PlanView}
-use Rattle.large_rounds.specs.Counts.{has_value}
+use Rattle.rounds_walk.specs.Counts.{has_value}
 use Rattle.run_watch.specs.declared.fault.WatchFault.{WatchFault}
 use Rattle.run_watch.specs.declared.fault.WatchFault.TheVariants.{TooManyRounds, RoundsBelowStart, NoField}
 use Rattle.run_watch.specs.Spans.{SpanView}

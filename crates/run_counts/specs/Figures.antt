@@ -3,7 +3,7 @@ use Rattle.std.specs.Prelude.{ℕ, List, codes, map, sum}
 use Rattle.rule_lang.specs.declared.tree.Agg.TheVariants as agg
 use Rattle.rule_check.specs.declared.state.State.{State}
 use Rattle.rule_check.specs.Table.{gather}
-use Rattle.large_rounds.specs.Columns.{column}
+use Rattle.rounds_walk.specs.Columns.{column}
 use Rattle.run_counts.specs.declared.asked.Figure.{Figure}
 use Rattle.run_counts.specs.declared.asked.FigureKind.{FigureKind}
 use Rattle.run_counts.specs.declared.asked.FigureKind.TheVariants.{Sum, Least, Most}

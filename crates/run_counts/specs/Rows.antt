@@ -6,7 +6,7 @@ use Rattle.rule_check.specs.declared.state.State.{State}
 use Rattle.rounds_plan.specs.Configs.{Configuration}
 use Rattle.rounds_plan.specs.Lockstep.{lockstep_config, lockstep_states}
 use Rattle.rounds_plan.specs.Plans.{PlanView}
-use Rattle.large_rounds.specs.Counts.{AreCounts, has_value}
+use Rattle.rounds_walk.specs.Counts.{AreCounts, has_value}
 use Rattle.run_watch.specs.Spans.{SpanView, rounds_in}
 use Rattle.run_counts.specs.declared.asked.Counting.{Counting}
 use Rattle.run_counts.specs.declared.asked.Figure.{Figure}

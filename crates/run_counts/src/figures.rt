@@ -2,7 +2,7 @@
 ghost use Rattle.std.specs.Prelude.{◌≡◌, ◌≤◌, ◌<◌, ◌^◌, All, IfOk, length, sum};
 ghost use Rattle.rule_lang.specs.declared.tree.Agg.TheVariants as agg;
 ghost use Rattle.rule_check.specs.Table.{gather};
-ghost use Rattle.large_rounds.specs.Columns.{column};
+ghost use Rattle.rounds_walk.specs.Columns.{column};
 ghost use Rattle.run_counts.specs.Figures.{figure_of, figures_of};
 
 use crate::asked::{Figure, FigureKind};

@@ -1,7 +1,7 @@
 //! The rounds that are counted, in one pass.
 ghost use Rattle.std.specs.Prelude.{◌≡◌, ◌≤◌, IfOk};
 ghost use Rattle.std.specs.List.{list_all, list_any};
-ghost use Rattle.large_rounds.specs.Counts.{has_value};
+ghost use Rattle.rounds_walk.specs.Counts.{has_value};
 ghost use Rattle.rounds_plan.specs.Configs.{most_rounds};
 ghost use Rattle.rounds_plan.specs.Lockstep.{lockstep_config};
 ghost use Rattle.run_counts.specs.Rows.{AreRows, IsRowOf, is_held, is_over};
@@ -9,9 +9,9 @@ ghost use Rattle.run_counts.specs.Rows.{AreRows, IsRowOf, is_held, is_over};
 use crate::asked::{Counting, Holders, Until};
 use crate::figures::figures_of;
 use crate::table::Row;
-use large_rounds::count_values;
-use lockstep::{Course, RoundWalk};
+use rayon::current_num_threads;
 use rounds_plan::{Config, Plan};
+use rounds_walk::{RoundWalk, Start, count_values};
 use rule_check::State;
 use run_watch::{Progress, Span};
 use std::alloc::{AllocError, Global};
@@ -75,27 +75,31 @@ fn row_of(alloc: Global, counting: &Counting<'_>, config: &Config) -> Result<Row
 fn config_at(
     rt: &(impl Threads + Sync),
     alloc: Global,
+    plan: &Plan,
     walk: &mut RoundWalk<'_>,
     round: u32,
 ) -> Result<Config, AllocError>
+    requires plan { walk.old.plan ≡ plan.now }
     requires late { walk.old.round ≤ round }
     requires few { round ≤ most_rounds }
     ensures config { IfOk result (λ config. config ≡ lockstep_config walk.old.plan round) }
     ensures walk { walk.new ≡ record { plan = walk.old.plan; round = round } }
 {
     walk.go_to_shared(rt, round);
-    walk.config(alloc)
+    walk.config(alloc, plan)
 }
 
 /// The rounds of a span, up to the one that ends them, as they are counted.
 pub(crate) fn rows_of<P: Progress>(
     rt: &(impl Threads + Sync),
     alloc: Global,
+    plan: &Plan,
     walk: &mut RoundWalk<'_>,
     span: &Span,
     counting: &Counting<'_>,
     progress: &mut P,
 ) -> Result<Vec<Row>, AllocError>
+    requires plan { walk.old.plan ≡ plan.now }
     requires late { walk.old.round ≤ span.now.first }
     requires few { span.now.last ≤ most_rounds }
     ensures rows { IfOk result (λ rows. AreRows walk.old.plan span.now counting.now rows.items) }
@@ -103,7 +107,7 @@ pub(crate) fn rows_of<P: Progress>(
     let mut rows = Vec::new(alloc);
     for place in 0..span.steps() + 1 {
         let round = span.round_at(place);
-        let config = config_at(rt, alloc, walk, round)?;
+        let config = config_at(rt, alloc, plan, walk, round)?;
         let row = row_of(alloc, counting, &config)?;
         rows.push(row)?;
         progress.reached(round);
@@ -129,7 +133,7 @@ pub fn counted_rows<P: Progress>(
     requires few { span.now.last ≤ most_rounds }
     ensures rows { IfOk result (λ rows. AreRows plan.now span.now counting.now rows.items) }
 {
-    let course = Course::new(alloc, plan)?;
-    let mut walk = course.shared_walk(rt, alloc)?;
-    rows_of(rt, alloc, &mut walk, span, counting, progress)
+    let start = Start::of_plan(alloc, plan)?;
+    let mut walk = start.shared_walk(alloc, current_num_threads(rt))?;
+    rows_of(rt, alloc, plan, &mut walk, span, counting, progress)
 }

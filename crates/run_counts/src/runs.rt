@@ -8,8 +8,8 @@ use crate::asked::Counting;
 use crate::ensemble::Variant;
 use crate::rows::rows_of;
 use crate::table::Row;
-use lockstep::Course;
 use rayon::prelude::*;
+use rounds_walk::Start;
 use run_watch::{Progress, Span};
 use std::alloc::{AllocError, Global};
 use std::marker::Model;
@@ -72,9 +72,10 @@ fn run_of<P: RunsProgress>(
     requires fits { refusal_of variant.now.plan.now span.now counting.now ≡ None }
     ensures run { IfOk result (IsRunOf span.now counting.now variant.now) }
 {
-    let course = Course::new(alloc, variant.plan)?;
-    let mut walk = course.walk(alloc)?;
-    let rows = rows_of(rt, alloc, &mut walk, span, counting, &mut Silent)?;
+    let plan = variant.plan;
+    let start = Start::of_plan(alloc, plan)?;
+    let mut walk = start.walk(alloc)?;
+    let rows = rows_of(rt, alloc, plan, &mut walk, span, counting, &mut Silent)?;
     progress.made();
     Ok(Run {
         value: variant.value,

@@ -8,7 +8,7 @@ use Rattle.std.proofs.lemmas.Grind.{flat_map-append}
 use Rattle.std.proofs.lemmas.List.FromFn.{filter_of_map_range_with_len_more}
 use Rattle.rule_check.specs.Value.{Here}
 use Rattle.rounds_plan.specs.Plans.{PlanView}
-use Rattle.lockstep.specs.Walking.{RoundView}
+use Rattle.rounds_walk.specs.Walking.{RoundView}
 use Rattle.run_cuts.specs.declared.tally.Tally.{Tally}
 use Rattle.run_cuts.specs.declared.tally.Counted.{Counted}
 use Rattle.run_cuts.specs.Operators.{OperatorTree}

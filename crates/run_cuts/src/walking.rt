@@ -11,8 +11,8 @@ use crate::operators::operators_in;
 use crate::steps::count_step;
 use crate::tally::Counted;
 use crate::telling::{counted_of, told};
-use lockstep::{Course, RoundWalk};
 use rounds_plan::{MOST_ROUNDS, Plan, RoundFault};
+use rounds_walk::{RoundWalk, Start};
 use rule_lang::Source;
 use std::alloc::{AllocError, Global};
 
@@ -31,8 +31,8 @@ fn count_rounds(
 {
     let mut nears = Vec::new(alloc);
     for round in plan.start()..rounds {
-        let config = walk.config(alloc)?;
-        count_step(plan, config.states(), round, &mut nears, counted)?;
+        let states = walk.states(alloc)?;
+        count_step(plan, &states, round, &mut nears, counted)?;
         walk.step();
     }
     Ok(())
@@ -49,8 +49,8 @@ fn count_plan<'a>(
     requires late { plan.now.start ≤ rounds }
     ensures exact { IfOk result (λ v. v.items ≡ map (after_all (occasions plan.now rounds)) counted.entry.items) }
 {
-    let course = Course::new(alloc, plan)?;
-    let mut walk = course.walk(alloc)?;
+    let start = Start::of_plan(alloc, plan)?;
+    let mut walk = start.walk(alloc)?;
     count_rounds(alloc, plan, &mut walk, rounds, &mut counted)?;
     Ok(counted)
 }

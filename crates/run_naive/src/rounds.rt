@@ -8,8 +8,8 @@ ghost use Rattle.run_naive.specs.Writing.{greatest_count};
 use crate::comparing::{compare_moves, note_lockstep};
 use crate::difference::Difference;
 use crate::node::Node;
-use lockstep::{Course, RoundWalk};
 use rounds_plan::Plan;
+use rounds_walk::{RoundWalk, Start};
 use rule_check::State;
 use std::alloc::{AllocError, Global};
 
@@ -57,11 +57,10 @@ fn compare_rounds(
     let mut first = None;
     for round in start..rounds {
         walk.step();
-        let config = walk.config(alloc)?;
-        let states = config.states();
+        let states = walk.states(alloc)?;
         let index = (round - start) as usize;
-        note_lockstep(plan, nodes, states, round + 1, lockstep);
-        first = compare_moves(plan, nodes, states, index, round + 1, first);
+        note_lockstep(plan, nodes, &states, round + 1, lockstep);
+        first = compare_moves(plan, nodes, &states, index, round + 1, first);
     }
     Ok(first)
 }
@@ -83,8 +82,8 @@ fn compare_from_start(
     ensures known { OnOk result (AreKnown plan.now (map shown nodes.now) rounds lockstep.new) }
     ensures room { OnOk result (length lockstep.new ≡ length plan.now.network) }
 {
-    let course = Course::new(alloc, plan)?;
-    let mut walk = course.walk(alloc)?;
+    let start = Start::of_plan(alloc, plan)?;
+    let mut walk = start.walk(alloc)?;
     compare_rounds(alloc, plan, &mut walk, nodes, rounds, lockstep)
 }
 

@@ -6,8 +6,9 @@ ghost use Rattle.serde_json.specs.View.{view};
 ghost use Rattle.run_page.specs.Pages.{numbers, states_of, values_at};
 
 use crate::parts::shown_array;
-use lockstep::{Course, RoundWalk};
+use rayon::current_num_threads;
 use rounds_plan::Plan;
+use rounds_walk::{RoundWalk, Start};
 use run_watch::{Progress, Span};
 use serde_json::Value;
 use std::alloc::{AllocError, Global};
@@ -28,8 +29,8 @@ fn put_round(
     ensures walk { OnOk result (walk.new ≡ record { plan = walk.old.plan; round = round }) }
 {
     walk.go_to_shared(rt, round);
-    let config = walk.config(alloc)?;
-    let values = shown_array(alloc, config.states(), fields)?;
+    let states = walk.states(alloc)?;
+    let values = shown_array(alloc, &states, fields)?;
     items.push(values)?;
     Ok(())
 }
@@ -69,8 +70,8 @@ pub(crate) fn states<P: Progress>(
     requires few { span.now.last ≤ most_rounds }
     ensures { IfOk result (λ v. view v ≡ states_of plan.now fields.now (rounds_in span.now)) }
 {
-    let course = Course::new(alloc, plan)?;
-    let mut walk = course.shared_walk(rt, alloc)?;
+    let start = Start::of_plan(alloc, plan)?;
+    let mut walk = start.shared_walk(alloc, current_num_threads(rt))?;
     let mut items = Vec::with_capacity(alloc, span.steps() as usize + 1)?;
     put_rounds(rt, alloc, &mut items, &mut walk, span, fields, progress)?;
     Ok(Value::Array(items))

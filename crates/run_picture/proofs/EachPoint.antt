@@ -1,7 +1,7 @@
 -- Each round of a span has its point on the curve of a value.
 use Rattle.std.proofs.Common.{◌≡◌, ◌∙◌, ◌++◌, ℕ, suc, List, [], ◌∷◌, Option, None, All, ap, arith, length, map, refl, slice_index_or}
 use Rattle.std.specs.List.{count_by, flat_map}
-use Rattle.large_rounds.specs.Counts.{has_value}
+use Rattle.rounds_walk.specs.Counts.{has_value}
 use Rattle.rounds_plan.specs.Lockstep.{lockstep_config, lockstep_states}
 use Rattle.rounds_plan.specs.Plans.{PlanView}
 use Rattle.run_watch.specs.Spans.{SpanView, rounds_in}

@@ -6,7 +6,7 @@ use Rattle.std.proofs.lemmas.List.Sums.{length-filter}
 use Rattle.std.proofs.lemmas.List.FromFn.{get_or-range_with_len, length-range_with_len}
 use Rattle.std.specs.List.{count_by, filter, flat_map, range_with_len}
 use Rattle.rule_check.specs.declared.state.State.{State}
-use Rattle.large_rounds.specs.Counts.{AreCounts, has_value}
+use Rattle.rounds_walk.specs.Counts.{AreCounts, has_value}
 use Rattle.rounds_plan.specs.Lockstep.{lockstep_states}
 use Rattle.run_counts.specs.Rows.{RowView, keys_of}
 use Rattle.run_picture.specs.Curves.{EachValueHasItsCurve, nodes_with}

@@ -3,7 +3,7 @@ use Rattle.std.specs.Prelude.{◌≡◌, ◌↔◌, ◌⊎◌, ℕ, ◌+◌, ◌
 use Rattle.std.specs.Fmt.{decimal}
 use Rattle.std.specs.List.{count_by, flat_map}
 use Rattle.std.specs.Option.{option_or}
-use Rattle.large_rounds.specs.Counts.{has_value}
+use Rattle.rounds_walk.specs.Counts.{has_value}
 use Rattle.rounds_plan.specs.Lockstep.{lockstep_states}
 use Rattle.rounds_plan.specs.Plans.{PlanView}
 use Rattle.run_watch.specs.Spans.{SpanView, count_of, rounds_in}

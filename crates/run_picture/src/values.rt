@@ -5,8 +5,9 @@ ghost use Rattle.run_watch.specs.Spans.{count_of};
 ghost use Rattle.run_picture.specs.Frames.{refusal_of, values_after, values_in};
 
 use crate::fault::PictureFault;
-use lockstep::{Course, RoundWalk};
+use rayon::current_num_threads;
 use rounds_plan::{MOST_ROUNDS, Plan};
+use rounds_walk::{RoundWalk, Start};
 use rule_check::State;
 use run_watch::{Progress, Span};
 use std::alloc::{AllocError, Global};
@@ -60,8 +61,8 @@ fn put_round(
     ensures walk { OnOk result (walk.new ≡ record { plan = walk.old.plan; round = round }) }
 {
     walk.go_to_shared(rt, round);
-    let config = walk.config(alloc)?;
-    put_values(values, config.states(), field)
+    let states = walk.states(alloc)?;
+    put_values(values, &states, field)
 }
 
 /// Puts the values of a field in the rounds of a span, in one pass.
@@ -98,8 +99,8 @@ pub(crate) fn values_in<P: Progress>(
     requires fits { refusal_of plan.now span.now.first span.now.last field ≡ None }
     ensures values { IfOk result (λ v. v.items ≡ values_in plan.now span.now field) }
 {
-    let course = Course::new(alloc, plan)?;
-    let mut walk = course.shared_walk(rt, alloc)?;
+    let start = Start::of_plan(alloc, plan)?;
+    let mut walk = start.shared_walk(alloc, current_num_threads(rt))?;
     let mut values = Vec::new(alloc);
     put_rounds(rt, alloc, &mut values, &mut walk, span, field, progress)?;
     Ok(values)
@@ -116,8 +117,8 @@ pub(crate) fn values_after(
     requires fits { refusal_of plan.now round round field ≡ None }
     ensures values { IfOk result (λ v. v.items ≡ values_after plan.now field round) }
 {
-    let course = Course::new(alloc, plan)?;
-    let mut walk = course.shared_walk(rt, alloc)?;
+    let start = Start::of_plan(alloc, plan)?;
+    let mut walk = start.shared_walk(alloc, current_num_threads(rt))?;
     let mut values = Vec::new(alloc);
     put_round(rt, alloc, &mut values, &mut walk, round, field)?;
     Ok(values)

@@ -6,8 +6,8 @@ use Rattle.rule_check.specs.Rounds.{reads_round}
 use Rattle.rule_check.proofs.AnyRound.{next_state-any_round}
 use Rattle.rounds_plan.specs.Lockstep.{lockstep, lockstep_states, lockstep-more, nears_in}
 use Rattle.rounds_plan.specs.Plans.{PlanView}
-use Rattle.lockstep.specs.Walking.{AreAlike, RoundView}
-use Rattle.lockstep.proofs.Alike.{alike_of, each_alike}
+use Rattle.rounds_walk.specs.Walking.{AreAlike, RoundView}
+use Rattle.rounds_walk.proofs.Alike.{alike_of, each_alike}
 use Rattle.rounds_plan.proofs.Nears.{round_agrees}
 use Rattle.run_settle.specs.declared.search.Found.{Found}
 use Rattle.run_settle.specs.declared.settling.Settling.{Settling}

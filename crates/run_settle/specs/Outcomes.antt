@@ -3,7 +3,7 @@ use Rattle.std.specs.Prelude.{◌≡◌, ℕ, ◌+◌, ◌<◌, ◌≤◌, nat_l
 use Rattle.rule_check.specs.Rounds.{reads_round}
 use Rattle.rounds_plan.specs.Configs.{most_rounds}
 use Rattle.rounds_plan.specs.Plans.{PlanView}
-use Rattle.lockstep.specs.Walking.{AreAlike}
+use Rattle.rounds_walk.specs.Walking.{AreAlike}
 use Rattle.run_settle.specs.declared.fault.SettleFault.{SettleFault}
 use Rattle.run_settle.specs.declared.fault.SettleFault.TheVariants.{ReadsRound, LimitTooLarge, LimitBelowStart, Memory}
 use Rattle.run_settle.specs.declared.settling.Settling.{Settling}

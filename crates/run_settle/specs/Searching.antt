@@ -2,7 +2,7 @@
 use Rattle.std.specs.Prelude.{ℕ, ◌+◌, ◌<◌, ◌≤◌, length}
 use Rattle.link_net.specs.Neighbours.{Neighbours, degree, neighbour}
 use Rattle.rounds_plan.specs.Plans.{PlanView}
-use Rattle.lockstep.specs.Walking.{AreAlike}
+use Rattle.rounds_walk.specs.Walking.{AreAlike}
 use Rattle.run_settle.specs.declared.search.Found.{Found}
 use Rattle.run_settle.specs.declared.search.Found.TheVariants.{Still, Again}
 use Rattle.run_settle.specs.Outcomes.{IsStill}

@@ -7,15 +7,15 @@ ghost use Rattle.run_settle.specs.declared.settling.Settling.{Settling};
 ghost use Rattle.run_settle.specs.Outcomes.{IsSettling, IsFaultOf, refusal_of};
 ghost use Rattle.run_settle.specs.Searching.{IsFound, LeadsInside, last_of};
 
+use crate::course::Course;
 use crate::fault::SettleFault;
-use crate::in_turn::InTurn;
 use crate::search::{Found, search};
 use crate::settling::Settling;
 use crate::tail::first_round;
-use crate::walking::Starting;
-use lockstep::Course;
 use rounds_plan::{MOST_ROUNDS, Plan};
+use rounds_walk::{InThreads, InTurn, Start, Way};
 use std::alloc::{AllocError, Global};
+use std::thread::Threads;
 
 /// Why there is no answer, whatever memory there is.
 fn refusal(uses_round: bool, start: u32, limit: u32) -> Option<SettleFault>
@@ -34,18 +34,18 @@ fn refusal(uses_round: bool, start: u32, limit: u32) -> Option<SettleFault>
 }
 
 /// What becomes of the rounds up to the limit, after what a search came upon.
-fn settling_of<S: Starting>(
+fn settling_of<W: Way>(
     alloc: Global,
-    starts: &S,
+    course: &Course<'_, W>,
     found: Found,
     limit: u32,
 ) -> Result<Settling, AllocError>
-    requires way { S.serves starts.now }
-    requires inside { LeadsInside (S.plan starts.now).network }
-    requires unread { reads_round (S.plan starts.now).program ≡ false }
-    requires found { IsFound (S.plan starts.now) found }
+    requires way { W.serves course.now.way.now }
+    requires inside { LeadsInside course.now.start.now.network }
+    requires unread { reads_round course.now.start.now.program ≡ false }
+    requires found { IsFound course.now.start.now found }
     requires last { last_of found ≤ 2 * most_rounds }
-    ensures settling { IfOk result (IsSettling (S.plan starts.now) limit) }
+    ensures settling { IfOk result (IsSettling course.now.start.now limit) }
 {
     match found {
         Found::Still { round } => {
@@ -55,7 +55,7 @@ fn settling_of<S: Starting>(
             Ok(Settling::Settles { round })
         }
         Found::Again { mark, period } => {
-            let round = first_round(alloc, starts, mark, period)?;
+            let round = first_round(alloc, course, mark, period)?;
             if round + period > limit {
                 return Ok(Settling::Open { limit });
             }
@@ -65,40 +65,44 @@ fn settling_of<S: Starting>(
 }
 
 /// What becomes of the rounds up to the limit, where nothing refuses it.
-fn settled<S: Starting>(alloc: Global, starts: &S, limit: u32) -> Result<Settling, AllocError>
-    requires way { S.serves starts.now }
-    requires inside { LeadsInside (S.plan starts.now).network }
-    requires unread { reads_round (S.plan starts.now).program ≡ false }
-    requires late { (S.plan starts.now).start ≤ limit }
+fn settled<W: Way>(
+    alloc: Global,
+    course: &Course<'_, W>,
+    limit: u32,
+) -> Result<Settling, AllocError>
+    requires way { W.serves course.now.way.now }
+    requires inside { LeadsInside course.now.start.now.network }
+    requires unread { reads_round course.now.start.now.program ≡ false }
+    requires late { course.now.start.now.start ≤ limit }
     requires few { limit ≤ most_rounds }
-    ensures settling { IfOk result (IsSettling (S.plan starts.now) limit) }
-    ensures only { IfOk result (λ found. (s : Settling) → IsSettling (S.plan starts.now) limit s → s ≡ found) }
+    ensures settling { IfOk result (IsSettling course.now.start.now limit) }
+    ensures only { IfOk result (λ found. (s : Settling) → IsSettling course.now.start.now limit s → s ≡ found) }
 {
-    let found = search(alloc, starts, limit)?;
+    let found = search(alloc, course, limit)?;
     let Some(found) = found else {
         return Ok(Settling::Open { limit });
     };
-    let settling = settling_of(alloc, starts, found, limit)?;
+    let settling = settling_of(alloc, course, found, limit)?;
     Ok(settling)
 }
 
-/// What `settle` tells, of the rounds of a plan over which walks of any kind go.
-pub fn settle_by<S: Starting>(
+/// What `settle` tells, of the rounds of a course.
+fn settle_by<W: Way>(
     alloc: Global,
-    starts: &S,
+    course: &Course<'_, W>,
     limit: u32,
 ) -> Result<Settling, SettleFault>
-    requires way { S.serves starts.now }
-    ensures settling { IfOk result (IsSettling (S.plan starts.now) limit) }
-    ensures only { IfOk result (λ found. (s : Settling) → IsSettling (S.plan starts.now) limit s → s ≡ found) }
-    ensures refused { IfErr result (IsFaultOf (S.plan starts.now) limit) }
-    ensures fits { IfOk result (λ _. refusal_of (S.plan starts.now) limit ≡ None) }
+    requires way { W.serves course.now.way.now }
+    ensures settling { IfOk result (IsSettling course.now.start.now limit) }
+    ensures only { IfOk result (λ found. (s : Settling) → IsSettling course.now.start.now limit s → s ≡ found) }
+    ensures refused { IfErr result (IsFaultOf course.now.start.now limit) }
+    ensures fits { IfOk result (λ _. refusal_of course.now.start.now limit ≡ None) }
 {
-    let start = starts.first_round();
-    if let Some(fault) = refusal(starts.uses_round(), start, limit) {
+    let start = course.first_round();
+    if let Some(fault) = refusal(course.start.program().uses_round(), start, limit) {
         return Err(fault);
     }
-    let settling = settled(alloc, starts, limit)?;
+    let settling = settled(alloc, course, limit)?;
     Ok(settling)
 }
 
@@ -120,7 +124,52 @@ pub fn settle(alloc: Global, plan: &Plan, limit: u32) -> Result<Settling, Settle
     if let Some(fault) = refusal(plan.program().uses_round(), plan.start(), limit) {
         return Err(fault);
     }
-    let course = Course::new(alloc, plan)?;
-    let settling = settle_by(alloc, &InTurn::new(plan, &course), limit)?;
+    let start = Start::of_plan(alloc, plan)?;
+    let way = InTurn;
+    let course = Course {
+        start: &start,
+        way: &way,
+        threads: 1,
+    };
+    let settling = settle_by(alloc, &course, limit)?;
     Ok(settling)
+}
+
+/// What `settle` tells, of the rounds of a start, whatever the size of its network.
+///
+/// Each round that has enough to compute is shared among so many threads, and is made sequentially where they are fewer
+/// than two; the answer is the same. It takes memory for two walks over the rounds at a time, whatever the limit, and
+/// none makes more than twice the rounds from the start to the limit.
+///
+/// `ReadsRound` comes where the program reads the number of the round, else `LimitTooLarge` above 1,000,000,000, and
+/// else `LimitBelowStart` below the round of the initial states, all before any memory is taken; `Memory` only where none
+/// of them does.
+pub fn settle_shared<'a>(
+    rt: &'a (impl Threads + Sync),
+    alloc: Global,
+    start: &'a Start<'a>,
+    limit: u32,
+    threads: usize,
+) -> Result<Settling, SettleFault>
+    ensures settling { IfOk result (IsSettling start.now limit) }
+    ensures only { IfOk result (λ found. (s : Settling) → IsSettling start.now limit s → s ≡ found) }
+    ensures refused { IfErr result (IsFaultOf start.now limit) }
+    ensures fits { IfOk result (λ _. refusal_of start.now limit ≡ None) }
+{
+    if threads > 1 {
+        let way = InThreads { rt };
+        let course = Course {
+            start,
+            way: &way,
+            threads,
+        };
+        return settle_by(alloc, &course, limit);
+    }
+    let way = InTurn;
+    let course = Course {
+        start,
+        way: &way,
+        threads,
+    };
+    settle_by(alloc, &course, limit)
 }

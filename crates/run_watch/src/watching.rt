@@ -13,8 +13,9 @@ use crate::parts::put_part;
 use crate::rows::name_at;
 use crate::show::{Format, Show};
 use crate::span::Span;
-use lockstep::{Course, RoundWalk};
+use rayon::current_num_threads;
 use rounds_plan::{Config, MOST_ROUNDS, Plan};
+use rounds_walk::{RoundWalk, Start};
 use rule_check::{Program, State};
 use std::alloc::{AllocError, Global};
 use std::thread::Threads;
@@ -106,7 +107,7 @@ fn put_round(
     ensures walk { OnOk result (walk.new ≡ record { plan = walk.old.plan; round = round }) }
 {
     walk.go_to_shared(rt, round);
-    let config = walk.config(alloc)?;
+    let config = walk.config(alloc, plan)?;
     put_part(out, show, plan.program(), before, &config)?;
     Ok(config)
 }
@@ -150,8 +151,8 @@ fn text_of<P: Progress>(
     requires fits { refusal_of plan.now span.now show.now ≡ None }
     ensures text { IfOk result (λ v. v.items ≡ watch_text plan.now span.now show.now) }
 {
-    let course = Course::new(alloc, plan)?;
-    let mut walk = course.shared_walk(rt, alloc)?;
+    let start = Start::of_plan(alloc, plan)?;
+    let mut walk = start.shared_walk(alloc, current_num_threads(rt))?;
     let mut out = String::new(alloc);
     put_opening(&mut out, show, plan.program())?;
     put_rounds(rt, alloc, &mut out, plan, &mut walk, span, show, progress)?;

@@ -3,7 +3,7 @@ ghost use Rattle.std.specs.Prelude.{◌≡◌, ◌≢◌, ◌-◌, ◌*◌, ◌�
 ghost use Rattle.rounds_plan.specs.Configs.{most_rounds};
 ghost use Rattle.rounds_plan.specs.Lockstep.{lockstep_states, rounds_of};
 ghost use Rattle.rounds_plan.specs.Plans.{PlanView};
-ghost use Rattle.large_rounds.specs.LargePlans.{large_plan_of};
+ghost use Rattle.rounds_walk.specs.Starts.{start_of};
 ghost use Rattle.link_net.specs.Layout.{rows_of};
 ghost use Rattle.large_net.specs.Large.{AreLaidOut};
 ghost use Rattle.app_calls.specs.declared.fault.Fault.TheVariants as call;
@@ -16,8 +16,8 @@ use crate::large::fault::LargeCallFault;
 use crate::large::lists::check_lists;
 use crate::large::states::{put_states, states_of};
 use app_jobs::program_of;
-use large_rounds::{LargePlan, LargePlanFault, MOST_ROUNDS, RoundFault};
 use link_net::NetRows;
+use rounds_walk::{MOST_ROUNDS, RoundFault, Start, StartFault};
 use rule_check::{Program, State};
 use std::alloc::{AllocError, Global};
 
@@ -43,13 +43,13 @@ pub(crate) fn plan_on<'a>(
     rows: NetRows<'a>,
     opening: &'a [State],
     start: u32,
-) -> Result<LargePlan<'a>, AllocError>
-    requires plan { large_plan_of program.now rows opening.now start ≡ Ok (given_plan program.now rows opening.now start) }
+) -> Result<Start<'a>, AllocError>
+    requires plan { start_of program.now rows opening.now start ≡ Ok (given_plan program.now rows opening.now start) }
     ensures plan { IfOk result (λ plan. plan ≡ given_plan program.now rows.entry opening.now start) }
 {
-    match LargePlan::new(alloc, program, rows, opening, start) {
+    match Start::new(alloc, program, rows, opening, start) {
         Ok(plan) => Ok(plan),
-        Err(LargePlanFault::Memory) => Err(AllocError),
+        Err(StartFault::Memory) => Err(AllocError),
         Err(_) => unreachable!(),
     }
 }
@@ -63,7 +63,7 @@ fn states_after(
     start: u32,
     round: u32,
 ) -> Result<Vec<State>, AllocError>
-    requires plan { large_plan_of program.now rows opening.now start ≡ Ok (given_plan program.now rows opening.now start) }
+    requires plan { start_of program.now rows opening.now start ≡ Ok (given_plan program.now rows opening.now start) }
     requires late { start ≤ round }
     ensures states { IfOk result (λ v. v.items ≡ lockstep_states (given_plan program.now rows.entry opening.now start) round (length rows.entry)) }
 {

@@ -5,7 +5,7 @@ ghost use Rattle.app_calls.specs.Tellings.{told_count, told_in};
 
 use crate::large::states::add_states;
 use crate::large::tally::add_counts;
-use large_rounds::push_column;
+use rounds_walk::push_column;
 use rule_check::State;
 use std::alloc::{AllocError, Global};
 

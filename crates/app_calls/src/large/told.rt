@@ -4,7 +4,7 @@ ghost use Rattle.rounds_plan.specs.Configs.{most_rounds};
 ghost use Rattle.rounds_plan.specs.Lockstep.{lockstep_config};
 ghost use Rattle.link_net.specs.Layout.{rows_of};
 ghost use Rattle.large_net.specs.Large.{AreLaidOut};
-ghost use Rattle.large_rounds.specs.LargePlans.{large_plan_of};
+ghost use Rattle.rounds_walk.specs.Starts.{start_of};
 ghost use Rattle.app_calls.specs.Refusals.{word_count};
 ghost use Rattle.app_calls.specs.Words.{entry_fault, list_fault};
 ghost use Rattle.app_calls.specs.Lists.{given_weights};
@@ -12,12 +12,12 @@ ghost use Rattle.app_calls.specs.LargeAnswers.{given_plan, words_plan};
 ghost use Rattle.app_calls.specs.Tellings.{told_at, told_count, told_of};
 ghost use Rattle.app_calls.specs.WatchAnswers.{plan_from};
 
-use crate::Fault;
 use crate::large::rounds::{check_span, plan_on};
 use crate::large::states::states_of;
 use crate::large::telling::{Telling, add_told};
-use large_rounds::{LargePlan, LargeWalk};
+use crate::Fault;
 use link_net::NetRows;
+use rounds_walk::{RoundWalk, Start};
 use rule_check::{Program, State};
 use std::alloc::{AllocError, Global};
 
@@ -47,7 +47,7 @@ pub(crate) fn check_rounds(start: u32, rounds: &[u32]) -> Result<(), Fault>
 fn add_round(
     alloc: Global,
     words: &mut Vec<u32>,
-    walk: &mut LargeWalk<'_>,
+    walk: &mut RoundWalk<'_>,
     round: u32,
     fields: usize,
     telling: Telling<'_>,
@@ -69,7 +69,7 @@ fn add_round(
 /// What is told of each of the rounds of a plan, in one pass over them, with memory for so many numbers from the beginning.
 fn plan_told<'a>(
     alloc: Global,
-    plan: &'a LargePlan<'a>,
+    plan: &'a Start<'a>,
     rounds: &[u32],
     room: usize,
     telling: Telling<'_>,
@@ -100,7 +100,7 @@ fn told_from(
     room: usize,
     telling: Telling<'_>,
 ) -> Result<Vec<u32>, AllocError>
-    requires plan { large_plan_of program.now rows opening.now start ≡ Ok (given_plan program.now rows opening.now start) }
+    requires plan { start_of program.now rows opening.now start ≡ Ok (given_plan program.now rows opening.now start) }
     requires there { list_fault (plan_from start) start rounds.now ≡ None }
     ensures words { IfOk result (λ v. v.items ≡ told_at telling.entry (given_plan program.now rows.entry opening.now start) rounds.now) }
     ensures count { IfOk result (λ v. length v.items ≡ length rounds.now * told_count telling.entry (length rows.entry * length program.now.fields)) }

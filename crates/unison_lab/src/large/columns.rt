@@ -2,13 +2,13 @@
 
 use crate::large::arrays::array_of;
 use crate::large::binary::check_output;
-use crate::large::rounds::{plan_of, states_at};
-use crate::large::start::Start;
 use crate::progress::Telling;
+use crate::large::rounds::{plan_of, states_at};
+use crate::large::start::Setup;
 use app_files::{Ending, field_place, names_of_field, print_out};
 use app_requests::ColumnFormat;
-use large_rounds::{LargePlan, LargeWalk, push_column};
 use npy_arrays::ArrayShape;
+use rounds_walk::{RoundWalk, Start, push_column};
 use rule_check::State;
 use run_watch::{Span, put_label};
 use std::alloc::{AllocError, Global};
@@ -65,7 +65,7 @@ fn put_rounds(
     threads: &(impl Threads + Sync),
     text: &mut String,
     alloc: Global,
-    walk: &mut LargeWalk<'_>,
+    walk: &mut RoundWalk<'_>,
     span: &Span,
     field: ShownField<'_>,
     telling: &mut Telling<'_>,
@@ -83,7 +83,7 @@ fn put_rounds(
 fn words_of(
     alloc: Global,
     threads: &(impl Threads + Sync),
-    walk: &mut LargeWalk<'_>,
+    walk: &mut RoundWalk<'_>,
     span: &Span,
     field: u32,
     telling: &mut Telling<'_>,
@@ -100,7 +100,7 @@ fn words_of(
 fn lines_of(
     alloc: Global,
     threads: &(impl Threads + Sync),
-    walk: &mut LargeWalk<'_>,
+    walk: &mut RoundWalk<'_>,
     span: &Span,
     field: ShownField<'_>,
     telling: &mut Telling<'_>,
@@ -115,7 +115,7 @@ fn lines_of(
 fn table_of(
     alloc: Global,
     threads: &(impl Threads + Sync),
-    walk: &mut LargeWalk<'_>,
+    walk: &mut RoundWalk<'_>,
     span: &Span,
     field: u32,
     nodes: u32,
@@ -133,8 +133,8 @@ fn table_of(
 fn output_along<'a>(
     rt: &HostRuntime,
     threads: &(impl Threads + Sync),
-    start: &Start,
-    plan: &'a LargePlan<'a>,
+    start: &Setup,
+    plan: &'a Start<'a>,
     span: &Span,
     field: ShownField<'_>,
     format: ColumnFormat,
@@ -156,7 +156,7 @@ fn output_along<'a>(
 fn output_of(
     rt: &HostRuntime,
     threads: &(impl Threads + Sync),
-    start: &Start,
+    start: &Setup,
     span: &Span,
     name: &str,
     format: ColumnFormat,
@@ -178,7 +178,7 @@ fn output_of(
 pub(crate) fn watch_column(
     rt: &HostRuntime,
     threads: &(impl Threads + Sync),
-    start: &Start,
+    start: &Setup,
     span: &Span,
     name: &str,
     format: ColumnFormat,

@@ -1,7 +1,7 @@
 //! How many nodes have each value of a field, as CSV.
 
 use app_files::{Ending, field_place};
-use large_rounds::count_values;
+use rounds_walk::count_values;
 use rule_check::{Program, State};
 use run_watch::put_label;
 use std::alloc::{AllocError, Global};

@@ -4,19 +4,18 @@ use crate::large::arrays::array_of;
 use crate::large::binary::check_output;
 use crate::large::columns::column_of;
 use crate::large::counts::{counted, put_counts};
-use crate::large::start::{Start, start_at};
 use crate::progress::Telling;
+use crate::large::start::{Setup, start_at};
 use app_files::{Ending, field_place, names_of_field, print_out};
 use app_jobs::ServeFault;
 use app_requests::{LargeTexts, StatesFormat, StatesView};
+use large_parts::state_rows;
 use large_reports::csv_states;
-use large_rounds::{
-    LargePlan, LargePlanFault, LargeWalk, PackedStates, large_lockstep, state_rows,
-};
 use npy_arrays::ArrayShape;
 use rayon::current_num_threads;
 use report_text::report_states;
 use rounds_plan::RoundFault;
+use rounds_walk::{PackedStates, RoundWalk, Start, StartFault, lockstep_states};
 use rule_check::{Program, State};
 use run_watch::{Progress, Span};
 use std::alloc::{AllocError, Global};
@@ -34,9 +33,9 @@ pub(crate) fn threads_for(threads: &(impl Threads + Sync), texts: &LargeTexts) -
 }
 
 /// The ending where there is no such plan.
-fn no_plan(alloc: Global, fault: LargePlanFault) -> Ending {
+fn no_plan(alloc: Global, fault: StartFault) -> Ending {
     match fault {
-        LargePlanFault::Memory => Ending::Memory,
+        StartFault::Memory => Ending::Memory,
         fault => Ending::refused(format!(in alloc; "{fault}")),
     }
 }
@@ -44,14 +43,14 @@ fn no_plan(alloc: Global, fault: LargePlanFault) -> Ending {
 /// The plan of what rounds begin with, laid out for so many threads.
 pub(crate) fn plan_of<'a>(
     alloc: Global,
-    start: &'a Start,
+    start: &'a Setup,
     threads: usize,
-) -> Result<LargePlan<'a>, Ending> {
+) -> Result<Start<'a>, Ending> {
     let (program, rows, opening) = (&start.program, start.network.rows(), &start.opening);
     let plan = if threads > 1 {
-        LargePlan::to_share(alloc, program, rows, &opening.states, opening.round)
+        Start::to_share(alloc, program, rows, &opening.states, opening.round)
     } else {
-        LargePlan::new(alloc, program, rows, &opening.states, opening.round)
+        Start::new(alloc, program, rows, &opening.states, opening.round)
     };
     match plan {
         Ok(plan) => Ok(plan),
@@ -71,18 +70,18 @@ pub(crate) fn no_round(fault: RoundFault) -> Ending {
 pub(crate) fn states_after<'a>(
     alloc: Global,
     threads: &(impl Threads + Sync),
-    plan: &'a LargePlan<'a>,
+    plan: &'a Start<'a>,
     rounds: u32,
     count: usize,
 ) -> Result<Vec<State>, Ending> {
-    match large_lockstep(threads, alloc, plan, rounds, count) {
+    match lockstep_states(threads, alloc, plan, rounds, count) {
         Ok(states) => Ok(states),
         Err(fault) => Err(no_round(fault)),
     }
 }
 
 /// Moves a walk on to a round, unless it is there or beyond.
-fn move_to(threads: &(impl Threads + Sync), walk: &mut LargeWalk<'_>, round: u32) {
+fn move_to(threads: &(impl Threads + Sync), walk: &mut RoundWalk<'_>, round: u32) {
     if walk.round() < round {
         walk.go_to_shared(threads, round);
     }
@@ -92,7 +91,7 @@ fn move_to(threads: &(impl Threads + Sync), walk: &mut LargeWalk<'_>, round: u32
 pub(crate) fn states_at(
     alloc: Global,
     threads: &(impl Threads + Sync),
-    walk: &mut LargeWalk<'_>,
+    walk: &mut RoundWalk<'_>,
     round: u32,
     telling: &mut Telling<'_>,
 ) -> Result<Vec<State>, AllocError> {
@@ -106,7 +105,7 @@ pub(crate) fn states_at(
 fn go_told(
     rt: &HostRuntime,
     threads: &(impl Threads + Sync),
-    walk: &mut LargeWalk<'_>,
+    walk: &mut RoundWalk<'_>,
     way: &Span,
 ) {
     let mut telling = Telling::of_rounds(rt, way.first(), way.last());
@@ -123,7 +122,7 @@ fn go_told(
 fn packed_along<'a>(
     rt: &HostRuntime,
     threads: &(impl Threads + Sync),
-    plan: &'a LargePlan<'a>,
+    plan: &'a Start<'a>,
     way: &Span,
     count: usize,
 ) -> Result<PackedStates, AllocError> {
@@ -133,7 +132,7 @@ fn packed_along<'a>(
 }
 
 /// The way to a round from the one with which rounds begin, in the parts in which it is told.
-fn way_to(start: &Start, rounds: u32) -> Result<Span, Ending> {
+fn way_to(start: &Setup, rounds: u32) -> Result<Span, Ending> {
     let first = start.opening.round;
     match Span::new(first, rounds, rounds.saturating_sub(first) / TOLD_PARTS + 1) {
         Some(way) => Ok(way),
@@ -145,7 +144,7 @@ fn way_to(start: &Start, rounds: u32) -> Result<Span, Ending> {
 fn packed_from(
     rt: &HostRuntime,
     threads: &(impl Threads + Sync),
-    start: &Start,
+    start: &Setup,
     rounds: u32,
     count: usize,
 ) -> Result<PackedStates, Ending> {
@@ -259,14 +258,14 @@ fn print_states(
 fn report_from(
     rt: &HostRuntime,
     threads: &(impl Threads + Sync),
-    start: Start,
+    start: Setup,
     rounds: u32,
     show: Show,
     count: usize,
 ) -> Result<u8, Ending> {
     let packed = packed_from(rt, threads, &start, rounds, count)?;
     // The network and the initial states are dropped before the list of the states is made.
-    let Start { program, names, .. } = start;
+    let Setup { program, names, .. } = start;
     print_states(rt, &program, &names, rounds, packed, show)
 }
 

@@ -1,13 +1,12 @@
 //! `large settle`: from which round on nothing changes, or all states come again.
 
 use crate::large::rounds::{plan_of, states_after, threads_for};
-use crate::large::start::{Start, start_at};
+use crate::large::start::{Setup, start_at};
 use app_files::{Ending, not_settled, print_out, settled_round, settling_line};
 use app_requests::LargeTexts;
-use large_rounds::LargePlan;
-use large_settle::large_settle;
 use report_text::report_states;
-use run_settle::Settling;
+use rounds_walk::Start;
+use run_settle::{Settling, settle_shared};
 use std::alloc::{AllocError, Global};
 use std::thread::Threads;
 
@@ -16,12 +15,12 @@ use std::thread::Threads;
 fn found_for<'a>(
     alloc: Global,
     threads: &'a (impl Threads + Sync),
-    plan: &'a LargePlan<'a>,
+    plan: &'a Start<'a>,
     path: &str,
     limit: u32,
     count: usize,
 ) -> Result<Settling, Ending> {
-    match large_settle(threads, alloc, plan, limit, count) {
+    match settle_shared(threads, alloc, plan, limit, count) {
         Ok(found) => Ok(found),
         Err(fault) => Err(not_settled(alloc, path, fault)),
     }
@@ -31,7 +30,7 @@ fn found_for<'a>(
 fn report_of<'a>(
     alloc: Global,
     threads: &(impl Threads + Sync),
-    plan: &'a LargePlan<'a>,
+    plan: &'a Start<'a>,
     found: Settling,
     count: usize,
 ) -> Result<Vec<u8>, Ending> {
@@ -53,7 +52,7 @@ fn put_report<'a>(
     text: &mut Vec<u8>,
     alloc: Global,
     threads: &(impl Threads + Sync),
-    plan: &'a LargePlan<'a>,
+    plan: &'a Start<'a>,
     found: Settling,
     count: usize,
 ) -> Result<(), Ending> {
@@ -65,7 +64,7 @@ fn put_report<'a>(
 fn found_text<'a>(
     alloc: Global,
     threads: &(impl Threads + Sync),
-    plan: &'a LargePlan<'a>,
+    plan: &'a Start<'a>,
     found: Settling,
     count: usize,
     is_reported: bool,
@@ -81,7 +80,7 @@ fn found_text<'a>(
 fn text_of(
     alloc: Global,
     threads: &(impl Threads + Sync),
-    start: &Start,
+    start: &Setup,
     path: &str,
     limit: u32,
     count: usize,

@@ -11,15 +11,15 @@ use app_jobs::program_of;
 use app_requests::{FileWord, LargeTexts, RandomWord, SetWord, StartWords, amounts_of};
 use app_table::number;
 use large_net::LargeNetwork;
-use large_rounds::{openings, set_all_values, set_value};
 use net_initial::Chosen;
+use rounds_walk::{openings, set_all_values, set_value};
 use rule_check::{Program, State};
 use std::alloc::{AllocError, Global};
 use std::thread::Threads;
 
 /// A program, a network that it is run on, and the state of each node at the round with which it begins.
 #[derive(Drop)]
-pub(crate) struct Start {
+pub(crate) struct Setup {
     pub(crate) program: Program,
     /// For each field of the program, in order, the names of its values, 0 and so on; none where it has no states.
     pub(crate) names: Vec<Vec<String>>,
@@ -281,10 +281,10 @@ fn start_with(
     texts: &LargeTexts,
     program: Program,
     names: Vec<Vec<String>>,
-) -> Result<Start, Ending> {
+) -> Result<Setup, Ending> {
     let network = network_at(rt, threads, texts.network.as_str())?;
     let opening = opening_for(rt, &program, &network, texts)?;
-    Ok(Start {
+    Ok(Setup {
         program,
         names,
         network,
@@ -297,7 +297,7 @@ pub(crate) fn start_at(
     rt: &HostRuntime,
     threads: &impl Threads,
     texts: &LargeTexts,
-) -> Result<Start, Ending> {
+) -> Result<Setup, Ending> {
     check_paths(rt.alloc(), texts)?;
     let named = named_program_at(rt, texts.program.as_str(), &texts.constants)?;
     let program = program_in(rt.alloc(), &named.text)?;

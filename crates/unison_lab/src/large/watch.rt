@@ -2,13 +2,13 @@
 
 use crate::large::columns::watch_column;
 use crate::large::counts::{counted, put_counts};
-use crate::large::rounds::{no_round, plan_of, states_at, threads_for};
-use crate::large::start::{Start, start_at};
 use crate::progress::Telling;
+use crate::large::rounds::{no_round, plan_of, states_at, threads_for};
+use crate::large::start::{Setup, start_at};
 use app_files::{Ending, names_of_field, print_out};
 use app_requests::{LargeTexts, RoundsView};
-use large_rounds::{LargePlan, LargeWalk, changed_nodes};
 use rounds_plan::RoundFault;
+use rounds_walk::{RoundWalk, Start, changed_nodes};
 use rule_check::State;
 use run_watch::Span;
 use std::alloc::{AllocError, Global};
@@ -38,7 +38,7 @@ fn put_change(
     threads: &(impl Threads + Sync),
     text: &mut String,
     alloc: Global,
-    walk: &mut LargeWalk<'_>,
+    walk: &mut RoundWalk<'_>,
     round: u32,
     before: &[State],
     telling: &mut Telling<'_>,
@@ -54,7 +54,7 @@ fn put_changes(
     threads: &(impl Threads + Sync),
     text: &mut String,
     alloc: Global,
-    walk: &mut LargeWalk<'_>,
+    walk: &mut RoundWalk<'_>,
     span: &Span,
     telling: &mut Telling<'_>,
 ) -> Result<(), AllocError> {
@@ -72,7 +72,7 @@ fn put_all_counts(
     threads: &(impl Threads + Sync),
     text: &mut String,
     alloc: Global,
-    walk: &mut LargeWalk<'_>,
+    walk: &mut RoundWalk<'_>,
     span: &Span,
     field: u32,
     names: &[String],
@@ -91,7 +91,7 @@ fn put_rounds(
     threads: &(impl Threads + Sync),
     text: &mut String,
     alloc: Global,
-    walk: &mut LargeWalk<'_>,
+    walk: &mut RoundWalk<'_>,
     span: &Span,
     show: Show,
     names: &[Vec<String>],
@@ -107,7 +107,7 @@ fn put_rounds(
 }
 
 /// Refuses a round before the start.
-fn check_span(start: &Start, span: &Span) -> Result<(), Ending> {
+fn check_span(start: &Setup, span: &Span) -> Result<(), Ending> {
     if span.first() < start.opening.round {
         return Err(no_round(RoundFault::RoundsBelowStart));
     }
@@ -119,8 +119,8 @@ fn put_along<'a>(
     rt: &HostRuntime,
     threads: &(impl Threads + Sync),
     text: &mut String,
-    start: &Start,
-    plan: &'a LargePlan<'a>,
+    start: &Setup,
+    plan: &'a Start<'a>,
     span: &Span,
     show: Show,
     count: usize,
@@ -145,8 +145,8 @@ fn put_along<'a>(
 fn text_along<'a>(
     rt: &HostRuntime,
     threads: &(impl Threads + Sync),
-    start: &Start,
-    plan: &'a LargePlan<'a>,
+    start: &Setup,
+    plan: &'a Start<'a>,
     span: &Span,
     show: Show,
     count: usize,
@@ -160,7 +160,7 @@ fn text_along<'a>(
 fn text_of(
     rt: &HostRuntime,
     threads: &(impl Threads + Sync),
-    start: &Start,
+    start: &Setup,
     span: &Span,
     show: Show,
     count: usize,
@@ -174,7 +174,7 @@ fn text_of(
 fn print_rounds(
     rt: &HostRuntime,
     threads: &(impl Threads + Sync),
-    start: &Start,
+    start: &Setup,
     span: &Span,
     show: Show,
     count: usize,
@@ -187,7 +187,7 @@ fn print_rounds(
 fn print_view(
     rt: &HostRuntime,
     threads: &(impl Threads + Sync),
-    start: &Start,
+    start: &Setup,
     span: &Span,
     view: &RoundsView,
     count: usize,

@@ -1,6 +1,6 @@
 use Rattle.std.proofs.Common.{◌∙◌, ap}
 use Rattle.rounds_plan.specs.Lockstep.{lockstep_config}
-use Rattle.lockstep.specs.Walking.{RoundView}
+use Rattle.rounds_walk.specs.Walking.{RoundView}
 use Rattle.app_calls.proofs.Listed.{lockstep_count}
 use Rattle.app_calls.proofs.rounds.add_round.Goals as goal
 

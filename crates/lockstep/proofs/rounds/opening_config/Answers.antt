@@ -1,5 +1,5 @@
 use Rattle.std.proofs.Common.{◌∙◌, length}
-use Rattle.lockstep.proofs.Held.{config_is}
+use Rattle.rounds_walk.proofs.Held.{config_is}
 use Rattle.rounds_plan.proofs.Nears.{states_start}
 use Rattle.lockstep.proofs.rounds.opening_config.Goals as goal
 

@@ -2,7 +2,7 @@ use Rattle.std.proofs.Common.{◌≡◌, drop}
 use Rattle.std.specs.Prelude.{fold, max}
 use Rattle.rule_lang.specs.declared.tree.Agg.TheVariants as agg
 use Rattle.rule_check.specs.Table.{gather}
-use Rattle.large_rounds.specs.Columns.{column}
+use Rattle.rounds_walk.specs.Columns.{column}
 use Rattle.run_counts.proofs.figures.most_of.Given as goal
 
 abbrev pub invariant-loop-state : goal.invariant-loop-state

@@ -1,6 +1,6 @@
 use Rattle.std.proofs.Common.{◌≡◌, ◌≤◌, ◌+◌, ◌*◌, drop}
 use Rattle.std.specs.Prelude.{sum}
-use Rattle.large_rounds.specs.Columns.{column}
+use Rattle.rounds_walk.specs.Columns.{column}
 use Rattle.run_counts.proofs.figures.sum_of.Given as goal
 
 abbrev pub invariant-loop-state : goal.invariant-loop-state

@@ -1,6 +1,6 @@
 use Rattle.std.proofs.Common.{◌≡◌, drop}
 use Rattle.std.specs.List.{list_any}
-use Rattle.large_rounds.specs.Counts.{has_value}
+use Rattle.rounds_walk.specs.Counts.{has_value}
 use Rattle.run_counts.proofs.rows.has_value.Given as goal
 
 abbrev pub invariant-loop-state : goal.invariant-loop-state

@@ -1,6 +1,6 @@
 use Rattle.std.proofs.Common.{◌≡◌, drop}
 use Rattle.std.specs.List.{list_all}
-use Rattle.large_rounds.specs.Counts.{has_value}
+use Rattle.rounds_walk.specs.Counts.{has_value}
 use Rattle.run_counts.proofs.rows.have_value.Given as goal
 
 abbrev pub invariant-loop-state : goal.invariant-loop-state

@@ -3,7 +3,7 @@ use Rattle.std.specs.List.{range_with_len}
 use Rattle.rounds_plan.specs.Configs.{Configuration}
 use Rattle.rounds_plan.specs.Lockstep.{lockstep_config, lockstep_states}
 use Rattle.rounds_plan.specs.Plans.{PlanView}
-use Rattle.lockstep.specs.Walking.{RoundView}
+use Rattle.rounds_walk.specs.Walking.{RoundView}
 use Rattle.run_watch.specs.Spans.{count_of, round_at, rounds_in}
 use Rattle.run_watch.proofs.Ranges.{map_left, round_rises}
 use Rattle.run_counts.specs.Rows.{IsRowOf, RowView, is_over, rounds_until}

@@ -1,5 +1,5 @@
 use Rattle.std.proofs.Common.{◌≡◌, ◌∙◌, ◌+◌, ◌-◌, ◌≤◌, ℕ, List, ap, arith, map, suc, sym}
-use Rattle.lockstep.specs.Walking.{RoundView}
+use Rattle.rounds_walk.specs.Walking.{RoundView}
 use Rattle.run_cuts.specs.declared.tally.Counted.{Counted}
 use Rattle.run_cuts.specs.Cuts.{step_occasions}
 use Rattle.run_cuts.specs.Counting.{after_all}

@@ -1,7 +1,6 @@
 use Rattle.std.proofs.Common.{◌≡◌, ◌∙◌, ◌+◌, ◌-◌, ℕ, ap, arith, length, map, sym}
-use Rattle.rounds_plan.specs.Configs.{Configuration}
 use Rattle.rounds_plan.specs.Lockstep.{lockstep_states}
-use Rattle.lockstep.specs.Walking.{RoundView}
+use Rattle.rounds_walk.specs.Walking.{RoundView}
 use Rattle.run_naive.specs.Keeping.{Before, past_of}
 use Rattle.run_naive.proofs.Compared.{compared_fewer}
 use Rattle.run_naive.proofs.rounds.compare_rounds.Goals as goal
@@ -20,12 +19,12 @@ loop-round-init c =
 pub note_lockstep-requires-clause-states : goal.note_lockstep-requires-clause-states
 note_lockstep-requires-clause-states c =
     let walked = c.step.ensures.next ∙ ap (λ (v : RoundView). record { plan = v.plan; round = v.round + 1 }) c.loop-round.invariant.walk in
-    c.states-states.ensures.states ∙ ap (λ (x : Configuration). x.states) c.in_ok-config.ensures.exact ∙ ap (λ (v : RoundView). lockstep_states v.plan v.round (length v.plan.network)) walked
+    c.deref.ensures.value ∙ c.in_ok-states.ensures.exact ∙ ap (λ (v : RoundView). lockstep_states v.plan v.round (length v.plan.network)) walked
 
 pub compare_moves-first-requires-clause-states : goal.compare_moves-first-requires-clause-states
 compare_moves-first-requires-clause-states c =
     let walked = c.step.ensures.next ∙ ap (λ (v : RoundView). record { plan = v.plan; round = v.round + 1 }) c.loop-round.invariant.walk in
-    c.states-states.ensures.states ∙ ap (λ (x : Configuration). x.states) c.in_ok-config.ensures.exact ∙ ap (λ (v : RoundView). lockstep_states v.plan v.round (length v.plan.network)) walked
+    c.deref-in-loop-round.ensures.value ∙ c.in_ok-states.ensures.exact ∙ ap (λ (v : RoundView). lockstep_states v.plan v.round (length v.plan.network)) walked
 
 pub note_lockstep-requires-clause-known : goal.note_lockstep-requires-clause-known
 note_lockstep-requires-clause-known c = λ u h few. c.loop-round.invariant.known u h (omega (arith, few))

@@ -1,7 +1,7 @@
 use Rattle.std.proofs.Common.{◌≡◌, ◌∙◌, ◌<◌, ◌+◌, ◌-◌, ◌++◌, ℕ, List, ap, append_assoc, arith, map, sym}
 use Rattle.std.specs.List.{flat_map, range_with_len}
 use Rattle.rounds_plan.specs.Plans.{PlanView}
-use Rattle.lockstep.specs.Walking.{RoundView}
+use Rattle.rounds_walk.specs.Walking.{RoundView}
 use Rattle.run_watch.specs.Spans.{count_of, round_at}
 use Rattle.run_watch.proofs.Ranges.{map_left, round_rises}
 use Rattle.run_picture.specs.Frames.{values_after}

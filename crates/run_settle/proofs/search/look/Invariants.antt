@@ -5,11 +5,9 @@ use Rattle.run_settle.proofs.search.look.Given as goal
 
 abbrev pub invariant-loop-step : goal.invariant-loop-step
 invariant-loop-step g l =
-    let stands = g.W.Walking.stands in
-    let first = stands l.initial.walk in
+    let first = l.initial.walk in
     record {
-      way : g.W.Walking.serves l.walk;
-      there : stands l.walk ≡ record { plan = first.plan; round = first.round + l._step };
+      there : l.walk ≡ record { plan = first.plan; round = first.round + l._step };
       restless : IsRestless first.plan (first.round + l._step);
       away : IsAway first.plan first.round (first.round + l._step + 1);
     }

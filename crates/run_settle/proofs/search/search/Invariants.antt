@@ -4,18 +4,14 @@ use Rattle.run_settle.proofs.search.search.Given as goal
 
 abbrev pub invariant-loop-reach : goal.invariant-loop-reach
 invariant-loop-reach g l =
-    let p = g.S.Starting.plan l.starts in
-    let stands = g.S.Walk.Walking.stands in
-    let serves = g.S.Walk.Walking.serves in
+    let p = l.course.start.now in
     record {
-      way : serves l.walk;
-      mark_way : serves l.mark;
-      plan : (stands l.walk).plan ≡ p;
-      mark : stands l.mark ≡ stands l.walk;
+      plan : l.walk.plan ≡ p;
+      mark : l.mark ≡ l.walk;
       some : 1 ≤ l.reach;
       within : l.reach ≤ l.length + 1;
-      here : (stands l.walk).round + 1 ≡ p.start + l.reach;
-      restless : IsRestless p (stands l.walk).round;
+      here : l.walk.round + 1 ≡ p.start + l.reach;
+      restless : IsRestless p l.walk.round;
     }
 
 abbrev pub decreases-loop-reach : goal.decreases-loop-reach

@@ -4,7 +4,7 @@ use Rattle.rule_check.specs.declared.state.State.{State}
 use Rattle.rule_check.specs.Value.{names_of}
 use Rattle.rounds_plan.specs.Configs.{Configuration}
 use Rattle.rounds_plan.specs.Lockstep.{lockstep_config, lockstep_states}
-use Rattle.lockstep.specs.Walking.{RoundView}
+use Rattle.rounds_walk.specs.Walking.{RoundView}
 use Rattle.run_watch.specs.Spans.{count_of, round_at}
 use Rattle.run_watch.specs.Watching.{part_text, parts_text, states_in}
 use Rattle.run_watch.proofs.Ranges.{map_left, round_rises}

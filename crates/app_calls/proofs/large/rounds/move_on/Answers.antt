@@ -2,7 +2,7 @@ use Rattle.std.proofs.Common.{◌≡◌, ◌∙◌, ◌≤◌, ◌*◌, ℕ, Lis
 use Rattle.rule_check.specs.declared.state.State.{State}
 use Rattle.rounds_plan.specs.Configs.{most_rounds}
 use Rattle.rounds_plan.specs.Lockstep.{lockstep_config, lockstep_states}
-use Rattle.large_rounds.specs.LargePlans.{large_plan_of}
+use Rattle.rounds_walk.specs.Starts.{start_of}
 use Rattle.app_calls.specs.Words.{words_in}
 use Rattle.app_calls.specs.LargeAnswers.{given_plan, words_plan}
 use Rattle.app_calls.proofs.Moves.{as_opening, plan_there, round_count, round_there}
@@ -15,7 +15,7 @@ states_after-requires-clause-plan c =
     let words = c.args.words.now in
     let opens = as_opening program rows words _ _ c.deref.result.now (c.deref.ensures.value ∙ c.in_ok-opening.ensures.states) c.field_count-fields.ensures.count c.nodes-nodes.ensures.count in
     let early : c.args.start ≤ most_rounds = omega (arith, c.requires.late, c.requires.there) in
-    subst (λ (o : List State). large_plan_of program rows o c.args.start ≡ Ok (given_plan program rows o c.args.start)) (sym opens)
+    subst (λ (o : List State). start_of program rows o c.args.start ≡ Ok (given_plan program rows o c.args.start)) (sym opens)
     (plan_there program rows words c.args.start c.requires.some early)
 
 pub put_states-requires-clause-count : goal.put_states-requires-clause-count

@@ -1,7 +1,7 @@
 use Rattle.std.proofs.Common.{◌∙◌, ap, length}
 use Rattle.rounds_plan.specs.Lockstep.{lockstep_states}
 use Rattle.rounds_plan.specs.Plans.{PlanView}
-use Rattle.lockstep.specs.Walking.{RoundView}
+use Rattle.rounds_walk.specs.Walking.{RoundView}
 use Rattle.app_calls.proofs.large.rounds.states_after.Goals as goal
 
 pub returns : goal.returns

@@ -1,6 +1,6 @@
 use Rattle.std.proofs.Common.{◌≡◌, ◌∙◌, ap, arith, length}
 use Rattle.rounds_plan.specs.Lockstep.{lockstep_states}
-use Rattle.lockstep.specs.Walking.{RoundView}
+use Rattle.rounds_walk.specs.Walking.{RoundView}
 use Rattle.app_calls.proofs.Moves.{round_count}
 use Rattle.app_calls.proofs.Watches.{config_count}
 use Rattle.app_calls.proofs.large.told.add_round.Goals as goal

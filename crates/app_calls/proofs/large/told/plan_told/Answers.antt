@@ -1,7 +1,7 @@
 use Rattle.std.proofs.Common.{◌≡◌, ◌∙◌, ◌+◌, ◌<◌, ◌++◌, ap, arith, length, slice_index, sym}
 use Rattle.rounds_plan.specs.Lockstep.{lockstep_config}
 use Rattle.rounds_plan.specs.Plans.{PlanView}
-use Rattle.lockstep.specs.Walking.{RoundView}
+use Rattle.rounds_walk.specs.Walking.{RoundView}
 use Rattle.app_calls.specs.Refusals.{word_count}
 use Rattle.app_calls.specs.Tellings.{told_count, told_of}
 use Rattle.app_calls.proofs.Watches.{count_more, is_next, rounds_more}

@@ -1,6 +1,6 @@
 use Rattle.std.proofs.Common.{◌≡◌, ◌∙◌, ◌*◌, ℕ, List, Ok, ap, length, subst, sym}
 use Rattle.rule_check.specs.declared.state.State.{State}
-use Rattle.large_rounds.specs.LargePlans.{large_plan_of}
+use Rattle.rounds_walk.specs.Starts.{start_of}
 use Rattle.app_calls.specs.Tellings.{told_at, told_count}
 use Rattle.app_calls.specs.LargeAnswers.{given_plan}
 use Rattle.app_calls.proofs.Moves.{as_opening, plan_there}
@@ -12,7 +12,7 @@ told_from-requires-clause-plan c =
     let rows = c.args.rows in
     let from = c.args.from.now in
     let opens = as_opening program rows from _ _ c.deref.result.now (c.deref.ensures.value ∙ c.in_ok-opening.ensures.states) c.field_count-fields.ensures.count c.nodes-nodes.ensures.count in
-    subst (λ (o : List State). large_plan_of program rows o c.args.start ≡ Ok (given_plan program rows o c.args.start)) (sym opens)
+    subst (λ (o : List State). start_of program rows o c.args.start ≡ Ok (given_plan program rows o c.args.start)) (sym opens)
     (plan_there program rows from c.args.start c.requires.some c.requires.early)
 
 pub returns-clause-words : goal.returns-clause-words

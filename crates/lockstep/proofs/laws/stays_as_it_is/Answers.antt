@@ -1,5 +1,0 @@
-use Rattle.lockstep.proofs.Stays.{stays_as_it_is as law}
-use Rattle.lockstep.proofs.laws.stays_as_it_is.Goals as goal
-
-pub returns : goal.returns
-returns c = record { still = law }

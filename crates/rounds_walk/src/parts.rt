@@ -1,0 +1,91 @@
+//! The parts of a start.
+ghost use Rattle.std.specs.Prelude.{◌≡◌, ◌≤◌, ◌==◌, not, length, IfErr, OnOk, Ok, Err};
+ghost use Rattle.std.specs.List.{list_any};
+ghost use Rattle.rounds_walk.specs.Starts.{IsStart, is_stray, opened_by, start_of};
+
+use crate::fault::StartFault;
+use link_net::NetRows;
+use rounds_plan::{MOST_ROUNDS, Plan};
+use rule_check::{Program, State};
+
+/// How nodes open: with this phase and these states, at this round.
+#[derive(Clone, Copy)]
+pub(crate) struct Opening<'a> {
+    pub(crate) phase: u8,
+    pub(crate) states: &'a [State],
+    pub(crate) round: u32,
+}
+
+/// Whether a word is not 0.
+fn is_any_set(words: &[u32]) -> bool
+    ensures exact { result ≡ list_any (λ w. not (w == 0)) words.now }
+{
+    words.iter().any(|word| *word != 0)
+}
+
+/// Whether a word behind the fields is not 0.
+fn is_stray(fields: u32, state: &State) -> bool
+    requires few { fields ≤ 8 }
+    ensures exact { result ≡ is_stray fields state.now }
+{
+    is_any_set(&state.words[fields as usize..])
+}
+
+/// Whether a word behind the fields of some state is not 0.
+fn have_stray(fields: u32, states: &[State]) -> bool
+    requires few { fields ≤ 8 }
+    ensures exact { result ≡ list_any (is_stray fields) states.now }
+{
+    states.iter().any(|state| is_stray(fields, state))
+}
+
+/// Whether the parts make a start, or the first fault that they have.
+pub(crate) fn check_parts(
+    program: &Program,
+    rows: &NetRows<'_>,
+    opening: &[State],
+    start: u32,
+) -> Result<(), StartFault>
+    ensures ok { OnOk result (start_of program.now rows.now opening.now start ≡ Ok (record { program = program.now; network = rows.now; phase = 0; opening = opening.now; start = start })) }
+    ensures whole { OnOk result (IsStart (record { program = program.now; network = rows.now; phase = 0; opening = opening.now; start = start })) }
+    ensures refused { IfErr result (λ fault. start_of program.now rows.now opening.now start ≡ Err fault) }
+{
+    let fields = program.field_count();
+    let nodes = rows.nodes() as usize;
+    if nodes == 0 {
+        return Err(StartFault::NoNodes);
+    }
+    if opening.len() != nodes {
+        return Err(StartFault::StateCount);
+    }
+    if have_stray(fields, opening) {
+        return Err(StartFault::NotPlain);
+    }
+    if start > MOST_ROUNDS {
+        return Err(StartFault::TooManyRounds);
+    }
+    Ok(())
+}
+
+/// How the nodes of a plan open.
+pub(crate) fn opening_in(plan: &Plan) -> Opening<'_>
+    ensures plan { opened_by plan.now.program plan.now.network result ≡ plan.now }
+    ensures whole { IsStart plan.now }
+{
+    // For the proof: what holds of every plan.
+    let phase = plan.phase();
+    Opening {
+        phase,
+        states: plan.openings(),
+        round: plan.start(),
+    }
+}
+
+/// How many neighbours all nodes have together, stopped at the type's end.
+pub(crate) fn ends_of(rows: &NetRows<'_>) -> u64 {
+    let mut ends: u64 = 0;
+    for node in 0..rows.nodes() {
+        ends = ends.saturating_add(rows.degree(node).unwrap_or(0) as u64);
+    }
+    ends
+}

@@ -1,0 +1,218 @@
+//! What rounds begin with.
+ghost use Rattle.std.specs.Prelude.{◌≡◌, length, IfOk, IfErr, Err};
+ghost use Rattle.rounds_plan.specs.Answer.{IsAnswer};
+ghost use Rattle.rounds_walk.specs.Starts.{IsStart, opened_by, start_of};
+
+use crate::fault::StartFault;
+use crate::parts::{Opening, check_parts, ends_of, opening_in};
+use crate::walk::RoundWalk;
+use link_net::NetRows;
+use rounds_blocks::{Layout, MOST_ENDS, Walk, costs_of, is_worth_sharing, most_ends_to_share};
+use rounds_code::RowCode;
+use rounds_plan::Plan;
+use rule_check::{Program, State};
+use std::alloc::{AllocError, Global};
+use std::marker::Model;
+
+/// A program on rows, with the phase, the states and the round at which the nodes open, and all that walks over its
+/// rounds share. A contract sees it as a plan.
+#[derive(Drop)]
+pub struct Start<'a> {
+    program: &'a Program,
+    code: RowCode<'a>,
+    layout: Layout<'a>,
+    nodes: u32,
+    /// How many neighbours all nodes have together.
+    ends: u64,
+    opening: Opening<'a>,
+}
+
+impl<'a> Model for Start<'a> {
+    ghost use Rattle.std.specs.Coded.{codes};
+    ghost use Rattle.rule_lang.specs.TreeCode.{coded_tree};
+    ghost use Rattle.rounds_plan.specs.Plans.{PlanView};
+    ghost use Rattle.rounds_walk.specs.Starts.{opened_by};
+    ghost use Rattle.rounds_walk.specs.Walking.{IsPrepared};
+
+    ghost Value = { PlanView };
+
+    ghost coded = { Prim.hlevel (codes, coded_tree) };
+
+    ghost view = { λ s. opened_by s.program.now s.layout s.opening };
+
+    ghost invariant = { λ s. IsPrepared (opened_by s.program.now s.layout s.opening) s.code s.nodes };
+}
+
+impl<'a> Start<'a> {
+    /// The start of a program on rows: the nodes have these states at this round, counted from round 0. The phase is 0.
+    ///
+    /// The first fault of `NoNodes`, `StateCount`, `NotPlain` and `TooManyRounds` is found before any memory is taken;
+    /// `Memory` comes only where none of them does.
+    pub fn new(
+        alloc: Global,
+        program: &'a Program,
+        rows: NetRows<'a>,
+        opening: &'a [State],
+        start: u32,
+    ) -> Result<Start<'a>, StartFault>
+        ensures plan { IsAnswer StartFault.Memory (start_of program.now rows.entry opening.now start) result }
+        ensures at_once { IfErr (start_of program.now rows.entry opening.now start) (λ fault. result ≡ Err fault) }
+    {
+        let start = Start::checked(alloc, program, rows, opening, start, MOST_ENDS)?;
+        Ok(start)
+    }
+
+    /// What `new` does, for rounds that are to be shared among threads, so that these can part the work of hubs.
+    pub fn to_share(
+        alloc: Global,
+        program: &'a Program,
+        rows: NetRows<'a>,
+        opening: &'a [State],
+        start: u32,
+    ) -> Result<Start<'a>, StartFault>
+        ensures plan { IsAnswer StartFault.Memory (start_of program.now rows.entry opening.now start) result }
+        ensures at_once { IfErr (start_of program.now rows.entry opening.now start) (λ fault. result ≡ Err fault) }
+    {
+        let most_ends = most_ends_to_share(program);
+        let start = Start::checked(alloc, program, rows, opening, start, most_ends)?;
+        Ok(start)
+    }
+
+    /// The start of a plan: its program on its network, with its phase, its initial states and its start.
+    pub fn of_plan(alloc: Global, plan: &'a Plan) -> Result<Start<'a>, AllocError>
+        ensures plan { IfOk result (λ start. start ≡ plan.now) }
+    {
+        let start = Start::planned(alloc, plan, MOST_ENDS)?;
+        Ok(start)
+    }
+
+    /// What `of_plan` does, for rounds that are to be shared among threads, so that these can part the work of hubs.
+    pub fn of_plan_to_share(alloc: Global, plan: &'a Plan) -> Result<Start<'a>, AllocError>
+        ensures plan { IfOk result (λ start. start ≡ plan.now) }
+    {
+        let start = Start::planned(alloc, plan, most_ends_to_share(plan.program()))?;
+        Ok(start)
+    }
+
+    /// The start of parts that are looked at first, in blocks whose nodes have so many neighbours together at most.
+    fn checked(
+        alloc: Global,
+        program: &'a Program,
+        rows: NetRows<'a>,
+        opening: &'a [State],
+        start: u32,
+        most_ends: u32,
+    ) -> Result<Start<'a>, StartFault>
+        ensures plan { IsAnswer StartFault.Memory (start_of program.now rows.entry opening.now start) result }
+        ensures at_once { IfErr (start_of program.now rows.entry opening.now start) (λ fault. result ≡ Err fault) }
+    {
+        check_parts(program, &rows, opening, start)?;
+        let opening = Opening {
+            phase: 0,
+            states: opening,
+            round: start,
+        };
+        let ends = ends_of(&rows);
+        let start = Start::in_blocks(alloc, program, rows, opening, ends, most_ends)?;
+        Ok(start)
+    }
+
+    /// The start of a plan, in blocks whose nodes have so many neighbours together at most.
+    fn planned(alloc: Global, plan: &'a Plan, most_ends: u32) -> Result<Start<'a>, AllocError>
+        ensures plan { IfOk result (λ start. start ≡ plan.now) }
+    {
+        let network = plan.network();
+        let ends = 2 * network.links() as u64;
+        let opening = opening_in(plan);
+        let (program, rows) = (plan.program(), network.rows());
+        let start = Start::in_blocks(alloc, program, rows, opening, ends, most_ends)?;
+        Ok(start)
+    }
+
+    /// The start of a program on rows whose nodes open like this and have so many neighbours, in blocks whose nodes have so
+    /// many together at most.
+    fn in_blocks(
+        alloc: Global,
+        program: &'a Program,
+        rows: NetRows<'a>,
+        opening: Opening<'a>,
+        ends: u64,
+        most_ends: u32,
+    ) -> Result<Start<'a>, AllocError>
+        requires whole { IsStart (opened_by program.now rows opening) }
+        ensures parts { IfOk result (λ start. start ≡ opened_by program.now rows.entry opening.entry) }
+    {
+        let nodes = rows.nodes();
+        let code = RowCode::new(alloc, program)?;
+        let layout = Layout::new(alloc, rows, most_ends)?;
+        Ok(Start {
+            program,
+            code,
+            layout,
+            nodes,
+            ends,
+            opening,
+        })
+    }
+
+    /// The program.
+    pub fn program(&self) -> &Program
+        ensures program { result.now ≡ self.now.program }
+    {
+        self.program
+    }
+
+    /// How many nodes there are.
+    pub fn nodes(&self) -> u32
+        ensures count { result ≡ length self.now.network }
+        ensures whole { IsStart self.now }
+    {
+        self.nodes
+    }
+
+    /// The round of the initial states, counted from round 0.
+    pub fn start(&self) -> u32
+        ensures start { result ≡ self.now.start }
+    {
+        self.opening.round
+    }
+
+    /// The initial states by rising number of the node.
+    pub fn openings(&self) -> &[State]
+        ensures openings { result.now ≡ self.now.opening }
+    {
+        self.opening.states
+    }
+
+    /// A walk that stands at the start.
+    pub fn walk(&'a self, alloc: Global) -> Result<RoundWalk<'a>, AllocError>
+        ensures start { IfOk result (λ walk. walk ≡ record { plan = self.now; round = self.now.start }) }
+    {
+        let states = Walk::new(
+            alloc,
+            self.program,
+            &self.code,
+            &self.layout,
+            self.opening.states,
+        )?;
+        Ok(RoundWalk::from_start(self, states))
+    }
+
+    /// A walk that stands at the start, whose rounds `go_to_shared` and `step_shared` share among so many threads,
+    /// where they have enough work. With fewer than two threads each round is made sequentially.
+    pub fn shared_walk(&'a self, alloc: Global, threads: usize) -> Result<RoundWalk<'a>, AllocError>
+        ensures start { IfOk result (λ walk. walk ≡ record { plan = self.now; round = self.now.start }) }
+    {
+        let mut states = Walk::new(
+            alloc,
+            self.program,
+            &self.code,
+            &self.layout,
+            self.opening.states,
+        )?;
+        if threads > 1 && is_worth_sharing(self.program, self.nodes as u64, self.ends) {
+            states.share(alloc, &self.code, threads, costs_of(self.program))?;
+        }
+        Ok(RoundWalk::from_start(self, states))
+    }
+}
