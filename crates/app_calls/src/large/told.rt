@@ -12,10 +12,10 @@ ghost use Rattle.app_calls.specs.LargeAnswers.{given_plan, words_plan};
 ghost use Rattle.app_calls.specs.Tellings.{told_at, told_count, told_of};
 ghost use Rattle.app_calls.specs.WatchAnswers.{plan_from};
 
+use crate::Fault;
 use crate::large::rounds::{check_span, plan_on};
 use crate::large::states::states_of;
 use crate::large::telling::{Telling, add_told};
-use crate::Fault;
 use link_net::NetRows;
 use rounds_walk::{RoundWalk, Start};
 use rule_check::{Program, State};

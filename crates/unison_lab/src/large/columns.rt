@@ -2,9 +2,9 @@
 
 use crate::large::arrays::array_of;
 use crate::large::binary::check_output;
-use crate::progress::Telling;
 use crate::large::rounds::{plan_of, states_at};
 use crate::large::start::Setup;
+use crate::progress::Telling;
 use app_files::{Ending, field_place, names_of_field, print_out};
 use app_requests::ColumnFormat;
 use npy_arrays::ArrayShape;

@@ -2,9 +2,9 @@
 
 use crate::large::columns::watch_column;
 use crate::large::counts::{counted, put_counts};
-use crate::progress::Telling;
 use crate::large::rounds::{no_round, plan_of, states_at, threads_for};
 use crate::large::start::{Setup, start_at};
+use crate::progress::Telling;
 use app_files::{Ending, names_of_field, print_out};
 use app_requests::{LargeTexts, RoundsView};
 use rounds_plan::RoundFault;
