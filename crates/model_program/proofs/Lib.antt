@@ -1,3 +1,4 @@
 pub mod Names
 pub mod Programs
 pub mod Puts
+pub mod Refused
