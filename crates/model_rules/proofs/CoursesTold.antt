@@ -88,7 +88,7 @@ module _ (items : List ItemTree) (values : List GivenTree) where
         worth = h;
       }
 
-  becomes_told : (lets : List KnownTree) (name : List ℕ) (known : KnownTree) → becomes items values lets name ≡ Some known → BecomesKnown items values lets name known
+  pub becomes_told : (lets : List KnownTree) (name : List ℕ) (known : KnownTree) → becomes items values lets name ≡ Some known → BecomesKnown items values lets name known
   becomes_told lets name known h =
       becomes_case lets name (let_for lets name) (definition_of items name) (fault_by items values lets name (definition_of items name)) refl refl refl known h
 
@@ -149,7 +149,7 @@ module _ (items : List ItemTree) (values : List GivenTree) where
     starts zero = c.first
     starts (suc turn) = c.again turn ∙ turn_same turn (names_defined items) [] [] (sym (append-nil (names_defined items))) (starts turn)
 
-    course_same : (turn : ℕ) (passed rest : List (List ℕ)) → names_defined items ≡ passed ++ rest → known turn passed ≡ course turn passed
+    pub course_same : (turn : ℕ) (passed rest : List (List ℕ)) → names_defined items ≡ passed ++ rest → known turn passed ≡ course turn passed
     course_same turn passed rest cut = turn_same turn passed [] rest cut (starts turn)
 
     fault_here : (turn : ℕ) (passed : List (List ℕ)) (name : List ℕ) (rest : List (List ℕ)) (e : ExpandFault) → names_defined items ≡ passed ++ rest → IsFaultOf items values (known turn passed) name e → fault_of items values (course turn passed) name ≡ Some e

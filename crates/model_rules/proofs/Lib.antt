@@ -23,3 +23,4 @@ pub mod FirstInOrder
 pub mod FaultyTold
 pub mod CoursesTold
 pub mod RefusalsTold
+pub mod TurnsEnough

@@ -1,6 +1,6 @@
 -- When constants, states and lets become known, and which of their faults is told first. Their names are looked at in turns, as many as
 -- there are names, in each turn all in the text's order.
-use Rattle.std.specs.Prelude.{◌≡◌, ◌⊎◌, ℕ, suc, ◌<◌, List, [], ◌∷◌, ◌++◌, length, Some, None}
+use Rattle.std.specs.Prelude.{◌≡◌, ◌⊎◌, ℕ, suc, ◌<◌, ◌≤◌, List, [], ◌∷◌, ◌++◌, length, Some, None}
 use Rattle.model_text.specs.Tree.{ItemTree}
 use Rattle.model_rules.specs.declared.fault.Cause.TheVariants as cause
 use Rattle.model_rules.specs.declared.fault.ExpandFault.{ExpandFault}
@@ -98,3 +98,11 @@ pub record AreDefined (items : List ItemTree) (values : List GivenTree) (lets : 
   pub quiet : IsNeverStopped items values known
   pub right : (turn : ℕ) → suc turn ≡ length (names_defined items) → AreRight items values known turn [] (names_defined items)
   pub last : lets ≡ known (length (names_defined items)) []
+
+-- ---- a law
+
+-- as many turns as there are names are enough: behind them nothing more becomes known
+abbrev pub TurnsAreEnough : Type 0
+TurnsAreEnough =
+    (items : List ItemTree) (values : List GivenTree) (known : ℕ → List (List ℕ) → List KnownTree) → IsCourse items values known
+    → (turn : ℕ) → length (names_defined items) ≤ turn → known turn [] ≡ known (length (names_defined items)) []

@@ -1,6 +1,7 @@
 //! What holds by definition of random numbers and of refused models.
 
 ghost use Rattle.model_rules.specs.Draws.{LinksAgree, DrawsAreBounded, LinkDrawsAreBounded};
+ghost use Rattle.model_rules.specs.Courses.{TurnsAreEnough};
 ghost use Rattle.model_rules.specs.ModelRefusals.{OneProgramMade, OneRefusal, OneVerdict};
 
 /// The law that both nodes of a link draw the same number for it, and that draws are from 0 to 65535.
@@ -16,4 +17,9 @@ pub fn one_verdict_on_a_model()
     ensures either { OneVerdict }
     ensures refusal { OneRefusal }
     ensures program { OneProgramMade }
+{}
+
+/// The law that the constants, states and lets of a model become known in as many turns as there are names, or not at all.
+pub fn turns_of_a_model_are_enough()
+    ensures enough { TurnsAreEnough }
 {}
