@@ -1,5 +1,5 @@
 -- The text of a program that the text of a model is expanded to, and why there is none.
-use Rattle.std.specs.Prelude.{ℕ, List, length, map, true, None, Some, Option, ◌≡◌, ◌≤◌}
+use Rattle.std.specs.Prelude.{ℕ, List, length, map, true, None, ◌≡◌, ◌≤◌}
 use Rattle.rule_lang.specs.Tree.{ItemTree as RuleTree}
 use Rattle.rule_lang.specs.Program.{HasProgram}
 use Rattle.rule_check.specs.declared.state.State.{State}
@@ -12,9 +12,8 @@ use Rattle.model_rules.specs.declared.fault.ExpandFault.{ExpandFault}
 use Rattle.model_rules.specs.declared.fault.ExpandFault.TheVariants as expand
 use Rattle.model_rules.specs.Bounds.{IsAccepted}
 use Rattle.model_rules.specs.Models.{GivenTree, draws_of, fields_of, in_states, initials_of, model_next, setting, worths_by}
-use Rattle.model_rules.specs.ModelFaults.{model_fault}
+use Rattle.model_rules.specs.ModelRefusals.{IsProgramMade, IsRefusedFor, IsSound}
 use Rattle.model_rules.specs.Naming.{naming_fault}
-use Rattle.model_rules.specs.Programs.{program_made}
 use Rattle.model_program.specs.declared.fault.ModelProgramFault.{ModelProgramFault}
 use Rattle.model_program.specs.declared.fault.ModelProgramFault.TheVariants.{Text, Expansion, UnknownGiven, Memory}
 use Rattle.model_program.specs.Lines.{lines_of}
@@ -38,11 +37,11 @@ pub record IsProgramOf (items : List ItemTree) (given : List GivenTree) (rules :
   pub named : naming_fault items given ≡ None
   pub accepted : IsAccepted rules
 
--- The text is that of a model whose first fault is this, or that has none.
-pub record HasFault (text : List ℕ) (given : List GivenTree) (first : Option ExpandFault) : Type 0 where
+-- The text is that of a model that is refused for this fault.
+pub record HasFault (text : List ℕ) (given : List GivenTree) (found : ExpandFault) : Type 0 where
   pub items : List ItemTree
   pub model : HasModel text items
-  pub fault : model_fault items given ≡ first
+  pub refused : IsRefusedFor items given found
 
 -- The text is that of a model without a fault, and the bytes are the text of the program that it is expanded to: with the lines of the
 -- model in comments where it then has 65,536 bytes at most. They have that program, which is the model's, and can be read: they are not
@@ -51,8 +50,8 @@ pub record IsExpanded (text : List ℕ) (given : List GivenTree) (bytes : List �
   pub items : List ItemTree
   pub rules : List RuleTree
   pub model : HasModel text items
-  pub faultless : model_fault items given ≡ None
-  pub made : rules ≡ program_made items given
+  pub faultless : IsSound items given
+  pub made : IsProgramMade items given rules
   pub written : bytes ≡ text_made (lines_of text items) rules
   pub program : HasProgram bytes rules
   pub same : IsProgramOf items given rules
@@ -62,6 +61,6 @@ pub record IsExpanded (text : List ℕ) (given : List GivenTree) (bytes : List �
 -- first fault. Running out of memory can come in place of each but a text that is too long.
 abbrev pub IsRefusedAs : List ℕ → List GivenTree → ModelProgramFault → Type 0
 IsRefusedAs text given (Text fault) = IsNoModelAs text fault
-IsRefusedAs text given (Expansion cause at) = HasFault text given (Some (expand.At cause at))
-IsRefusedAs text given (UnknownGiven place) = HasFault text given (Some (expand.UnknownGiven place))
+IsRefusedAs text given (Expansion cause at) = HasFault text given (expand.At cause at)
+IsRefusedAs text given (UnknownGiven place) = HasFault text given (expand.UnknownGiven place)
 IsRefusedAs text given Memory = length text ≤ 65536

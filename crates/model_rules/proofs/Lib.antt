@@ -17,3 +17,10 @@ pub mod Behind
 pub mod Rounds
 pub mod Wrong
 pub mod Parts
+pub mod KindsTold
+pub mod StepsTold
+pub mod FirstInOrder
+pub mod FaultyTold
+pub mod CoursesTold
+pub mod RefusalsTold
+pub mod TurnsEnough

@@ -1,4 +1,4 @@
--- The first faults of the expressions of items.
+-- The first faults of the expressions of items, found the way that the expander goes; as relations they are told in Faulty.
 use Rattle.std.specs.Prelude.{ℕ, nat_lt, false, List, Option, Some, None, if◌then◌else◌}
 use Rattle.std.specs.Option.{option_or}
 use Rattle.rule_lang.specs.Tree.{depth}

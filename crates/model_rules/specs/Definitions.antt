@@ -1,5 +1,5 @@
 -- What is wrong with the constants, states and lets of a model, and what they are worth: the first fault, in the order in which they
--- become known.
+-- become known, found the way that the expander goes, for clauses of private functions. By turns it is told in Courses.
 use Rattle.std.specs.Prelude.{ℕ, zero, suc, Bool, true, false, nat_lt, List, [], ◌∷◌, ◌++◌, length, Option, Some, None, if◌then◌else◌, ◌≡◌}
 use Rattle.std.specs.List.{find, flat_map}
 use Rattle.std.specs.Option.{option_or, option_to_list}

@@ -1,4 +1,5 @@
--- What is wrong with the items of a model once its constants, states and lets are known: the first fault.
+-- What is wrong with the items of a model once its constants, states and lets are known: the first fault, found the way that the expander
+-- goes, for clauses of private functions. As relations the faults of items are told in Faulty.
 use Rattle.std.specs.Prelude.{ℕ, List, [], ◌∷◌, ◌++◌, Option, Some, None, if◌then◌else◌}
 use Rattle.std.specs.List.{filter_map}
 use Rattle.std.specs.Option.{option_or}

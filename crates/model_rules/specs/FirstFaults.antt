@@ -1,4 +1,5 @@
--- What is wrong with an expression of a model: the first fault, in the order of the text.
+-- What is wrong with an expression of a model: the first fault, found the way that the expander goes, for clauses of private functions.
+-- By its place and by a table of kinds it is told in Steps, Kinds and FirstWrong.
 use Rattle.std.specs.Prelude.{ℕ, ◌≡◌, ◌≢◌, ◌==◌, ◌^◌, nat_lt, Bool, true, ◌||◌, List, [], ◌∷◌, length, Option, Some, None, if◌then◌else◌}
 use Rattle.std.specs.List.{list_any}
 use Rattle.std.specs.Option.{option_map, option_or}

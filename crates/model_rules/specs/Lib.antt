@@ -21,3 +21,9 @@ pub mod ModelFaults
 pub mod Parts
 pub mod Counts
 pub mod Programs
+pub mod Steps
+pub mod Kinds
+pub mod FirstWrong
+pub mod Faulty
+pub mod Courses
+pub mod ModelRefusals

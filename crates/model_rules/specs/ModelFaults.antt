@@ -1,4 +1,5 @@
--- What is wrong with a model: the first fault.
+-- What is wrong with a model: the first fault, found the way that the expander goes, for private proofs. By its place it is told in
+-- ModelRefusals.
 use Rattle.std.specs.Prelude.{List, [], Option}
 use Rattle.std.specs.Option.{option_or}
 use Rattle.model_text.specs.Tree.{ItemTree}

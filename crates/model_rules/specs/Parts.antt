@@ -1,4 +1,5 @@
--- How many parts are made for an expression of a model, of which an item has 65,536 at most.
+-- How many parts are made for an expression of a model, of which an item has 65,536 at most: up to its first fault counted the way that
+-- the expander goes, for clauses of private functions. By steps they are counted in FirstWrong.
 use Rattle.std.specs.Prelude.{ℕ, ◌+◌, nat_lt, Bool, true, ◌||◌, List, [], ◌∷◌, ◌++◌, length, sum_by, Option, Some, None, if◌then◌else◌, slice_get}
 use Rattle.std.specs.List.{list_any}
 use Rattle.rule_check.specs.WellFormed.{is_among}

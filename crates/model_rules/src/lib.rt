@@ -28,6 +28,6 @@ mod term;
 mod tests;
 
 pub use fault::{Cause, ExpandFault};
-pub use law::draws_of_nodes_and_links;
+pub use law::{draws_of_nodes_and_links, one_verdict_on_a_model, turns_of_a_model_are_enough};
 pub use model::expand_model;
 pub use scope::Given;

@@ -14,8 +14,7 @@ ghost use Rattle.model_rules.specs.Models.{bare, draws_of, fields_of, in_states,
 ghost use Rattle.model_rules.specs.Naming.{naming_fault};
 ghost use Rattle.model_rules.specs.Definitions.{defined_by, names_defined, settled, defining_fault, seed_first};
 ghost use Rattle.model_rules.specs.FirstFaults.{IsFirst};
-ghost use Rattle.model_rules.specs.ModelFaults.{model_fault};
-ghost use Rattle.model_rules.specs.Programs.{program_made};
+ghost use Rattle.model_rules.specs.ModelRefusals.{IsFirstRefusal, IsProgramMade, IsSound};
 ghost use Rattle.model_rules.specs.ScopeView.{IsScopeOf, givens_of, knowns_of, later_of};
 
 use crate::define::{define_all, seed_lets};
@@ -147,12 +146,12 @@ pub fn expand_model(
         ≡ initials_of (items_of items.now) (draws_of (items_of items.now)) (worths_by (items_of items.now) (setting (items_of items.now) (givens_of given.now)) n) here)) }
     ensures states { IfOk result (λ rules. in_states (items_of items.now) (items_of items.now) (map (λ f. f.opening) (program_of (rules_of rules.items)).fields) ≡ true) }
     ensures fields { IfOk result (λ rules. names_of (program_of (rules_of rules.items)) ≡ fields_of (items_of items.now)) }
-    ensures form { IfOk result (λ rules. rules_of rules.items ≡ program_made (items_of items.now) (givens_of given.now)) }
+    ensures form { IfOk result (λ rules. IsProgramMade (items_of items.now) (givens_of given.now) (rules_of rules.items)) }
     ensures fits { IfOk result (λ rules. IsAccepted (rules_of rules.items)) }
     ensures named { IfOk result (λ rules. naming_fault (items_of items.now) (givens_of given.now) ≡ None) }
     ensures misnamed { (fault : ExpandFault) → naming_fault (items_of items.now) (givens_of given.now) ≡ Some fault → IfErr result (λ e. e ≢ Memory → e ≡ fault) }
-    ensures faultless { OnOk result (model_fault (items_of items.now) (givens_of given.now) ≡ None) }
-    ensures refused { IfErr result (IsFirst (model_fault (items_of items.now) (givens_of given.now))) }
+    ensures faultless { OnOk result (IsSound (items_of items.now) (givens_of given.now)) }
+    ensures refused { IfErr result (IsFirstRefusal (items_of items.now) (givens_of given.now)) }
 {
     check_names(items, given, alloc)?;
     let scope = known_scope(items, given, alloc)?;

@@ -1,10 +1,10 @@
-use Rattle.std.proofs.Common.{◌≡◌, length, subst, sym, ◌∙◌}
 use Rattle.rule_lang.specs.View.{items_of as rules_of}
-use Rattle.rule_lang.specs.Program.{HasProgram}
 use Rattle.model_text.specs.View.{items_of}
 use Rattle.model_program.specs.Lines.{lines_of}
-use Rattle.model_program.specs.Written.{text_made}
 use Rattle.model_program.proofs.Programs.{text_has_program, text_fits}
+use Rattle.model_program.proofs.Refused.{refused_as}
+use Rattle.model_rules.specs.ScopeView.{givens_of}
+use Rattle.std.proofs.lemmas.Result.{err_from_is_err_and}
 use Rattle.model_program.proofs.program.expanded.Goals as goal
 
 pub returns-clause-program : goal.returns-clause-program
@@ -31,3 +31,10 @@ returns-clause-program c =
       same = record { fields = fields; next = next; initial = initial; states = states; named = named; accepted = made.fits };
       fits = rw written (text_fits (lines_of c.args.text.now (items_of c.in_ok-items.items.items)) (rules_of c.in_ok-rules.rules.items) made.fits);
     }
+
+pub returns-in_err-rules-clause-refused : goal.returns-in_err-rules-clause-refused
+returns-in_err-rules-clause-refused c =
+    let p = err_from_is_err_and c.from_residual-in_err-rules.result c.from_residual-in_err-rules.ensures.1 in
+    let read = c.in_ok-items.ensures.read in
+    let refused = rw c.deref.ensures.value at c.in_err-rules.ensures.refused in
+    rw (p.1, p.2) (refused_as c.args.text.now (givens_of c.args.given.now) (items_of c.in_ok-items.items.items) _ read.0 read.1 refused)

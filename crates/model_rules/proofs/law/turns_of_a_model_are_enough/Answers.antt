@@ -1,0 +1,5 @@
+use Rattle.model_rules.proofs.TurnsEnough.{turns_enough}
+use Rattle.model_rules.proofs.law.turns_of_a_model_are_enough.Goals as goal
+
+pub returns : goal.returns
+returns c = record { enough = turns_enough }
