@@ -21,6 +21,7 @@ pub mod KindsTold
 pub mod StepsTold
 pub mod FirstInOrder
 pub mod FaultyTold
+pub mod LooksTold
 pub mod CoursesTold
 pub mod RefusalsTold
 pub mod TurnsEnough

@@ -3,18 +3,19 @@ use Rattle.std.proofs.Common.{◌≡◌, ◌<◌, ◌≤◌, ◌⊎◌, inl, inr
 use Rattle.std.specs.Prelude.{Bool, true, false, nat_lt, Option, Some, None, if◌then◌else◌}
 use Rattle.std.specs.Option.{option_to_list}
 use Rattle.std.specs.Str.{bytes_eq}
-use Rattle.std.proofs.lemmas.List.{append-nil}
+use Rattle.std.proofs.lemmas.List.{append-nil, length-append}
 use Rattle.std.proofs.lemmas.Slice.Eq.{bytes_eq-Decides}
 use Rattle.model_text.specs.Tree.{ItemTree, ConstTree, StatesTree, FieldTree, LetTree, NextTree}
 use Rattle.rule_check.specs.WellFormed.{is_among}
+use Rattle.model_rules.specs.declared.fault.ExpandFault.{ExpandFault}
 use Rattle.model_rules.specs.Frames.{Frame, KnownTree}
 use Rattle.model_rules.specs.Models.{GivenTree, bare}
 use Rattle.model_rules.specs.Refusals.{let_for}
-use Rattle.model_rules.specs.Definitions.{names_defined, frame_in, told_known, known_along, known_after, becomes, seed_first}
+use Rattle.model_rules.specs.Definitions.{names_defined, definition_of, fault_of, fault_by, unless_known, with_name, frame_in, told_known, known_along, known_after, becomes, seed_first}
 use Rattle.model_rules.specs.Courses.{BecomesKnown, TurnsAreEnough}
 use Rattle.model_rules.proofs.KindsTold.{less_is, not_less_is}
 use Rattle.model_rules.proofs.FirstInOrder.{none_some, same_some, behind_one}
-use Rattle.model_rules.proofs.CoursesTold.{becomes_told, course_same}
+use Rattle.model_rules.proofs.LooksTold.{becomes_told, course, course_same}
 
 -- ---- what is known stays known
 
@@ -79,6 +80,15 @@ less lets known (n ∷ ahead) rest h =
     let b = less lets known ahead rest h in
     omega arith
 
+-- where none is unknown, each is known
+none_here : (o : Option KnownTree) (n : ℕ) → one_if o + n ≡ 0 → (k : KnownTree) × (o ≡ Some k)
+none_here None n h = absurd (omega arith)
+none_here (Some k) n h = (k, refl)
+
+none_unknown : (lets : List KnownTree) (ahead : List (List ℕ)) (name : List ℕ) (rest : List (List ℕ)) → unknowns lets (ahead ++ name ∷ rest) ≡ 0 → (k : KnownTree) × (let_for lets name ≡ Some k)
+none_unknown lets [] name rest h = none_here (let_for lets name) (unknowns lets rest) h
+none_unknown lets (n ∷ ahead) name rest h = none_unknown lets ahead name rest (omega arith)
+
 -- ---- a name that becomes known is known by its name
 
 member_named : (b : Bool) (k known : KnownTree) → (if b then Some k else None) ≡ Some known → k ≡ known
@@ -93,6 +103,11 @@ named values frame name (LetTree n parameters body) known h = ap (λ (k : KnownT
 named values frame name (NextTree n body) known h = none_some h
 
 module _ (items : List ItemTree) (values : List GivenTree) where
+  along_kept : (names : List (List ℕ)) (lets : List KnownTree) (name : List ℕ) (known : KnownTree) → let_for lets name ≡ Some known → let_for (known_along items values lets names) name ≡ Some known
+  along_kept [] lets name known h = h
+  along_kept (n ∷ names) lets name known h =
+      along_kept names (with_name items values lets n) name known (kept lets (option_to_list (becomes items values lets n)) name known h)
+
   -- ---- a turn leaves all as it is, or fewer names that are not known
 
   abbrev IsLess : List (List ℕ) → List KnownTree → List KnownTree → Type 0
@@ -162,6 +177,42 @@ module _ (items : List ItemTree) (values : List GivenTree) where
   behind : (turn : ℕ) → length names ≤ turn → after turn ≡ after (length names)
   behind zero w = let same : length names ≡ 0 = omega arith in ap after (sym same)
   behind (suc turn) w = behind_case turn (nat_lt turn (length names)) refl w (behind turn)
+
+  -- a fault that is met behind the last turn is met in the last turn already
+
+  late_same : (turn m : ℕ) (passed : List (List ℕ)) (name : List ℕ) (e : ExpandFault) → length names ≤ turn → suc m ≡ length names → after (suc m) ≡ after m → fault_of items values (course items values turn passed) name ≡ Some e
+      → fault_of items values (course items values m passed) name ≡ Some e
+  late_same turn m passed name e w q same h =
+      let there : after turn ≡ after m = behind turn w ∙ (ap after (sym q) ∙ same) in
+      ap (λ (ks : List KnownTree). fault_of items values (known_along items values ks passed) name) (sym there) ∙ h
+
+  late_known : (turn m : ℕ) (passed : List (List ℕ)) (name : List ℕ) (rest : List (List ℕ)) (e : ExpandFault) → length names ≤ turn → suc m ≡ length names → unknowns (after (suc m)) names ≡ 0 → names ≡ passed ++ name ∷ rest
+      → fault_of items values (course items values turn passed) name ≡ Some e → ⊥
+  late_known turn m passed name rest e w q none cut h =
+      let all : unknowns (after (suc m)) (passed ++ name ∷ rest) ≡ 0 = ap (unknowns (after (suc m))) (sym cut) ∙ none in
+      let known = none_unknown (after (suc m)) passed name rest all in
+      let there : after (suc m) ≡ after turn = ap after q ∙ sym (behind turn w) in
+      let now : let_for (after turn) name ≡ Some known.0 = subst (λ (ks : List KnownTree). let_for ks name ≡ Some known.0) there known.1 in
+      let on = along_kept passed (after turn) name known.0 now in
+      none_some (sym (ap (λ (k : Option KnownTree). unless_known k (fault_by items values (course items values turn passed) name (definition_of items name))) on) ∙ h)
+
+  late_at : (last turn : ℕ) (passed : List (List ℕ)) (name : List ℕ) (rest : List (List ℕ)) (e : ExpandFault) → last ≡ length names → length names ≤ turn → names ≡ passed ++ name ∷ rest → fault_of items values (course items values turn passed) name ≡ Some e
+      → (m : ℕ) × (suc m ≡ length names) × (fault_of items values (course items values m passed) name ≡ Some e)
+  late_at zero turn passed name rest e q w cut h =
+      let size : length names ≡ length passed + length (name ∷ rest) = ap length cut ∙ length-append passed (name ∷ rest) in
+      absurd (omega arith)
+  late_at (suc m) turn passed name rest e q w cut h =
+      elim (few m) [
+        | inl same ↦ (m, q, late_same turn m passed name e w q same h)
+        | inr most ↦ elim (turn_less m) [
+          | inl same ↦ (m, q, late_same turn m passed name e w q same h)
+          | inr fewer_now ↦ (let none : unknowns (after (suc m)) names ≡ 0 = omega arith in absurd (late_known turn m passed name rest e w q none cut h))
+        ]
+      ]
+
+  pub late : (turn : ℕ) (passed : List (List ℕ)) (name : List ℕ) (rest : List (List ℕ)) (e : ExpandFault) → length names ≤ turn → names ≡ passed ++ name ∷ rest → fault_of items values (course items values turn passed) name ≡ Some e
+      → (m : ℕ) × (suc m ≡ length names) × (fault_of items values (course items values m passed) name ≡ Some e)
+  late turn passed name rest e w cut h = late_at (length names) turn passed name rest e refl w cut h
 
 pub turns_enough : TurnsAreEnough
 turns_enough items values known c turn w =

@@ -1,5 +1,5 @@
--- When constants, states and lets become known, and which of their faults is told first. Their names are looked at in turns, as many as
--- there are names, in each turn all in the text's order.
+-- When constants, states and lets become known, and which of their faults is told first. Their names are looked at in turns, in each
+-- turn all in the text's order; as many turns as there are names are enough.
 use Rattle.std.specs.Prelude.{◌≡◌, ◌⊎◌, ℕ, suc, ◌<◌, ◌≤◌, List, [], ◌∷◌, ◌++◌, length, Some, None}
 use Rattle.model_text.specs.Tree.{ItemTree}
 use Rattle.model_rules.specs.declared.fault.Cause.TheVariants as cause
@@ -57,7 +57,6 @@ pub record IsFirstStop (items : List ItemTree) (values : List GivenTree) (known 
   pub name : List ℕ
   pub behind : List (List ℕ)
   pub cut : names_defined items ≡ passed ++ name ∷ behind
-  pub within : turn < length (names_defined items)
   pub wrong : IsFaultOf items values (known turn passed) name found
   pub stops : IsRing found → ⊥
   pub earlier : IsQuiet items values known turn passed
@@ -71,9 +70,10 @@ AreRight items values known turn others names =
 
 -- no name has another fault than a `Ring` in any turn
 abbrev pub IsNeverStopped : List ItemTree → List GivenTree → (ℕ → List (List ℕ) → List KnownTree) → Type 0
-IsNeverStopped items values known = (turn : ℕ) → turn < length (names_defined items) → IsQuiet items values known turn (names_defined items)
+IsNeverStopped items values known = (turn : ℕ) → IsQuiet items values known turn (names_defined items)
 
--- of the names that have a fault still in the last turn, this is that of the last in the text
+-- The names are looked at in as many turns as there are names. Of those that have a fault still in the last, this is that of the last in
+-- the text: a `Ring`.
 pub record IsLastWaiting (items : List ItemTree) (values : List GivenTree) (known : ℕ → List (List ℕ) → List KnownTree) (found : ExpandFault) : Type 0 where
   pub turn : ℕ
   pub passed : List (List ℕ)
@@ -82,6 +82,7 @@ pub record IsLastWaiting (items : List ItemTree) (values : List GivenTree) (know
   pub cut : names_defined items ≡ passed ++ name ∷ behind
   pub last : suc turn ≡ length (names_defined items)
   pub wrong : IsFaultOf items values (known turn passed) name found
+  pub ring : IsRing found
   pub later : AreRight items values known turn (passed ++ name ∷ []) behind
 
 -- A fault of the constants, states and lets: the first other than a `Ring`, or, where there is none, the `Ring` of the last name that
