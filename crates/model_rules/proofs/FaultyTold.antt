@@ -39,9 +39,6 @@ pub none_gives : (found : Option ExpandFault) (P : ExpandFault → Type 0) → G
 none_gives None P g h = refl
 none_gives (Some e) P g h = absurd (h e (g.0 e refl))
 
-pub gives_same : (a b : Option ExpandFault) (P : ExpandFault → Type 0) → a ≡ b → Gives b P → Gives a P
-gives_same a b P q g = (λ e h. g.0 e (sym q ∙ h), λ e p. q ∙ g.1 e p)
-
 pub gives_one : (found : Option ExpandFault) (P : ExpandFault → Type 0) → Gives found P → (one other : ExpandFault) → P one → P other → one ≡ other
 gives_one found P g one other p q = same_some (sym (g.1 one p) ∙ g.1 other q)
 

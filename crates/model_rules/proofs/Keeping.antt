@@ -22,6 +22,3 @@ kept_on items given old now new h k = (
       (k.2 (subst (λ fs. AreStable items (setting_in given now) (map string_bytes fs.items) (knowns_of now.lets.items)) (sym h.0)
       (subst (λ ds. AreStable items (record { values = given; draws = ds.items }) (map string_bytes old.fields.items) (knowns_of now.lets.items)) (sym h.1) (h.2 s))))),
 )
-
-pub kept_as : (items : List ItemTree) (given : List GivenTree) (old now new : Scope) → Kept items given old now → new ≡ now → Kept items given old new
-kept_as items given old now new h e = subst (λ (s : Scope). Kept items given old s) (sym e) h

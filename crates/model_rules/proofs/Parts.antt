@@ -140,11 +140,6 @@ told_out left now parts more item was a end n e q h t =
     subst (λ (o : Option ExpandFault). bounded_fault left (parts + unless_wrong o more) item o ≡ Some end) (sym n)
     (told_long left (parts + more) item None (omega arith) ∙ ap (λ (x : ExpandFault). Some x) (sym (subst (λ (k : ℕ). end ≡ fault.At cause.TooLong k) q t)))
 
--- a cause that is told before anything is made
-pub told_at_once : (left more item at : ℕ) (c : Option Cause) (b : Option ExpandFault) (end : ExpandFault) → told_at at c ≡ Some end → bounded_fault left (unless_wrong c more) item (option_or (told_at at c) b) ≡ Some end
-told_at_once left more item at None b end h = absurd (cc)
-told_at_once left more item at (Some x) b end h = told_first left 0 item (Some (fault.At x at)) (omega arith) ∙ h
-
 -- a let is put in, or not
 pub told_put : (left parts item at : ℕ) (c : Option Cause) (end : ExpandFault) → c ≡ None → left < parts → end ≡ fault.At cause.TooLong item → bounded_fault left (unless_wrong c parts) item (told_at at c) ≡ Some end
 told_put left parts item at c end n h e =
@@ -185,10 +180,6 @@ refused_alone (Err x) left item first h = λ m. told_plain left item first x (h 
 pub refused_next : {X : Type 0} (r : Result X ExpandFault) (left now parts more item was : ℕ) (a b : Option ExpandFault) → a ≡ None → now + parts ≡ left → was ≡ item → IfErr r (IsFirst (bounded_fault now more was b)) → IfErr r (IsFirst (bounded_fault left (parts + unless_wrong a more) item (option_or a b)))
 refused_next (Ok x) left now parts more item was a b n e q h = tt
 refused_next (Err x) left now parts more item was a b n e q h = λ m. told_next left now parts more item was a b x n e q (h m)
-
-pub taken_next : {X : Type 0} (r : Result X ExpandFault) (left now new parts more : ℕ) (a : Option ExpandFault) → a ≡ None → now + parts ≡ left → OnOk r (new + more ≡ now) → OnOk r (new + (parts + unless_wrong a more) ≡ left)
-taken_next (Ok x) left now new parts more a n e h = all_made left now new parts more a n e h
-taken_next (Err x) left now new parts more a n e h = tt
 
 -- and one for which the parts run out
 pub refused_out : {X : Type 0} (r : Result X ExpandFault) (left now parts more item was : ℕ) (a : Option ExpandFault) → a ≡ None → now + parts ≡ left → was ≡ item → IfErr r (λ e. e ≢ fault.Memory → now < more) → IfErr r (λ e. e ≢ fault.Memory → e ≡ fault.At cause.TooLong was) → IfErr r (IsFirst (bounded_fault left (parts + unless_wrong a more) item a))
