@@ -97,52 +97,52 @@ _unison() {
     options="--rounds --field --names --colours --from --const"
     ;;
   generate:path | make:path)
-    options="--weights --seed"
+    options="--weights --seed --packed"
     ;;
   generate:ring | make:ring)
-    options="--weights --seed"
+    options="--weights --seed --packed"
     ;;
   generate:star | make:star)
-    options="--weights --seed"
+    options="--weights --seed --packed"
     ;;
   generate:complete | make:complete)
-    options="--weights --seed"
+    options="--weights --seed --packed"
     ;;
   generate:bipartite | make:bipartite)
-    options="--weights --seed"
+    options="--weights --seed --packed"
     ;;
   generate:tree | make:tree)
-    options="--arity --weights --seed"
+    options="--arity --weights --seed --packed"
     ;;
   generate:hypercube | make:hypercube)
-    options="--weights --seed"
+    options="--weights --seed --packed"
     ;;
   generate:grid | make:grid)
-    options="--diagonals --weights --seed"
+    options="--diagonals --weights --seed --packed"
     ;;
   generate:hex | make:hex)
-    options="--weights --seed"
+    options="--weights --seed --packed"
     ;;
   generate:torus | make:torus)
-    options="--diagonals --weights --seed"
+    options="--diagonals --weights --seed --packed"
     ;;
   generate:random | make:random)
-    options="--links --seed --weights"
+    options="--links --seed --weights --packed"
     ;;
   generate:gnp | make:gnp)
-    options="--probability --seed --weights"
+    options="--probability --seed --weights --packed"
     ;;
   generate:random-tree | make:random-tree)
-    options="--seed --weights"
+    options="--seed --weights --packed"
     ;;
   generate:preferential | make:preferential)
-    options="--links-each --seed --weights"
+    options="--links-each --seed --weights --packed"
     ;;
   generate:regular | make:regular)
-    options="--degree --seed --weights"
+    options="--degree --seed --weights --packed"
     ;;
   generate:small-world | make:small-world)
-    options="--near --rewire --seed --weights"
+    options="--near --rewire --seed --weights --packed"
     ;;
   generate:* | make:*)
     words="path ring star complete bipartite tree hypercube grid hex torus random gnp random-tree preferential regular small-world"
