@@ -26,7 +26,7 @@ use Rattle.model_rules.specs.Operators.{kind_of}
 use Rattle.model_rules.specs.Refusals.{let_for, put_cause, seen_cause, apply_cause, call_cause, name_cause, near_let_cause, near_cause}
 use Rattle.model_rules.specs.TermFor.{number_in, term_for, terms_for}
 use Rattle.model_rules.proofs.FirstInOrder.{none_some, same_some}
-use Rattle.model_rules.specs.Kinds.{IsOther, StandsFor, StandsForNone, IsSeenAs, IsSeenAsNone, count_of, takes, IsNested, IsOutBy, IsOut, IsBadBound, IsBadChance, HasGoodBound, IsInPlace, Draws, LacksSeed, HasNoNumber, IsTooFar, IsUnknownName, IsUnknownNear, IsWrongCount, IsWrongArguments, IsOutside, IsTwiceGathered, IsUnseen, IsAwaiting, HasOddSeed, IsOutOfRange, IsDrawTooMany, IsWrongAs, IsRight}
+use Rattle.model_rules.specs.Kinds.{IsOther, StandsFor, StandsForNone, IsSeenAs, IsSeenAsNone, count_of, takes, IsNested, IsOutBy, IsOut, IsBadBound, IsBadChance, HasGoodBound, IsInPlace, Draws, LacksSeed, HasNoNumber, IsTooFar, IsUnknownName, IsUnknownNear, IsWrongCount, IsWrongArguments, IsOutside, IsTwiceGathered, IsUnseen, IsAwaiting, HasOddSeed, IsOutOfRange, IsDrawTooMany, IsWrongAs, IsRight, OneKind}
 
 -- ---- tests of numbers
 
@@ -554,3 +554,6 @@ module _ (frame : Frame) (later : List (List ℕ)) (inside : Bool) where
 
   pub right_own : (part : Tree) → IsRight frame later inside part → own frame later inside part ≡ None
   right_own part h = right_case part (own frame later inside part) refl h
+
+pub one_kind : OneKind
+one_kind frame later inside part one other p q = same_some (sym (own_back frame later inside part one p) ∙ own_back frame later inside part other q)

@@ -229,6 +229,11 @@ IsWrongAs frame later inside part other = ⊥
 abbrev pub IsRight : Frame → List (List ℕ) → Bool → Tree → Type 0
 IsRight frame later inside part = (c : Cause) → IsWrongAs frame later inside part c → ⊥
 
+-- a law: a part is wrong in one way at most
+abbrev pub OneKind : Type 0
+OneKind =
+    (frame : Frame) (later : List (List ℕ)) (inside : Bool) (part : Tree) (one other : Cause) → IsWrongAs frame later inside part one → IsWrongAs frame later inside part other → one ≡ other
+
 -- the place at which it is told: of an infix that of its operator, and else that of its first token
 abbrev pub place_of : Tree → ℕ
 place_of (NumberTree n at) = at

@@ -2,6 +2,7 @@
 
 ghost use Rattle.model_rules.specs.Draws.{LinksAgree, DrawsAreBounded, LinkDrawsAreBounded};
 ghost use Rattle.model_rules.specs.Courses.{TurnsAreEnough};
+ghost use Rattle.model_rules.specs.Kinds.{OneKind};
 ghost use Rattle.model_rules.specs.ModelRefusals.{OneProgramMade, OneRefusal, OneVerdict};
 
 /// The law that both nodes of a link draw the same number for it, and that draws are from 0 to 65535.
@@ -11,11 +12,12 @@ pub fn draws_of_nodes_and_links()
     ensures on_links { LinkDrawsAreBounded }
 {}
 
-/// The law that a model is without a fault or refused for one, not both, that it is refused for one fault at most, and that it has one
-/// program at most.
+/// The law that a model is without a fault or refused for one, not both, that it is refused for one fault at most, that a part of an
+/// expression is wrong in one way at most, and that a model has one program at most.
 pub fn one_verdict_on_a_model()
     ensures either { OneVerdict }
     ensures refusal { OneRefusal }
+    ensures kind { OneKind }
     ensures program { OneProgramMade }
 {}
 
