@@ -25,3 +25,4 @@ pub mod LooksTold
 pub mod CoursesTold
 pub mod RefusalsTold
 pub mod TurnsEnough
+pub mod WaitingNames
