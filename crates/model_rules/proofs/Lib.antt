@@ -26,3 +26,4 @@ pub mod CoursesTold
 pub mod RefusalsTold
 pub mod TurnsEnough
 pub mod WaitingNames
+pub mod KnownNames

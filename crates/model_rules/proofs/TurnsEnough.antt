@@ -24,7 +24,7 @@ kept_case : (b : Bool) (k : KnownTree) (lets more : List KnownTree) (name : List
 kept_case true k lets more name known rest h = h
 kept_case false k lets more name known rest h = rest h
 
-kept : (lets more : List KnownTree) (name : List ℕ) (known : KnownTree) → let_for lets name ≡ Some known → let_for (lets ++ more) name ≡ Some known
+pub kept : (lets more : List KnownTree) (name : List ℕ) (known : KnownTree) → let_for lets name ≡ Some known → let_for (lets ++ more) name ≡ Some known
 kept [] more name known h = none_some h
 kept (k ∷ lets) more name known h = kept_case (bytes_eq k.name name) k lets more name known (kept lets more name known) h
 
@@ -32,7 +32,7 @@ end_case : (b : Bool) (j k : KnownTree) (lets : List KnownTree) → ((x : KnownT
 end_case true j k lets rest = (j, refl)
 end_case false j k lets rest = rest
 
-end_known : (lets : List KnownTree) (k : KnownTree) → (x : KnownTree) × (let_for (lets ++ k ∷ []) k.name ≡ Some x)
+pub end_known : (lets : List KnownTree) (k : KnownTree) → (x : KnownTree) × (let_for (lets ++ k ∷ []) k.name ≡ Some x)
 end_known [] k = (k, ap (λ (b : Bool). if b then Some k else None) ((bytes_eq-Decides k.name k.name).1 refl))
 end_known (j ∷ lets) k = end_case (bytes_eq j.name k.name) j k lets (end_known lets k)
 
