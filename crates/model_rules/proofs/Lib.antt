@@ -25,3 +25,5 @@ pub mod LooksTold
 pub mod CoursesTold
 pub mod RefusalsTold
 pub mod TurnsEnough
+pub mod WaitingNames
+pub mod KnownNames

@@ -73,7 +73,7 @@ module _ (items : List ItemTree) (values : List GivenTree) where
 
   -- ---- the course
 
-  along_both : (lets : List KnownTree) (a b : List (List ℕ)) → known_along items values lets (a ++ b) ≡ known_along items values (known_along items values lets a) b
+  pub along_both : (lets : List KnownTree) (a b : List (List ℕ)) → known_along items values lets (a ++ b) ≡ known_along items values (known_along items values lets a) b
   along_both lets [] b = refl
   along_both lets (n ∷ a) b = along_both (with_name items values lets n) a b
 

@@ -24,7 +24,7 @@ kept_case : (b : Bool) (k : KnownTree) (lets more : List KnownTree) (name : List
 kept_case true k lets more name known rest h = h
 kept_case false k lets more name known rest h = rest h
 
-kept : (lets more : List KnownTree) (name : List ℕ) (known : KnownTree) → let_for lets name ≡ Some known → let_for (lets ++ more) name ≡ Some known
+pub kept : (lets more : List KnownTree) (name : List ℕ) (known : KnownTree) → let_for lets name ≡ Some known → let_for (lets ++ more) name ≡ Some known
 kept [] more name known h = none_some h
 kept (k ∷ lets) more name known h = kept_case (bytes_eq k.name name) k lets more name known (kept lets more name known) h
 
@@ -32,7 +32,7 @@ end_case : (b : Bool) (j k : KnownTree) (lets : List KnownTree) → ((x : KnownT
 end_case true j k lets rest = (j, refl)
 end_case false j k lets rest = rest
 
-end_known : (lets : List KnownTree) (k : KnownTree) → (x : KnownTree) × (let_for (lets ++ k ∷ []) k.name ≡ Some x)
+pub end_known : (lets : List KnownTree) (k : KnownTree) → (x : KnownTree) × (let_for (lets ++ k ∷ []) k.name ≡ Some x)
 end_known [] k = (k, ap (λ (b : Bool). if b then Some k else None) ((bytes_eq-Decides k.name k.name).1 refl))
 end_known (j ∷ lets) k = end_case (bytes_eq j.name k.name) j k lets (end_known lets k)
 
@@ -95,7 +95,7 @@ member_named : (b : Bool) (k known : KnownTree) → (if b then Some k else None)
 member_named true k known h = same_some h
 member_named false k known h = none_some h
 
-named : (values : List GivenTree) (frame : Frame) (name : List ℕ) (item : ItemTree) (known : KnownTree) → told_known values frame name item ≡ Some known → name ≡ known.name
+pub named : (values : List GivenTree) (frame : Frame) (name : List ℕ) (item : ItemTree) (known : KnownTree) → told_known values frame name item ≡ Some known → name ≡ known.name
 named values frame name (ConstTree n body) known h = ap (λ (k : KnownTree). k.name) (same_some h)
 named values frame name (StatesTree n members) known h = ap (λ (k : KnownTree). k.name) (member_named (is_among (bare members) name) _ known h)
 named values frame name (FieldTree n states initial) known h = none_some h
@@ -103,7 +103,7 @@ named values frame name (LetTree n parameters body) known h = ap (λ (k : KnownT
 named values frame name (NextTree n body) known h = none_some h
 
 module _ (items : List ItemTree) (values : List GivenTree) where
-  along_kept : (names : List (List ℕ)) (lets : List KnownTree) (name : List ℕ) (known : KnownTree) → let_for lets name ≡ Some known → let_for (known_along items values lets names) name ≡ Some known
+  pub along_kept : (names : List (List ℕ)) (lets : List KnownTree) (name : List ℕ) (known : KnownTree) → let_for lets name ≡ Some known → let_for (known_along items values lets names) name ≡ Some known
   along_kept [] lets name known h = h
   along_kept (n ∷ names) lets name known h =
       along_kept names (with_name items values lets n) name known (kept lets (option_to_list (becomes items values lets n)) name known h)
@@ -138,10 +138,10 @@ module _ (items : List ItemTree) (values : List GivenTree) where
 
   -- ---- the turns
 
-  abbrev after : ℕ → List KnownTree
+  abbrev pub after : ℕ → List KnownTree
   after turn = known_after items values (seed_first items values) turn
 
-  abbrev names : List (List ℕ)
+  abbrev pub names : List (List ℕ)
   names = names_defined items
 
   turn_less : (turn : ℕ) → IsLess names (after turn) (after (suc turn))
@@ -174,7 +174,7 @@ module _ (items : List ItemTree) (values : List GivenTree) where
       let over : length names ≤ turn = not_less_is turn (length names) l in
       ap (λ (ks : List KnownTree). known_along items values ks names) (rest over) ∙ at_last
 
-  behind : (turn : ℕ) → length names ≤ turn → after turn ≡ after (length names)
+  pub behind : (turn : ℕ) → length names ≤ turn → after turn ≡ after (length names)
   behind zero w = let same : length names ≡ 0 = omega arith in ap after (sym same)
   behind (suc turn) w = behind_case turn (nat_lt turn (length names)) refl w (behind turn)
 

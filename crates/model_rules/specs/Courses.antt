@@ -100,10 +100,35 @@ pub record AreDefined (items : List ItemTree) (values : List GivenTree) (lets : 
   pub right : (turn : ℕ) → suc turn ≡ length (names_defined items) → AreRight items values known turn [] (names_defined items)
   pub last : lets ≡ known (length (names_defined items)) []
 
--- ---- a law
+-- ---- laws
 
 -- as many turns as there are names are enough: behind them nothing more becomes known
 abbrev pub TurnsAreEnough : Type 0
 TurnsAreEnough =
     (items : List ItemTree) (values : List GivenTree) (known : ℕ → List (List ℕ) → List KnownTree) → IsCourse items values known
     → (turn : ℕ) → length (names_defined items) ≤ turn → known turn [] ≡ known (length (names_defined items)) []
+
+-- no name stands twice
+abbrev pub AreDistinct : List (List ℕ) → Type 0
+AreDistinct names =
+    (ahead : List (List ℕ)) (name : List ℕ) (rest : List (List ℕ)) → names ≡ ahead ++ name ∷ rest
+    → (between : List (List ℕ)) (other : List ℕ) (behind : List (List ℕ)) → rest ≡ between ++ other ∷ behind → name ≡ other → ⊥
+
+-- where no name stands twice, that of which a `Ring` is told never becomes known
+abbrev pub WaitsForever : Type 0
+WaitsForever =
+    (items : List ItemTree) (values : List GivenTree) (known : ℕ → List (List ℕ) → List KnownTree) (found : ExpandFault) → IsCourse items values known → AreDistinct (names_defined items)
+    → (waiting : IsLastWaiting items values known found) → (turn : ℕ) → let_for (known turn []) waiting.name ≡ None
+
+-- and each name behind it becomes known
+abbrev pub OthersAreKnown : Type 0
+OthersAreKnown =
+    (items : List ItemTree) (values : List GivenTree) (known : ℕ → List (List ℕ) → List KnownTree) (found : ExpandFault) → IsCourse items values known
+    → (waiting : IsLastWaiting items values known found) → (ahead : List (List ℕ)) (other : List ℕ) (rest : List (List ℕ)) → waiting.behind ≡ ahead ++ other ∷ rest
+    → (turn : ℕ) × (as_this : KnownTree) × (let_for (known turn []) other ≡ Some as_this)
+
+-- where all are said to become known, each is
+abbrev pub AllAreKnown : Type 0
+AllAreKnown =
+    (items : List ItemTree) (values : List GivenTree) (lets : List KnownTree) → AreDefined items values lets
+    → (passed : List (List ℕ)) (name : List ℕ) (behind : List (List ℕ)) → names_defined items ≡ passed ++ name ∷ behind → (as_this : KnownTree) × (let_for lets name ≡ Some as_this)

@@ -1,7 +1,7 @@
 //! What holds by definition of random numbers and of refused models.
 
 ghost use Rattle.model_rules.specs.Draws.{LinksAgree, DrawsAreBounded, LinkDrawsAreBounded};
-ghost use Rattle.model_rules.specs.Courses.{TurnsAreEnough};
+ghost use Rattle.model_rules.specs.Courses.{AllAreKnown, OthersAreKnown, TurnsAreEnough, WaitsForever};
 ghost use Rattle.model_rules.specs.Kinds.{OneKind};
 ghost use Rattle.model_rules.specs.ModelRefusals.{OneProgramMade, OneRefusal, OneVerdict};
 
@@ -21,7 +21,11 @@ pub fn one_verdict_on_a_model()
     ensures program { OneProgramMade }
 {}
 
-/// The law that the constants, states and lets of a model become known in as many turns as there are names, or not at all.
+/// The law that the constants, states and lets of a model become known in as many turns as there are names, or not at all; and that a name
+/// of which a `Ring` is told never does, where no name stands twice, but each behind it, and each name where no fault is told of any.
 pub fn turns_of_a_model_are_enough()
     ensures enough { TurnsAreEnough }
+    ensures never { WaitsForever }
+    ensures others { OthersAreKnown }
+    ensures all { AllAreKnown }
 {}
