@@ -130,7 +130,7 @@ pub(crate) static DIAGONALS_ARGUMENT: Argument = DIAGONALS;
 pub(crate) const LINKS: Argument = Argument {
     name: "links",
     value_name: "M",
-    help: "The number of links, 262144 at most; with --packed 2147483647",
+    help: "The number of links, 262144 at most",
     ..NEEDED
 };
 
@@ -224,59 +224,49 @@ const SHAPE_SEED: Argument = Argument {
     ..SEED
 };
 
-/// Asks for a packed network in the place of a network file.
-const PACKED: Argument = Argument {
-    name: "packed",
-    help: "Write a packed network, which is binary: paths, rings, grids, toruses, random, preferential and small-world of any size",
-    ..FLAG
-};
-
-/// `PACKED`, as it is read.
-static PACKED_ARGUMENT: Argument = PACKED;
-
 /// Shapes and random networks.
 const SHAPES: [Subcommand; 16] = [
     Subcommand {
         name: "path",
         about: "Each node is linked with the next one",
         notes: "",
-        arguments: &[NODES, SHAPE_WEIGHTS, SHAPE_SEED, PACKED],
+        arguments: &[NODES, SHAPE_WEIGHTS, SHAPE_SEED],
     },
     Subcommand {
         name: "ring",
         about: "A path whose last node is linked with the first",
         notes: "",
-        arguments: &[RING_NODES, SHAPE_WEIGHTS, SHAPE_SEED, PACKED],
+        arguments: &[RING_NODES, SHAPE_WEIGHTS, SHAPE_SEED],
     },
     Subcommand {
         name: "star",
         about: "Node 0 is linked with each other node",
         notes: "",
-        arguments: &[STAR_NODES, SHAPE_WEIGHTS, SHAPE_SEED, PACKED],
+        arguments: &[STAR_NODES, SHAPE_WEIGHTS, SHAPE_SEED],
     },
     Subcommand {
         name: "complete",
         about: "Each node is linked with each other one",
         notes: "",
-        arguments: &[COMPLETE_NODES, SHAPE_WEIGHTS, SHAPE_SEED, PACKED],
+        arguments: &[COMPLETE_NODES, SHAPE_WEIGHTS, SHAPE_SEED],
     },
     Subcommand {
         name: "bipartite",
         about: "Each of A nodes is linked with each of B others",
         notes: "",
-        arguments: &[LEFT, RIGHT, SHAPE_WEIGHTS, SHAPE_SEED, PACKED],
+        arguments: &[LEFT, RIGHT, SHAPE_WEIGHTS, SHAPE_SEED],
     },
     Subcommand {
         name: "tree",
         about: "Each node has K children, numbered level by level",
         notes: "",
-        arguments: &[NODES, ARITY, SHAPE_WEIGHTS, SHAPE_SEED, PACKED],
+        arguments: &[NODES, ARITY, SHAPE_WEIGHTS, SHAPE_SEED],
     },
     Subcommand {
         name: "hypercube",
         about: "Nodes are linked whose numbers differ in one of D binary digits",
         notes: "",
-        arguments: &[DIMENSION, SHAPE_WEIGHTS, SHAPE_SEED, PACKED],
+        arguments: &[DIMENSION, SHAPE_WEIGHTS, SHAPE_SEED],
     },
     Subcommand {
         name: "grid",
@@ -288,14 +278,13 @@ const SHAPES: [Subcommand; 16] = [
             DIAGONALS,
             SHAPE_WEIGHTS,
             SHAPE_SEED,
-            PACKED,
         ],
     },
     Subcommand {
         name: "hex",
         about: "Hexagonal cells in rows, of which each second one is shifted to the right by half a cell",
         notes: "",
-        arguments: &[GRID_WIDTH, GRID_HEIGHT, SHAPE_WEIGHTS, SHAPE_SEED, PACKED],
+        arguments: &[GRID_WIDTH, GRID_HEIGHT, SHAPE_WEIGHTS, SHAPE_SEED],
     },
     Subcommand {
         name: "torus",
@@ -307,44 +296,43 @@ const SHAPES: [Subcommand; 16] = [
             DIAGONALS,
             SHAPE_WEIGHTS,
             SHAPE_SEED,
-            PACKED,
         ],
     },
     Subcommand {
         name: "random",
         about: "M links, all sets of so many links equally likely",
         notes: "",
-        arguments: &[NODES, LINKS, SEED, WEIGHTS, PACKED],
+        arguments: &[NODES, LINKS, SEED, WEIGHTS],
     },
     Subcommand {
         name: "gnp",
         about: "Each pair of nodes is linked with the chance P",
         notes: "",
-        arguments: &[NODES, PROBABILITY, SEED, WEIGHTS, PACKED],
+        arguments: &[NODES, PROBABILITY, SEED, WEIGHTS],
     },
     Subcommand {
         name: "random-tree",
         about: "Each node but node 0 is linked with one before it",
         notes: "",
-        arguments: &[NODES, SEED, WEIGHTS, PACKED],
+        arguments: &[NODES, SEED, WEIGHTS],
     },
     Subcommand {
         name: "preferential",
         about: "Each node is linked with K before it, rather with those that have many links",
         notes: "",
-        arguments: &[NODES, LINKS_EACH, SEED, WEIGHTS, PACKED],
+        arguments: &[NODES, LINKS_EACH, SEED, WEIGHTS],
     },
     Subcommand {
         name: "regular",
         about: "Each node has D neighbours",
         notes: "",
-        arguments: &[NODES, DEGREE, SEED, WEIGHTS, PACKED],
+        arguments: &[NODES, DEGREE, SEED, WEIGHTS],
     },
     Subcommand {
         name: "small-world",
         about: "A ring whose nodes are linked with the K that follow them; then some links are led elsewhere",
         notes: "",
-        arguments: &[NODES, NEAR, REWIRE, SEED, WEIGHTS, PACKED],
+        arguments: &[NODES, NEAR, REWIRE, SEED, WEIGHTS],
     },
 ];
 
@@ -354,7 +342,7 @@ static GENERATE: Command = Command {
     aliases: &["make"],
     called: "unison generate",
     about: "Make a network of a shape (path, ring, grid, torus, tree and more), or a random one",
-    notes: "Prints a network file, or with --packed a packed network, which all commands read in its place; nodes are numbered from 0, row by row in a grid.\nAn example: unison generate torus 16 16 --diagonals > torus.toml\nAnother one: unison generate random 100000 --links 300000 --seed 7 --packed > random.net\n",
+    notes: "Prints a network file; its nodes are numbered from 0, row by row in a grid.\nAn example: unison generate torus 16 16 --diagonals > torus.toml\nAnother one: unison generate random 100 --links 300 --seed 7 > random.toml\n",
     arguments: &[],
     subcommands: &SHAPES,
 };
@@ -441,8 +429,6 @@ pub struct GenerateRequest {
     pub weights: Option<Weights>,
     /// The seed by which is drawn; where nothing is drawn, 0.
     pub seed: u32,
-    /// Whether a packed network is to be written in the place of a network file.
-    pub packed: bool,
 }
 
 /// The number of an argument that has to be there.
@@ -665,12 +651,10 @@ fn request_in(reading: &mut Reading) -> GenerateRequest
     let topology = topology_in(reading);
     let weights = weights_in(reading);
     let seed = reading.number_or(&SEED_ARGUMENT, 0);
-    let packed = reading.has(&PACKED_ARGUMENT);
     GenerateRequest {
         topology,
         weights,
         seed,
-        packed,
     }
 }
 
