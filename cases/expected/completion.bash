@@ -97,52 +97,52 @@ _unison() {
     options="--rounds --field --names --colours --from --const"
     ;;
   generate:path | make:path)
-    options="--weights --seed --packed"
+    options="--weights --seed"
     ;;
   generate:ring | make:ring)
-    options="--weights --seed --packed"
+    options="--weights --seed"
     ;;
   generate:star | make:star)
-    options="--weights --seed --packed"
+    options="--weights --seed"
     ;;
   generate:complete | make:complete)
-    options="--weights --seed --packed"
+    options="--weights --seed"
     ;;
   generate:bipartite | make:bipartite)
-    options="--weights --seed --packed"
+    options="--weights --seed"
     ;;
   generate:tree | make:tree)
-    options="--arity --weights --seed --packed"
+    options="--arity --weights --seed"
     ;;
   generate:hypercube | make:hypercube)
-    options="--weights --seed --packed"
+    options="--weights --seed"
     ;;
   generate:grid | make:grid)
-    options="--diagonals --weights --seed --packed"
+    options="--diagonals --weights --seed"
     ;;
   generate:hex | make:hex)
-    options="--weights --seed --packed"
+    options="--weights --seed"
     ;;
   generate:torus | make:torus)
-    options="--diagonals --weights --seed --packed"
+    options="--diagonals --weights --seed"
     ;;
   generate:random | make:random)
-    options="--links --seed --weights --packed"
+    options="--links --seed --weights"
     ;;
   generate:gnp | make:gnp)
-    options="--probability --seed --weights --packed"
+    options="--probability --seed --weights"
     ;;
   generate:random-tree | make:random-tree)
-    options="--seed --weights --packed"
+    options="--seed --weights"
     ;;
   generate:preferential | make:preferential)
-    options="--links-each --seed --weights --packed"
+    options="--links-each --seed --weights"
     ;;
   generate:regular | make:regular)
-    options="--degree --seed --weights --packed"
+    options="--degree --seed --weights"
     ;;
   generate:small-world | make:small-world)
-    options="--near --rewire --seed --weights --packed"
+    options="--near --rewire --seed --weights"
     ;;
   generate:* | make:*)
     words="path ring star complete bipartite tree hypercube grid hex torus random gnp random-tree preferential regular small-world"

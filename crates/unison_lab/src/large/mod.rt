@@ -20,8 +20,7 @@ use crate::large::settle::settle_rounds;
 use crate::large::watch::watch_rounds;
 use app_files::Ending;
 use app_requests::LargeRequest;
-pub(crate) use binary::check_output;
-pub(crate) use pack::{Output, pack_network, packed_text, put_output, random_of, shape_of};
+pub(crate) use pack::pack_network;
 use std::thread::Threads;
 
 /// Does what `large` is asked for. The status with which the program ends.

@@ -8,7 +8,7 @@ use app_table::Draft;
 use import_network::{MatrixOptions, NamedNetwork, pack_matrix, pack_names};
 use large_net::{LargeNetwork, large_bytes};
 use large_pack::{PackOptions, Packed, pack_edges};
-use link_net::{NetFile, read_network};
+use link_net::NetFile;
 use net_names::list_text;
 use net_random::{LargeRandom, LargeRandomFault, large_random};
 use net_shapes::{LargeShape, LargeShapeFault, large_shape};
@@ -31,7 +31,7 @@ fn notes_text(alloc: Global, packed: &Packed) -> Result<String, AllocError> {
 
 /// A binary file, and what is told beside it.
 #[derive(Drop)]
-pub(crate) struct Output {
+struct Output {
     bytes: Vec<u8>,
     notes: String,
 }
@@ -114,14 +114,6 @@ fn copied_at(rt: &HostRuntime, path: &str) -> Result<Output, Ending> {
     copied(rt.alloc(), &file)
 }
 
-/// The binary file of the network file with this text.
-pub(crate) fn packed_text(alloc: Global, text: &[u8]) -> Result<Output, Ending> {
-    match read_network(alloc, text) {
-        Ok(file) => copied(alloc, &file),
-        Err(fault) => Err(Ending::Network(fault)),
-    }
-}
-
 /// The ending where a shape has no network.
 fn no_shape(alloc: Global, fault: LargeShapeFault) -> Ending {
     let text = match fault {
@@ -135,7 +127,7 @@ fn no_shape(alloc: Global, fault: LargeShapeFault) -> Ending {
 }
 
 /// The binary file of a shape.
-pub(crate) fn shape_of(alloc: Global, shape: LargeShape) -> Result<Output, Ending> {
+fn shape_of(alloc: Global, shape: LargeShape) -> Result<Output, Ending> {
     match large_shape(alloc, shape) {
         Ok(network) => output_of(alloc, &network, String::new(alloc)),
         Err(fault) => Err(no_shape(alloc, fault)),
@@ -155,7 +147,7 @@ fn no_random(alloc: Global, fault: LargeRandomFault) -> Ending {
 }
 
 /// The binary file of the random network that a seed draws.
-pub(crate) fn random_of(alloc: Global, wanted: LargeRandom, seed: u32) -> Result<Output, Ending> {
+fn random_of(alloc: Global, wanted: LargeRandom, seed: u32) -> Result<Output, Ending> {
     match large_random(alloc, wanted, seed as u64) {
         Ok(network) => output_of(alloc, &network, String::new(alloc)),
         Err(fault) => Err(no_random(alloc, fault)),
@@ -187,7 +179,7 @@ fn output_for(
 }
 
 /// Prints a binary file, and tells what was dropped or merged. The status with which the program ends.
-pub(crate) fn put_output(rt: &HostRuntime, output: &Output) -> Result<u8, Ending> {
+fn put_output(rt: &HostRuntime, output: &Output) -> Result<u8, Ending> {
     let status = print_out(rt, &output.bytes)?;
     if !output.notes.is_empty() {
         let _ = eprintln!(rt; "{}", output.notes.as_str());
