@@ -185,6 +185,7 @@ fn text_for(alloc: Global, asked: &GenerateRequest) -> Result<Vec<u8>, Ending> {
 }
 
 /// A network as `pack` makes it: of any size.
+#[derive(Clone, Copy)]
 struct PackedForm {
     /// What it is called by `pack`, as it is here.
     name: &'static str,
