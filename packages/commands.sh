@@ -25,12 +25,34 @@ By $own itself:
 TEXT
 }
 
-# Sets `name` to the program that has a command.
+# What `lockstep` takes besides, by the program of the other commands, as its help says it; nothing where that program is to be built first.
+lockstep_help() {
+  local program
+  choose_built unison_lab && "$program" lockstep --help | sed -n '/^ *--set </,/^ *--sequential/p'
+}
+
+# Sets `name` to the program that has a command. `lockstep` with words that the program of the five commands does not have is one of the other.
 find_name() {
-  case $1 in
-  check | lockstep | run | replay | compare) name=unison_cli ;;
+  case ${1-} in
+  lockstep)
+    name=unison_cli
+    ! asks_more "$@" || name=unison_lab
+    ;;
+  check | run | replay | compare) name=unison_cli ;;
   *) name=unison_lab ;;
   esac
+}
+
+# Whether one of the words asks for initial values, another form or threads.
+asks_more() {
+  local word
+  for word; do
+    case $word in
+    --set | --set=* | --set-file | --set-file=* | --set-random | --set-random=* | --overlap | --seed | --seed=*) return 0 ;;
+    --format | --format=* | --field | --field=* | --threads | --threads=* | --sequential) return 0 ;;
+    esac
+  done
+  return 1
 }
 
 # Whether the script does this command itself.
@@ -246,7 +268,7 @@ instead_of_packed() {
 }
 
 # Puts the network file that says the same as a packed network in its place among `words`. Where no network file says it, `lockstep` is done by
-# `large lockstep`, and another command ends with the reason.
+# the other program, and another command ends with the reason.
 unpack_network() {
   local status others kept=$packed named=$packed
   make_work
@@ -264,7 +286,7 @@ unpack_network() {
   fi
   instead_of_packed "$named"
   if [ "${words[0]}" = lockstep ]; then
-    "$program" large "${others[@]}" <"$kept"
+    "$program" "${others[@]}" ${quiet:+--quiet} <"$kept"
     status=$?
   else
     cat "$work/refused" >&2
@@ -295,7 +317,10 @@ run_five() {
   *) printf %s "${said%x}" >&2 ;;
   esac
   case $status:${2-} in
-  0:--help | 0:-h) model_help ;;
+  0:--help | 0:-h)
+    model_help
+    [ "$1" != lockstep ] || lockstep_help
+    ;;
   esac
   tell_note
   exit "$status"
@@ -354,7 +379,7 @@ run_words() {
     esac
     ;;
   esac
-  find_name "${1-}"
+  find_name "$@"
   choose "$name"
   if [ "$name" = unison_cli ]; then
     without_quiet "$@" && set -- "${words[@]}"

@@ -6,7 +6,7 @@ _unison() {
   if [ "$COMP_CWORD" -gt "$at" ]; then command=${COMP_WORDS[at]}; fi
   if [ "$COMP_CWORD" -gt $((at + 1)) ]; then form=${COMP_WORDS[at + 1]}; fi
   case $command:$form in
-  :) words="check lockstep run replay compare expand watch count settle cuts schedule explain naive verify page image dot generate import init info csv cells pack large why completion manual" ;;
+  :) words="check lockstep run replay compare expand watch count settle cuts schedule explain naive verify page image dot generate import init info csv cells why completion manual" ;;
   check:*) options="" ;;
   lockstep:*) options="--rounds --from" ;;
   run:*) options="--rounds --workers --trace --from" ;;
@@ -18,21 +18,21 @@ _unison() {
     ;;
   watch:*)
     words=""
-    options="--rounds --every --format --only --changes --names --from --const --quiet"
+    options="--rounds --every --format --only --changes --names --from --set --set-file --set-random --overlap --seed --threads --sequential --const --quiet"
     [ "$previous" = --format ] && words="report csv json"
     ;;
   count:*)
     words=""
-    options="--rounds --every --field --until --sum --least --most --format --mean --from --const --quiet"
+    options="--rounds --every --field --until --sum --least --most --format --mean --from --set --set-file --set-random --overlap --seed --threads --sequential --const --quiet"
     [ "$previous" = --format ] && words="csv json"
     ;;
   settle:*)
     words=""
-    options="--limit --report --from --const --quiet"
+    options="--limit --report --from --set --set-file --set-random --overlap --seed --threads --sequential --const --quiet"
     ;;
   cuts:*)
     words=""
-    options="--rounds --below --format --names --from --const"
+    options="--rounds --below --format --names --from --set --set-file --set-random --overlap --seed --const"
     [ "$previous" = --format ] && words="text json"
     ;;
   schedule:sweeps | steps:sweeps)
@@ -90,79 +90,79 @@ _unison() {
     ;;
   image:*)
     words=""
-    options="--rounds --every --field --counts --grid --links --animate --frame-time --frames --colours --from --const"
+    options="--rounds --every --field --counts --grid --links --animate --frame-time --frames --colours --from --set --set-file --set-random --overlap --seed --const"
     ;;
   dot:*)
     words=""
     options="--rounds --field --names --colours --from --const"
     ;;
   generate:path | make:path)
-    options="--weights --seed"
+    options="--seed --weights --packed"
     ;;
   generate:ring | make:ring)
-    options="--weights --seed"
+    options="--seed --weights --packed"
     ;;
   generate:star | make:star)
-    options="--weights --seed"
+    options="--seed --weights --packed"
     ;;
   generate:complete | make:complete)
-    options="--weights --seed"
+    options="--seed --weights --packed"
     ;;
   generate:bipartite | make:bipartite)
-    options="--weights --seed"
+    options="--seed --weights --packed"
     ;;
   generate:tree | make:tree)
-    options="--arity --weights --seed"
+    options="--arity --seed --weights --packed"
     ;;
   generate:hypercube | make:hypercube)
-    options="--weights --seed"
+    options="--seed --weights --packed"
     ;;
   generate:grid | make:grid)
-    options="--diagonals --weights --seed"
+    options="--diagonals --seed --weights --packed"
     ;;
   generate:hex | make:hex)
-    options="--weights --seed"
+    options="--seed --weights --packed"
     ;;
   generate:torus | make:torus)
-    options="--diagonals --weights --seed"
+    options="--diagonals --seed --weights --packed"
     ;;
   generate:random | make:random)
-    options="--links --seed --weights"
+    options="--links --seed --weights --packed"
     ;;
   generate:gnp | make:gnp)
-    options="--probability --seed --weights"
+    options="--probability --seed --weights --packed"
     ;;
   generate:random-tree | make:random-tree)
-    options="--seed --weights"
+    options="--seed --weights --packed"
     ;;
   generate:preferential | make:preferential)
-    options="--links-each --seed --weights"
+    options="--links-each --seed --weights --packed"
     ;;
   generate:regular | make:regular)
-    options="--degree --seed --weights"
+    options="--degree --seed --weights --packed"
     ;;
   generate:small-world | make:small-world)
-    options="--near --rewire --seed --weights"
+    options="--near --rewire --seed --weights --packed"
     ;;
   generate:* | make:*)
     words="path ring star complete bipartite tree hypercube grid hex torus random gnp random-tree preferential regular small-world"
     options=""
     ;;
   import:edges | take:edges)
-    options="--scale --drop-loops --parallel --names --header --numbers --columns --delimiter"
+    options="--scale --drop-loops --parallel --names --header --numbers --columns --delimiter --packed"
     [ "$previous" = --parallel ] && words="min max first"
     [ "$previous" = --delimiter ] && words="comma tab any"
     ;;
   import:matrix-market | take:matrix-market)
-    options="--scale --drop-loops --parallel --undirected"
+    options="--scale --drop-loops --parallel --undirected --packed"
     [ "$previous" = --parallel ] && words="min max first"
     ;;
   import:dot | take:dot)
-    options="--scale --drop-loops --parallel --names --undirected"
+    options="--scale --drop-loops --parallel --names --undirected --packed"
     [ "$previous" = --parallel ] && words="min max first"
     ;;
   import:json | take:json)
-    options="--scale --drop-loops --parallel --names --undirected"
+    options="--scale --drop-loops --parallel --names --undirected --packed"
     [ "$previous" = --parallel ] && words="min max first"
     ;;
   import:* | take:*)
@@ -186,63 +186,6 @@ _unison() {
     words=""
     options="--width --field --format --rule --quiet"
     [ "$previous" = --format ] && words="rle text"
-    ;;
-  pack:edges)
-    options="--nodes --directed --reverse --scale --drop-loops --keep-loops --parallel --header --names"
-    [ "$previous" = --parallel ] && words="min max first keep"
-    ;;
-  pack:matrix-market)
-    options="--scale --drop-loops --keep-loops --parallel --undirected"
-    [ "$previous" = --parallel ] && words="min max first keep"
-    ;;
-  pack:network)
-    options=""
-    ;;
-  pack:path)
-    options=""
-    ;;
-  pack:ring)
-    options=""
-    ;;
-  pack:grid)
-    options=""
-    ;;
-  pack:torus)
-    options="--diagonals"
-    ;;
-  pack:random)
-    options="--links --seed"
-    ;;
-  pack:preferential)
-    options="--links-each --seed"
-    ;;
-  pack:small-world)
-    options="--near --rewire --seed"
-    ;;
-  pack:*)
-    words="edges matrix-market network path ring grid torus random preferential small-world"
-    options=""
-    ;;
-  large:info)
-    options=""
-    ;;
-  large:show)
-    options=""
-    ;;
-  large:lockstep)
-    options="--rounds --from --set --set-file --set-random --overlap --seed --count --format --field --threads --sequential --const"
-    [ "$previous" = --format ] && words="report csv npy"
-    ;;
-  large:watch)
-    options="--rounds --every --from --set --set-file --set-random --overlap --seed --count --field --format --threads --sequential --const"
-    [ "$previous" = --format ] && words="csv npy"
-    ;;
-  large:settle)
-    options="--limit --report --from --set --set-file --set-random --overlap --seed --threads --sequential --const"
-    ;;
-  large:*)
-    words="info show lockstep watch settle"
-    options=""
     ;;
   why:*)
     words=""

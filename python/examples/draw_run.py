@@ -47,7 +47,6 @@ def club() -> Tuple[Any, unison.Rounds]:
     graph = networkx.karate_club_graph()
     program = unison.Program(DISTANCES)
     network = unison.Network.from_networkx(graph, weight=None, set={"dist": {0: 0}})
-    assert isinstance(network, unison.Network), "a club of 34 is no large network"
     last = unison.settle(program, network).round
     return graph, unison.watch(program, network, range(last + 1))
 

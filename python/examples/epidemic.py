@@ -42,7 +42,6 @@ def main() -> None:
 
     model = unison.Model(MODEL)
     town = unison.Network.small_world(200, near=3, rewire=5, seed=1, set={"state": {0: 1}})
-    assert isinstance(town, unison.Network)  # so few people are no LargeNetwork
     means = unison.count(model, town, range(0, ROUNDS + 1, 10), constants={"seed": range(1, asked.seeds + 1)}, mean=True)
     print(f"{'round':>5} {'infected':>10} {'deviation':>10}")
     for row in means:

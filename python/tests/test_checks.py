@@ -72,7 +72,6 @@ CASES = [
     (TypeError, f"count: program is 5, an int: {PROGRAM_WANTED}", lambda: unison.count(5, pair, 1)),
     (TypeError, f"lockstep: network is 'nodes = 1', a str: {NETWORK_WANTED}", lambda: unison.lockstep(swap, "nodes = 1", 1)),
     (TypeError, f"replay: network is <a graph>: {NETWORK_WANTED}", lambda: unison.replay(swap, Graph(), "")),
-    (TypeError, "settle: network is <LargeNetwork of 3 nodes and 6 neighbours>: a unison.Network is wanted: a large network is taken by lockstep, watch, sweep and count alone", lambda: unison.settle(swap, ring)),
     (TypeError, "Program: text is 5, an int: a text, a str or bytes, is wanted", lambda: unison.Program(5)),
     (TypeError, "Model: text is None: a text, a str or bytes, is wanted", lambda: unison.Model(None)),
     (TypeError, "Program.from_file: path is 5, an int: the path of a file, a str or a pathlib.Path, is wanted", lambda: unison.Program.from_file(5)),
@@ -112,7 +111,8 @@ CASES = [
     # Initial values
     (TypeError, f"Network: set is 5, an int: {SET_WANTED}", lambda: unison.Network(1, [], set=5)),
     (TypeError, f"Network.with_set: set is [1], a list: {SET_WANTED}", lambda: pair.with_set([1])),
-    (TypeError, f"LargeNetwork.with_set: set is [1], a list: {SET_WANTED}", lambda: ring.with_set([1])),
+    (TypeError, f"Network.with_set: set is [1], a list: {SET_WANTED}", lambda: ring.with_set([1])),
+    (TypeError, f"Network.with_more: set is [1], a list: {SET_WANTED}", lambda: pair.with_more([1])),
     (TypeError, "Network: set is {5: 1}, a dict: a dict is wanted whose keys are names of fields, and 5 is none", lambda: unison.Network(1, [], set={5: 1})),
     (TypeError, "Network: set['s'] is 1.5, a float: a whole number, a list with one for each node, or a dict from nodes to them is wanted", lambda: unison.Network(1, [], set={"s": 1.5})),
     (TypeError, f"Network: set['s'][1] is '2', a str: {VALUE_WANTED}", lambda: unison.Network(2, [], set={"s": [1, "2"]})),

@@ -172,8 +172,8 @@ def test_counts_of_a_large_network():
     assert unison.count(farthest, weighted, [1]).rows == [(1, 1, 2)], "7 at the centre, 5 and 7 at its neighbours"
     many = unison.Network.from_edges(range(69), range(1, 70))
     assert unison.count(unison.Program("field s = 0; next s = id;"), many, [1]).rows == [(1, node, 1) for node in range(70)]
-    told = str(raised(TypeError, lambda: unison.count(model, large, 1, from_="round 0\n")))
-    assert told.startswith("from_ is 'round 0\\n', a str: a unison.States is wanted")
+    assert unison.count(model, large, [2, 3], from_=start.report()).rows == [(2, 2, 1, 2), (3, 1, 1, 3)]
+    assert raised(unison.ReportError, lambda: unison.count(model, large, 1, from_="round 0\n")).name == "BadLine"
     assert raised(unison.PlanError, lambda: unison.count(model, large.with_set({"stat": 1}), 1)).name == "UnknownField"
 
 
@@ -200,10 +200,8 @@ def test_all_that_is_asked_for_on_a_large_network():
         assert unison.count(many, unison.Network.from_edges(*edges), 1, **asked) == unison.count(many, path(70), 1, **asked), asked
     start = unison.lockstep(model, large, 2)
     assert unison.count(model, large, [2, 3], from_=start, sum="state") == unison.count(model, one, [2, 3], from_=start, sum="state")
-    told = str(raised(ValueError, lambda: unison.count(model, large, 1, constants={"seed": [3, 3]})))
-    assert told == "count: a value of constants['seed'] is given twice"
-    told = str(raised(ValueError, lambda: unison.count(model, large, 1, constants={"seed": range(1001)})))
-    assert told == "count: constants['seed'] has 1001 values: 1000 at most may be counted together"
+    for seeds in ([3, 3], range(1001)):
+        raised(unison.UsageError, lambda: unison.count(model, large, 1, constants={"seed": seeds}))
 
 
 def test_the_curves_are_the_counts():

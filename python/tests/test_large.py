@@ -240,14 +240,6 @@ def test_large_graphs_of_networkx():
     assert type(unison.Network.from_networkx(networkx.path_graph(4))) is unison.Network
 
 
-def test_jobs_of_small_networks_alone():
-    rule, pair = unison.Program(SWAP), unison.Network.from_arrays([0, 1, 2], [1, 0])
-    for call in (lambda: unison.settle(rule, pair), lambda: unison.replay(rule, pair, "")):
-        assert "a large network is taken by lockstep, watch, sweep and count alone" in str(raised(TypeError, call))
-    assert "States" in str(raised(TypeError, lambda: unison.lockstep(rule, pair, 1, from_="round 0\n0 s=0\n1 s=0\n")))
-    raised(TypeError, lambda: unison.lockstep(SWAP, pair, 1))
-
-
 def test_large_networks_go_to_other_processes():
     """A copy lends its own memory, and not what lay there in the process that it comes from."""
     import copy
@@ -263,6 +255,6 @@ def test_large_networks_go_to_other_processes():
         copied = copy.deepcopy(network)
         for other in (again, copied):
             assert as_tuples(unison.lockstep(rule, other, 1)) == before
-            assert other._neighbours.address != network._neighbours.address
+            assert other._neighbours_held.address != network._neighbours_held.address
             assert (list(other.indptr), list(other.indices)) == (list(network.indptr), list(network.indices))
     raised(BufferError, lambda: copied.indices.append(0))

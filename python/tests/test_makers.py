@@ -174,29 +174,29 @@ def words_of(make):
 
 
 def test_which_networks_are_beyond_the_limits():
-    """More than 65,536 nodes or 262,144 links, of the kinds that `pack` makes; it draws no weights, and no grid with diagonals."""
+    """More than 65,536 nodes or 262,144 links, of the kinds that have any size: without weights, and no grid with diagonals."""
     for make, words in [
         (lambda: Network.ring(65_536), "generate ring 65536"),
-        (lambda: Network.ring(65_537), "pack ring 65537"),
+        (lambda: Network.ring(65_537), "generate ring 65537 --packed"),
         (lambda: Network.ring(65_537, weights=(1, 2), seed=1), "generate ring 65537 --seed=1 --weights=1..2"),
         (lambda: Network.torus(256, 256, diagonals=True), "generate torus 256 256 --diagonals"),
-        (lambda: Network.torus(256, 257, True), "pack torus 256 257 --diagonals"),
-        (lambda: Network.grid(256, 257), "pack grid 256 257"),
+        (lambda: Network.torus(256, 257, True), "generate torus 256 257 --diagonals --packed"),
+        (lambda: Network.grid(256, 257), "generate grid 256 257 --packed"),
         (lambda: Network.grid(256, 257, True), "generate grid 256 257 --diagonals"),
         (lambda: Network.random(1000, 262_144, 1), "generate random 1000 --links=262144 --seed=1"),
-        (lambda: Network.random(1000, 262_145, 1), "pack random 1000 --links=262145 --seed=1"),
+        (lambda: Network.random(1000, 262_145, 1), "generate random 1000 --links=262145 --seed=1 --packed"),
         (lambda: Network.small_world(1024, 256, 0, 1), "generate small-world 1024 --near=256 --rewire=0.000000% --seed=1"),
-        (lambda: Network.small_world(1025, 256, 0, 1), "pack small-world 1025 --near=256 --rewire=0.000000% --seed=1"),
-        (lambda: Network.preferential(65_538, 4, 1), "pack preferential 65538 --links-each=4 --seed=1"),
+        (lambda: Network.small_world(1025, 256, 0, 1), "generate small-world 1025 --near=256 --rewire=0.000000% --seed=1 --packed"),
+        (lambda: Network.preferential(65_538, 4, 1), "generate preferential 65538 --links-each=4 --seed=1 --packed"),
         (lambda: Network.preferential(65_536, 4, 1), "generate preferential 65536 --links-each=4 --seed=1"),
-        (lambda: Network.preferential(65_536, 5, 1), "pack preferential 65536 --links-each=5 --seed=1"),
+        (lambda: Network.preferential(65_536, 5, 1), "generate preferential 65536 --links-each=5 --seed=1 --packed"),
         (lambda: Network.regular(70_000, 2, 1), "generate regular 70000 --degree=2 --seed=1"),
     ]:
         assert words_of(make) == words.split(), words
 
 
 def test_large_makers_make_the_same_networks():
-    """`pack` and `generate`, for the same numbers and seed."""
+    """With `--packed` and without it, for the same numbers and seed."""
     for words, small in [
         (["ring", "9"], Network.ring(9)),
         (["torus", "5", "4", "--diagonals"], Network.torus(5, 4, diagonals=True)),
@@ -204,22 +204,22 @@ def test_large_makers_make_the_same_networks():
         (["preferential", "30", "--links-each", "3", "--seed", "7"], Network.preferential(30, 3, 7)),
         (["small-world", "30", "--near", "2", "--rewire", "50%", "--seed", "7"], Network.small_world(30, 2, 50, 7)),
     ]:
-        large = _packed.read(_programs.run(["pack", *words]))
+        large = _packed.read(_programs.run(["generate", *words, "--packed"]))
         assert [sorted(large.neighbours(node)) for node in range(large.nodes)] == [small.neighbours(node) for node in range(small.nodes)], words
 
 
-def test_a_large_network_is_written_as_pack_writes_it():
-    assert _packed.write(unison.Network.from_edges([0, 1, 2, 3, 4], [1, 2, 3, 4, 0])) == _programs.run(["pack", "ring", "5"])
+def test_arrays_are_written_as_generate_packs_them():
+    assert _packed.write(unison.Network.from_edges([0, 1, 2, 3, 4], [1, 2, 3, 4, 0])) == _programs.run(["generate", "ring", "5", "--packed"])
     weighted = unison.Network.from_edges([0, 1], [1, 2], [7, 9])
     again = _packed.read(_packed.write(weighted), {"s": 4})
     assert (list(again.indptr), list(again.indices), list(again.weights)) == ([0, 1, 3, 4], [1, 0, 2, 1], [7, 7, 9, 9])
 
 
-def test_files_of_large_networks():
-    """What `save` writes is read again; a file that is none is refused as `unison large` refuses it."""
+def test_packed_files():
+    """What `save` writes is read again; a file that is none is refused as the commands refuse it."""
     with tempfile.TemporaryDirectory() as folder:
         file, names = Path(folder, "x.net"), Path(folder, "x.names")
-        file.write_bytes(_programs.run(["pack", "path", "3"]))
+        file.write_bytes(_programs.run(["generate", "path", "3", "--packed"]))
         names.write_text("ann\nbob\ncid\n")
         net = Network.from_file(file, names)
         assert type(net) is unison.LargeNetwork and net.neighbours("bob") == ["ann", "cid"] and net.weights is None

@@ -202,8 +202,10 @@ def test_small_runs_are_shown_as_pages():
     later = unison.lockstep(FAR, ROW, 2, from_=watched.at(1))
     assert later._repr_html_() == unison.page(FAR, ROW, [2], from_=watched.at(1))._repr_html_()
     assert unison.watch(FAR, ROW, [0, 1, 5])._repr_html_().startswith("<table>"), "rounds that are not evenly apart"
-    large = unison.Network.from_edges([0, 1], [1, 2], set={"dist": {0: 0}})
-    assert unison.lockstep(FAR, large, 1)._repr_html_().startswith("<table>"), "a large network has no page"
+    arrays = unison.Network.from_edges([0, 1], [1, 2], set={"dist": {0: 0}})
+    assert unison.lockstep(FAR, arrays, 1)._repr_html_() == unison.page(FAR, arrays, [1])._repr_html_()
+    one_way = unison.Network.from_arrays([0, 1, 1], [1])
+    assert unison.lockstep(FAR, one_way, 1)._repr_html_().startswith("<table>"), "no network file says this network"
 
 
 def test_results_do_not_share_what_they_hold():

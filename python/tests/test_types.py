@@ -18,6 +18,8 @@ USES = [
     ("unison.sweep(program, network, {}, 3).columns.sort()", 'has no attribute "sort"'),
     ("unison.Network(3)", 'Missing positional argument "links"'),
     ("unison.watch(program, network, range(3)).at(1).by_name('s', missing=True)", ""),
+    ("unison.page(program, unison.Network.ring(5), 3).html.upper()", ""),
+    ("unison.settle(program, unison.Network.from_edges([0], [1]), 3).round + 1", ""),
 ]
 
 

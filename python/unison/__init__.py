@@ -28,7 +28,7 @@ from .faults import (
 )
 from .inspection import Cut, Verdict, cuts, explain, naive, verify
 from .jobs import first_fault, lockstep, replay, settle, watch, why
-from .large import LargeNetwork
+from .large import LargeNetwork as LargeNetwork  # an old name
 from .model import Model
 from .network import Network
 from .pictures import Image, Page, image, page
@@ -43,7 +43,6 @@ __all__ = [
     "Counts",
     "Cut",
     "Image",
-    "LargeNetwork",
     "LibraryMissing",
     "Model",
     "ModelError",

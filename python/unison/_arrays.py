@@ -5,7 +5,9 @@ from __future__ import annotations
 
 import operator
 from array import array
-from typing import Any, Iterable, List, Mapping, NamedTuple, Sequence, Tuple
+from collections import Counter
+from itertools import repeat
+from typing import Any, Iterable, List, Mapping, NamedTuple, Optional, Sequence, Tuple
 
 from . import faults
 from .results import numpy
@@ -159,6 +161,15 @@ def rows_of_lists(nodes: int, ends: Tuple[Any, Any], weights: Any, directed: boo
         order.extend(place for _, place in row)
         offsets.append(len(neighbours))
     return offsets, neighbours, None if weights is None else array("I", (weights[place] for place in order))
+
+
+def links_in_rows(offsets: Any, neighbours: Any, weights: Any) -> Optional[List[Tuple[int, int, int]]]:
+    """The links of rows, node by node, each at the lower one of its ends; None where one leads one way, or has two weights."""
+    ends = [node for node in range(len(offsets) - 1) for _ in range(int(offsets[node]), int(offsets[node + 1]))]
+    ways = list(zip(ends, map(int, neighbours), repeat(1) if weights is None else map(int, weights)))
+    if Counter(ways) != Counter((other, one, weight) for one, other, weight in ways):
+        return None
+    return [way for way in ways if way[0] <= way[1]]
 
 
 def row_of(row: Any, what: str) -> Tuple[Any, ...]:

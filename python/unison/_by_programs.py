@@ -63,6 +63,19 @@ def table_of(reports: bytes) -> Table:
     return Table(array("I", [value for state in states for value in state]), len(states) // max(rounds, 1), fields)
 
 
+def settling_in(told: bytes) -> List[int]:
+    """The manner, the round and the period of a line that tells what becomes of the rounds."""
+    manner, *numbers = told.decode("ascii").split()
+    round, period = (*map(int, numbers), 0)[:2]
+    return [MANNERS[manner], round, period]
+
+
+def fault_of_limit(number: int) -> int:
+    """The number of the fault of a limit, of which programs say what they say of rounds."""
+    below = faults.FAULTS.get(number) == ("run", "RoundsBelowStart")
+    return faults.NUMBERS["run", "LimitBelowStart"] if below else number
+
+
 def spans(rounds: Sequence[int]) -> Spans:
     """Rising rounds as few spans of rounds that are evenly apart: the first, the last and how far apart they are. Other rounds are refused."""
     if any(before >= after for before, after in zip(rounds, rounds[1:])):
@@ -170,12 +183,9 @@ class Programs:
 
     def settle(self, texts: Texts, limit: int) -> List[int]:
         try:
-            manner, *numbers = on_plan("settle", texts, f"--limit={limit}").decode("ascii").split()
+            return settling_in(on_plan("settle", texts, f"--limit={limit}"))
         except Refused as refused:
-            below = faults.FAULTS.get(refused.number) == ("run", "RoundsBelowStart")
-            raise Refused(faults.NUMBERS["run", "LimitBelowStart"]) if below else refused
-        round, period = (*map(int, numbers), 0)[:2]
-        return [MANNERS[manner], round, period]
+            raise Refused(fault_of_limit(refused.number)) from None
 
     def replay(self, texts: Texts, stop: int, rooms: Tuple[int, int, int]) -> Replay:
         from_ = [f"--from={REPORT}"] if texts.report else []
@@ -203,7 +213,7 @@ class Programs:
         return Told(error.number, done.output.decode("utf-8", "replace"))
 
     def large_check(self, lists: LargeNetwork) -> Tuple[int, int]:
-        name, place = first_fault_of_lists(lists._offsets.held, lists._neighbours.held, lists._weights.count)
+        name, place = first_fault_of_lists(lists._offsets.held, lists._neighbours_held.held, lists._weights_held.count)
         return (faults.NUMBERS["lists", name] if name else 0), place
 
     def large_rounds(self, program: Program, start: Start, asked: int) -> None:

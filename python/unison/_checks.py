@@ -13,7 +13,6 @@ from typing import TYPE_CHECKING, Any, Dict, Iterable, List, Mapping, NoReturn, 
 from . import faults
 
 if TYPE_CHECKING:
-    from .large import LargeNetwork
     from .network import Network
     from .program import Program
 
@@ -146,7 +145,7 @@ def program(call: str, value: Any) -> "Program":
 
 
 def network(call: str, value: Any) -> "Network":
-    """A network that has a text."""
+    """A network."""
     from .network import Network
 
     if not isinstance(value, Network):
@@ -159,17 +158,8 @@ def network_wanted(value: Any) -> str:
     if type(value).__module__.startswith("networkx"):
         return "a unison.Network is wanted: unison.Network.from_networkx(graph) makes one"
     if type(value).__module__.startswith("scipy"):
-        return "a unison.Network is wanted: unison.Network.from_scipy(matrix) makes a large one"
-    if type(value).__name__ == "LargeNetwork":
-        return "a unison.Network is wanted: a large network is taken by lockstep, watch, sweep and count alone"
+        return "a unison.Network is wanted: unison.Network.from_scipy(matrix) makes one"
     return "a unison.Network is wanted: unison.Network(nodes, links) makes one, unison.Network.from_text(text) that of a text"
-
-
-def any_network(call: str, value: Any) -> "Union[Network, LargeNetwork]":
-    """A network, large or not."""
-    from .large import LargeNetwork
-
-    return value if isinstance(value, LargeNetwork) else network(call, value)
 
 
 def rising_rounds(call: str, name: str, value: Any) -> List[int]:
@@ -243,7 +233,7 @@ def report(call: str, value: Any, program: "Program", network: "Network") -> byt
     return whole_text
 
 
-def states_fit(call: str, states: Any, program: "Program", network: "Union[Network, LargeNetwork]") -> None:
+def states_fit(call: str, states: Any, program: "Program", network: "Network") -> None:
     """Looks whether states to go on from are of a program's fields and a network's nodes."""
     if states.fields != program.fields or states.nodes != network.nodes:
         raise ValueError(

@@ -4,13 +4,16 @@ from __future__ import annotations
 
 from typing import Any, Dict, List, Mapping, NamedTuple, Optional, Sequence
 
-from . import _calls, _checks, _programs, faults
+from . import _calls, _checks, _packed, _programs, faults
+from ._arrays import Numbers
+from .large import FILE, LargeNetwork
 from .model import Model
 from .network import Network
 from .program import Program
 
 PROGRAM, NETWORK, REPORT, NAMES = "program.rules", "network.toml", "report.txt", "names.txt"
 LAST = _checks.LAST_ROUND
+FEW = 1000  # nodes whose initial values words tell; those of more stand in a file, with those of all others
 
 
 class Job(NamedTuple):
@@ -55,12 +58,36 @@ class Job(NamedTuple):
 
 
 def job_of(call: str, program: Any, network: Any, from_: Any = None, constants: Optional[Mapping[str, str]] = None) -> Job:
-    """The job of a call, whose arguments are looked at. `constants` stand before those that the model was given."""
+    """The job of a call that takes any network, whose arguments are looked at. `constants` stand before those that the model was given."""
     rules, links = _checks.program(call, program), _checks.network(call, network)
     report = _checks.report(call, from_, rules, links)
-    job = program_job(call, rules, constants or {}).reading(NETWORK, links._bytes)
-    job = job._replace(texts=_calls.Texts(rules.text, links._bytes, report))
+    job = program_job(call, rules, constants or {})
+    if isinstance(links, LargeNetwork):
+        links._check_fields(rules)
+        job = job.reading(FILE, links._bytes)
+        job = job if report else beginning(job, rules, links, bool(constants))
+    else:
+        job = job.reading(NETWORK, links._bytes)._replace(texts=_calls.Texts(rules.text, links._bytes, report))
     return job.naming("--from", REPORT, report) if report else job
+
+
+def file_job_of(call: str, program: Any, network: Any, from_: Any = None) -> Job:
+    """The job of a call that takes a network file."""
+    return job_of(call, program, _checks.network(call, network)._file(call), from_)
+
+
+def beginning(job: Job, program: Program, network: LargeNetwork, in_words: bool) -> Job:
+    """The job with the initial values of a network that is kept as arrays, which its file does not have. Those of some nodes go in words where
+    they are few, or where they have to: other nodes begin as the program says, which constants may change."""
+    for place, (field, given) in enumerate(network._set.items()):
+        if isinstance(given, dict) and (in_words or len(given) <= FEW):
+            job = job.saying(*(f"--set={field}={node}:{value}" for node, value in given.items()))
+        elif isinstance(given, (dict, Numbers)):
+            values = network._column(field, program.initial_values[field])
+            job = job.naming(f"--set-file={field}", f"initial{place}.npy", _packed.column(values))
+        else:
+            job = job.saying(f"--set={field}=*:{given}")
+    return job
 
 
 def program_job(call: str, program: Program, constants: Mapping[str, str]) -> Job:

@@ -37,7 +37,7 @@ def links_of(network: Network) -> LargeNetwork:
 
 
 def initial_values(network: Network) -> Dict[str, Any]:
-    """The initial values as a large network takes them: all of a field in order, or some by the nodes' numbers."""
+    """The initial values as arrays take them: all of a field in order, or some by the nodes' numbers."""
     sets = network._read().sets
     return {
         field: array("I", [value for _, value in sorted(pairs)]) if len(pairs) == network.nodes else dict(pairs)

@@ -24,7 +24,7 @@ def page_of(result: Any, rounds: Any) -> str:
 
     try:
         return str(pictures.page(program, network, shown, from_=from_)._repr_html_()) if is_at_hand() else ""
-    except (OSError, RuntimeError, TypeError, ValueError):  # large networks, rounds that are not evenly apart
+    except (OSError, RuntimeError, TypeError, ValueError):  # networks that no network file says, rounds that are not evenly apart
         return ""
 
 

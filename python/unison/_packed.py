@@ -1,4 +1,5 @@
-"""Binary network files (docs/formats.md): those that `unison pack` prints are read, and a large network is written for `unison large`."""
+"""Packed network files (docs/formats.md, Binary network file): those that commands write are read, and a network that is kept as arrays is
+written, with its initial values in words and files beside it, since it has none."""
 
 from __future__ import annotations
 
@@ -6,18 +7,15 @@ import sys
 from array import array
 from typing import Any, Iterable, Mapping, Optional, Tuple
 
-from . import _files, large
 from .faults import NO_NUMBER, NetworkError
 from ._arrays import LONG, WORD
 from .large import LargeNetwork
-from .program import Program
 from .results import numpy
 
 MAGIC = b"UNISONW1"
 HEAD = 32  # bytes before the offsets
 MOST_NODES = 4294967295
 CODES = {WORD: "I", LONG: "Q"}
-NETWORK = "network.net"
 
 
 def part_of(packed: bytes, place: int, count: int, size: int) -> Any:
@@ -58,7 +56,7 @@ def head_of(packed: bytes) -> Tuple[int, int, int]:
 
 
 def refused(name: str, why: str) -> NetworkError:
-    """The fault of a file, called as `unison large` calls it."""
+    """The fault of a file, called as the commands call it."""
     return NetworkError(NO_NUMBER, f"network {name}: {why}", ("network", name))
 
 
@@ -74,7 +72,7 @@ def bytes_of(values: Any, size: int) -> bytes:
 
 def write(network: LargeNetwork) -> bytes:
     """The file of a network's links."""
-    weighted = network._weights.count == network._neighbours.count > 0
+    weighted = network.ends > 0 and network.weights is not None
     head = [network.nodes, network.ends, int(weighted)]
     parts = [MAGIC, bytes_of(head, LONG), bytes_of(network.indptr, LONG), bytes_of(network.indices, WORD)]
     if weighted:
@@ -82,7 +80,7 @@ def write(network: LargeNetwork) -> bytes:
     return b"".join(parts)
 
 
-def column(values: "array[int]") -> bytes:
+def column(values: Any) -> bytes:
     """Values as a file of an array of NumPy with one axis."""
     about = f"{{'descr': '<u4', 'fortran_order': False, 'shape': ({len(values)},), }}"
     padded = about + " " * (-(len(about) + 11) % 64) + "\n"
@@ -97,13 +95,3 @@ def values_in(npy: bytes) -> "array[int]":
         words.byteswap()
     return words
 
-
-def job_of(call: str, program: Program, network: LargeNetwork, from_: Any) -> _files.Job:
-    """The job of a program on a large network, from its initial values or from states on."""
-    start = large.start_of(program, network, from_)
-    job = _files.program_job(call, program, {}).reading(NETWORK, write(network))
-    if from_ is not None:
-        return job.naming("--from", _files.REPORT, from_.report().encode("ascii"))
-    for place, field in enumerate(program.fields):
-        job = job.naming(f"--set-file={field}", f"initial{place}.npy", column(start.words[place :: len(program.fields)][: network.nodes]))
-    return job

@@ -9,9 +9,9 @@ from typing import Any, Callable, Dict, Iterator, List, Mapping, NamedTuple, Opt
 
 from . import _calls, large
 from ._calls import Start
-from .jobs import AnyNetwork
 from .large import LargeNetwork
 from .model import Model
+from .network import Network
 from .program import Program
 from .results import NONE, Rounds, States, numpy
 
@@ -64,7 +64,7 @@ class Plan(NamedTuple):
     """What all runs of a sweep have in common."""
 
     program: Program
-    network: AnyNetwork
+    network: Network
     lists: LargeNetwork
     rounds: List[int]
     from_: Optional[States]
@@ -122,13 +122,13 @@ def counts_found(program: Program, start: Start, rounds: Sequence[int], values: 
 
 
 def with_values(plan: Plan, values: Mapping[str, Any]) -> LargeNetwork:
-    """The network with these initial values in place of its own of the same fields. Its lists know no names that a `Network` has."""
+    """The network with these initial values in place of its own of the same fields. Lists that are made of it know none of its names."""
     if plan.lists is not plan.network:
         values = {field: numbered(plan.network, given) if isinstance(given, Mapping) else given for field, given in values.items()}
     return plan.lists.with_more(values) if values else plan.lists
 
 
-def numbered(network: AnyNetwork, values: Mapping[Any, int]) -> Dict[int, int]:
+def numbered(network: Network, values: Mapping[Any, int]) -> Dict[int, int]:
     """Values by the nodes' numbers in place of their names."""
     return {network.number(node): value for node, value in values.items()}
 

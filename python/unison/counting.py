@@ -8,10 +8,8 @@ import io
 from base64 import b64encode
 from typing import Any, Dict, Iterator, List, Mapping, NamedTuple, Optional, Sequence, Tuple, Union
 
-from . import _checks, _counted, _files, _packed
-from ._runs import processors
+from . import _checks, _files
 from .faults import Missing
-from .large import LargeNetwork
 from .model import Model, constants_of
 from .network import Network
 from .pictures import Image, image, value_of
@@ -21,7 +19,6 @@ from .results import numpy, pandas_or_tell
 Values = Union[int, Sequence[int]]
 Cell = Union[int, float, str, None]
 CountTable = Tuple[List[str], List[List[Cell]]]
-MOST_COLUMNS = 64
 SHOWN = 12  # rows in a table of a notebook
 LEFT_OUT = "&hellip;"
 ADDRESS = "data:image/svg+xml;base64,"  # of a picture that stands in a page, apart from the page's own styles
@@ -204,7 +201,7 @@ def table_of(text: str) -> CountTable:
 
 def count(
     program: Program,
-    network: Union[Network, LargeNetwork],
+    network: Network,
     rounds: Any,
     field: Optional[str] = None,
     *,
@@ -218,9 +215,7 @@ def count(
 ) -> Counts:
     """How many nodes have each value of a field, round by round: counted by the proved program in one pass.
 
-    - `program`: a `Program`, or a `Model`, whose states are the names of columns.
-    - `network`: a `Network`; or a `LargeNetwork`, which takes no text for `from_`. Its rounds are made by as many threads as there are
-      processors; where more is asked for than the counts, by one for each run.
+    - `program`: a `Program`, or a `Model`, whose states are the names of columns; `network`: a `Network`.
     - `rounds`: the last round, counted from round 0, 1,000,000,000 at most: all up to it are counted; or rounds that are evenly apart, as
       `range(0, 101, 10)`.
     - `field`: the field whose values are counted; may be left out where the program has one alone.
@@ -246,16 +241,10 @@ def count(
     given, several = constants_given(rules, constants), constant_of_several(constants)
     if _checks.flag("count", "mean", mean) and several is None:
         raise ValueError("count: mean is True, and no constant has several values, as constants={'seed': range(20)}, of which there are means")
-    if isinstance(network, LargeNetwork):
-        figures = [(kind, name) for kind, asked in (("sum", sum), ("least", least), ("most", most)) for name in _checks.fields("count", kind, asked, rules)]
-        if not figures and until is None and not given:
-            return large_counts(rules, network, rounds, named, from_)
-        wanted = _counted.Asked(named, range_of("count", rounds), figures, None if until is None else until_value(rules, until))
-        return counts_on_lists(rules, network, wanted, constants or {}, several, mean, from_)
     job = _files.job_of("count", rules, network, from_, given)
     words = ["count", *_files.span_words("count", rounds), f"--field={named}", *column_words(rules, sum, least, most)]
     if until is not None:
-        words.append("--until={}:{}={}".format(*until_value(rules, until)))
+        words.append(until_word(rules, until))
     if mean:
         return Counts(*table_of(job.run(*words, "--mean").decode("utf-8")), named)
     table = table_of(job.run(*words).decode("utf-8"))
@@ -313,14 +302,14 @@ def column_words(program: Program, sum: Any, least: Any, most: Any) -> List[str]
     return [f"--{name}={field}" for name, given in asked.items() for field in _checks.fields("count", name, given, program)]
 
 
-def until_value(program: Program, until: Any) -> _counted.Until:
-    """When the counts end."""
+def until_word(program: Program, until: Any) -> str:
+    """The word for when the counts end."""
     if not isinstance(until, Mapping) or len(until) != 1:
         _checks.refuse("count", "until", until, "a dict from one field to a value or a state, as {'none:state': 'infected'}, is wanted")
     ((key, value),) = until.items()
     holders, name = split_holders(key)
     field = _checks.field("count", "until", name, program)
-    return _counted.Until(holders, field, value_of("count", f"until[{key!r}]", program, field, value))
+    return f"--until={holders}:{field}={value_of('count', f'until[{key!r}]', program, field, value)}"
 
 
 def split_holders(key: Any) -> Tuple[str, Any]:
@@ -334,33 +323,3 @@ def split_holders(key: Any) -> Tuple[str, Any]:
 def constant_of_several(constants: Optional[Mapping[str, Values]]) -> Optional[str]:
     """The constant that has several values, where one has."""
     return next((name for name, value in (constants or {}).items() if not _checks.is_whole(value)), None)
-
-
-def counts_on_lists(
-    program: Program, network: LargeNetwork, asked: _counted.Asked, constants: Mapping[str, Values], several: Optional[str], mean: bool, from_: Any
-) -> Counts:
-    """The counts on a large network with more than the values of a field: the library makes the rounds."""
-    states = program.states.get(asked.field, ()) if isinstance(program, Model) else ()
-    runs = _counted.runs_of(program, network, asked, constants, several, from_, processors())
-    if mean:
-        return Counts(*_counted.means_of(runs, asked, states), asked.field)
-    return counts_of(_counted.table_of(runs, asked, several, states), program, asked.field, None)
-
-
-def large_counts(program: Program, network: LargeNetwork, rounds: Any, field: str, from_: Any) -> Counts:
-    """The counts on a large network: `unison large watch` tells them by lines."""
-    words = ["large", "watch", *_files.span_words("count", rounds), f"--count={field}"]
-    table = table_of(_packed.job_of("count", program, network, from_).run(*words).decode("utf-8"))
-    return counts_of(in_columns(table), program, field, None)
-
-
-def in_columns(table: CountTable) -> CountTable:
-    """Counts with a line for each value as a table with a column for each, by rising value, where at most 64 values occur."""
-    found = {row[1] for row in table[1]}
-    if len(found) > MOST_COLUMNS:
-        return table
-    values = sorted(found, key=lambda value: (isinstance(value, int), value))
-    counts: Dict[Cell, Dict[Cell, Cell]] = {}
-    for round, value, nodes in table[1]:
-        counts.setdefault(round, {})[value] = nodes
-    return ["round", *map(str, values)], [[round, *(counts[round].get(value, 0) for value in values)] for round in counts]

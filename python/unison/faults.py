@@ -101,7 +101,7 @@ class UnisonError(ValueError):
     program Syntax 18 (1, 29)
     """
 
-    #: The part at fault: `program`, `network`, `lists` of a large network, `plan`, `report`, `schedule` or `run`; `model`, `trace`, `image`,
+    #: The part at fault: `program`, `network`, `lists` of arrays, `plan`, `report`, `schedule` or `run`; `model`, `trace`, `image`,
     #: `page`, `usage` and others where a proved program tells it.
     part: str
     #: The fault's name, as in docs/formats.md: `Syntax`, `BadLink`, ..

@@ -3,10 +3,9 @@
 from __future__ import annotations
 
 from fractions import Fraction
-from typing import Any, Callable, Dict, FrozenSet, List, Mapping, Optional, Tuple, Type, Union
+from typing import Any, Callable, Dict, FrozenSet, List, Mapping, Optional, Tuple, Type
 
 from . import _checks
-from .large import LargeNetwork
 from .network import InitialValues, Network
 from .results import Table
 
@@ -68,9 +67,8 @@ def from_networkx(
     parallel: Optional[str] = None,
     merge_doubles: Optional[str] = None,
     kind: Type[Network] = Network,
-) -> Union[Network, LargeNetwork]:
-    """The network of a graph of NetworkX. Nodes are numbered in the graph's order, and called as in the graph. A graph of more than 65,536
-    nodes, 262,144 links or 4,096 links of one node makes a `LargeNetwork`, which has no `phase`.
+) -> Network:
+    """The network of a graph of NetworkX, of any size. Nodes are numbered in the graph's order, and called as in the graph.
 
     - `weight`: the attribute of edges that is the weight of the link, 1 where an edge has none; None: all weights are 1. Weights
       are whole numbers from 0 to 4294967295.

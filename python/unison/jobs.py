@@ -2,9 +2,10 @@
 
 from __future__ import annotations
 
-from typing import Any, Iterable, Optional, Sequence, Tuple, Union
+import re
+from typing import Any, Iterable, List, Optional, Sequence, Tuple, Union
 
-from . import _calls, _checks, faults, large
+from . import _by_programs, _calls, _checks, _files, faults, large
 from ._calls import Start, Texts
 from ._lists import lists_of
 from .large import LargeNetwork
@@ -14,22 +15,33 @@ from .results import Replayed, Rounds, Settling, States
 from .schedule import Step
 
 From = Union[None, States, str, bytes]
-AnyNetwork = Union[Network, LargeNetwork]
+ROUND = re.compile(rb"round ([0-9]{1,10})\n")  # with which a report begins
 MANNERS = {1: "settles", 2: "repeats", 3: "open"}
 
 
 def texts_of(call: str, program: Any, network: Any, from_: From = None) -> Texts:
-    """The texts of a job, whose arguments are looked at."""
-    rules, links = _checks.program(call, program), _checks.network(call, network)
+    """The texts of a job, whose arguments are looked at. It takes networks that a network file says."""
+    rules, links = _checks.program(call, program), _checks.network(call, network)._file(call)
     return Texts(rules.text, links._bytes, _checks.report(call, from_, rules, links))
 
 
-def start_of(call: str, program: Program, network: AnyNetwork, rounds: Sequence[int], from_: From) -> Optional[Start]:
+def start_of(call: str, program: Program, network: Network, rounds: Sequence[int], from_: From) -> Optional[Start]:
     """Where rounds begin that are made on lists, so that no text of a network is read; None where they are made of the text of a network, as
     they always are where no lists are lent."""
     if isinstance(network, LargeNetwork):
-        return large.start_of(program, network, from_)
+        return large.start_of(program, network, states_of_report(call, program, network, from_))
     return start_on_lists(call, program, network, rounds, from_) if _calls.backend().lends_lists else None
+
+
+def states_of_report(call: str, program: Program, network: LargeNetwork, from_: From) -> Optional[States]:
+    """The states to go on from, which a program reads where they are the text of a report."""
+    if from_ is None or isinstance(from_, States):
+        return from_
+    job = _files.job_of(call, program, network, from_)
+    found = ROUND.match(job.files[_files.REPORT])
+    round = min(int(found[1]), _checks.LAST_ROUND) if found else 0
+    read = _by_programs.table_of(job.run("watch", f"--rounds={round}..{round}"))
+    return States(round, program.fields, read.nodes, read.words, network._names)
 
 
 def start_on_lists(call: str, program: Program, network: Network, rounds: Sequence[int], from_: From) -> Optional[Start]:
@@ -45,7 +57,7 @@ def start_on_lists(call: str, program: Program, network: Network, rounds: Sequen
     return None if lists is None else large.start_of(program, lists, from_)
 
 
-def lists_for(call: str, program: Program, network: AnyNetwork) -> LargeNetwork:
+def lists_for(call: str, program: Program, network: Network) -> LargeNetwork:
     """The lists of a network for this program."""
     if isinstance(network, LargeNetwork):
         return network
@@ -56,15 +68,13 @@ def lists_for(call: str, program: Program, network: AnyNetwork) -> LargeNetwork:
     return start.lists
 
 
-def lockstep(program: Program, network: AnyNetwork, rounds: int, from_: From = None) -> States:
+def lockstep(program: Program, network: Network, rounds: int, from_: From = None) -> States:
     """The states of all nodes after a round.
-
-    - `network`: a `Network`, or a `LargeNetwork`, whose states are made in one thread.
 
     - `rounds`: the round, counted from round 0, up to 1,000,000,000. Where the program does not read `round`, and nothing changes any
       more, it is answered at once.
     - `from_`: a result of `lockstep`, or of `States.from_values`, or the text of a report, to go on from; `rounds` may not lie before its
-      round. On a large network a text is not read.
+      round.
 
     Raises PlanError, ReportError or RunError where it is refused.
 
@@ -87,7 +97,7 @@ def lockstep(program: Program, network: AnyNetwork, rounds: int, from_: From = N
     return states
 
 
-def watch(program: Program, network: AnyNetwork, rounds: Iterable[int], from_: From = None) -> Rounds:
+def watch(program: Program, network: Network, rounds: Iterable[int], from_: From = None) -> Rounds:
     """The states of all nodes after each of some rounds, in one pass: no round is computed twice.
 
     `rounds` are rising, each above the one before: `range(0, 100)`, `[1, 10, 100]`. The result has 4 bytes for each field of each node in
@@ -127,8 +137,20 @@ def settle(program: Program, network: Network, limit: int = 1_000_000, from_: Fr
     Settling(manner='open', round=50, period=0)
     """
     asked = _checks.round_of("settle", "limit", limit, _checks.LIMIT_TOO_LARGE)
-    manner, round, period = _calls.settle(texts_of("settle", program, network, from_), asked)
+    if isinstance(network, LargeNetwork):
+        manner, round, period = settling_on_arrays(program, network, asked, from_)
+    else:
+        manner, round, period = _calls.settle(texts_of("settle", program, network, from_), asked)
     return Settling(MANNERS[manner], round, period)
+
+
+def settling_on_arrays(program: Program, network: LargeNetwork, limit: int, from_: From) -> List[int]:
+    """What becomes of the rounds on a network that is kept as arrays, as the proved program tells it: the manner, the round and the period."""
+    job = _files.job_of("settle", program, network, from_)
+    try:
+        return _by_programs.settling_in(job.run("settle", f"--limit={limit}"))
+    except faults.RunError as error:
+        raise faults.error_of(_by_programs.fault_of_limit(error.number)) from None
 
 
 def replay(
@@ -189,11 +211,8 @@ def asked_of(
 def text_of_network(call: str, network: Union[Network, str, bytes]) -> bytes:
     """The text of a network, or the text that is given for one."""
     if isinstance(network, Network):
-        return network._bytes
-    wanted = "a unison.Network, or the text of a network file"
-    if isinstance(network, LargeNetwork):
-        _checks.refuse(call, "network", network, f"{wanted}, is wanted; a large network has no text")
-    return _checks.text(call, "network", network, wanted)
+        return network._file(call)._bytes
+    return _checks.text(call, "network", network, "a unison.Network, or the text of a network file")
 
 
 def why(

@@ -1,77 +1,95 @@
-"""Networks of any size, as arrays."""
+"""Networks of any size, which are kept as arrays."""
 
 from __future__ import annotations
 
-import os
+import re
 from array import array
-from pathlib import Path
-from typing import Any, Hashable, Iterable, List, Mapping, Optional, Sequence, Tuple, Union
+from itertools import repeat
+from typing import Any, Dict, Hashable, Iterable, List, Mapping, Optional, Sequence, Tuple, Union
 
-from . import _calls, _checks, faults
-from ._arrays import LONG, WORD, Numbers, numbers, rows_of_edges, text_of_fault
+from . import _calls, _checks, _programs, faults
+from ._arrays import LONG, WORD, Numbers, links_in_rows, numbers, rows_of_edges, text_of_fault
 from ._calls import Start
-from .network import InitialValues, is_number
+from ._document import Link
+from .network import InitialValues, Network, blank, is_number
 from .program import Program
 from .results import States, numpy
 
 Name = Hashable
+FILE = "network.net"  # how programs call a network that has no file
+TAKES = re.compile(r"this command takes networks ([^;]+);")  # with which they refuse one that no network file says
+ANY = "lockstep, watch, count, sweep, settle, cuts and image take any"
 
 
-class LargeNetwork:
-    """Nodes, numbered from 0, and for each its neighbours: up to 4,294,967,295 nodes, links that may lead one way, join a node with itself
-    and stand several times. `Network.from_arrays`, `from_edges`, `from_scipy` and `from_networkx` make one.
-
-    `unison.lockstep` and `unison.watch` take it as they take a `Network`, and the states are the same.
-
-    - `indptr`, `indices`: the neighbours of node u are `indices[indptr[u]:indptr[u + 1]]`, as in a sparse matrix of SciPy by rows.
-    - `weights`: one for each entry of `indices`, a whole number from 0 to 4294967295; 1 where none are given.
-    - `set`: for each field its initial values: one for all nodes, one for each node in order, or a dict from nodes to values.
-    - `names`: what the nodes are called, node 0 first.
-
-    Arrays of numpy, or of `array`, are lent and not copied where `indptr` has numbers of 64 bits, the two others of 32 bits, signed or
-    not; they may not be changed while a call runs. All others are copied. The lists are looked at when the network is made, and again in each call.
-
-    Raises `NetworkError` where the lists are no network, ValueError where a number does not fit; both tell the place.
+class LargeNetwork(Network):
+    """A `Network` that is kept as arrays, of up to 4,294,967,295 nodes, whose links may lead one way, join a node with itself and stand several
+    times. `Network.from_arrays`, `from_edges` and `from_scipy` make one, and so do `Network(nodes, links)`, its makers, `from_networkx` and
+    `from_file` where there are more nodes or links than a network file has. This name for it is an old one: `LargeNetwork(..)` is
+    `Network.from_arrays(..)`.
 
     >>> import unison
     >>> network = unison.Network.from_arrays([0, 1, 3, 4], [1, 0, 2, 1], set={"dist": {0: 0}})
-    >>> network.nodes, network.ends, list(network.neighbours(1))
-    (3, 4, [0, 2])
+    >>> network.nodes, network.ends, list(network.neighbours(1)), isinstance(network, unison.Network)
+    (3, 4, [0, 2], True)
     >>> program = unison.Program("field dist = 4294967295; next dist = (dist min least (n.dist + 1));")
     >>> unison.lockstep(program, network, 2).by_name("dist")
     {0: 0, 1: 1, 2: 2}
     """
 
-    def __init__(
-        self,
+    _offsets: Numbers
+    _neighbours_held: Numbers
+    _weights_held: Numbers
+    _set: Dict[str, Any]
+    _said: Optional[Network]  # by a network file, where a call has needed it
+
+    def __new__(
+        cls,
         indptr: Any,
         indices: Any,
         weights: Any = None,
         *,
         set: Optional[Mapping[str, InitialValues]] = None,
         names: Optional[Iterable[Name]] = None,
-    ) -> None:
-        self._offsets = numbers(indptr, LONG, "indptr")
-        self._neighbours = numbers(indices, WORD, "indices")
-        self._weights = numbers((), WORD, "weights") if weights is None else numbers(weights, WORD, "weights")
-        if weights is not None and self._weights.count == 0 < self._neighbours.count:
-            raise ValueError(f"there are no weights: expected one for each of the {self._neighbours.count} indices, or weights=None")
-        self._names = _checks.names("LargeNetwork", names)
-        self._look()
-        self._numbers = None if self._names is None else {name: number for number, name in enumerate(self._names)}
-        if self._names is not None and len(self._names) != self.nodes:
-            raise ValueError(f"LargeNetwork: names has {len(self._names)} names: one for each of the {self.nodes} nodes is wanted")
-        self._set = {field: self._values(field, given) for field, given in _checks.initial_values("LargeNetwork", set).items()}
+    ) -> LargeNetwork:
+        network = blank(cls)
+        network._offsets = numbers(indptr, LONG, "indptr")
+        network._neighbours_held = numbers(indices, WORD, "indices")
+        network._weights_held = numbers((), WORD, "weights") if weights is None else numbers(weights, WORD, "weights")
+        if weights is not None and network._weights_held.count == 0 < network.ends:
+            raise ValueError(f"there are no weights: expected one for each of the {network.ends} indices, or weights=None")
+        called = _checks.names("Network", names)
+        network._look()
+        network._call_nodes(called)
+        if called is not None and len(called) != network.nodes:
+            raise ValueError(f"Network: names has {len(called)} names: one for each of the {network.nodes} nodes is wanted")
+        network._set = network._values_of("Network", set)
+        network._said = None
+        return network
+
+    @classmethod
+    def from_text(cls, text: Union[str, bytes], names: Optional[Iterable[Name]] = None) -> Network:
+        """The network of a network file's text: see `Network.from_text`."""
+        return Network.from_text(text, names)
+
+    @classmethod
+    def from_networkx(cls, graph: Any, weight: Optional[str] = "weight", **how: Any) -> Network:
+        """The network of a graph of NetworkX: see `Network.from_networkx`."""
+        return Network.from_networkx(graph, weight, **how)
 
     def _look(self) -> None:
         """Raises the first fault of the lists."""
         answer, place = _calls.large_check(self)
         if answer != 0:
-            raise faults.error_of(answer, text_of_fault(answer, place, self._offsets, self._neighbours, self._weights))
+            raise faults.error_of(answer, text_of_fault(answer, place, self._offsets, self._neighbours_held, self._weights_held))
 
     def _lists(self) -> Tuple[Any, ...]:
         """The arguments of the library's calls for the three lists."""
-        return tuple(part for given in (self._offsets, self._neighbours, self._weights) for part in (given.address, given.count))
+        lists = (self._offsets, self._neighbours_held, self._weights_held)
+        return tuple(part for given in lists for part in (given.address, given.count))
+
+    def _values_of(self, call: str, sets: Optional[Mapping[str, InitialValues]]) -> Dict[str, Any]:
+        """The initial values of each field."""
+        return {field: self._values(field, given) for field, given in _checks.initial_values(call, sets).items()}
 
     def _values(self, field: str, given: Any) -> Any:
         """The initial values of a field: one, some by the nodes' numbers, or all."""
@@ -86,28 +104,34 @@ class LargeNetwork:
             raise ValueError(f"{field} has {listed.count} initial values, and there are {self.nodes} nodes")
         return listed
 
-    def save(self, path: Union[str, "os.PathLike[str]"]) -> Path:
-        """Writes the links and weights as a binary network file, which `Network.from_file` and `unison large` read, and answers its path. It
-        has no names and no initial values."""
-        from . import _packed
-
-        file = Path(_checks.path("LargeNetwork.save", "path", path))
-        file.write_bytes(_packed.write(self))
-        return file
-
     def with_set(self, set: Mapping[str, InitialValues]) -> LargeNetwork:
         """The same nodes and links with these initial values, and no others."""
-        other = type(self).__new__(type(self))
-        other.__dict__.update(self.__dict__)
-        sets = _checks.initial_values("LargeNetwork.with_set", set)
-        other._set = {field: self._values(field, given) for field, given in sets.items()}
-        return other
+        return self._with_values(self._values_of("Network.with_set", set))
 
     def with_more(self, set: Mapping[str, InitialValues]) -> LargeNetwork:
         """The same nodes and links with these initial values, and for all other fields those that it has."""
-        other = self.with_set(set)
-        other._set = {**self._set, **other._set}
+        return self._with_values({**self._set, **self._values_of("Network.with_more", set)})
+
+    def _with_values(self, values: Dict[str, Any]) -> LargeNetwork:
+        other = blank(type(self))
+        other.__dict__.update(self.__dict__, _set=values, _said=None)
         return other
+
+    def _file(self, call: str) -> Network:
+        if self._said is None:
+            self._said = file_of(self, call)
+        return self._said
+
+    @property
+    def text(self) -> str:
+        """The text of the network file that says the network. Raises NetworkError where none does."""
+        return self._file("Network.text").text
+
+    @property
+    def _bytes(self) -> bytes:
+        from . import _packed
+
+        return _packed.write(self)
 
     @property
     def nodes(self) -> int:
@@ -115,9 +139,34 @@ class LargeNetwork:
         return self._offsets.count - 1
 
     @property
+    def links(self) -> Tuple[Link, ...]:
+        """The links, node by node, each at the lower one of its ends: the numbers of both ends, and the weight. Raises NetworkError where one leads
+        one way, or has two weights."""
+        found = links_in_rows(self.indptr, self.indices, self.weights)
+        if found is None:
+            raise no_file("Network.links", self, "OneWay", "whose links lead both ways, with one weight", "indptr, indices and weights are those of any")
+        return tuple(found)
+
+    @property
+    def phase(self) -> int:
+        """The initial phase of the nodes' registers: 0."""
+        return 0
+
+    @property
+    def set(self) -> Dict[str, Dict[int, int]]:
+        """For each field that is named the initial values by the nodes' numbers."""
+        return {field: self._values_by_number(given) for field, given in self._set.items()}
+
+    def _values_by_number(self, given: Any) -> Dict[int, int]:
+        """The initial values of a field by the nodes' numbers."""
+        if isinstance(given, Numbers):
+            return {node: int(value) for node, value in enumerate(given.held)}
+        return dict(given) if isinstance(given, dict) else dict.fromkeys(range(self.nodes), int(given))
+
+    @property
     def ends(self) -> int:
         """How many neighbours the nodes have together: a link that leads both ways counts twice."""
-        return self._neighbours.count
+        return self._neighbours_held.count
 
     @property
     def indptr(self) -> Any:
@@ -127,41 +176,48 @@ class LargeNetwork:
     @property
     def indices(self) -> Any:
         """The neighbours of all nodes, node by node."""
-        return self._neighbours.held
+        return self._neighbours_held.held
 
     @property
     def weights(self) -> Any:
         """The weights of the links to them; None where each is 1."""
-        return self._weights.held if self._weights.count == self._neighbours.count else None
+        return self._weights_held.held if self._weights_held.count == self.ends else None
 
-    @property
-    def names(self) -> Sequence[Name]:
-        """What the nodes are called, node 0 first: their numbers where they have no names."""
-        return range(self.nodes) if self._names is None else self._names
-
-    def number(self, name: Any) -> int:
-        """The number of the node of this name; where nodes have no names, the number itself. Raises KeyError where there is none."""
-        called = self._numbers
-        number = _checks.number_called(called, name) if called is not None else int(name) if is_number(name) else None
-        if number is None or not 0 <= number < self.nodes:
-            raise faults.Missing(f"there is no node {name!r}")
-        return number
-
-    def neighbours(self, name: Any) -> List[Name]:
-        """The names of a node's neighbours, in the order of the indices: the one at place j is at slot j."""
-        number, names = self.number(name), self.names
-        return [names[int(node)] for node in self.indices[int(self.indptr[number]) : int(self.indptr[number + 1])]]
-
-    def degree(self, name: Any) -> int:
-        """How many neighbours a node has."""
+    def _place(self, name: Name) -> slice:
+        """Where a node's neighbours stand among those of all."""
         number = self.number(name)
-        return int(self.indptr[number + 1]) - int(self.indptr[number])
+        return slice(int(self.indptr[number]), int(self.indptr[number + 1]))
 
-    def _initial_words(self, program: Program) -> "array[int]":
-        """The words of the initial states."""
+    def _row(self, name: Name) -> List[int]:
+        return [int(number) for number in self.indices[self._place(name)]]
+
+    def _neighbours(self, name: Name) -> Dict[int, int]:
+        row = self._row(name)
+        weights = repeat(1) if self.weights is None else self.weights[self._place(name)]
+        first: Dict[int, int] = {}
+        for node, weight in zip(row, weights):
+            first.setdefault(node, int(weight))
+        return first
+
+    def _column(self, field: str, first: int) -> Any:
+        """The initial value of a field at each node, where that of nodes that have none is `first`."""
+        given = self._set[field]
+        if isinstance(given, Numbers):
+            return given.held
+        values = array("I", [first]) * self.nodes
+        for node, value in given.items():
+            values[node] = value
+        return values
+
+    def _check_fields(self, program: Program) -> None:
+        """Looks whether each field that has initial values is one of the program."""
         unknown = [field for field in self._set if field not in program.fields]
         if unknown:
             raise faults.PlanError(64, f"set: plan UnknownField: found {unknown[0]!r}, and the fields are {', '.join(program.fields) or 'none'}")
+
+    def _initial_words(self, program: Program) -> "array[int]":
+        """The words of the initial states."""
+        self._check_fields(program)
         width = len(program.fields)
         words = _calls.room_for(self.nodes * width)
         for place, (field, first) in enumerate(program.initial_values.items()):
@@ -172,7 +228,27 @@ class LargeNetwork:
         return words
 
     def __repr__(self) -> str:
-        return f"<LargeNetwork of {self.nodes} nodes and {self.ends} neighbours>"
+        return f"<Network of {self.nodes} nodes and {self.ends} neighbours>"
+
+
+def file_of(network: LargeNetwork, call: str) -> Network:
+    """The network file's network with the same links, names and initial values, as the proved program writes it. Raises NetworkError where a
+    network file cannot say it."""
+    try:
+        text = _programs.run(["init", FILE], files={FILE: network._bytes})
+    except faults.NetworkError as error:
+        found = TAKES.search(error.diagnosis)
+        if found is None:
+            raise
+        raise no_file(call, network, error.name, found[1], ANY) from None
+    links = Network.from_text(text, network._names)
+    return links._with_sets({field: sorted(values.items()) for field, values in network.set.items()})
+
+
+def no_file(call: str, network: LargeNetwork, name: str, wanted: str, others: str) -> faults.NetworkError:
+    """The fault of this name of a network that a call does not take: which ones it takes, and what takes others."""
+    number = faults.NUMBERS.get(("network", name), faults.NO_NUMBER)
+    return faults.NetworkError(number, f"{call}: network is {network!r}: expected a network {wanted}; {others} (network {name})", ("network", name))
 
 
 def put_column(words: "array[int]", place: int, width: int, nodes: int, values: Any) -> None:
@@ -218,15 +294,10 @@ def from_scipy(matrix: Any, weights: bool, **how: Any) -> LargeNetwork:
     return LargeNetwork(rows.indptr, rows.indices, rows.data if weights else None, **how)
 
 
-def start_of(program: Program, network: LargeNetwork, from_: Any) -> Start:
+def start_of(program: Program, network: LargeNetwork, from_: Optional[States]) -> Start:
     """The initial states, or those to go on from."""
     if from_ is None:
         return Start(network, 0, network._initial_words(program))
-    if not isinstance(from_, States):
-        raise TypeError(
-            f"from_ is {_checks.shown(from_)}: a unison.States is wanted here: "
-            "unison.States.from_values(program, values, round) makes them of an array"
-        )
     if from_.fields != program.fields or from_.nodes != network.nodes:
         raise ValueError(
             f"the states to go on from are of {from_.nodes} nodes with the fields {', '.join(from_.fields)}: "

@@ -1,22 +1,19 @@
-"""Networks of shapes, and random ones, made by the proved makers: `unison generate`, and `unison pack` for those beyond the limits of a
-`Network`."""
+"""Networks of shapes, and random ones, made by the proved makers: `unison generate`, which packs those that are more than a network file has."""
 
 from __future__ import annotations
 
 from fractions import Fraction
 from numbers import Rational, Real
-from typing import TYPE_CHECKING, Any, Mapping, Optional, Tuple, Union
+from typing import TYPE_CHECKING, Any, Mapping, Optional, Tuple
 
 from . import _checks, _programs, faults
 
 if TYPE_CHECKING:
-    from .large import LargeNetwork
     from .network import InitialValues, Network
 
     Sets = Optional[Mapping[str, InitialValues]]
-    AnyNetwork = Union[Network, LargeNetwork]
 
-MOST_NODES, MOST_LINKS, MOST_NEIGHBOURS = 65536, 262144, 4096  # of a `Network`
+MOST_NODES, MOST_LINKS, MOST_NEIGHBOURS = 65536, 262144, 4096  # of a network file
 PACKED = ("path", "ring", "grid", "torus", "random", "preferential", "small-world")  # of any size
 Weights = Optional[Tuple[int, int]]
 
@@ -28,7 +25,7 @@ class Recipe:
         self.call, self.shape = f"Network.{call}", shape
         self.sizes = [_checks.whole(self.call, name, value) for name, value in sizes.items()]
         self.words = [shape, *map(str, self.sizes)]
-        self.links = 0  # how many, where they may be too many for a `Network` though its nodes are not
+        self.links = 0  # how many, where they may be too many for a network file though its nodes are not
         self.packs = shape in PACKED
 
     def number(self, name: str, value: Any) -> int:
@@ -76,29 +73,29 @@ class Recipe:
         self.words.append(f"--weights={low}..{high}")
 
     def is_large(self, nodes: int) -> bool:
-        """Whether the network is beyond the limits of a `Network`, and there is a maker of any size for it."""
+        """Whether the network is more than a network file has, and there is a maker of any size for it."""
         beyond = nodes > MOST_NODES or self.links > MOST_LINKS
         return beyond and self.packs and not any(word.startswith("--weights") for word in self.words)
 
-    def told(self, command: str) -> bytes:
+    def told(self, *options: str) -> bytes:
         """What the command prints."""
         try:
-            return _programs.run([command, *self.words])
+            return _programs.run(["generate", *self.words, *options])
         except faults.UsageError as error:
             raise faults.in_words_of_calls(error, self.call) from None
 
     def made(self, kind: Any, set: Sets) -> Network:
         """The network, with these initial values."""
-        network: Network = kind.from_text(self.told("generate"))
+        network: Network = kind.from_text(self.told())
         return network if set is None else network.with_set(set)
 
-    def made_of_any_size(self, kind: Any, set: Sets, nodes: Optional[int] = None) -> AnyNetwork:
-        """The network, with these initial values: a large one where it is beyond the limits of a `Network`."""
+    def made_of_any_size(self, kind: Any, set: Sets, nodes: Optional[int] = None) -> Network:
+        """The network, with these initial values: as arrays where it is more than a network file has."""
         if not self.is_large(self.sizes[0] if nodes is None else nodes):
             return self.made(kind, set)
         from . import _packed
 
-        return _packed.read(self.told("pack"), set)
+        return _packed.read(self.told("--packed"), set)
 
 
 class Makers:
@@ -107,19 +104,20 @@ class Makers:
     Links have the weight 1; with `weights=(LOW, HIGH)` each link has one of these and those between them, drawn by `seed`, a whole number
     from 0 to 4294967295: the same seed gives the same network on every machine. Nodes are numbered from 0.
 
-    A path, ring, grid, torus, random, preferential or small-world network beyond 65,536 nodes or 262,144 links is a `LargeNetwork`, whose
-    weights are 1, as `Network(nodes, links)` itself makes one. Raises UsageError, with what is possible, for numbers of which no network can be made.
+    A path, ring, torus, grid without diagonals, random, preferential or small-world network whose weights are 1 may have any size; others have
+    65,536 nodes, 262,144 links and 4,096 links of one node at most. Raises UsageError, with what is possible, for numbers of which no network
+    can be made.
     """
 
     @classmethod
-    def path(cls, n: int, *, weights: Weights = None, seed: Optional[int] = None, set: Sets = None) -> AnyNetwork:
+    def path(cls, n: int, *, weights: Weights = None, seed: Optional[int] = None, set: Sets = None) -> Network:
         """Each of `n` nodes is linked with the next one."""
         recipe = Recipe("path", "path", {"n": n})
         recipe.weights(weights, seed)
         return recipe.made_of_any_size(cls, set)
 
     @classmethod
-    def ring(cls, n: int, *, weights: Weights = None, seed: Optional[int] = None, set: Sets = None) -> AnyNetwork:
+    def ring(cls, n: int, *, weights: Weights = None, seed: Optional[int] = None, set: Sets = None) -> Network:
         """A path of `n` nodes, 3 or more, whose last node is linked with the first.
 
         >>> import unison
@@ -169,7 +167,7 @@ class Makers:
     @classmethod
     def grid(
         cls, w: int, h: int, diagonals: bool = False, *, weights: Weights = None, seed: Optional[int] = None, set: Sets = None
-    ) -> AnyNetwork:
+    ) -> Network:
         """`w` nodes in each of `h` rows, row by row, each linked with those beside it, above it and below it; with `diagonals` with the
         four beside its corners, too."""
         recipe = Recipe("grid", "grid", {"w": w, "h": h})
@@ -180,7 +178,7 @@ class Makers:
     @classmethod
     def torus(
         cls, w: int, h: int, diagonals: bool = False, *, weights: Weights = None, seed: Optional[int] = None, set: Sets = None
-    ) -> AnyNetwork:
+    ) -> Network:
         """A grid of `w` nodes in each of `h` rows, 3 or more each, whose rows and columns are rings.
 
         >>> import unison
@@ -201,7 +199,7 @@ class Makers:
         return recipe.made(cls, set)
 
     @classmethod
-    def random(cls, n: int, links: int, seed: int, *, weights: Weights = None, set: Sets = None) -> AnyNetwork:
+    def random(cls, n: int, links: int, seed: int, *, weights: Weights = None, set: Sets = None) -> Network:
         """`links` links between `n` nodes, all sets of so many equally likely."""
         recipe = Recipe("random", "random", {"n": n})
         recipe.links = recipe.number("links", links)
@@ -225,7 +223,7 @@ class Makers:
         return recipe.made(cls, set)
 
     @classmethod
-    def preferential(cls, n: int, links_each: int, seed: int, *, weights: Weights = None, set: Sets = None) -> AnyNetwork:
+    def preferential(cls, n: int, links_each: int, seed: int, *, weights: Weights = None, set: Sets = None) -> Network:
         """Each of `n` nodes is linked with `links_each` before it, or with all of them while they are fewer, each drawn with a chance in
         proportion to the links that it has (Barabási and Albert 1999)."""
         recipe = Recipe("preferential", "preferential", {"n": n})
@@ -243,7 +241,7 @@ class Makers:
         return recipe.made(cls, set)
 
     @classmethod
-    def small_world(cls, n: int, near: int, rewire: float, seed: int, *, weights: Weights = None, set: Sets = None) -> AnyNetwork:
+    def small_world(cls, n: int, near: int, rewire: float, seed: int, *, weights: Weights = None, set: Sets = None) -> Network:
         """Each node of a ring of `n` is linked with the `near` that follow it; then each link is led to another node with a chance of
         `rewire` in 100, a percentage that is rounded to six digits behind the point (Watts and Strogatz 1998).
 

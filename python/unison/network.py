@@ -7,7 +7,7 @@ import os
 from array import array
 from collections import Counter
 from pathlib import Path
-from typing import TYPE_CHECKING, Any, Dict, Hashable, Iterable, List, Mapping, Optional, Sequence, Tuple, Type, Union
+from typing import TYPE_CHECKING, Any, Collection, Dict, Hashable, Iterable, List, Mapping, Optional, Sequence, Tuple, Type, TypeVar, Union
 
 from . import _calls, _checks, faults
 from ._document import Document, Link, Sets, read, write
@@ -20,6 +20,9 @@ Name = Hashable
 #: Initial values of a field: one for all nodes, one for each node by rising number, or some by the names of their nodes.
 InitialValues = Union[int, Sequence[int], Mapping[Any, int]]
 Openings = InitialValues  # an old name
+Kind = TypeVar("Kind", bound="Network")
+BEYOND = ("NodeCount", "TooManyLinks", "TooManyNeighbours")  # faults of a text that says more than a network file has
+
 
 def is_number(value: Any) -> bool:
     """Whether a value is one whole number, and no array or list."""
@@ -32,8 +35,10 @@ def plain(values: Any) -> Any:
 
 
 class Network(Makers):
-    """Nodes, numbered from 0, and undirected links between them, with weights and initial values. Shapes and random networks are made by
-    `Network.ring(n)`, `grid`, `torus`, `hex`, `small_world` and others (`unison.makers.Makers`).
+    """Nodes, numbered from 0, and undirected links between them, with weights and initial values, of any size. Shapes and random networks are
+    made by `Network.ring(n)`, `grid`, `torus`, `hex`, `small_world` and others (`unison.makers.Makers`); `Network.from_arrays`, `from_edges`,
+    `from_scipy` and `from_networkx` take what other packages have, also links that lead one way, join a node with itself, or stand several
+    times.
 
     - `nodes`: how many there are; or their names in order, any values that can be keys of a dict, each once. With names, links and initial
       values name their nodes by them.
@@ -44,7 +49,10 @@ class Network(Makers):
       Nodes and fields that are not named open as the program says. A network without `set` serves all programs.
     - `phase`: the initial phase of the nodes' registers, 0, 1 or 2; no result depends on it.
 
-    More than 65,536 nodes, 262,144 links, or 4,096 links of one node make a `LargeNetwork`, which has no phase.
+    A network file has 65,536 nodes, 262,144 links and 4,096 links of one node at most. A network that has more is kept as arrays, and so is
+    what `from_arrays`, `from_edges` and `from_scipy` make. `lockstep`, `watch`, `count`, `sweep`, `settle`, `cuts` and `image` take it as any
+    other; what needs a network file (`replay`, `page`, `verify`, `explain`, `naive`, `why`, `text`) takes it where a network file can say it,
+    and else raises NetworkError. Its `phase` is 0.
 
     Raises TypeError, ValueError or KeyError for an argument that cannot be, `NetworkError` or `PlanError` where it is refused.
 
@@ -94,7 +102,7 @@ class Network(Makers):
         sets = _checks.initial_values("Network", set)
         document = Document(count, listed, _checks.whole("Network", "phase", phase, 0, 2, _checks.BAD_PHASE), {})
         if is_beyond(count, listed):
-            return large_of(network._names, document, sets)  # type: ignore[return-value]
+            return large_of(network._names, document, sets)
         network._adopt(document._replace(sets=network._sets("Network", sets)))
         return network
 
@@ -152,7 +160,8 @@ class Network(Makers):
 
     @classmethod
     def from_text(cls, text: Union[str, bytes], names: Optional[Iterable[Name]] = None) -> Network:
-        """The network of a network file's text (docs/formats.md), whose nodes may be given names, node 0 first.
+        """The network of a network file's text (docs/formats.md), whose nodes may be given names, node 0 first. A text that says more nodes or links
+        than a network file has is taken, too, and kept as arrays.
 
         >>> import unison
         >>> unison.Network.from_text("nodes = 2\\nlinks = [[0, 1, 7]]\\n").links
@@ -169,14 +178,18 @@ class Network(Makers):
         except faults.PlanError:  # it is a network, with initial values for fields
             network._count = network._read().nodes
             accept(network._text, network._read().sets)
+        except faults.NetworkError as error:
+            if error.name not in BEYOND or not 0 < network._read().nodes <= _checks.GREATEST:
+                raise
+            network = as_arrays(network)
         if network._names is not None and len(network._names) != network.nodes:
             raise ValueError(f"{len(network._names)} names are given, and there are {network.nodes} nodes")
         return network
 
     @classmethod
     def from_file(cls, path: Union[str, os.PathLike[str]], names: Union[None, str, os.PathLike[str]] = None) -> Network:
-        """The network in a file; `names` is a file with a name for each node, a line each, as `unison import` writes it. A binary file, which
-        `unison pack` prints and `LargeNetwork.save` writes, is a `LargeNetwork`.
+        """The network in a file; `names` is a file with a name for each node, a line each, as `unison import` writes it. The file is a network
+        file, or a packed one of any size, as commands write it with `--packed`; which it is, its first bytes tell.
 
         `unison.Network.from_file("examples/karate.toml", names="examples/karate.names")`
         """
@@ -185,31 +198,40 @@ class Network(Makers):
         content = Path(_checks.path("Network.from_file", "path", path)).read_bytes()
         called = None if names is None else lines_of(Path(_checks.path("Network.from_file", "names", names)))
         if content.startswith(_packed.MAGIC):
-            return _packed.read(content, names=called)  # type: ignore[return-value]
+            return _packed.read(content, names=called)
         return cls.from_text(content, called)
 
     def save(self, path: Union[str, os.PathLike[str]]) -> Path:
-        """Writes the network file, `text`, and answers its path. It has numbers, and no names."""
+        """Writes the network file, `text`, and answers its path. It has numbers, and no names. A network that is kept as arrays is written as a
+        packed network file, which has no initial values either; `from_file` reads both."""
         file = Path(_checks.path("Network.save", "path", path))
         file.write_bytes(self._bytes)
         return file
 
     @classmethod
-    def from_networkx(cls, graph: Any, weight: Optional[str] = "weight", **how: Any) -> Union[Network, LargeNetwork]:
-        """The network of a graph of NetworkX, whose nodes keep their names: see `unison.graphs.from_networkx`. It is a `LargeNetwork` where
-        the graph is beyond the limits of a `Network`."""
+    def from_networkx(cls, graph: Any, weight: Optional[str] = "weight", **how: Any) -> Network:
+        """The network of a graph of NetworkX, of any size, whose nodes keep their names: see `unison.graphs.from_networkx`."""
         from .graphs import from_networkx
 
         return from_networkx(graph, weight, kind=cls, **how)
 
     @staticmethod
-    def from_arrays(indptr: Any, indices: Any, weights: Any = None, **how: Any) -> LargeNetwork:
-        """The network of any size whose node u has the neighbours `indices[indptr[u]:indptr[u + 1]]`, with a weight for each of them, 1 where
-        none are given: see `unison.LargeNetwork`, which also takes `set` and `names`.
+    def from_arrays(indptr: Any, indices: Any, weights: Any = None, **how: Any) -> Network:
+        """The network of any size whose node u has the neighbours `indices[indptr[u]:indptr[u + 1]]`, as in a sparse matrix of SciPy by rows, with
+        a weight for each of them, 1 where none are given. Links may lead one way, join a node with itself, and stand several times.
+
+        - `set`: initial values, as `Network` takes them; `names`: what the nodes are called, node 0 first.
+
+        Arrays of numpy, or of `array`, are lent and not copied where `indptr` has numbers of 64 bits, the two others of 32 bits, signed or
+        not; they may not be changed while a call runs. All others are copied. The lists are looked at when the network is made, and again in
+        each call.
+
+        Raises `NetworkError` where the lists are no network, ValueError where a number does not fit; both tell the place.
 
         >>> import unison
-        >>> unison.Network.from_arrays([0, 1, 2], [1, 0], [5, 5])
-        <LargeNetwork of 2 nodes and 2 neighbours>
+        >>> network = unison.Network.from_arrays([0, 1, 3, 4], [1, 0, 2, 1], [5, 5, 7, 7])
+        >>> network, network.neighbours(1), network.links
+        (<Network of 3 nodes and 4 neighbours>, [0, 2], ((0, 1, 5), (1, 2, 7)))
         """
         from .large import LargeNetwork
 
@@ -218,7 +240,7 @@ class Network(Makers):
     @staticmethod
     def from_edges(
         a: Any, b: Any, weights: Any = None, *, nodes: Optional[int] = None, directed: bool = False, **how: Any
-    ) -> LargeNetwork:
+    ) -> Network:
         """The network of any size of the edges from `a[i]` to `b[i]`, with the weight `weights[i]`, 1 where none are given.
 
         The neighbours of a node stand by rising number. Where edges are not `directed`, each makes both ends neighbours of each other. An
@@ -236,7 +258,7 @@ class Network(Makers):
         return from_edges(count, a, b, weights, _checks.flag("Network.from_edges", "directed", directed), **how)
 
     @staticmethod
-    def from_scipy(matrix: Any, *, weights: bool = True, **how: Any) -> LargeNetwork:
+    def from_scipy(matrix: Any, *, weights: bool = True, **how: Any) -> Network:
         """The network of any size of a sparse matrix of SciPy: the entries of row u are the links of node u to its neighbours, and their
         values the weights, which are whole; `weights=False` makes each weight 1. An entry that is there counts, whatever its value.
 
@@ -262,12 +284,24 @@ class Network(Makers):
         >>> network.with_set({"t": {1: 5}}).set
         {'t': {1: 5}}
         """
+        return self._with_sets(self._sets("Network.with_set", _checks.initial_values("Network.with_set", set)))
+
+    def with_more(self, set: Mapping[str, InitialValues]) -> Network:
+        """The same nodes and links with these initial values, and for all other fields those that it has."""
+        sets = self._sets("Network.with_more", _checks.initial_values("Network.with_more", set))
+        return self._with_sets({**self._read().sets, **sets})
+
+    def _with_sets(self, sets: Sets) -> Network:
+        """The same nodes and links with these initial values by the nodes' numbers, and no others."""
         other = blank(type(self))
         other._names, other._numbers, other._count = self._names, self._numbers, self.nodes
         other._links_held = self._links_held
-        sets = _checks.initial_values("Network.with_set", set)
-        other._adopt(self._read()._replace(sets=other._sets("Network.with_set", sets)))
+        other._adopt(self._read()._replace(sets=sets))
         return other
+
+    def _file(self, call: str) -> Network:
+        """The network file's network that a call needs: it is one. Raises NetworkError where no network file says the network."""
+        return self
 
     def _read(self) -> Document:
         if self._document is None:
@@ -281,6 +315,7 @@ class Network(Makers):
 
     @property
     def _bytes(self) -> bytes:
+        """The file of the network, as programs read it."""
         return self._text.encode("utf-8", "surrogateescape")
 
     @property
@@ -290,8 +325,35 @@ class Network(Makers):
 
     @property
     def links(self) -> Tuple[Link, ...]:
-        """The links in the order in which they were given: the numbers of both ends, and the weight."""
+        """The links in the order in which they were given: the numbers of both ends, and the weight. Those of arrays stand node by node, each
+        at the lower one of its ends; NetworkError is raised where one leads one way, or has two weights."""
         return tuple(self._read().links)
+
+    @property
+    def ends(self) -> int:
+        """How many neighbours the nodes have together: a link that leads both ways counts twice."""
+        return 2 * len(self._read().links)
+
+    @property
+    def indptr(self) -> Any:
+        """Where each node's part of `indices` begins, and last where they end."""
+        return self._arrays().indptr
+
+    @property
+    def indices(self) -> Any:
+        """The numbers of the neighbours of all nodes, node by node, in the order of the slots."""
+        return self._arrays().indices
+
+    @property
+    def weights(self) -> Any:
+        """The weights of the links to them; None where each is 1."""
+        return self._arrays().weights
+
+    def _arrays(self) -> LargeNetwork:
+        """The links as arrays."""
+        from ._lists import links_of
+
+        return links_of(self)
 
     @property
     def phase(self) -> int:
@@ -319,7 +381,7 @@ class Network(Makers):
         return number
 
     def _neighbours(self, name: Name) -> Dict[int, int]:
-        """The neighbours of a node by rising number, each with the weight of the link."""
+        """The neighbours of a node, by slots, each with the weight of the link, of the first where there are several."""
         if self._rows is None:
             rows: List[Dict[int, int]] = [{} for _ in range(self.nodes)]
             for one, other, weight in self._read().links:
@@ -328,25 +390,29 @@ class Network(Makers):
             self._rows = [dict(sorted(row.items())) for row in rows]
         return self._rows[self.number(name)]
 
+    def _row(self, name: Name) -> Collection[int]:
+        """The numbers of a node's neighbours, by slots."""
+        return self._neighbours(name)
+
     def neighbours(self, name: Name) -> List[Name]:
-        """The names of a node's neighbours, by rising number: the one at place j is at slot j."""
+        """The names of a node's neighbours: the one at place j is at slot j. They stand by rising number, those of arrays in their order."""
         names = self.names
-        return [names[number] for number in self._neighbours(name)]
+        return [names[number] for number in self._row(name)]
 
     def degree(self, name: Name) -> int:
         """How many neighbours a node has."""
-        return len(self._neighbours(name))
+        return len(self._row(name))
 
     def slot(self, name: Name, neighbour: Name) -> int:
-        """The slot of a node at which a neighbour is: its place among the neighbours, by rising number, counted from 0."""
+        """The slot of a node at which a neighbour is, counted from 0: its place among the neighbours, the first where it has several."""
         number = self.number(neighbour)
-        row = self._neighbours(name)
+        row = self._row(name)
         if number not in row:
             raise faults.Missing(f"node {name!r} has no neighbour {neighbour!r}")
         return list(row).index(number)
 
     def weight(self, name: Name, neighbour: Name) -> int:
-        """The weight of the link between two nodes."""
+        """The weight of the link from a node to a neighbour, of the first where there are several."""
         row = self._neighbours(name)
         number = self.number(neighbour)
         if number not in row:
@@ -363,7 +429,7 @@ def lines_of(path: Path) -> List[str]:
     return lines[:-1] if lines[-1] == "" else lines
 
 
-def blank(kind: Type[Network]) -> Network:
+def blank(kind: Type[Kind]) -> Kind:
     """A network of which nothing is told yet."""
     return object.__new__(kind)
 
@@ -381,14 +447,27 @@ def weighted(links: List[Link], weights: Any) -> List[Link]:
 
 
 def is_beyond(nodes: int, links: Sequence[Tuple[Any, Any, int]]) -> bool:
-    """Whether so many nodes with these links are beyond the limits of a `Network`."""
+    """Whether so many nodes with these links are more than a network file has."""
     if nodes > MOST_NODES or len(links) > MOST_LINKS:
         return True
     degrees: Counter[Any] = Counter(end for link in links for end in link[:2]) if len(links) > MOST_NEIGHBOURS else Counter()
     return max(degrees.values(), default=0) > MOST_NEIGHBOURS
 
 
-def large_of(names: Optional[Sequence[Name]], document: Document, sets: Mapping[str, InitialValues]) -> LargeNetwork:
+def as_arrays(network: Network) -> Network:
+    """The network of a text that says more than a network file has, kept as arrays. The library has looked at the form of the text, and at nothing
+    behind the fault, so that links and initial values are looked at as those of `Network(nodes, links)`."""
+    document = network._read()
+    for field, pairs in document.sets.items():
+        if len(dict(pairs)) < len(pairs):
+            raise faults.error_of(67, f"Network.from_text: set[{field!r}] has a value for a node twice (plan SetTwice)")
+    sets = {field: dict(pairs) for field, pairs in document.sets.items()}
+    made = type(network)(document.nodes, document.links, set=sets, phase=document.phase)
+    made._call_nodes(network._names)
+    return made
+
+
+def large_of(names: Optional[Sequence[Name]], document: Document, sets: Mapping[str, InitialValues]) -> Network:
     """The network of any size with these links, of which none joins a node with itself, and none stands twice."""
     from .large import from_edges
 

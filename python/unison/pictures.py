@@ -175,7 +175,7 @@ def page(
 ) -> Page:
     """A page in HTML on which a run is stepped through or played, made by the proved program: of rounds, or of the steps of a schedule.
 
-    - `program`: a `Program`, or a `Model`; `network`: a `Network`, whose nodes are called by their names.
+    - `program`: a `Program`, or a `Model`; `network`: a `Network` that a network file says, whose nodes are called by their names.
     - `rounds`: the last round, counted from round 0: all up to it are shown; or rounds that are evenly apart.
     - `steps`: in place of rounds the text of a schedule, or steps as `unison.schedule` makes them; `stop` the count of moves at which a node
       stops; `naive` shows beside them the same steps by nodes that do not wait.
@@ -190,7 +190,7 @@ def page(
     >>> unison.page(unison.Program("field s = 0; next s = (s max most n.s);"), ring, 2).html.startswith("<!doctype html>")
     True
     """
-    job = _files.job_of("page", program, network, from_)
+    job = _files.file_job_of("page", program, network, from_)
     if (rounds is None) == (steps is None):
         raise ValueError("page: either rounds or steps are wanted, and not both")
     if steps is None:

@@ -7,8 +7,8 @@ from typing import Any, Callable, Dict, Iterable, Iterator, List, Mapping, Optio
 
 from . import _checks, _notebook, faults, jobs
 from ._runs import Asked, Found, Plan, Row, Values, check_few, in_threads, processors, rounds_found
-from .jobs import AnyNetwork
 from .model import Model
+from .network import Network
 from .program import Program
 from .results import States, pandas_or_tell
 
@@ -89,7 +89,7 @@ class Sweep:
 
 def sweep(
     program: Program,
-    network: AnyNetwork,
+    network: Network,
     constants: Mapping[str, Any],
     rounds: Union[int, Iterable[int]],
     *,
@@ -103,7 +103,7 @@ def sweep(
 ) -> Sweep:
     """Runs of a model or a program on a network with all combinations of values of constants, side by side on all processors.
 
-    - `program`: a `Model`, or a `Program`; `network`: a `Network`, or a `LargeNetwork`, whose text is not read again.
+    - `program`: a `Model`, or a `Program`; `network`: a `Network`, of which nothing is read again.
     - `constants`: for each constant of the model, also `seed`, its values: `{"seed": range(20), "infection": [3000, 6000]}`. In place of a
       constant a field may stand, whose initial values they are, as in `set` of a network: each value is one for all nodes, a list with
       one for each node, or a dict from nodes to values.
@@ -130,7 +130,7 @@ def sweep(
     {'wanted': 2, 'round': 0, '0': 4, '1': 1}
     {'wanted': 2, 'round': 2, '0': 4, '1': 1}
     """
-    rules, links = _checks.program("sweep", program), _checks.any_network("sweep", network)
+    rules, links = _checks.program("sweep", program), _checks.network("sweep", network)
     values = values_of_each(rules, constants)
     asked = asked_of(rules, count, {"sum": sum, "least": least, "most": most}, of)
     listed = rounds_of(rounds)
@@ -186,7 +186,7 @@ def rounds_of(rounds: Any) -> List[int]:
     return listed
 
 
-def check_start(program: Program, network: AnyNetwork, from_: Any) -> None:
+def check_start(program: Program, network: Network, from_: Any) -> None:
     """Looks at the states to go on from."""
     if isinstance(from_, States):
         _checks.states_fit("sweep", from_, program, network)

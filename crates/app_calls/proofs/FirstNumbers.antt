@@ -2,7 +2,7 @@
 use Rattle.std.proofs.Common.{◌≡◌, ◌≢◌, List, ℕ, Option, Some, None, IfSome, IsNone, true, refl}
 use Rattle.app_jobs.specs.declared.job.Job.{Job}
 use Rattle.app_jobs.specs.declared.fault.ServeFault.{ServeFault}
-use Rattle.app_first_fault.specs.FirstFault.{IsFirstFault, is_shown}
+use Rattle.app_jobs.specs.FirstFault.{IsFirstFault, is_shown}
 use Rattle.app_calls.specs.Jobs.{IsFirstNumber, ending_of}
 use Rattle.app_calls.specs.Numbers.{number_of}
 

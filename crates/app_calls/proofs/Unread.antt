@@ -7,7 +7,7 @@ use Rattle.app_jobs.specs.declared.job.Job.TheVariants.{Check, Lockstep, Run, Re
 use Rattle.app_jobs.specs.declared.fault.ServeFault.{ServeFault}
 use Rattle.app_jobs.specs.declared.fault.ServeFault.TheVariants as serve
 use Rattle.app_jobs.specs.Served.{IsUnscheduled}
-use Rattle.app_first_fault.specs.FirstFault.{IsFirstFault, IsPlanFault}
+use Rattle.app_jobs.specs.FirstFault.{IsFirstFault, IsPlanFault}
 
 -- only a replay has a fault of replays
 no_replay : (job : Job) (p : PlanView) (schedule : List ℕ) (g : ReplayFault) → IsUnscheduled job → IsPlanFault job p schedule (serve.Replay g) → ⊥

@@ -5,7 +5,7 @@ use Rattle.app_jobs.specs.declared.job.Job.{Job}
 use Rattle.app_jobs.specs.declared.job.Job.TheVariants.{Check, Lockstep, Replay}
 use Rattle.app_jobs.specs.declared.fault.ServeFault.{ServeFault}
 use Rattle.app_jobs.specs.declared.fault.ServeFault.TheVariants as serve
-use Rattle.app_first_fault.specs.FirstFault.{IsFirstFault, is_shown}
+use Rattle.app_jobs.specs.FirstFault.{IsFirstFault, is_shown}
 use Rattle.app_calls.specs.declared.fault.Fault.{Fault}
 use Rattle.app_calls.specs.declared.fault.Fault.TheVariants as fault
 use Rattle.app_calls.specs.Numbers.{number_of}

@@ -1,7 +1,7 @@
 //! Why a job is not done: the number of its first fault, and what is told of it for people.
 ghost use Rattle.std.specs.Prelude.{◌≡◌, ◌≢◌, ◌≤◌, ◌<◌, true, false, length, IfErr, IfOk, OnErr, OnOk, MatchOption, option_map};
 ghost use Rattle.app_jobs.specs.declared.fault.ServeFault.{ServeFault};
-ghost use Rattle.app_first_fault.specs.FirstFault.{IsFirstFault, IsUnrefused};
+ghost use Rattle.app_jobs.specs.FirstFault.{IsFirstFault, IsUnrefused};
 ghost use Rattle.app_why.specs.Given.{network_of, report_of, schedule_of};
 ghost use Rattle.app_calls.specs.Answers.{report_in};
 ghost use Rattle.app_calls.specs.Jobs.{HasJobWith, IsFirstNumber, IsJob};

@@ -12,7 +12,7 @@ use crate::plans::{plan_of, put_shape, word_count};
 use crate::words::{add_config, put_words};
 use lockstep::lockstep;
 use rounds_plan::{MOST_ROUNDS, Plan, RoundFault};
-use rounds_walk::{RoundWalk, Start};
+use rounds_walk::{PlanRef, RoundWalk, Start};
 use std::alloc::{AllocError, Global};
 
 /// Why the plan does not have a round, if it does not.
@@ -137,7 +137,7 @@ fn rounds_words(alloc: Global, plan: &Plan, rounds: &[u32]) -> Result<Vec<u32>, 
     ensures words { IfOk result (λ v. v.items ≡ words_at plan.now rounds.now) }
     ensures count { IfOk result (λ v. length v.items ≡ length rounds.now * word_count plan.now) }
 {
-    let start = Start::of_plan(alloc, plan)?;
+    let start = Start::new(alloc, &PlanRef::of_plan(plan))?;
     let mut walk = start.walk(alloc)?;
     let mut words = Vec::new(alloc);
     for round in rounds {

@@ -5,6 +5,7 @@ ghost use Rattle.app_calls.specs.Refusals.{IsNoSettling, IsRefusedPlan};
 
 use crate::fault::Fault;
 use crate::plans::plan_of;
+use rounds_walk::PlanRef;
 use run_settle::{Settling, settle};
 use std::alloc::Global;
 
@@ -20,7 +21,7 @@ fn settling_of(
     ensures refused { IfErr result (IsRefusedPlan program.now network.now from.now (IsNoSettling limit)) }
 {
     let plan = plan_of(alloc, program, network, from)?;
-    Ok(settle(alloc, &plan, limit)?)
+    Ok(settle(alloc, &PlanRef::of_plan(&plan), limit)?)
 }
 
 /// Writes it as three numbers.

@@ -2,8 +2,7 @@
 
 use crate::model_hints::{Sought, near_hint, outside_hint, parameters_of, text_hint};
 use app_why::{Named, model_word_hint, shown_in};
-use model_program::ModelProgramFault;
-use model_rules::{Cause, Given};
+use model_rules::{Cause, Given, ModelProgramFault};
 use model_text::{Expected, ModelFault, expected_words};
 use std::alloc::{AllocError, Global};
 use std::str;

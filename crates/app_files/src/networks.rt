@@ -72,7 +72,7 @@ fn no_file_of(alloc: Global, path: &str, network: &LargeNetwork, fault: RowsFaul
     };
     let more = if nodes == 1 { "" } else { "s" };
     Ending::refused(format!(in alloc;
-        "network {kind}\n{name}: a packed network of {nodes} node{more}; this command takes networks {why}, and unison large any: unison large --help"
+        "network {kind}\n{name}: a packed network of {nodes} node{more}; this command takes networks {why}; lockstep, watch, count, settle, cuts, image and info take any"
     ))
 }
 

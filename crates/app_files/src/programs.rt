@@ -4,9 +4,7 @@ use crate::ending::Ending;
 use crate::files::{bytes_at, name_at};
 use crate::model_told::refusal_of;
 use app_why::Named;
-use model_program::{ModelProgramFault, expanded};
-use model_rules::Given;
-use model_states::field_states;
+use model_rules::{Given, ModelProgramFault, expanded, field_states};
 use std::alloc::{AllocError, Global};
 use std::rt::Files;
 

@@ -1,2 +1,4 @@
 pub mod Shapes
 pub mod Passing
+mod Causes
+mod Accepted

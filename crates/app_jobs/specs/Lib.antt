@@ -1,3 +1,4 @@
 pub mod Served
 pub mod Status
 pub mod Comparison
+pub mod FirstFault

@@ -1,5 +1,5 @@
 -- Which numbers requests may have.
-use Rattle.std.specs.Prelude.{◌≤◌, length}
+use Rattle.std.specs.Prelude.{◌≤◌, length, IfSome}
 use Rattle.rounds_plan.specs.Configs.{most_rounds}
 use Rattle.run_counts.specs.Ensembles.{most_runs}
 use Rattle.unison_trace.specs.Histories.{most_steps}
@@ -11,11 +11,16 @@ use Rattle.app_requests.specs.declared.page.PageRun.TheVariants.{Rounds, Steps}
 use Rattle.app_requests.specs.declared.schedule.Limits.{Limits}
 use Rattle.app_requests.specs.declared.schedule.ScheduleRequest.{ScheduleRequest}
 use Rattle.app_requests.specs.declared.schedule.ScheduleRequest.TheVariants as request
+use Rattle.app_requests.specs.declared.start.RunTexts.{RunTexts}
 
 -- a grid whose width is given has as many nodes in a row as a network may have, one at least
 abbrev pub IsWidthWithin : GridWidth → Type 0
 IsWidthWithin (Given width) = (1 ≤ width) × (width ≤ 65536)
 IsWidthWithin Shown = Unit {0}
+
+-- rounds are shared among 1 to 1024 threads, where it is said among how many
+abbrev pub AreThreadsWithin : RunTexts → Type 0
+AreThreadsWithin texts = IfSome texts.threads (λ threads. (1 ≤ threads) × (threads ≤ 1024))
 
 -- the run of a page stops at a round
 abbrev pub IsRunWithin : PageRun → Type 0

@@ -131,6 +131,16 @@ pub(crate) const FIELD: Argument = Argument {
 /// `FIELD`, as it is read.
 pub(crate) static FIELD_ARGUMENT: Argument = FIELD;
 
+/// Asks for a packed network in the place of a network file.
+pub(crate) const AS_PACKED: Argument = Argument {
+    name: "packed",
+    help: "Write a packed network, a binary file, which every command reads and which may have any size",
+    ..FLAG
+};
+
+/// `AS_PACKED`, as it is read.
+pub(crate) static AS_PACKED_ARGUMENT: Argument = AS_PACKED;
+
 pub(crate) const QUIET: Argument = Argument {
     name: "quiet",
     help: "Leave out notes on what is accepted and may not be meant",

@@ -12,6 +12,7 @@ use crate::import::import;
 use crate::info::info;
 use crate::init::init;
 use crate::large::large;
+use crate::lockstep::lockstep;
 use crate::naive::naive;
 use crate::pack::pack;
 use crate::page::page;
@@ -77,6 +78,7 @@ pub enum Task {
     Info,
     Init,
     Large,
+    Lockstep,
     Manual,
     Naive,
     Pack,
@@ -96,7 +98,7 @@ pub struct Group {
 }
 
 /// The commands of this program, in groups.
-pub const GROUPS: [Group; 6] = [
+pub const GROUPS: [Group; 5] = [
     Group {
         title: "Models",
         tasks: &[Task::Expand],
@@ -130,14 +132,17 @@ pub const GROUPS: [Group; 6] = [
         ],
     },
     Group {
-        title: "Networks of any size",
-        tasks: &[Task::Pack, Task::Large],
-    },
-    Group {
         title: "Help",
         tasks: &[Task::Why, Task::Completion, Task::Manual],
     },
 ];
+
+/// Commands of this program that no text lists with the others: `lockstep` stands among those of another program, and for
+/// what `pack` and `large` do there are others.
+static UNLISTED: Group = Group {
+    title: "",
+    tasks: &[Task::Lockstep, Task::Pack, Task::Large],
+};
 
 impl Group {
     /// The command of this group that has this name or alias, where one has.
@@ -169,6 +174,7 @@ impl Task {
             Task::Info => info(),
             Task::Init => init(),
             Task::Large => large(),
+            Task::Lockstep => lockstep(),
             Task::Manual => &MANUAL,
             Task::Naive => naive(),
             Task::Pack => pack(),
@@ -188,7 +194,7 @@ impl Task {
                 return Some(task);
             }
         }
-        None
+        UNLISTED.named(word)
     }
 }
 

@@ -1,12 +1,13 @@
 //! `count`: how many nodes have each value, round by round.
 ghost use Rattle.std.specs.Prelude.{IfOk, IfSome};
-ghost use Rattle.app_requests.specs.Requests.{HasRuns};
+ghost use Rattle.app_requests.specs.Requests.{AreThreadsWithin, HasRuns};
 
 use crate::arguments::{
     EVERY, FIELD, FIELD_ARGUMENT, FLAG, FROM, NETWORK, PROGRAM, PlanPaths, QUIET, QUIET_ARGUMENT,
     ROUNDS, span_in,
 };
 use crate::constants::{RunConstants, VARIED, Varied, run_constants_in};
+use crate::start::{OVERLAP, RunTexts, SEED, SEQUENTIAL, SET, SET_FILE, SET_RANDOM, THREADS};
 use app_table::{Argument, Choice, Command, Kind, OPTION, Reading, Value, WordsFault, number};
 use run_counts::{CountFormat, FigureKind, Holders};
 use run_watch::Span;
@@ -98,8 +99,8 @@ static COUNT: Command = Command {
     about: "Count how many nodes have each value, round by round, with sums and extremes",
     notes: "Prints, for the rounds FIRST, FIRST + K, FIRST + 2 K and so on, up to LAST, how many nodes have each value of a field: a column for each state of the field, and for each value that occurs, or lines of round, value and nodes where there are more than 64.\nAn example: unison count examples/life.rules examples/glider.toml --rounds 0..4\nAnother one: unison count examples/distance.rules examples/path.toml --rounds 0..9 --until none:dist=4294967295\nThree runs of a model, with one of its constants at three values: unison count examples/models/pagerank.model examples/cookbook/pagerank.toml --rounds 100..100 --field rank --most rank --const passed_on=80,85,90\n",
     arguments: &[
-        PROGRAM, NETWORK, ROUNDS, EVERY, COUNTED, UNTIL, SUM, LEAST, MOST, FORMAT, MEAN, FROM,
-        VARIED, QUIET,
+        PROGRAM, NETWORK, ROUNDS, EVERY, COUNTED, UNTIL, SUM, LEAST, MOST, FORMAT, MEAN, FROM, SET,
+        SET_FILE, SET_RANDOM, OVERLAP, SEED, THREADS, SEQUENTIAL, VARIED, QUIET,
     ],
     subcommands: &[],
 };
@@ -136,8 +137,8 @@ pub struct UntilWord {
 /// Which runs are counted.
 #[derive(Drop)]
 pub struct RunsWords {
-    /// The texts of the plan of each run, with the constants that have one value.
-    pub plan: PlanPaths,
+    /// What each run begins with, with the constants that have one value.
+    pub texts: RunTexts,
     /// The constant that has another value in each run; where there is none, one run is counted.
     pub varied: Option<Varied>,
     /// Whether the means of the runs are shown in place of each run: only where a constant has several values.
@@ -295,12 +296,14 @@ fn means_in(reading: &mut Reading, several: bool) -> bool {
 /// The runs that are asked for.
 fn runs_in(reading: &mut Reading) -> RunsWords
     ensures runs { IfSome result.varied HasRuns }
+    ensures threads { AreThreadsWithin result.texts }
 {
     let RunConstants { given, varied } = run_constants_in(reading);
     let means = means_in(reading, varied.is_some());
     let plan = PlanPaths::with(reading, given);
+    let texts = RunTexts::with(reading, plan);
     RunsWords {
-        plan,
+        texts,
         varied,
         means,
     }
@@ -309,6 +312,7 @@ fn runs_in(reading: &mut Reading) -> RunsWords
 /// What plain words ask for, where they name rounds.
 fn request_in(reading: &mut Reading) -> Option<CountRequest>
     ensures runs { IfSome result (λ r. IfSome r.runs.varied HasRuns) }
+    ensures threads { IfSome result (λ r. AreThreadsWithin r.runs.texts) }
 {
     let figures = figures_in(reading);
     let until = until_in(reading);
@@ -331,6 +335,7 @@ impl CountRequest {
     /// What the words ask for, the command's name first.
     pub fn parse(alloc: Global, line: &[String]) -> Result<CountRequest, WordsFault>
         ensures runs { IfOk result (λ r. IfSome r.runs.varied HasRuns) }
+        ensures threads { IfOk result (λ r. AreThreadsWithin r.runs.texts) }
     {
         let mut reading = Reading::of(alloc, count(), line)?;
         let asked = request_in(&mut reading);

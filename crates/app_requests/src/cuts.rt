@@ -1,9 +1,11 @@
 //! `cuts`: where values were cut.
 ghost use Rattle.std.specs.Prelude.{◌≤◌, IfOk};
+ghost use Rattle.app_requests.specs.Requests.{AreThreadsWithin};
 ghost use Rattle.rounds_plan.specs.Configs.{most_rounds};
 
-use crate::arguments::{FLAG, FROM, NAMES, NAMES_ARGUMENT, NETWORK, PROGRAM, PlanPaths, ROUND};
+use crate::arguments::{FLAG, FROM, NAMES, NAMES_ARGUMENT, NETWORK, PROGRAM, ROUND};
 use crate::constants::CONSTANT;
+use crate::start::{OVERLAP, RunTexts, SEED, SET, SET_FILE, SET_RANDOM};
 use app_table::{Argument, Choice, Command, Kind, OPTION, Reading, Value, WordsFault};
 use std::alloc::Global;
 
@@ -55,7 +57,10 @@ static CUTS: Command = Command {
     called: "unison cuts",
     about: "Tell where values were cut at 4294967295",
     notes: "Prints a line for each `+`, `*` and `total` of the program whose value was cut in a round up to T: its place, the first round and node, and how often. An occasion is a node in a round.\nAn example: unison cuts examples/distance.rules examples/path.toml --rounds 2\n",
-    arguments: &[PROGRAM, NETWORK, LAST, BELOW, FORMAT, NAMES, FROM, CONSTANT],
+    arguments: &[
+        PROGRAM, NETWORK, LAST, BELOW, FORMAT, NAMES, FROM, SET, SET_FILE, SET_RANDOM, OVERLAP,
+        SEED, CONSTANT,
+    ],
     subcommands: &[],
 };
 
@@ -76,7 +81,7 @@ pub enum CutsFormat {
 /// What `cuts` is asked for.
 #[derive(Drop)]
 pub struct CutsRequest {
-    pub plan: PlanPaths,
+    pub texts: RunTexts,
     /// The last round that is looked at, counted from round 0.
     pub rounds: u32,
     /// Whether differences that were cut at 0 are told too.
@@ -97,13 +102,14 @@ fn format_in(reading: &mut Reading) -> CutsFormat {
 /// What plain words ask for.
 fn request_in(reading: &mut Reading) -> CutsRequest
     ensures within { result.rounds ≤ most_rounds }
+    ensures threads { AreThreadsWithin result.texts }
 {
     let rounds = reading.number_or(&LAST_ARGUMENT, 0);
     let format = format_in(reading);
     let names = reading.text(&NAMES_ARGUMENT);
-    let plan = PlanPaths::of(reading);
+    let texts = RunTexts::of(reading);
     CutsRequest {
-        plan,
+        texts,
         rounds,
         below: reading.has(&BELOW_ARGUMENT),
         format,
@@ -115,6 +121,7 @@ impl CutsRequest {
     /// What the words ask for, the command's name first.
     pub fn parse(alloc: Global, line: &[String]) -> Result<CutsRequest, WordsFault>
         ensures within { IfOk result (λ r. r.rounds ≤ most_rounds) }
+        ensures threads { IfOk result (λ r. AreThreadsWithin r.texts) }
     {
         let mut reading = Reading::of(alloc, cuts(), line)?;
         let asked = request_in(&mut reading);

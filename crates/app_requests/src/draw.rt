@@ -1,6 +1,6 @@
 //! `image` and `dot`: rounds as pictures, and networks for Graphviz.
 ghost use Rattle.std.specs.Prelude.{◌≤◌, IfOk, IfSome};
-ghost use Rattle.app_requests.specs.Requests.{IsWidthWithin};
+ghost use Rattle.app_requests.specs.Requests.{AreThreadsWithin, IsWidthWithin};
 ghost use Rattle.rounds_plan.specs.Configs.{most_rounds};
 
 use crate::arguments::{
@@ -9,6 +9,7 @@ use crate::arguments::{
 };
 use crate::colours::{COLOURS, colours_in};
 use crate::constants::CONSTANT;
+use crate::start::{OVERLAP, RunTexts, SEED, SET, SET_FILE, SET_RANDOM};
 use app_table::{Argument, Command, Kind, OPTION, Reading, Value, WordsFault};
 use run_picture::ValueColour;
 use run_watch::Span;
@@ -99,7 +100,7 @@ static IMAGE: Command = Command {
     notes: "Prints an SVG picture: nodes across and rounds down, with --grid the nodes of one round as cells, with --links the network of one round, with --animate too that of each round in turn, or with --counts a curve for each state of the field, and each value that occurs, of how many nodes have it. Where more than 64 values occur, the curves are refused; count prints the numbers. With --frames FOLDER the picture of each round goes into a file of its own, all in the same colours, and one line tells which were written.\nAn example: unison image examples/rule_110.rules examples/row.toml --rounds 0..30 > run.svg\nAnother one: unison image examples/life.rules examples/glider.toml --rounds 8..8 --grid 8 > frame.svg\nA third one: unison image examples/distance.rules examples/karate.toml --rounds 0..5 --counts > curves.svg\nOne that moves: unison image examples/life.rules examples/glider.toml --rounds 0..31 --grid 8 --animate --colours 1:teal > glider.svg\nA network that moves: unison image examples/distance.rules examples/karate.toml --rounds 0..5 --links --animate --frame-time 500 > karate.svg\nA file for each round: unison image examples/life.rules examples/glider.toml --rounds 0..31 --grid 8 --frames glider\n",
     arguments: &[
         PROGRAM, NETWORK, ROUNDS, EVERY, FIELD, COUNTS, GRID, LINKS, ANIMATE, SHOWN_FOR, FRAMES,
-        COLOURS, FROM, CONSTANT,
+        COLOURS, FROM, SET, SET_FILE, SET_RANDOM, OVERLAP, SEED, CONSTANT,
     ],
     subcommands: &[],
 };
@@ -137,7 +138,7 @@ pub(crate) fn dot() -> &'static Command {
 /// What `image` is asked for.
 #[derive(Drop)]
 pub struct ImageRequest {
-    pub plan: PlanPaths,
+    pub texts: RunTexts,
     /// The rounds of which the picture is made: one alone where a grid or a network is drawn that does not move, and no files
     /// are written.
     pub span: Span,
@@ -269,6 +270,7 @@ fn check_manner(reading: &mut Reading, span: &Span, manner: Manner, frame_time: 
 /// What plain words ask for, where they name rounds.
 fn image_in(reading: &mut Reading) -> Option<ImageRequest>
     ensures within { IfSome result (λ r. IfSome r.grid IsWidthWithin) }
+    ensures threads { IfSome result (λ r. AreThreadsWithin r.texts) }
 {
     let grid = grid_in(reading, &GRID_ARGUMENT);
     let counts = reading.has(&COUNTS_ARGUMENT);
@@ -285,9 +287,9 @@ fn image_in(reading: &mut Reading) -> Option<ImageRequest>
     check_manner(reading, &span, manner, frame_time);
     let colours = colours_in(reading);
     let field = reading.text(&FIELD_ARGUMENT);
-    let plan = PlanPaths::of(reading);
+    let texts = RunTexts::of(reading);
     Some(ImageRequest {
-        plan,
+        texts,
         span,
         field,
         counts,
@@ -321,6 +323,7 @@ impl ImageRequest {
     /// What the words ask for, the command's name first.
     pub fn parse(alloc: Global, line: &[String]) -> Result<ImageRequest, WordsFault>
         ensures within { IfOk result (λ r. IfSome r.grid IsWidthWithin) }
+        ensures threads { IfOk result (λ r. AreThreadsWithin r.texts) }
     {
         let words = with_lone(alloc, line, "--grid")?;
         let mut reading = Reading::of(alloc, image(), &words)?;

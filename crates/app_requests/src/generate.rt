@@ -1,7 +1,7 @@
 //! `generate`: a network of a shape, or at random.
 ghost use Rattle.std.specs.Prelude.{◌≤◌, IfOk, IfSome};
 
-use crate::arguments::{FLAG, NUMBER};
+use crate::arguments::{AS_PACKED, AS_PACKED_ARGUMENT, FLAG, NUMBER};
 use crate::decimals::{Portion, billionths_of, percent_of, share_of};
 use crate::percents::no_share;
 use app_table::{Argument, Command, Draft, Kind, OPTION, Reading, Subcommand, WordsFault, number};
@@ -130,7 +130,7 @@ pub(crate) static DIAGONALS_ARGUMENT: Argument = DIAGONALS;
 pub(crate) const LINKS: Argument = Argument {
     name: "links",
     value_name: "M",
-    help: "The number of links, 262144 at most",
+    help: "The number of links, 262144 at most; with --packed 2147483647",
     ..NEEDED
 };
 
@@ -200,22 +200,17 @@ pub(crate) const SEED: Argument = Argument {
 /// `SEED`, as it is read.
 pub(crate) static SEED_ARGUMENT: Argument = SEED;
 
-/// The weights of links that are drawn.
+/// The weights of links that are drawn, which need a seed.
 const WEIGHTS: Argument = Argument {
     name: "weights",
     value_name: "LOW..HIGH",
     help: "Draw the weight of each link, from LOW to HIGH, by the seed",
+    needs: Some("seed"),
     ..OPTION
 };
 
 /// `WEIGHTS`, as it is read.
 static WEIGHTS_ARGUMENT: Argument = WEIGHTS;
-
-/// The weights of a shape's links, which need a seed.
-const SHAPE_WEIGHTS: Argument = Argument {
-    needs: Some("seed"),
-    ..WEIGHTS
-};
 
 /// The seed of a shape, of which weights alone are drawn.
 const SHAPE_SEED: Argument = Argument {
@@ -230,109 +225,97 @@ const SHAPES: [Subcommand; 16] = [
         name: "path",
         about: "Each node is linked with the next one",
         notes: "",
-        arguments: &[NODES, SHAPE_WEIGHTS, SHAPE_SEED],
+        arguments: &[NODES, SHAPE_SEED],
     },
     Subcommand {
         name: "ring",
         about: "A path whose last node is linked with the first",
         notes: "",
-        arguments: &[RING_NODES, SHAPE_WEIGHTS, SHAPE_SEED],
+        arguments: &[RING_NODES, SHAPE_SEED],
     },
     Subcommand {
         name: "star",
         about: "Node 0 is linked with each other node",
         notes: "",
-        arguments: &[STAR_NODES, SHAPE_WEIGHTS, SHAPE_SEED],
+        arguments: &[STAR_NODES, SHAPE_SEED],
     },
     Subcommand {
         name: "complete",
         about: "Each node is linked with each other one",
         notes: "",
-        arguments: &[COMPLETE_NODES, SHAPE_WEIGHTS, SHAPE_SEED],
+        arguments: &[COMPLETE_NODES, SHAPE_SEED],
     },
     Subcommand {
         name: "bipartite",
         about: "Each of A nodes is linked with each of B others",
         notes: "",
-        arguments: &[LEFT, RIGHT, SHAPE_WEIGHTS, SHAPE_SEED],
+        arguments: &[LEFT, RIGHT, SHAPE_SEED],
     },
     Subcommand {
         name: "tree",
         about: "Each node has K children, numbered level by level",
         notes: "",
-        arguments: &[NODES, ARITY, SHAPE_WEIGHTS, SHAPE_SEED],
+        arguments: &[NODES, ARITY, SHAPE_SEED],
     },
     Subcommand {
         name: "hypercube",
         about: "Nodes are linked whose numbers differ in one of D binary digits",
         notes: "",
-        arguments: &[DIMENSION, SHAPE_WEIGHTS, SHAPE_SEED],
+        arguments: &[DIMENSION, SHAPE_SEED],
     },
     Subcommand {
         name: "grid",
         about: "Each node is linked with those beside it, above it and below it",
         notes: "",
-        arguments: &[
-            GRID_WIDTH,
-            GRID_HEIGHT,
-            DIAGONALS,
-            SHAPE_WEIGHTS,
-            SHAPE_SEED,
-        ],
+        arguments: &[GRID_WIDTH, GRID_HEIGHT, DIAGONALS, SHAPE_SEED],
     },
     Subcommand {
         name: "hex",
         about: "Hexagonal cells in rows, of which each second one is shifted to the right by half a cell",
         notes: "",
-        arguments: &[GRID_WIDTH, GRID_HEIGHT, SHAPE_WEIGHTS, SHAPE_SEED],
+        arguments: &[GRID_WIDTH, GRID_HEIGHT, SHAPE_SEED],
     },
     Subcommand {
         name: "torus",
         about: "A grid whose rows and columns are rings",
         notes: "",
-        arguments: &[
-            TORUS_WIDTH,
-            TORUS_HEIGHT,
-            DIAGONALS,
-            SHAPE_WEIGHTS,
-            SHAPE_SEED,
-        ],
+        arguments: &[TORUS_WIDTH, TORUS_HEIGHT, DIAGONALS, SHAPE_SEED],
     },
     Subcommand {
         name: "random",
         about: "M links, all sets of so many links equally likely",
         notes: "",
-        arguments: &[NODES, LINKS, SEED, WEIGHTS],
+        arguments: &[NODES, LINKS, SEED],
     },
     Subcommand {
         name: "gnp",
         about: "Each pair of nodes is linked with the chance P",
         notes: "",
-        arguments: &[NODES, PROBABILITY, SEED, WEIGHTS],
+        arguments: &[NODES, PROBABILITY, SEED],
     },
     Subcommand {
         name: "random-tree",
         about: "Each node but node 0 is linked with one before it",
         notes: "",
-        arguments: &[NODES, SEED, WEIGHTS],
+        arguments: &[NODES, SEED],
     },
     Subcommand {
         name: "preferential",
         about: "Each node is linked with K before it, rather with those that have many links",
         notes: "",
-        arguments: &[NODES, LINKS_EACH, SEED, WEIGHTS],
+        arguments: &[NODES, LINKS_EACH, SEED],
     },
     Subcommand {
         name: "regular",
         about: "Each node has D neighbours",
         notes: "",
-        arguments: &[NODES, DEGREE, SEED, WEIGHTS],
+        arguments: &[NODES, DEGREE, SEED],
     },
     Subcommand {
         name: "small-world",
         about: "A ring whose nodes are linked with the K that follow them; then some links are led elsewhere",
         notes: "",
-        arguments: &[NODES, NEAR, REWIRE, SEED, WEIGHTS],
+        arguments: &[NODES, NEAR, REWIRE, SEED],
     },
 ];
 
@@ -342,8 +325,8 @@ static GENERATE: Command = Command {
     aliases: &["make"],
     called: "unison generate",
     about: "Make a network of a shape (path, ring, grid, torus, tree and more), or a random one",
-    notes: "Prints a network file; its nodes are numbered from 0, row by row in a grid.\nAn example: unison generate torus 16 16 --diagonals > torus.toml\nAnother one: unison generate random 100 --links 300 --seed 7 > random.toml\n",
-    arguments: &[],
+    notes: "Prints a network file, or with --packed a packed network; its nodes are numbered from 0, row by row in a grid. Paths, rings, grids, toruses, random, preferential and small-world may have any size where they are packed; the others are packed where a network file may have them.\nAn example: unison generate torus 16 16 --diagonals > torus.toml\nAnother one: unison generate random 100000 --links 300000 --seed 7 --packed > random.net\n",
+    arguments: &[WEIGHTS, AS_PACKED],
     subcommands: &SHAPES,
 };
 
@@ -429,6 +412,8 @@ pub struct GenerateRequest {
     pub weights: Option<Weights>,
     /// The seed by which is drawn; where nothing is drawn, 0.
     pub seed: u32,
+    /// Whether a packed network is written in the place of a network file.
+    pub packed: bool,
 }
 
 /// The number of an argument that has to be there.
@@ -655,6 +640,7 @@ fn request_in(reading: &mut Reading) -> GenerateRequest
         topology,
         weights,
         seed,
+        packed: reading.has(&AS_PACKED_ARGUMENT),
     }
 }
 

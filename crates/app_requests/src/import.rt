@@ -1,7 +1,7 @@
 //! `import`: a network from another format.
 ghost use Rattle.std.specs.Prelude.{◌≤◌, IfOk, IfSome};
 
-use crate::arguments::{FILE, FILE_OPTION, FLAG};
+use crate::arguments::{AS_PACKED, AS_PACKED_ARGUMENT, FILE, FILE_OPTION, FLAG};
 use app_table::{
     Argument, Choice, Command, OPTION, Reading, Subcommand, Value, WordsFault, number,
 };
@@ -175,8 +175,8 @@ static IMPORT: Command = Command {
     aliases: &["take"],
     called: "unison import",
     about: "Import a network from a list of edges, a Matrix Market file, a graph of Graphviz or JSON",
-    notes: "Prints a network file; nodes are numbered by the first appearance of their names.\nAn example: unison import edges friends.txt --names friends.names > friends.toml\nAnother one: unison import edges friends.csv --columns source,target > friends.toml\nAnother one: unison import matrix-market road.mtx --undirected --parallel min > road.toml\n",
-    arguments: &[],
+    notes: "Prints a network file, or with --packed a packed network; nodes are numbered by the first appearance of their names. Matrices and lists of edges parted by blanks, tabs or commas may have any size where they are packed; the others are packed where a network file may have them.\nAn example: unison import edges friends.txt --names friends.names > friends.toml\nAnother one: unison import edges friends.csv --columns source,target > friends.toml\nAnother one: unison import matrix-market road.mtx --undirected --parallel min --packed > road.net\n",
+    arguments: &[AS_PACKED],
     subcommands: &FORMATS,
 };
 
@@ -271,6 +271,8 @@ pub struct ImportRequest {
     pub factor: Option<u32>,
     /// What becomes of self-loops and parallel edges.
     pub mending: Mending,
+    /// Whether a packed network is written in the place of a network file.
+    pub packed: bool,
 }
 
 /// The factor that the words name; it is 1 or more.
@@ -418,6 +420,7 @@ fn request_in(reading: &mut Reading) -> ImportRequest
             self_loops: self_loops_in(reading),
             parallel,
         },
+        packed: reading.has(&AS_PACKED_ARGUMENT),
     }
 }
 

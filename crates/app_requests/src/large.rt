@@ -1,22 +1,16 @@
 //! `large`: rounds on networks of any size.
 
-use crate::arguments::{
-    EVERY, FILE, FILE_OPTION, FLAG, FROM, FROM_ARGUMENT, PROGRAM, PROGRAM_ARGUMENT, ROUND, ROUNDS,
-    span_in,
-};
-use crate::constants::{CONSTANT, constants_in};
-use crate::init::{
-    OVERLAP, RandomWord, SEED, SET, SET_ARGUMENT, SET_RANDOM, SET_RANDOM_ARGUMENT, SetWord,
-    overlap_in, random_in, sets_in,
+use crate::arguments::{EVERY, FILE, FROM, NETWORK_ARGUMENT, PROGRAM, ROUNDS, span_in};
+use crate::constants::CONSTANT;
+use crate::lockstep::{
+    FORMAT, FORMAT_ARGUMENT, LAST, ONE_FIELD, StatesFormat, StatesView, format_in, round_in,
+    states_view_in,
 };
 use crate::settle::{DEFAULT_LIMIT, LIMIT, LIMIT_ARGUMENT, REPORT, REPORT_ARGUMENT};
-use app_table::{Argument, Choice, Command, Kind, OPTION, Reading, Subcommand, Value, WordsFault};
-use model_rules::Given;
+use crate::start::{OVERLAP, RunTexts, SEED, SEQUENTIAL, SET, SET_FILE, SET_RANDOM, THREADS};
+use app_table::{Argument, Choice, Command, OPTION, Reading, Subcommand, Value, WordsFault};
 use run_watch::Span;
 use std::alloc::Global;
-
-/// `SEED`, as it is read.
-static SEED_ARGUMENT: Argument = SEED;
 
 const PACKED: Argument = Argument {
     name: "network",
@@ -24,21 +18,6 @@ const PACKED: Argument = Argument {
     help: "The binary file of the network, as unison pack makes it, or - for standard input",
     ..FILE
 };
-
-/// `PACKED`, as it is read.
-static PACKED_ARGUMENT: Argument = PACKED;
-
-const LAST: Argument = Argument {
-    name: "rounds",
-    kind: Kind::Required,
-    value: ROUND,
-    value_name: "T",
-    help: "The round that is reported, counted from round 0: 0 to 1000000000",
-    ..OPTION
-};
-
-/// `LAST`, as it is read.
-static LAST_ARGUMENT: Argument = LAST;
 
 const COUNT: Argument = Argument {
     name: "count",
@@ -49,52 +28,6 @@ const COUNT: Argument = Argument {
 
 /// `COUNT`, as it is read.
 static COUNT_ARGUMENT: Argument = COUNT;
-
-const SET_FILE: Argument = Argument {
-    name: "set-file",
-    kind: Kind::Repeated,
-    value_name: "FIELD=FILE",
-    help: "Give a field of each node the value at its place in an array of NumPy (.npy) with one axis, or - for standard input; as often as wanted",
-    ..FILE_OPTION
-};
-
-/// `SET_FILE`, as it is read.
-static SET_FILE_ARGUMENT: Argument = SET_FILE;
-
-const FORMAT: Argument = Argument {
-    name: "format",
-    value: Value::Choice(&[
-        Choice {
-            name: "report",
-            aliases: &[],
-        },
-        Choice {
-            name: "csv",
-            aliases: &[],
-        },
-        Choice {
-            name: "npy",
-            aliases: &[],
-        },
-    ]),
-    value_name: "FORMAT",
-    help: "report (the default), csv, or npy: an array of NumPy with a row for each node and a column for each field",
-    ..OPTION
-};
-
-/// `FORMAT`, as it is read.
-static FORMAT_ARGUMENT: Argument = FORMAT;
-
-const ONE_FIELD: Argument = Argument {
-    name: "field",
-    value_name: "FIELD",
-    help: "With --format npy write this field alone, as an array with one axis, which --set-file reads",
-    needs: Some("format"),
-    ..OPTION
-};
-
-/// `ONE_FIELD`, as it is read.
-static ONE_FIELD_ARGUMENT: Argument = ONE_FIELD;
 
 const COLUMN: Argument = Argument {
     name: "field",
@@ -126,29 +59,6 @@ const COLUMN_FORMAT: Argument = Argument {
 
 /// `COLUMN_FORMAT`, as it is read.
 static COLUMN_FORMAT_ARGUMENT: Argument = COLUMN_FORMAT;
-
-const THREADS: Argument = Argument {
-    name: "threads",
-    value: Value::Number {
-        least: 1,
-        most: 1024,
-    },
-    value_name: "N",
-    help: "Share rounds with much to compute among N threads: 1 to 1024, and as many as there are processors where it is left out",
-    ..OPTION
-};
-
-/// `THREADS`, as it is read.
-static THREADS_ARGUMENT: Argument = THREADS;
-
-const SEQUENTIAL: Argument = Argument {
-    name: "sequential",
-    help: "Make all rounds by one thread, as --threads 1 does",
-    ..FLAG
-};
-
-/// `SEQUENTIAL`, as it is read.
-static SEQUENTIAL_ARGUMENT: Argument = SEQUENTIAL;
 
 const WAYS: [Subcommand; 5] = [
     Subcommand {
@@ -222,65 +132,6 @@ pub(crate) fn large() -> &'static Command {
     &LARGE
 }
 
-/// A word of `--set-file FIELD=FILE`.
-#[derive(Drop)]
-pub struct FileWord {
-    pub field: String,
-    /// The path of the array.
-    pub path: String,
-}
-
-/// The initial values that the words ask for, beside those of the program: nodes drawn by a seed; those of arrays, which count
-/// over them; and those of `--set`, which count over both.
-#[derive(Drop)]
-pub struct StartWords {
-    pub random: Vec<RandomWord>,
-    /// Whether each word of `random` draws among all nodes, and not among those that the others leave.
-    pub overlap: bool,
-    pub files: Vec<FileWord>,
-    pub sets: Vec<SetWord>,
-    /// By what nodes are drawn; where none are, 0.
-    pub seed: u32,
-}
-
-/// What rounds on a network of any size begin with, and how many threads make them.
-#[derive(Drop)]
-pub struct LargeTexts {
-    /// The path of the program's text.
-    pub program: String,
-    /// The constants of the program that are given values, where it is a model.
-    pub constants: Vec<Given>,
-    /// The path of the network's binary file.
-    pub network: String,
-    /// The path of the report from which the rounds go on, where they do; the words ask for no initial values then.
-    pub from: Option<String>,
-    pub start: StartWords,
-    /// Among how many threads rounds are shared, 1 to 1,024; where nothing is said, as many as there are processors.
-    pub threads: Option<u32>,
-}
-
-/// How the states after a round are shown.
-#[derive(Clone, Copy, PartialEq, Eq)]
-pub enum StatesFormat {
-    /// As a report.
-    Report,
-    /// As CSV, a line for each node.
-    Csv,
-    /// As an array of NumPy, a row for each node.
-    Npy,
-}
-
-/// What is shown of the states after a round.
-#[derive(Drop)]
-pub enum StatesView {
-    /// All states.
-    All(StatesFormat),
-    /// The field of this name, as an array of NumPy with one axis.
-    Column(String),
-    /// How many nodes have each value of the field of this name.
-    Counts(String),
-}
-
 /// How a field of all nodes is shown, round by round.
 #[derive(Clone, Copy, PartialEq, Eq)]
 pub enum ColumnFormat {
@@ -310,112 +161,39 @@ pub enum LargeRequest {
     },
     /// The states after a round.
     Lockstep {
-        texts: LargeTexts,
+        texts: RunTexts,
         rounds: u32,
         view: StatesView,
     },
     /// What rounds are like, one by one.
     Watch {
-        texts: LargeTexts,
+        texts: RunTexts,
         span: Span,
         view: RoundsView,
     },
     /// From which round on nothing changes, or all states come again, looked for up to a limit.
     Settle {
-        texts: LargeTexts,
+        texts: RunTexts,
         limit: u32,
         /// Whether the report of the round that is found is printed too.
         report: bool,
     },
 }
 
-/// Notes that a word of `--set-file` has not its parts.
-fn refuse_file(reading: &mut Reading, word: &str) {
-    reading.refuse_as(format!(in reading.alloc();
-        "--set-file: expected FIELD=FILE, found `{word}`"
-    ));
-}
-
-/// The word of `--set-file`, where it has its parts.
-fn file_word(reading: &mut Reading, word: &str) -> Option<FileWord> {
-    let (field, path) = word.split_once('=')?;
-    let field = reading.copied(field);
-    let path = reading.copied(path);
-    Some(FileWord { field, path })
-}
-
-/// Puts a word behind the others.
-fn put_file(files: &mut Vec<FileWord>, reading: &mut Reading, word: &str) {
-    match file_word(reading, word) {
-        Some(file) => {
-            if files.push(file).is_err() {
-                reading.refuse(WordsFault::Memory);
-            }
-        }
-        None => refuse_file(reading, word),
-    }
-}
-
-/// The words of `--set-file`, in their order.
-fn files_in(reading: &mut Reading) -> Vec<FileWord> {
-    let words = reading.texts(&SET_FILE_ARGUMENT);
-    let mut files = Vec::new(reading.alloc());
-    for word in &words {
-        put_file(&mut files, reading, word.as_str());
-    }
-    files
-}
-
-/// The initial values that the words ask for.
-fn start_in(reading: &mut Reading) -> StartWords {
-    let random = random_in(reading);
-    let overlap = overlap_in(reading);
-    let files = files_in(reading);
-    let sets = sets_in(reading);
-    let seed = reading.number_or(&SEED_ARGUMENT, 0);
-    StartWords {
-        random,
-        overlap,
-        files,
-        sets,
-        seed,
-    }
-}
-
-/// How the states after a round are to be shown.
-fn format_in(reading: &mut Reading) -> StatesFormat {
-    match reading.choice(&FORMAT_ARGUMENT).unwrap_or("report") {
-        "csv" => StatesFormat::Csv,
-        "npy" => StatesFormat::Npy,
-        _ => StatesFormat::Report,
-    }
-}
-
 /// Counts of a field's values, of which CSV is the one form.
-fn counts_in(reading: &mut Reading, format: StatesFormat, field: String) -> StatesView {
+fn counts_in(reading: &mut Reading, field: String) -> StatesView {
+    let format = format_in(reading);
     if reading.has(&FORMAT_ARGUMENT) && format != StatesFormat::Csv {
         reading.refuse_words("--count: counted values are printed as CSV; leave out --format");
     }
     StatesView::Counts(field)
 }
 
-/// A field that stands alone in an array.
-fn one_field_in(reading: &mut Reading, format: StatesFormat, field: String) -> StatesView {
-    if format != StatesFormat::Npy {
-        reading.refuse_words("--field: other forms have all fields; take --format npy");
-    }
-    StatesView::Column(field)
-}
-
 /// What is to be shown of the states after a round.
 fn view_in(reading: &mut Reading) -> StatesView {
-    let format = format_in(reading);
-    if let Some(field) = reading.text(&COUNT_ARGUMENT) {
-        return counts_in(reading, format, field);
-    }
-    match reading.text(&ONE_FIELD_ARGUMENT) {
-        Some(field) => one_field_in(reading, format, field),
-        None => StatesView::All(format),
+    match reading.text(&COUNT_ARGUMENT) {
+        Some(field) => counts_in(reading, field),
+        None => states_view_in(reading),
     }
 }
 
@@ -443,58 +221,11 @@ fn rounds_view_in(reading: &mut Reading) -> RoundsView {
     }
 }
 
-/// Refuses initial values beside a report, which has those of all nodes.
-fn check_start(reading: &mut Reading) {
-    let is_set = reading.has(&SET_ARGUMENT)
-        || reading.has(&SET_FILE_ARGUMENT)
-        || reading.has(&SET_RANDOM_ARGUMENT);
-    if is_set && reading.has(&FROM_ARGUMENT) {
-        reading.refuse_words(
-            "--from: the report says the states of all nodes; leave out --set, --set-file and --set-random, or --from",
-        );
-    }
-}
-
-/// Among how many threads rounds are shared, where it is said. Invalid arguments are noted where two numbers are.
-fn threads_in(reading: &mut Reading) -> Option<u32> {
-    let is_sequential = reading.has(&SEQUENTIAL_ARGUMENT);
-    let threads = reading.number_or(&THREADS_ARGUMENT, 1);
-    if is_sequential && threads != 1 {
-        reading.refuse_words(
-            "--sequential: all rounds are made by one thread; leave it out, or --threads",
-        );
-    }
-    if is_sequential || reading.has(&THREADS_ARGUMENT) {
-        Some(threads)
-    } else {
-        None
-    }
-}
-
-/// What rounds begin with, and how many threads make them.
-fn texts_in(reading: &mut Reading) -> LargeTexts {
-    let program = reading.needed_text(&PROGRAM_ARGUMENT);
-    let constants = constants_in(reading);
-    let network = reading.needed_text(&PACKED_ARGUMENT);
-    check_start(reading);
-    let from = reading.text(&FROM_ARGUMENT);
-    let start = start_in(reading);
-    let threads = threads_in(reading);
-    LargeTexts {
-        program,
-        constants,
-        network,
-        from,
-        start,
-        threads,
-    }
-}
-
 /// What the words of `settle` ask for.
 fn settle_in(reading: &mut Reading) -> LargeRequest {
     let limit = reading.number_or(&LIMIT_ARGUMENT, DEFAULT_LIMIT);
     let report = reading.has(&REPORT_ARGUMENT);
-    let texts = texts_in(reading);
+    let texts = RunTexts::of(reading);
     LargeRequest::Settle {
         texts,
         limit,
@@ -504,9 +235,9 @@ fn settle_in(reading: &mut Reading) -> LargeRequest {
 
 /// What the words of `lockstep` ask for.
 fn lockstep_in(reading: &mut Reading) -> LargeRequest {
-    let rounds = reading.number_or(&LAST_ARGUMENT, 0);
+    let rounds = round_in(reading);
     let view = view_in(reading);
-    let texts = texts_in(reading);
+    let texts = RunTexts::of(reading);
     LargeRequest::Lockstep {
         texts,
         rounds,
@@ -518,7 +249,7 @@ fn lockstep_in(reading: &mut Reading) -> LargeRequest {
 fn watch_in(reading: &mut Reading) -> Option<LargeRequest> {
     let span = span_in(reading)?;
     let view = rounds_view_in(reading);
-    let texts = texts_in(reading);
+    let texts = RunTexts::of(reading);
     Some(LargeRequest::Watch { texts, span, view })
 }
 
@@ -526,7 +257,7 @@ fn watch_in(reading: &mut Reading) -> Option<LargeRequest> {
 fn request_in(reading: &mut Reading) -> Option<LargeRequest> {
     match reading.subcommand() {
         "info" | "show" => Some(LargeRequest::Info {
-            network: reading.needed_text(&PACKED_ARGUMENT),
+            network: reading.needed_text(&NETWORK_ARGUMENT),
         }),
         "lockstep" => Some(lockstep_in(reading)),
         "watch" => watch_in(reading),

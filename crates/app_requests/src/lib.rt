@@ -18,12 +18,14 @@ mod import;
 mod info;
 mod init;
 mod large;
+mod lockstep;
 mod naive;
 mod pack;
 mod page;
 mod percents;
 mod schedule;
 mod settle;
+mod start;
 mod verify;
 mod watch;
 
@@ -41,14 +43,13 @@ pub use generate::{GenerateRequest, Topology, Weights};
 pub use import::{ColumnWord, ColumnWords, Delimiter, Format, ImportRequest};
 pub use info::InfoRequest;
 pub use init::{CellsWord, InitRequest, RandomWord, RangeWord, SetWord, amounts_of};
-pub use large::{
-    ColumnFormat, FileWord, LargeRequest, LargeTexts, RoundsView, StartWords, StatesFormat,
-    StatesView,
-};
+pub use large::{ColumnFormat, LargeRequest, RoundsView};
+pub use lockstep::{LockstepRequest, StatesFormat, StatesView};
 pub use naive::NaiveRequest;
 pub use pack::PackRequest;
 pub use page::{PageRequest, PageRun, PageView};
 pub use schedule::{Limits, Listing, ScheduleRequest, StepsManner, Writing};
 pub use settle::SettleRequest;
+pub use start::{FileWord, RunTexts, StartWords};
 pub use verify::VerifyRequest;
 pub use watch::{View, WatchRequest};

@@ -1,9 +1,11 @@
 //! `settle`: from which round on nothing changes, or all states come again.
 ghost use Rattle.std.specs.Prelude.{◌≤◌, IfOk};
+ghost use Rattle.app_requests.specs.Requests.{AreThreadsWithin};
 ghost use Rattle.rounds_plan.specs.Configs.{most_rounds};
 
-use crate::arguments::{FLAG, FROM, NETWORK, PROGRAM, PlanPaths, QUIET, QUIET_ARGUMENT, ROUND};
+use crate::arguments::{FLAG, FROM, NETWORK, PROGRAM, QUIET, QUIET_ARGUMENT, ROUND};
 use crate::constants::CONSTANT;
+use crate::start::{OVERLAP, RunTexts, SEED, SEQUENTIAL, SET, SET_FILE, SET_RANDOM, THREADS};
 use app_table::{Argument, Command, OPTION, Reading, WordsFault};
 use std::alloc::Global;
 
@@ -37,7 +39,10 @@ static SETTLE: Command = Command {
     called: "unison settle",
     about: "Tell from which round on nothing changes, or all states come again",
     notes: "Prints `settles R` where nothing changes after round R, the first such one; `repeats R P` where from round R on all states come again every P rounds, both the least; `open T` where neither is so up to round T.\nAn example: unison settle examples/distance.rules examples/path.toml --report\n",
-    arguments: &[PROGRAM, NETWORK, LIMIT, REPORT, FROM, CONSTANT, QUIET],
+    arguments: &[
+        PROGRAM, NETWORK, LIMIT, REPORT, FROM, SET, SET_FILE, SET_RANDOM, OVERLAP, SEED, THREADS,
+        SEQUENTIAL, CONSTANT, QUIET,
+    ],
     subcommands: &[],
 };
 
@@ -49,7 +54,7 @@ pub(crate) fn settle() -> &'static Command {
 /// What `settle` is asked for.
 #[derive(Drop)]
 pub struct SettleRequest {
-    pub plan: PlanPaths,
+    pub texts: RunTexts,
     /// The round up to which it is looked, counted from round 0.
     pub limit: u32,
     /// Whether the report of the round that is found is printed too.
@@ -61,11 +66,12 @@ pub struct SettleRequest {
 /// What plain words ask for.
 fn request_in(reading: &mut Reading) -> SettleRequest
     ensures within { result.limit ≤ most_rounds }
+    ensures threads { AreThreadsWithin result.texts }
 {
     let limit = reading.number_or(&LIMIT_ARGUMENT, DEFAULT_LIMIT);
-    let plan = PlanPaths::of(reading);
+    let texts = RunTexts::of(reading);
     SettleRequest {
-        plan,
+        texts,
         limit,
         report: reading.has(&REPORT_ARGUMENT),
         quiet: reading.has(&QUIET_ARGUMENT),
@@ -76,6 +82,7 @@ impl SettleRequest {
     /// What the words ask for, the command's name first.
     pub fn parse(alloc: Global, line: &[String]) -> Result<SettleRequest, WordsFault>
         ensures within { IfOk result (λ r. r.limit ≤ most_rounds) }
+        ensures threads { IfOk result (λ r. AreThreadsWithin r.texts) }
     {
         let mut reading = Reading::of(alloc, settle(), line)?;
         let asked = request_in(&mut reading);

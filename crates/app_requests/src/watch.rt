@@ -1,10 +1,13 @@
 //! `watch`: all rounds from one to another.
+ghost use Rattle.std.specs.Prelude.{IfOk, IfSome};
+ghost use Rattle.app_requests.specs.Requests.{AreThreadsWithin};
 
 use crate::arguments::{
-    EVERY, FLAG, FROM, NAMES, NAMES_ARGUMENT, NETWORK, ONLY, PROGRAM, PlanPaths, QUIET,
-    QUIET_ARGUMENT, ROUNDS, only_in, span_in,
+    EVERY, FLAG, FROM, NAMES, NAMES_ARGUMENT, NETWORK, ONLY, PROGRAM, QUIET, QUIET_ARGUMENT,
+    ROUNDS, only_in, span_in,
 };
 use crate::constants::CONSTANT;
+use crate::start::{OVERLAP, RunTexts, SEED, SEQUENTIAL, SET, SET_FILE, SET_RANDOM, THREADS};
 use app_table::{Argument, Choice, Command, OPTION, Reading, Value, WordsFault};
 use run_watch::{Format, Span};
 use std::alloc::Global;
@@ -64,6 +67,13 @@ static WATCH: Command = Command {
         CHANGES,
         TABLE_NAMES,
         FROM,
+        SET,
+        SET_FILE,
+        SET_RANDOM,
+        OVERLAP,
+        SEED,
+        THREADS,
+        SEQUENTIAL,
         CONSTANT,
         QUIET,
     ],
@@ -90,7 +100,7 @@ pub struct View {
 /// What `watch` is asked for.
 #[derive(Drop)]
 pub struct WatchRequest {
-    pub plan: PlanPaths,
+    pub texts: RunTexts,
     /// The rounds that are watched.
     pub span: Span,
     pub view: View,
@@ -131,12 +141,14 @@ fn view_in(reading: &mut Reading) -> View {
 }
 
 /// What plain words ask for, where they name rounds.
-fn request_in(reading: &mut Reading) -> Option<WatchRequest> {
+fn request_in(reading: &mut Reading) -> Option<WatchRequest>
+    ensures threads { IfSome result (λ r. AreThreadsWithin r.texts) }
+{
     let view = view_in(reading);
     let span = span_in(reading)?;
-    let plan = PlanPaths::of(reading);
+    let texts = RunTexts::of(reading);
     Some(WatchRequest {
-        plan,
+        texts,
         span,
         view,
         quiet: reading.has(&QUIET_ARGUMENT),
@@ -145,7 +157,9 @@ fn request_in(reading: &mut Reading) -> Option<WatchRequest> {
 
 impl WatchRequest {
     /// What the words ask for, the command's name first.
-    pub fn parse(alloc: Global, line: &[String]) -> Result<WatchRequest, WordsFault> {
+    pub fn parse(alloc: Global, line: &[String]) -> Result<WatchRequest, WordsFault>
+        ensures threads { IfOk result (λ r. AreThreadsWithin r.texts) }
+    {
         let mut reading = Reading::of(alloc, watch(), line)?;
         let asked = request_in(&mut reading);
         reading.end_some(asked)

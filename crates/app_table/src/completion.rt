@@ -100,10 +100,11 @@ fn put_pattern(draft: &mut Draft, command: &Command, form: &str) {
     draft.put(")\n");
 }
 
-/// Adds the options among arguments.
-fn put_options(draft: &mut Draft, arguments: &[Argument]) {
+/// Adds the options among a command's own arguments, and among those that it shares with others.
+fn put_options(draft: &mut Draft, own: &[Argument], shared: &[Argument]) {
     draft.put("    options=\"");
-    put_option_names(draft, arguments);
+    put_option_names(draft, own);
+    put_option_names(draft, shared);
     draft.put("\"\n");
 }
 
@@ -125,12 +126,18 @@ fn put_choices(draft: &mut Draft, argument: &Argument) {
     }
 }
 
-/// Adds the options among arguments, and the choices that they have.
-fn put_arguments(draft: &mut Draft, arguments: &[Argument]) {
-    put_options(draft, arguments);
+/// Adds the choices of those arguments that have some.
+fn put_all_choices(draft: &mut Draft, arguments: &[Argument]) {
     for argument in arguments {
         put_choices(draft, argument);
     }
+}
+
+/// Adds the options among a command's own arguments and among those that it shares with others, and their choices.
+fn put_arguments(draft: &mut Draft, own: &[Argument], shared: &[Argument]) {
+    put_options(draft, own, shared);
+    put_all_choices(draft, own);
+    put_all_choices(draft, shared);
     draft.put("    ;;\n");
 }
 
@@ -138,7 +145,7 @@ fn put_arguments(draft: &mut Draft, arguments: &[Argument]) {
 fn put_subcommands(draft: &mut Draft, command: &Command) {
     for subcommand in command.subcommands {
         put_pattern(draft, command, subcommand.name);
-        put_arguments(draft, subcommand.arguments);
+        put_arguments(draft, subcommand.arguments, command.arguments);
     }
 }
 
@@ -149,7 +156,7 @@ pub fn put_command(draft: &mut Draft, command: &Command) {
     draft.put("    words=\"");
     put_names(draft, command.subcommands);
     draft.put("\"\n");
-    put_arguments(draft, command.arguments);
+    put_arguments(draft, command.own_arguments(), &[]);
 }
 
 /// Adds the end of the script.

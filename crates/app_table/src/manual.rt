@@ -102,20 +102,21 @@ fn put_notes(draft: &mut Draft, notes: &str) {
     }
 }
 
-/// Adds a subcommand of the command of this name.
-fn put_subcommand(draft: &mut Draft, name: &str, row: &Subcommand) {
-    put_name(draft, name, row.name, row.about);
+/// Adds a subcommand of a command, with the arguments that all of them share.
+fn put_subcommand(draft: &mut Draft, command: &Command, row: &Subcommand) {
+    put_name(draft, command.name, row.name, row.about);
     put_arguments(draft, row.arguments);
+    put_arguments(draft, command.arguments);
     put_notes(draft, row.notes);
 }
 
 /// Adds a command with its subcommands.
 pub fn put_command(draft: &mut Draft, command: &Command) {
     put_name(draft, command.name, "", command.about);
-    put_arguments(draft, command.arguments);
+    put_arguments(draft, command.own_arguments());
     put_notes(draft, command.notes);
     for subcommand in command.subcommands {
-        put_subcommand(draft, command.name, subcommand);
+        put_subcommand(draft, command, subcommand);
     }
 }
 

@@ -50,18 +50,37 @@ fn put_arg<'a>(args: &mut Vec<Arg<'a>>, alloc: Global, row: &Argument) -> Result
     Ok(())
 }
 
-/// The parsers of arguments.
-fn args_of<'a>(alloc: Global, rows: &[Argument]) -> Result<Vec<Arg<'a>>, AllocError> {
-    let mut args = Vec::new(alloc);
+/// Puts the parsers of arguments behind the others.
+fn put_args<'a>(
+    args: &mut Vec<Arg<'a>>,
+    alloc: Global,
+    rows: &[Argument],
+) -> Result<(), AllocError> {
     for row in rows {
-        put_arg(&mut args, alloc, row)?;
+        put_arg(args, alloc, row)?;
     }
+    Ok(())
+}
+
+/// The parsers of a command's own arguments, and of those that it shares with others.
+fn args_of<'a>(
+    alloc: Global,
+    own: &[Argument],
+    shared: &[Argument],
+) -> Result<Vec<Arg<'a>>, AllocError> {
+    let mut args = Vec::new(alloc);
+    put_args(&mut args, alloc, own)?;
+    put_args(&mut args, alloc, shared)?;
     Ok(args)
 }
 
-/// The parser of a subcommand.
-fn subcommand_parser<'a>(alloc: Global, row: &Subcommand) -> Result<Parser<'a>, AllocError> {
-    let args = args_of(alloc, row.arguments)?;
+/// The parser of a subcommand, which takes the shared arguments, too.
+fn subcommand_parser<'a>(
+    alloc: Global,
+    row: &Subcommand,
+    shared: &[Argument],
+) -> Result<Parser<'a>, AllocError> {
+    let args = args_of(alloc, row.arguments, shared)?;
     Parser::new(alloc, row.name)
         .about(row.about)
         .after_help(row.notes)
@@ -73,20 +92,22 @@ fn put_subcommand<'a>(
     parsers: &mut Vec<Parser<'a>>,
     alloc: Global,
     row: &Subcommand,
+    shared: &[Argument],
 ) -> Result<(), AllocError> {
-    let parser = subcommand_parser(alloc, row)?;
+    let parser = subcommand_parser(alloc, row, shared)?;
     parsers.push(parser)?;
     Ok(())
 }
 
-/// The parsers of subcommands.
+/// The parsers of subcommands, which take the shared arguments, too.
 fn subcommand_parsers<'a>(
     alloc: Global,
     rows: &[Subcommand],
+    shared: &[Argument],
 ) -> Result<Vec<Parser<'a>>, AllocError> {
     let mut parsers = Vec::new(alloc);
     for row in rows {
-        put_subcommand(&mut parsers, alloc, row)?;
+        put_subcommand(&mut parsers, alloc, row, shared)?;
     }
     Ok(parsers)
 }
@@ -100,15 +121,15 @@ fn bare_parser<'a>(alloc: Global, row: &Command) -> Result<Parser<'a>, AllocErro
         .bin_name(row.called)
 }
 
-/// The parser of a command with its arguments.
+/// The parser of a command with its own arguments.
 fn plain_parser<'a>(alloc: Global, row: &Command) -> Result<Parser<'a>, AllocError> {
-    let args = args_of(alloc, row.arguments)?;
+    let args = args_of(alloc, row.own_arguments(), &[])?;
     bare_parser(alloc, row)?.args(args)
 }
 
 /// The parser of a command.
 fn parser_of<'a>(alloc: Global, row: &Command) -> Result<Parser<'a>, AllocError> {
-    let subcommands = subcommand_parsers(alloc, row.subcommands)?;
+    let subcommands = subcommand_parsers(alloc, row.subcommands, row.arguments)?;
     plain_parser(alloc, row)?.subcommands(subcommands)
 }
 
@@ -172,20 +193,33 @@ fn put_given(
     Ok(())
 }
 
-/// What is given of arguments.
+/// Puts what is given of arguments behind the others.
+fn put_all_given(
+    alloc: Global,
+    given: &mut Vec<Given>,
+    matches: &ArgMatches<'_>,
+    rows: &[Argument],
+) -> Result<(), AllocError> {
+    for row in rows {
+        put_given(alloc, given, matches, row)?;
+    }
+    Ok(())
+}
+
+/// What is given of a command's own arguments, and of those that it shares with others.
 fn given_in(
     alloc: Global,
     matches: &ArgMatches<'_>,
-    rows: &[Argument],
+    own: &[Argument],
+    shared: &[Argument],
 ) -> Result<Vec<Given>, AllocError> {
     let mut given = Vec::new(alloc);
-    for row in rows {
-        put_given(alloc, &mut given, matches, row)?;
-    }
+    put_all_given(alloc, &mut given, matches, own)?;
+    put_all_given(alloc, &mut given, matches, shared)?;
     Ok(given)
 }
 
-/// The arguments of the subcommand of this name.
+/// The own arguments of the subcommand of this name.
 fn arguments_of(name: &str, rows: &[Subcommand]) -> &'static [Argument] {
     for row in rows {
         if row.name == name {
@@ -200,9 +234,10 @@ fn given_words(
     alloc: Global,
     name: &str,
     matches: &ArgMatches<'_>,
-    rows: &[Argument],
+    own: &[Argument],
+    shared: &[Argument],
 ) -> Result<Words, WordsFault> {
-    let given = given_in(alloc, matches, rows)?;
+    let given = given_in(alloc, matches, own, shared)?;
     let subcommand = String::from_str(alloc, name)?;
     Ok(Words { subcommand, given })
 }
@@ -210,8 +245,11 @@ fn given_words(
 /// What the matches give of a command.
 fn words_in(alloc: Global, row: &Command, matches: &ArgMatches<'_>) -> Result<Words, WordsFault> {
     match matches.subcommand() {
-        Some((name, inner)) => given_words(alloc, name, inner, arguments_of(name, row.subcommands)),
-        None => given_words(alloc, "", matches, row.arguments),
+        Some((name, inner)) => {
+            let own = arguments_of(name, row.subcommands);
+            given_words(alloc, name, inner, own, row.arguments)
+        }
+        None => given_words(alloc, "", matches, row.own_arguments(), &[]),
     }
 }
 

@@ -62,7 +62,7 @@ pub struct Subcommand {
     pub arguments: &'static [Argument],
 }
 
-/// A command: its own arguments, or subcommands that have them.
+/// A command: its own arguments, or subcommands with theirs.
 #[derive(Clone, Copy)]
 pub struct Command {
     pub name: &'static str,
@@ -73,6 +73,7 @@ pub struct Command {
     pub about: &'static str,
     /// What stands behind its help; lines end with a line feed.
     pub notes: &'static str,
+    /// What it takes; where it has subcommands, what each of them takes behind its own arguments.
     pub arguments: &'static [Argument],
     /// One of them has to be named where there are any.
     pub subcommands: &'static [Subcommand],
@@ -82,6 +83,15 @@ impl Command {
     /// Whether a word is its name or one of its aliases.
     pub fn is_called(&self, word: &str) -> bool {
         self.name == word || self.aliases.contains(&word)
+    }
+
+    /// The arguments that stand right behind its name: none where it has subcommands, behind the names of which they stand.
+    pub(crate) fn own_arguments(&self) -> &'static [Argument] {
+        if self.subcommands.is_empty() {
+            self.arguments
+        } else {
+            &[]
+        }
     }
 }
 

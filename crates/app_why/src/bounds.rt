@@ -7,7 +7,7 @@ ghost use Rattle.link_net.specs.Neighbours.{IsNetwork, Neighbours, degree, row};
 ghost use Rattle.rounds_plan.specs.Rounds.{nears_in};
 ghost use Rattle.rule_cuts.specs.Bounded.{AreValues, IsHereWithin, IsNearWithin};
 
-use link_net::{MOST_NEIGHBOURS, MOST_NODES, Network};
+use link_net::{MOST_NEIGHBOURS, MOST_NODES, NetRows};
 use rule_cuts::Bounds;
 
 /// The greatest of some numbers and of one more.
@@ -23,36 +23,36 @@ fn greatest(first: u32, numbers: &[u32]) -> u32
 }
 
 /// The greatest number of neighbours of a node.
-fn greatest_degree(network: &Network) -> u32
-    ensures each { (u : ℕ) → degree network.now u ≤ result }
+fn greatest_degree(rows: &NetRows<'_>) -> u32
+    ensures each { (u : ℕ) → degree rows.now u ≤ result }
 {
     let mut greatest = 0;
-    for node in 0..network.nodes() {
-        greatest = greatest.max(network.degree_of(node));
+    for node in 0..rows.nodes() {
+        greatest = greatest.max(rows.degree_of(node));
     }
     greatest
 }
 
 /// The greatest weight of a link, 0 where there are no links.
-fn greatest_weight(network: &Network) -> u32
-    ensures each { (u : ℕ) → All (λ arc. arc.1 ≤ result) (row network.now u) }
+fn greatest_weight(rows: &NetRows<'_>) -> u32
+    ensures each { (u : ℕ) → All (λ arc. arc.1 ≤ result) (row rows.now u) }
 {
     let mut found = 0;
-    for node in 0..network.nodes() {
-        found = greatest(found, network.weights_of(node));
+    for node in 0..rows.nodes() {
+        found = greatest(found, rows.weights_of(node));
     }
     found
 }
 
-/// What bounds the nodes of a network: whatever the states are, each node stands within it in each round.
-pub(crate) fn bounds_of(network: &Network) -> Bounds
-    ensures within { (rules : Rules) (round u : ℕ) (at : ℕ → State) → u < length network.now → ((v : ℕ) → AreValues (at v)) → IsHereWithin result (here_at rules round u (degree network.now u) (at u) (nears_in network.now at u)) }
-    ensures alone { (u : ℕ) (state : State) → u < length network.now → AreValues state → IsNearWithin result (alone u state) }
+/// What bounds the nodes of a network of any size: whatever the states are, each node stands within it in each round.
+pub(crate) fn bounds_of(rows: &NetRows<'_>) -> Bounds
+    ensures within { (rules : Rules) (round u : ℕ) (at : ℕ → State) → u < length rows.now → ((v : ℕ) → AreValues (at v)) → IsHereWithin result (here_at rules round u (degree rows.now u) (at u) (nears_in rows.now at u)) }
+    ensures alone { (u : ℕ) (state : State) → u < length rows.now → AreValues state → IsNearWithin result (alone u state) }
 {
     Bounds {
-        id: network.nodes() - 1,
-        degree: greatest_degree(network),
-        weight: greatest_weight(network),
+        id: rows.nodes().saturating_sub(1),
+        degree: greatest_degree(rows),
+        weight: greatest_weight(rows),
     }
 }
 

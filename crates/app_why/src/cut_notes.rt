@@ -8,7 +8,7 @@ ghost use Rattle.app_why.specs.Notes.{AreBounds, AreNoted};
 use crate::bounds::{bounds_of, bounds_of_any};
 use crate::place_at;
 use crate::told::Named;
-use link_net::Network;
+use link_net::{NetRows, Network};
 use rule_cuts::{Bounds, Cuttable, Operand, Operation, cuttable_in, greatest_uncut};
 use rule_lang::{Expr, Item, read_program};
 use rule_ranges::only_value;
@@ -198,19 +198,19 @@ fn line_where(
     }
 }
 
-/// A note, in one line, where products or totals of a program can be cut on a network: where the first of them stands, and
+/// A note, in one line, where products or totals of a program can be cut on a network of any size: where the first of them stands, and
 /// how to see more. None where none can be, as `why` tells.
 pub fn cut_note(
     alloc: Global,
     program: Named<'_>,
-    network: &Network,
+    rows: &NetRows<'_>,
 ) -> Result<Option<String>, AllocError>
-    ensures none { IfOk result (λ note. IsNone note → AreNoted program.entry.text.now (Some network.now) []) }
+    ensures none { IfOk result (λ note. IsNone note → AreNoted program.entry.text.now (Some rows.now) []) }
 {
     let Ok(source) = read_program(alloc, program.text) else {
         return Err(AllocError);
     };
-    let noted = cuttable_in(alloc, program.text, source.items(), bounds_of(network))?;
+    let noted = cuttable_in(alloc, program.text, source.items(), bounds_of(rows))?;
     line_where(alloc, program, &noted)
 }
 
@@ -219,7 +219,7 @@ fn bounds_by(network: Option<&Network>) -> Bounds
     ensures nodes { AreBounds (option_map (λ given. given.now) network.entry) result }
 {
     match network {
-        Some(network) => bounds_of(network),
+        Some(network) => bounds_of(&network.rows()),
         None => bounds_of_any(),
     }
 }

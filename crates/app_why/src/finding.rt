@@ -3,7 +3,7 @@ ghost use Rattle.std.specs.Prelude.{◌≡◌, [], IfOk, IfSome, IsNone, Some, t
 ghost use Rattle.link_net.specs.Causes.{fault_of};
 ghost use Rattle.app_jobs.specs.declared.fault.ServeFault.TheVariants as fault;
 ghost use Rattle.app_jobs.specs.Served.{given};
-ghost use Rattle.app_first_fault.specs.FirstFault.{IsFirstFault, IsUnrefused, is_shown};
+ghost use Rattle.app_jobs.specs.FirstFault.{IsFirstFault, IsUnrefused, is_shown};
 ghost use Rattle.app_why.specs.Given.{network_of, report_of, schedule_of};
 ghost use Rattle.app_why.specs.Notes.{AreNotedIn};
 
@@ -21,8 +21,7 @@ use crate::runs::{
 use crate::shown::shown;
 use crate::syntax::tell_syntax;
 use crate::told::{Part, Texts, Told};
-use app_first_fault::{answer, first_fault, network_cause};
-use app_jobs::{Job, ServeFault, plan_from};
+use app_jobs::{Job, ServeFault, first_fault, network_cause, plan_from, shown_fault};
 use link_net::{NetCause, NetFile, read_network};
 use report_text::ReportFault;
 use rounds_plan::{Plan, RoundFault, diagnose_plan};
@@ -229,7 +228,7 @@ fn found_in_network(alloc: Global, texts: &Texts, cause: &NetCause) -> Result<Fi
     ensures fault { IfOk result (λ finding. (finding.fault ≡ Some (fault.Net (fault_of cause.now))) × (is_shown (fault.Net (fault_of cause.now)) ≡ true)) }
     ensures cuts { IfOk result (λ finding. finding.cuts.items ≡ []) }
 {
-    let fault = answer(ServeFault::Net(cause.fault()))?;
+    let fault = shown_fault(ServeFault::Net(cause.fault()))?;
     let told = with_kind(
         alloc,
         texts,

@@ -23,6 +23,8 @@ mod plans;
 #[cfg(test)]
 mod programs;
 #[cfg(test)]
+mod promises;
+#[cfg(test)]
 mod replays;
 #[cfg(test)]
 mod results;

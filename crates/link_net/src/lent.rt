@@ -43,6 +43,17 @@ impl<'a> NetRows<'a> {
         }
     }
 
+    /// The same rows, lent once more.
+    pub fn lent(&self) -> NetRows<'a>
+        ensures rows { result ≡ self.now }
+    {
+        NetRows {
+            offsets: self.offsets,
+            neighbours: self.neighbours,
+            weights: self.weights,
+        }
+    }
+
     /// How many nodes there are.
     pub fn nodes(&self) -> u32
         ensures count { result ≡ length self.now }

@@ -7,7 +7,7 @@ use crate::rounds::lockstep;
 use rayon::current_num_threads;
 use rounds_blocks::is_worth_sharing;
 use rounds_plan::{Config, Plan, RoundFault};
-use rounds_walk::{Start, check_round};
+use rounds_walk::{PlanRef, Start, check_round};
 use std::alloc::Global;
 use std::thread::Threads;
 
@@ -36,7 +36,7 @@ pub fn lockstep_par(
         return lockstep(alloc, plan, rounds);
     }
     check_round(plan.start(), rounds)?;
-    let start = Start::of_plan_to_share(alloc, plan)?;
+    let start = Start::to_share(alloc, &PlanRef::of_plan(plan))?;
     let mut walk = start.shared_walk(alloc, current_num_threads(rt))?;
     walk.go_to_shared(rt, rounds);
     Ok(walk.config(alloc, plan)?)

@@ -4,7 +4,7 @@ ghost use Rattle.rounds_plan.specs.Answer.{IsAnswer};
 ghost use Rattle.rounds_plan.specs.Lockstep.{rounds_of, lockstep_config};
 
 use rounds_plan::{Config, Plan, RoundFault};
-use rounds_walk::{Start, check_round};
+use rounds_walk::{PlanRef, Start, check_round};
 use std::alloc::{AllocError, Global};
 
 /// The configuration of the plan's start.
@@ -31,7 +31,7 @@ pub fn lockstep(alloc: Global, plan: &Plan, rounds: u32) -> Result<Config, Round
     if rounds == plan.start() {
         return Ok(opening_config(alloc, plan)?);
     }
-    let start = Start::of_plan(alloc, plan)?;
+    let start = Start::new(alloc, &PlanRef::of_plan(plan))?;
     let mut walk = start.walk(alloc)?;
     walk.go_to(rounds);
     Ok(walk.config(alloc, plan)?)

@@ -17,7 +17,7 @@ use Rattle.model_rules.specs.Models.{GivenTree, bare, fields_of}
 use Rattle.model_rules.specs.Naming.{names_given, names_as, repeat_after, stray, place_at, extra_state, parameter_twice, seed_taken, earlier, name_twice, unknown_given, misnamed, misused, naming_fault}
 use Rattle.model_rules.specs.Bounds.{IsFitRule, IsWithin, IsAccepted}
 use Rattle.model_rules.specs.Expansions.{Expands}
-use Rattle.model_rules.proofs.Expanded.{same_fields}
+use Rattle.model_rules.proofs.Expanding.{same_fields}
 use Rattle.model_rules.proofs.Differing.{none_first, none_second, none_under, both_false, distinct, none_strays, field_names, fields_differ, none_there}
 use Rattle.model_rules.proofs.Values.{neither}
 

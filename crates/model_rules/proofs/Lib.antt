@@ -3,7 +3,7 @@ pub mod DrawTermValues
 pub mod Drawn
 pub mod Truths
 pub mod Meanings
-pub mod Expanded
+pub mod Expanding
 pub mod Refused
 pub mod Worth
 pub mod Called
@@ -27,3 +27,6 @@ pub mod RefusalsTold
 pub mod TurnsEnough
 pub mod WaitingNames
 pub mod KnownNames
+pub mod ProgramNames
+pub mod ProgramTexts
+pub mod ProgramRefused

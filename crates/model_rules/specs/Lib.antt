@@ -27,3 +27,8 @@ pub mod FirstWrong
 pub mod Faulty
 pub mod Courses
 pub mod ModelRefusals
+pub mod States
+pub mod ProgramFaults
+pub mod Lines
+pub mod ProgramTexts
+pub mod Written

@@ -56,7 +56,7 @@ good_round p text lines t small cut first =
           ∙ sym (ap (λ ls. slice_get ls 0) (ap lines_of cut ∙ round_split t lines small));
     })
 
-module _ (p : PlanView) (few : length p.program.fields ≤ 8) (narrow : length p.network ≤ 65536) (plain : All IsInLine (names_of p.program)) where
+module _ (p : PlanView) (few : length p.program.fields ≤ 8) (narrow : length p.network ≤ 2 ^ 32) (plain : All IsInLine (names_of p.program)) where
   -- the line behind the good ones is that of no node
   no_node : (lines : List ℕ) (number : ℕ) (stop : StopsAtLine (names_of p.program) (length p.program.fields) (length p.network) lines number) (tail : List State) → length stop.good + length tail ≡ length p.network → All (IsStateOf (length p.program.fields)) tail → slice_get (lines_of (node_lines (names_of p.program) (length stop.good) tail)) 0 ≡ slice_get (lines_of stop.rest) 0 → ⊥
   no_node lines number stop [] size fits same = stop.too_many (omega arith) (no_line stop.rest (sym same))

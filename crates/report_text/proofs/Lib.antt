@@ -12,3 +12,4 @@ pub mod FieldNames
 pub mod ReportLines
 pub mod BadLines
 pub mod Refusals
+pub mod Elsewhere

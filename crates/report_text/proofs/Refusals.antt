@@ -18,7 +18,8 @@ use Rattle.report_text.proofs.ReportOnce.{round_first, never_stops, states_same}
 use Rattle.rounds_plan.proofs.Names.{name_count}
 use Rattle.report_text.proofs.FieldNames.{names_in_line}
 
-config_same : (c : Configuration) (t fields : ℕ) (states : List State) → t ≡ c.rounds → fields ≡ c.fields → states ≡ c.states → ◌≡◌ {A = Configuration} (record { rounds = t; fields = fields; states = states }) c
+-- a configuration is its parts
+pub config_same : (c : Configuration) (t fields : ℕ) (states : List State) → t ≡ c.rounds → fields ≡ c.fields → states ≡ c.states → ◌≡◌ {A = Configuration} (record { rounds = t; fields = fields; states = states }) c
 config_same c t fields states first second third =
     ap (λ r. record { rounds = r; fields = fields; states = states }) first
     ∙ ap (λ f. record { rounds = c.rounds; fields = f; states = states }) second
@@ -58,12 +59,12 @@ module _ (p : PlanView) (few : length p.program.fields ≤ 8) (text lines : List
   err_memory (Ok config) fault is stop c report = absurd is
   err_memory (Err e) fault is stop c report = λ other. absurd (other (is ∙ memory_alone fault stop c report))
 
-  refused : length p.network ≤ 65536 → All IsFieldName (names_of p.program) → (fault : ReportFault) → IsStopped (names_of p.program) (length p.program.fields) (length p.network) lines fault → IsRefusedReport p text fault
+  refused : length p.network ≤ 2 ^ 32 → All IsFieldName (names_of p.program) → (fault : ReportFault) → IsStopped (names_of p.program) (length p.program.fields) (length p.network) lines fault → IsRefusedReport p text fault
   refused narrow names (BadLine line) stop = first_bad p few narrow (names_in_line (names_of p.program) names) text lines t line small cut stop
   refused narrow names TooManyRounds stop = absurd stop
   refused narrow names Memory stop = tt
 
   -- why a text with a round's line is refused
-  pub err_refused : length p.network ≤ 65536 → All IsFieldName (names_of p.program) → (r : Result Configuration ReportFault) (fault : ReportFault) → IsErrAnd r (λ e. e ≡ fault) → IsStopped (names_of p.program) (length p.program.fields) (length p.network) lines fault → IfErr r (IsRefusedReport p text)
+  pub err_refused : length p.network ≤ 2 ^ 32 → All IsFieldName (names_of p.program) → (r : Result Configuration ReportFault) (fault : ReportFault) → IsErrAnd r (λ e. e ≡ fault) → IsStopped (names_of p.program) (length p.program.fields) (length p.network) lines fault → IfErr r (IsRefusedReport p text)
   err_refused narrow names (Ok config) fault is stop = tt
   err_refused narrow names (Err e) fault is stop = subst (IsRefusedReport p text) (sym is) (refused narrow names fault stop)

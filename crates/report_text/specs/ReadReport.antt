@@ -1,7 +1,7 @@
 -- Which configuration a report text is of, and where a text is none.
-use Rattle.std.specs.Prelude.{◌≡◌, ◌≤◌, ◌<◌, ℕ, ◌+◌, ◌-◌, ◌^◌, List, length, All, Option, slice_get, Result, Ok, Err, nat_lt, if◌then◌else◌}
+use Rattle.std.specs.Prelude.{◌≡◌, ◌≤◌, ◌<◌, ℕ, ◌+◌, ◌-◌, ◌^◌, List, [], length, replicate, All, Option, slice_get, Result, Ok, Err, nat_lt, if◌then◌else◌}
 use Rattle.rule_check.specs.declared.state.State.{State}
-use Rattle.rule_check.specs.Value.{names_of}
+use Rattle.rule_check.specs.Value.{Rules, names_of}
 use Rattle.report_text.specs.declared.fault.ReportFault.{ReportFault}
 use Rattle.report_text.specs.declared.fault.ReportFault.TheVariants.{BadLine, TooManyRounds, Memory}
 use Rattle.rounds_plan.specs.Configs.{Configuration, IsPlain, most_rounds}
@@ -14,6 +14,10 @@ pub record IsStateOf (fields : ℕ) (state : State) : Type 0 where
   pub count : length state.words ≡ 8
   pub small : All (λ w. w < 2 ^ 32) state.words
   pub plain : IsPlain fields state
+
+-- a plan of the program on so many nodes: whether a text is a report of a plan depends on its fields and the number of its nodes alone, not on its links, its initial states and its start
+abbrev pub plan_on : Rules → ℕ → PlanView
+plan_on program nodes = record { program = program; network = replicate nodes []; phase = 0; opening = []; start = 0 }
 
 -- a configuration with as many nodes and fields as the plan has, and a round below 2 ^ 32
 pub record HasShape (p : PlanView) (c : Configuration) : Type 0 where

@@ -11,6 +11,6 @@ mod tally;
 pub use fault::ReportFault;
 pub use fields_reader::read_state;
 pub use number::{behind, read_number};
-pub use report_reader::{read_report, read_round};
+pub use report_reader::{field_names, read_report, read_round, read_states};
 pub use report_writer::{put_field, put_fields, report, report_states};
 pub use tally::{Cut, DeviceFault, Tally, write_text};

@@ -5,7 +5,7 @@ ghost use Rattle.rule_check.specs.Value.{names_of};
 ghost use Rattle.rounds_plan.specs.Configs.{Configuration, most_rounds};
 ghost use Rattle.report_text.specs.Front.{IsFront, Ends, Anything};
 ghost use Rattle.report_text.specs.Report.{field_text, fields_text, node_line, node_lines, round_line};
-ghost use Rattle.report_text.specs.ReadReport.{IsStateOf, IsReportOf, IsFirstBadLine, IsRefusedReport, within_limit};
+ghost use Rattle.report_text.specs.ReadReport.{IsStateOf, IsReportOf, IsFirstBadLine, IsRefusedReport, plan_on, within_limit};
 ghost use Rattle.rounds_plan.specs.Answer.{IsAnswer};
 ghost use Rattle.report_text.specs.NodeLines.{HasNodeLines, IsStopped};
 ghost use Rattle.report_text.specs.declared.fault.ReportFault.TheVariants.{BadLine, TooManyRounds, Memory};
@@ -13,12 +13,12 @@ ghost use Rattle.report_text.specs.declared.fault.ReportFault.TheVariants.{BadLi
 use crate::fault::ReportFault;
 use crate::fields_reader::read_state;
 use crate::number::{behind, read_number};
-use rounds_plan::{Config, MOST_ROUNDS, Plan};
+use rounds_plan::{Config, MOST_ROUNDS, Plan, RoundStates};
 use rule_check::{Program, State};
 use std::alloc::Global;
 
 /// The names of a program's fields in order of declaration; behind them, nothing.
-fn field_names(program: &Program) -> [&str; 8]
+pub fn field_names(program: &Program) -> [&str; 8]
     ensures names { map (λ name. name.now) (take (length program.now.fields) result) ≡ names_of program.now }
 {
     let mut names = [""; 8];
@@ -50,8 +50,8 @@ pub fn read_round(bytes: &[u8]) -> Option<(u32, &[u8])>
     Some((rounds, more))
 }
 
-/// The states that the lines of the nodes give, which stand behind the line of the round.
-fn read_states(
+/// The states that the lines of so many nodes give, which stand behind the line of the round.
+fn read_lines(
     alloc: Global,
     fields: &[&str],
     nodes: u32,
@@ -80,15 +80,49 @@ fn read_states(
     Ok(states)
 }
 
-/// The states that the lines of a plan's nodes give, which stand behind the line of the round.
-fn plan_states(alloc: Global, plan: &Plan, lines: &[u8]) -> Result<Vec<State>, ReportFault>
-    ensures ok { IfOk result (λ v. HasNodeLines (names_of plan.now.program) (length plan.now.program.fields) (length plan.now.network) lines.now v.items) }
-    ensures bad { IfErr result (λ fault. IsStopped (names_of plan.now.program) (length plan.now.program.fields) (length plan.now.network) lines.now fault) }
+/// The states that the lines of so many nodes of a program give, which stand behind the line of the round.
+fn program_states(
+    alloc: Global,
+    program: &Program,
+    nodes: u32,
+    lines: &[u8],
+) -> Result<Vec<State>, ReportFault>
+    ensures ok { IfOk result (λ v. HasNodeLines (names_of program.now) (length program.now.fields) nodes lines.now v.items) }
+    ensures bad { IfErr result (λ fault. IsStopped (names_of program.now) (length program.now.fields) nodes lines.now fault) }
 {
-    let program = plan.program();
     let names = field_names(program);
     let fields = &names[..program.field_count() as usize];
-    read_states(alloc, fields, plan.network().nodes(), lines)
+    read_lines(alloc, fields, nodes, lines)
+}
+
+/// The round and the states whose report the text is, for a program on so many nodes. A round with its states has one
+/// report alone, as `report_states` writes it: no leading zeros, single spaces, the fields in order of declaration, and
+/// LF at each line's end.
+///
+/// `BadLine` comes where the text is no report with the program's fields and so many nodes, and names the first line
+/// that cannot stand at its place, or the first that is missing; where that is line 1, no memory is taken. Else
+/// `TooManyRounds` comes where the round is above 1,000,000,000.
+pub fn read_states(
+    alloc: Global,
+    program: &Program,
+    nodes: u32,
+    text: &[u8],
+) -> Result<RoundStates, ReportFault>
+    ensures report { IfOk result (λ read. IsReportOf (plan_on program.now nodes) text.now read × (read.rounds ≤ most_rounds)) }
+    ensures every_report { (c : Configuration) → IsReportOf (plan_on program.now nodes) text.now c → IsAnswer ReportFault.Memory (within_limit c) result }
+    ensures refused { IfErr result (IsRefusedReport (plan_on program.now nodes) text.now) }
+    ensures at_once { IsFirstBadLine (plan_on program.now nodes) text.now 1 → result ≡ Err (BadLine 1) }
+{
+    // For the proof: what holds of the names of every program's fields.
+    let _names = program.field_count();
+    let Some((rounds, lines)) = read_round(text) else {
+        return Err(ReportFault::BadLine { line: 1 });
+    };
+    let states = program_states(alloc, program, nodes, lines)?;
+    if rounds > MOST_ROUNDS {
+        return Err(ReportFault::TooManyRounds);
+    }
+    Ok(RoundStates::of(program, rounds, states))
 }
 
 /// The configuration whose report the text is. A configuration has one report alone: no leading zeros, single
@@ -103,15 +137,7 @@ pub fn read_report(alloc: Global, plan: &Plan, text: &[u8]) -> Result<Config, Re
     ensures refused { IfErr result (IsRefusedReport plan.now text.now) }
     ensures at_once { IsFirstBadLine plan.now text.now 1 → result ≡ Err (BadLine 1) }
 {
-    // For the proof: what holds of every plan, and of the names of its fields.
-    let _phase = plan.phase();
-    let _names = plan.program().field_count();
-    let Some((rounds, lines)) = read_round(text) else {
-        return Err(ReportFault::BadLine { line: 1 });
-    };
-    let states = plan_states(alloc, plan, lines)?;
-    if rounds > MOST_ROUNDS {
-        return Err(ReportFault::TooManyRounds);
-    }
-    Ok(Config::of(plan, rounds, states))
+    let read = read_states(alloc, plan.program(), plan.network().nodes(), text)?;
+    let rounds = read.rounds();
+    Ok(Config::of(plan, rounds, read.into_states()))
 }

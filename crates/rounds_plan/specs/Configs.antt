@@ -1,6 +1,7 @@
 -- A configuration: the states of all nodes after a round.
 use Rattle.std.specs.Prelude.{ℕ, ◌≤◌, List, length, All, replicate, slice_index, slice_index_or}
 use Rattle.rule_check.specs.declared.state.State.{State}
+use Rattle.link_net.specs.Limits.{most_rows}
 pub use Rattle.rounds_plan.specs.Rounds.{IsPlain}
 
 -- the round, how many fields the program has, and the states by rising number of the node
@@ -23,6 +24,13 @@ pub record IsConfiguration (c : Configuration) : Type 0 where
   pub fields : c.fields ≤ 8
   pub some : 1 ≤ length c.states
   pub few : length c.states ≤ 65536
+  pub plain : All (IsPlain c.fields) c.states
+
+-- the states after a round of a program on a network of any size that rows can have
+pub record AreRoundStates (c : Configuration) : Type 0 where
+  pub round : c.rounds ≤ most_rounds
+  pub fields : c.fields ≤ 8
+  pub few : length c.states ≤ most_rows
   pub plain : All (IsPlain c.fields) c.states
 
 -- the word of a node's field

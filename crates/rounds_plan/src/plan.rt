@@ -1,5 +1,6 @@
 //! Plans.
-ghost use Rattle.std.specs.Prelude.{◌≡◌, ◌≢◌, ◌↔◌, IsTrue, IfOk, IfErr, Ok, Err, slice_get};
+ghost use Rattle.std.specs.Prelude.{◌≡◌, ◌≢◌, ◌↔◌, All, IsTrue, IfOk, IfErr, Ok, Err, length, slice_get, vec_len};
+ghost use Rattle.rounds_plan.specs.Configs.{IsPlain};
 ghost use Rattle.rounds_plan.specs.Plans.{IsPlan, plan_of};
 ghost use Rattle.rounds_plan.specs.Resume.{from_config, resumed, GoesOnAs};
 ghost use Rattle.rounds_plan.specs.Answer.{IsAnswer};
@@ -76,6 +77,22 @@ impl Plan {
             opening,
             start,
         })
+    }
+
+    /// This plan with other initial states, one for each node; all else stays. Words of fields that the program does not
+    /// declare are 0.
+    pub fn with_openings(self, states: Vec<State>) -> Plan
+        requires nodes { vec_len states ≡ length self.network }
+        requires plain { All (IsPlain (length self.program.fields)) states.items }
+        ensures plan { result ≡ record { program = self.program; network = self.network; phase = self.phase; opening = states.items; start = self.start } }
+    {
+        Plan {
+            program: self.program,
+            network: self.network,
+            phase: self.phase,
+            opening: states,
+            start: self.start,
+        }
     }
 
     /// The states of a configuration that has as many nodes and fields as the plan.

@@ -1,12 +1,8 @@
 //! Why there is no plan, and why no value is set.
-ghost use Rattle.std.specs.Prelude.{◌≡◌};
-ghost use Rattle.rounds_walk.specs.declared.fault.StartFault.TheVariants.{Memory};
 
-use std::alloc::AllocError;
 use thiserror::Error;
 
-/// Why a program, rows and states make no plan: the first of these that holds, and running out of memory only where none
-/// of the others does.
+/// Why a program, rows and states make no plan: the first of these that holds.
 #[derive(Clone, Copy, Debug, PartialEq, Eq, Error)]
 pub enum StartFault {
     /// There is no node.
@@ -21,17 +17,6 @@ pub enum StartFault {
     /// The start is above 1,000,000,000.
     #[error("the start is above round 1000000000")]
     TooManyRounds,
-    /// Out of memory.
-    #[error("not enough memory")]
-    Memory,
-}
-
-impl From<AllocError> for StartFault {
-    ghost from_gives = { λ _ e. e ≡ Memory };
-
-    fn from(_error: AllocError) -> StartFault {
-        StartFault::Memory
-    }
 }
 
 /// Why a value is not set: the first of these that holds.

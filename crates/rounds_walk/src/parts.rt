@@ -1,7 +1,7 @@
 //! The parts of a start.
-ghost use Rattle.std.specs.Prelude.{◌≡◌, ◌≤◌, ◌==◌, not, length, IfErr, OnOk, Ok, Err};
+ghost use Rattle.std.specs.Prelude.{◌≡◌, ◌≤◌, ◌==◌, not, length, IfErr, IfOk, OnOk, Ok, Err};
 ghost use Rattle.std.specs.List.{list_any};
-ghost use Rattle.rounds_walk.specs.Starts.{IsStart, is_stray, opened_by, start_of};
+ghost use Rattle.rounds_walk.specs.Starts.{IsStart, is_stray, start_of};
 
 use crate::fault::StartFault;
 use link_net::NetRows;
@@ -67,18 +67,19 @@ pub(crate) fn check_parts(
     Ok(())
 }
 
-/// How the nodes of a plan open.
-pub(crate) fn opening_in(plan: &Plan) -> Opening<'_>
-    ensures plan { opened_by plan.now.program plan.now.network result ≡ plan.now }
-    ensures whole { IsStart plan.now }
+/// A plan whose nodes begin with other states; all else stays. `StateCount` comes where there are more or fewer states than
+/// nodes, and else `NotPlain`.
+pub fn begun_with(plan: Plan, states: Vec<State>) -> Result<Plan, StartFault>
+    ensures plan { IfOk result (λ new. new ≡ record { program = plan.program; network = plan.network; phase = plan.phase; opening = states.items; start = plan.start }) }
+    ensures refused { IfErr result (λ fault. start_of plan.program plan.network states.items plan.start ≡ Err fault) }
 {
-    // For the proof: what holds of every plan.
-    let phase = plan.phase();
-    Opening {
-        phase,
-        states: plan.openings(),
-        round: plan.start(),
-    }
+    check_parts(
+        plan.program(),
+        &plan.network().rows(),
+        &states,
+        plan.start(),
+    )?;
+    Ok(plan.with_openings(states))
 }
 
 /// How many neighbours all nodes have together, stopped at the type's end.

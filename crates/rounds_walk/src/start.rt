@@ -1,21 +1,17 @@
 //! What rounds begin with.
-ghost use Rattle.std.specs.Prelude.{◌≡◌, length, IfOk, IfErr, Err};
-ghost use Rattle.rounds_plan.specs.Answer.{IsAnswer};
-ghost use Rattle.rounds_walk.specs.Starts.{IsStart, opened_by, start_of};
+ghost use Rattle.std.specs.Prelude.{◌≡◌, length, IfOk};
+ghost use Rattle.rounds_walk.specs.Starts.{IsStart};
 
-use crate::fault::StartFault;
-use crate::parts::{Opening, check_parts, ends_of, opening_in};
+use crate::parts::{Opening, ends_of};
+use crate::plan_ref::PlanRef;
 use crate::walk::RoundWalk;
-use link_net::NetRows;
 use rounds_blocks::{Layout, MOST_ENDS, Walk, costs_of, is_worth_sharing, most_ends_to_share};
 use rounds_code::RowCode;
-use rounds_plan::Plan;
 use rule_check::{Program, State};
 use std::alloc::{AllocError, Global};
 use std::marker::Model;
 
-/// A program on rows, with the phase, the states and the round at which the nodes open, and all that walks over its
-/// rounds share. A contract sees it as a plan.
+/// A plan, lent, and all that walks over its rounds share. A contract sees it as a plan.
 #[derive(Drop)]
 pub struct Start<'a> {
     program: &'a Program,
@@ -44,105 +40,30 @@ impl<'a> Model for Start<'a> {
 }
 
 impl<'a> Start<'a> {
-    /// The start of a program on rows: the nodes have these states at this round, counted from round 0. The phase is 0.
-    ///
-    /// The first fault of `NoNodes`, `StateCount`, `NotPlain` and `TooManyRounds` is found before any memory is taken;
-    /// `Memory` comes only where none of them does.
-    pub fn new(
-        alloc: Global,
-        program: &'a Program,
-        rows: NetRows<'a>,
-        opening: &'a [State],
-        start: u32,
-    ) -> Result<Start<'a>, StartFault>
-        ensures plan { IsAnswer StartFault.Memory (start_of program.now rows.entry opening.now start) result }
-        ensures at_once { IfErr (start_of program.now rows.entry opening.now start) (λ fault. result ≡ Err fault) }
+    /// The start of a plan, whose rounds are made sequentially.
+    pub fn new(alloc: Global, plan: &PlanRef<'a>) -> Result<Start<'a>, AllocError>
+        ensures plan { IfOk result (λ start. start ≡ plan.now) }
     {
-        let start = Start::checked(alloc, program, rows, opening, start, MOST_ENDS)?;
+        let start = Start::in_blocks(alloc, plan, MOST_ENDS)?;
         Ok(start)
     }
 
     /// What `new` does, for rounds that are to be shared among threads, so that these can part the work of hubs.
-    pub fn to_share(
-        alloc: Global,
-        program: &'a Program,
-        rows: NetRows<'a>,
-        opening: &'a [State],
-        start: u32,
-    ) -> Result<Start<'a>, StartFault>
-        ensures plan { IsAnswer StartFault.Memory (start_of program.now rows.entry opening.now start) result }
-        ensures at_once { IfErr (start_of program.now rows.entry opening.now start) (λ fault. result ≡ Err fault) }
-    {
-        let most_ends = most_ends_to_share(program);
-        let start = Start::checked(alloc, program, rows, opening, start, most_ends)?;
-        Ok(start)
-    }
-
-    /// The start of a plan: its program on its network, with its phase, its initial states and its start.
-    pub fn of_plan(alloc: Global, plan: &'a Plan) -> Result<Start<'a>, AllocError>
+    pub fn to_share(alloc: Global, plan: &PlanRef<'a>) -> Result<Start<'a>, AllocError>
         ensures plan { IfOk result (λ start. start ≡ plan.now) }
     {
-        let start = Start::planned(alloc, plan, MOST_ENDS)?;
-        Ok(start)
-    }
-
-    /// What `of_plan` does, for rounds that are to be shared among threads, so that these can part the work of hubs.
-    pub fn of_plan_to_share(alloc: Global, plan: &'a Plan) -> Result<Start<'a>, AllocError>
-        ensures plan { IfOk result (λ start. start ≡ plan.now) }
-    {
-        let start = Start::planned(alloc, plan, most_ends_to_share(plan.program()))?;
-        Ok(start)
-    }
-
-    /// The start of parts that are looked at first, in blocks whose nodes have so many neighbours together at most.
-    fn checked(
-        alloc: Global,
-        program: &'a Program,
-        rows: NetRows<'a>,
-        opening: &'a [State],
-        start: u32,
-        most_ends: u32,
-    ) -> Result<Start<'a>, StartFault>
-        ensures plan { IsAnswer StartFault.Memory (start_of program.now rows.entry opening.now start) result }
-        ensures at_once { IfErr (start_of program.now rows.entry opening.now start) (λ fault. result ≡ Err fault) }
-    {
-        check_parts(program, &rows, opening, start)?;
-        let opening = Opening {
-            phase: 0,
-            states: opening,
-            round: start,
-        };
-        let ends = ends_of(&rows);
-        let start = Start::in_blocks(alloc, program, rows, opening, ends, most_ends)?;
+        let most_ends = most_ends_to_share(plan.program());
+        let start = Start::in_blocks(alloc, plan, most_ends)?;
         Ok(start)
     }
 
     /// The start of a plan, in blocks whose nodes have so many neighbours together at most.
-    fn planned(alloc: Global, plan: &'a Plan, most_ends: u32) -> Result<Start<'a>, AllocError>
+    fn in_blocks(alloc: Global, plan: &PlanRef<'a>, most_ends: u32) -> Result<Start<'a>, AllocError>
         ensures plan { IfOk result (λ start. start ≡ plan.now) }
     {
-        let network = plan.network();
-        let ends = 2 * network.links() as u64;
-        let opening = opening_in(plan);
-        let (program, rows) = (plan.program(), network.rows());
-        let start = Start::in_blocks(alloc, program, rows, opening, ends, most_ends)?;
-        Ok(start)
-    }
-
-    /// The start of a program on rows whose nodes open like this and have so many neighbours, in blocks whose nodes have so
-    /// many together at most.
-    fn in_blocks(
-        alloc: Global,
-        program: &'a Program,
-        rows: NetRows<'a>,
-        opening: Opening<'a>,
-        ends: u64,
-        most_ends: u32,
-    ) -> Result<Start<'a>, AllocError>
-        requires whole { IsStart (opened_by program.now rows opening) }
-        ensures parts { IfOk result (λ start. start ≡ opened_by program.now rows.entry opening.entry) }
-    {
-        let nodes = rows.nodes();
+        let (program, opening) = (plan.program(), plan.opening());
+        let (nodes, rows) = (plan.nodes(), plan.rows());
+        let ends = ends_of(&rows);
         let code = RowCode::new(alloc, program)?;
         let layout = Layout::new(alloc, rows, most_ends)?;
         Ok(Start {

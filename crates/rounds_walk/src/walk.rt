@@ -11,8 +11,8 @@ ghost use Rattle.rounds_walk.specs.Walking.{AreAlike};
 use crate::start::Start;
 use crate::way::{InThreads, InTurn, Way, walk_to};
 use rounds_blocks::{PackedStates, Walk};
-use rounds_plan::{Config, Plan};
-use rule_check::State;
+use rounds_plan::{Config, Plan, RoundStates};
+use rule_check::{Program, State};
 use std::alloc::{AllocError, Global};
 use std::marker::Model;
 use std::thread::Threads;
@@ -63,6 +63,13 @@ impl<'a> RoundWalk<'a> {
         ensures whole { IsStart self.now.plan }
     {
         self.round
+    }
+
+    /// The program.
+    pub fn program(&self) -> &Program
+        ensures program { result.now ≡ self.now.plan.program }
+    {
+        self.start.program()
     }
 
     /// Moves on to the next round in a way. Answers whether a state changed, where the program doesn't read the number
@@ -145,6 +152,17 @@ impl<'a> RoundWalk<'a> {
         ensures exact { result ≡ lockstep_states self.entry.plan self.entry.round (length self.entry.plan.network) }
     {
         self.states.into_packed()
+    }
+
+    /// The states of all nodes after the round, however many there are, with the round.
+    pub fn round_states(&self, alloc: Global) -> Result<RoundStates, AllocError>
+        requires few { self.now.round ≤ most_rounds }
+        ensures exact { IfOk result (λ states. states ≡ lockstep_config self.now.plan self.now.round) }
+    {
+        let round = self.round();
+        let program = self.program();
+        let states = self.states(alloc)?;
+        Ok(RoundStates::of(program, round, states))
     }
 
     /// The configuration of the round, where the start is that of a plan.

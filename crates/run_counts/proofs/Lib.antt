@@ -6,3 +6,4 @@ pub mod Numbers
 pub mod Roots
 pub mod Sorting
 pub mod Steps
+pub mod Wides

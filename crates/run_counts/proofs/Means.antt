@@ -1,5 +1,5 @@
 -- Lines of means.
-use Rattle.std.proofs.Common.{◌≡◌, ◌∙◌, ◌≤◌, ◌<◌, ◌^◌, ◌==◌, ◌-◌, ◌++◌, ℕ, zero, suc, List, [], ◌∷◌, Global, String, Bool, true, false, if◌then◌else◌, Option, Some, None, Result, Ok, Err, OnOk, All, ap, append_assoc, arith, inl, inr, is_ok, length, length-append, map, min, refl, subst, sym}
+use Rattle.std.proofs.Common.{◌≡◌, ◌∙◌, ◌≤◌, ◌-◌, ◌++◌, ℕ, zero, suc, List, [], ◌∷◌, Global, String, Bool, true, false, if◌then◌else◌, Option, Some, None, Result, Ok, Err, OnOk, All, ap, append_assoc, arith, inl, inr, is_ok, length, length-append, map, min, refl, subst, sym}
 use Rattle.std.proofs.lemmas.Option.{slice_get_cases}
 use Rattle.std.specs.List.{AllZip, flat_map}
 use Rattle.std.specs.Option.{option_or, option_to_list}
@@ -14,18 +14,8 @@ use Rattle.run_counts.specs.Counts.{refusal_of}
 use Rattle.run_counts.specs.Ensembles.{RunView, refusal_in}
 use Rattle.run_counts.specs.declared.asked.Until.{Until}
 use Rattle.run_counts.specs.MeanTables.{going_at, held_row, mean_cells, mean_text, number_in, rows_at, runs_cells}
-use Rattle.run_counts.specs.Rows.{RowView, count_in}
+use Rattle.run_counts.specs.Rows.{RowView}
 use Rattle.run_counts.specs.Tables.{line_end, line_start}
-
--- a number that is small wherever it stands is small
-pub count_small : (counts : List (ℕ × ℕ)) (v : ℕ) → All (λ (c : ℕ × ℕ). c.1 < 2 ^ 48) counts → count_in counts v < 2 ^ 48
-count_small [] v small = omega arith
-count_small (c ∷ counts) v small =
-    chosen (c.0 == v) c.1 (count_in counts v) (small 0 c (omega arith)) (count_small counts v (λ k d inside. small (suc k) d (omega (arith, inside))))
-  where
-    chosen : (b : Bool) (n m : ℕ) → n < 2 ^ 48 → m < 2 ^ 48 → (if b then n else m) < 2 ^ 48
-    chosen true n m left right = left
-    chosen false n m left right = right
 
 pub counted : (rows : List RowView) → length (map (λ (r : RowView). r.round) rows) ≡ length rows
 counted [] = refl

@@ -1,5 +1,5 @@
 -- Square roots that are rounded down.
-use Rattle.std.proofs.Common.{◌≡◌, ◌≤◌, ◌<◌, ◌+◌, ◌*◌, ℕ, zero, suc, Bool, true, false, nat_le, if◌then◌else◌, inl, inr, arith, refl}
+use Rattle.std.proofs.Common.{◌≡◌, ◌≤◌, ◌<◌, ◌+◌, ◌-◌, ◌*◌, ◌/◌, ◌^◌, ◌∙◌, ℕ, zero, suc, Bool, true, false, nat_le, if◌then◌else◌, inl, inr, ap, arith, div-lt_iff_lt-mul, le-div_iff_mul-le, mul_comm, pow-suc, refl}
 use Rattle.std.proofs.Math.Nat.{mul-le-mul}
 use Rattle.std.proofs.lemmas.Bool.{cases_lt, leb-true, leb-false}
 use Rattle.run_counts.specs.Spread.{root}
@@ -30,3 +30,22 @@ not_above n r s low high =
 
 pub root_is : (n r : ℕ) → r * r ≤ n → n < (r + 1) * (r + 1) → root n ≡ r
 root_is n r low high = omega (arith, not_above n (root n) r (is_root n).low high, not_above n r (root n) low (is_root n).high)
+
+-- the root of a quotient: its square times the divisor is not above the dividend, and that of the next number is
+pub root_of_quotient : (n b r : ℕ) → zero < b → b * (r * r) ≤ n → n < b * ((r + 1) * (r + 1)) → root (n / b) ≡ r
+root_of_quotient n b r some low high =
+    root_is (n / b) r ((le-div_iff_mul-le {k = b} {x = r * r} {y = n} some).1 (omega (arith, low, mul_comm b (r * r))))
+    ((div-lt_iff_lt-mul {k = b} {x = n} {y = (r + 1) * (r + 1)} some).1 (omega (arith, high, mul_comm b ((r + 1) * (r + 1)))))
+
+-- a step that is halved
+pub halved : (h s : ℕ) → h < 79 → s ≡ 2 ^ (79 - h) → (s / 2 ≡ 2 ^ (79 - (h + 1))) × (s ≡ 2 * (s / 2))
+halved h s inside is =
+    let left : 79 - h ≡ suc (79 - (h + 1)) = omega (arith, inside) in
+    let twice : s ≡ 2 ^ (79 - (h + 1)) * 2 = is ∙ ap (λ (k : ℕ). 2 ^ k) left ∙ pow-suc 2 (79 - (h + 1)) in
+    (omega (arith, twice), omega (arith, twice))
+
+-- the last step
+pub last_step : (h s : ℕ) → 79 ≤ h → s ≡ 2 ^ (79 - h) → s ≡ 1
+last_step h s all is =
+    let none : 79 - h ≡ 0 = omega (arith, all) in
+    is ∙ ap (λ (k : ℕ). 2 ^ k) none

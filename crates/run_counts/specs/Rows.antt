@@ -1,5 +1,5 @@
 -- Which rounds are counted, and what is counted of each.
-use Rattle.std.specs.Prelude.{◌≡◌, ◌↔◌, ◌==◌, ◌<◌, ◌^◌, ◌++◌, ℕ, Bool, false, not, List, [], ◌∷◌, All, Contains, length, map, Option, Some, None, if◌then◌else◌}
+use Rattle.std.specs.Prelude.{◌≡◌, ◌↔◌, ◌==◌, ◌++◌, ℕ, Bool, false, not, List, [], ◌∷◌, All, Contains, length, map, Option, Some, None, if◌then◌else◌}
 use Rattle.std.specs.List.{flat_map, list_all, list_any, range_with_len}
 use Rattle.std.specs.List.Sorted.{IsStrictlyIncreasing}
 use Rattle.rule_check.specs.declared.state.State.{State}
@@ -20,11 +20,6 @@ pub record RowView : Type 0 where
   pub round : ℕ
   pub counts : List (ℕ × ℕ)
   pub figures : List (Figure × ℕ)
-
--- what holds of every row: its numbers fit 48 bits
-pub record IsRow (row : RowView) : Type 0 where
-  pub counts : All (λ c. c.1 < 2 ^ 48) row.counts
-  pub figures : All (λ f. f.1 < 2 ^ 48) row.figures
 
 -- the value stands at no node, or at every node
 abbrev pub is_held : Holders → ℕ → ℕ → List State → Bool

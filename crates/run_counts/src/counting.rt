@@ -12,7 +12,8 @@ use crate::lines::put_rows;
 use crate::rows::counted_rows;
 use crate::table::Row;
 use crate::values::values_of;
-use rounds_plan::{MOST_ROUNDS, Plan};
+use rounds_plan::MOST_ROUNDS;
+use rounds_walk::PlanRef;
 use rule_check::Program;
 use run_watch::{Progress, Span, WatchFault};
 use std::alloc::{AllocError, Global};
@@ -51,7 +52,11 @@ fn missing_place(count: u32, counting: &Counting<'_>) -> Option<u32>
 }
 
 /// Why the rounds cannot be counted, whatever memory there is.
-pub(crate) fn refusal(plan: &Plan, span: &Span, counting: &Counting<'_>) -> Option<WatchFault>
+pub(crate) fn refusal(
+    plan: &PlanRef<'_>,
+    span: &Span,
+    counting: &Counting<'_>,
+) -> Option<WatchFault>
     ensures { result ≡ refusal_of plan.now span.now counting.now }
 {
     if span.last() > MOST_ROUNDS {
@@ -84,23 +89,24 @@ fn table_with(
 fn text_of<P: Progress>(
     rt: &(impl Threads + Sync),
     alloc: Global,
-    plan: &Plan,
+    plan: &PlanRef<'_>,
     span: &Span,
     counting: &Counting<'_>,
+    threads: usize,
     progress: &mut P,
 ) -> Result<Vec<u8>, AllocError>
     requires fits { refusal_of plan.now span.now counting.now ≡ None }
     ensures text { IfOk result (λ v. IsCounted plan.now span.now counting.now v.items) }
 {
-    let rows = counted_rows(rt, alloc, plan, span, counting, progress)?;
+    let rows = counted_rows(rt, alloc, plan, span, counting, threads, progress)?;
     let values = values_of(alloc, counting.states, &rows)?;
     let text = table_with(alloc, plan.program(), counting, &values, &rows)?;
     Ok(text)
 }
 
-/// How many nodes have each value of a field in each round of a span, and further numbers of these rounds, in one pass
-/// over the rounds: none is computed twice. Each round is shared among as many threads as there are processors where it
-/// has enough to compute for them. The rounds end behind the first of them that ends them, where one does.
+/// How many nodes have each value of a field in each round of a span of a plan of any size, and further numbers of these
+/// rounds, in one pass over the rounds: none is computed twice. Each round is shared among so many threads where it has
+/// enough to compute for them. The rounds end behind the first of them that ends them, where one does.
 ///
 /// Each state has a column, and each value that occurs in one of these rounds, by rising value, and each round a line,
 /// where that makes 64 columns at most; else each value that occurs in a round has a line of that round: `value`, and
@@ -113,9 +119,10 @@ fn text_of<P: Progress>(
 pub fn counted<P: Progress>(
     rt: &(impl Threads + Sync),
     alloc: Global,
-    plan: &Plan,
+    plan: &PlanRef<'_>,
     span: &Span,
     counting: &Counting<'_>,
+    threads: usize,
     progress: &mut P,
 ) -> Result<Vec<u8>, WatchFault>
     ensures text { IfOk result (λ v. IsCounted plan.now span.now counting.now v.items) }
@@ -126,6 +133,6 @@ pub fn counted<P: Progress>(
     if let Some(fault) = refusal(plan, span, counting) {
         return Err(fault);
     }
-    let text = text_of(rt, alloc, plan, span, counting, progress)?;
+    let text = text_of(rt, alloc, plan, span, counting, threads, progress)?;
     Ok(text)
 }

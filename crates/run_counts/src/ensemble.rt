@@ -1,14 +1,14 @@
 //! Runs that are counted together.
 
-use rounds_plan::Plan;
+use rounds_walk::PlanRef;
 
 /// A run of an ensemble.
 #[derive(Clone, Copy)]
 pub struct Variant<'a> {
     /// The value of what varies, by which the run is told from the others.
     pub value: u32,
-    /// Its program on its network, with the states from which it starts.
-    pub plan: &'a Plan,
+    /// Its program on its network, of any size, with the states from which it starts.
+    pub plan: &'a PlanRef<'a>,
 }
 
 /// Runs that are counted together: those of a program with other constants, say, or from other initial states.

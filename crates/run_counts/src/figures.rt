@@ -1,5 +1,5 @@
 //! Sums and extremes of the values of a field.
-ghost use Rattle.std.specs.Prelude.{◌≡◌, ◌≤◌, ◌<◌, ◌^◌, All, IfOk, length, sum};
+ghost use Rattle.std.specs.Prelude.{◌≡◌, ◌<◌, ◌^◌, IfOk, length, sum};
 ghost use Rattle.rule_lang.specs.declared.tree.Agg.TheVariants as agg;
 ghost use Rattle.rule_check.specs.Table.{gather};
 ghost use Rattle.rounds_walk.specs.Columns.{column};
@@ -11,9 +11,8 @@ use std::alloc::{AllocError, Global};
 
 /// The sum of the values of a field.
 fn sum_of(states: &[State], field: u32) -> u64
-    requires few { length states.now ≤ 65536 }
+    requires few { length states.now < 2 ^ 32 }
     ensures sum { result ≡ sum (column field states.now) }
-    ensures small { result < 2 ^ 48 }
 {
     let mut total: u64 = 0;
     for state in states {
@@ -46,9 +45,8 @@ fn most_of(states: &[State], field: u32) -> u32
 
 /// A figure of a round in which the nodes have these states.
 fn figure_of(states: &[State], figure: Figure) -> u64
-    requires few { length states.now ≤ 65536 }
+    requires few { length states.now < 2 ^ 32 }
     ensures number { result ≡ figure_of states.now figure }
-    ensures small { result < 2 ^ 48 }
 {
     match figure.kind {
         FigureKind::Sum => sum_of(states, figure.field),
@@ -63,9 +61,8 @@ pub(crate) fn figures_of(
     states: &[State],
     figures: &[Figure],
 ) -> Result<Vec<(Figure, u64)>, AllocError>
-    requires few { length states.now ≤ 65536 }
+    requires few { length states.now < 2 ^ 32 }
     ensures numbers { IfOk result (λ numbers. numbers.items ≡ figures_of states.now figures.now) }
-    ensures small { IfOk result (λ numbers. All (λ f. f.1 < 2 ^ 48) numbers.items) }
 {
     let mut numbers = Vec::new(alloc);
     for figure in figures {

@@ -18,6 +18,7 @@ mod spread;
 mod table;
 mod together;
 mod values;
+mod wide;
 
 pub use asked::{CountFormat, Counting, Figure, FigureKind, Holders, Until};
 pub use counting::counted;

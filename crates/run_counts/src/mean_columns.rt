@@ -1,5 +1,5 @@
 //! The columns of which there are means.
-ghost use Rattle.std.specs.Prelude.{◌≡◌, ◌<◌, ◌^◌, ◌++◌, IfOk, OnOk, [], map, string_bytes, if◌then◌else◌};
+ghost use Rattle.std.specs.Prelude.{◌≡◌, ◌++◌, IfOk, OnOk, [], map, string_bytes, if◌then◌else◌};
 ghost use Rattle.std.specs.List.{enumerate_from, flat_map};
 ghost use Rattle.rule_check.specs.Value.{names_of};
 ghost use Rattle.run_counts.specs.declared.mean_columns.Column.TheVariants.{Further, Nodes};
@@ -26,7 +26,6 @@ impl Column {
     /// The number that a row has in this column.
     pub(crate) fn number_in(self, row: &Row) -> u64
         ensures number { result ≡ number_in self row.now }
-        ensures small { result < 2 ^ 48 }
     {
         match self {
             Column::Nodes { value } => row.count(value),

@@ -1,5 +1,5 @@
 //! The text of the means of runs that are counted together.
-ghost use Rattle.std.specs.Prelude.{◌≡◌, ◌≤◌, ◌<◌, ◌^◌, ◌+◌, ◌++◌, All, IfOk, OnOk, length, map, slice_get, string_bytes};
+ghost use Rattle.std.specs.Prelude.{◌≡◌, ◌≤◌, ◌+◌, ◌++◌, IfOk, OnOk, length, map, slice_get, string_bytes};
 ghost use Rattle.std.specs.List.{flat_map, range_with_len};
 ghost use Rattle.std.specs.Option.{option_to_list};
 ghost use Rattle.rule_check.specs.Value.{names_of};
@@ -22,9 +22,7 @@ fn put_number(
     place: usize,
     column: Column,
 ) -> Result<(), AllocError>
-    requires small { All (λ n. n < 2 ^ 48) numbers.old.items }
     ensures numbers { OnOk result (numbers.new.items ≡ numbers.old.items ++ map (number_in column) (option_to_list (held_row place run.now.rows))) }
-    ensures small { OnOk result (All (λ n. n < 2 ^ 48) numbers.new.items) }
     ensures few { OnOk result (length numbers.new.items ≤ length numbers.old.items + 1) }
 {
     let last = run.rows().len().saturating_sub(1);
@@ -53,7 +51,6 @@ fn numbers_at(
     column: Column,
 ) -> Result<Vec<u64>, AllocError>
     ensures numbers { IfOk result (λ numbers. numbers.items ≡ map (number_in column) (rows_at place runs.now)) }
-    ensures small { IfOk result (λ numbers. All (λ n. n < 2 ^ 48) numbers.items) }
     ensures few { IfOk result (λ numbers. length numbers.items ≤ length runs.now) }
 {
     let mut numbers = Vec::new(alloc);
@@ -96,7 +93,6 @@ fn put_cell_start(
 /// The standard deviation of numbers.
 fn put_deviation(out: &mut String, format: CountFormat, numbers: &[u64]) -> Result<(), AllocError>
     requires few { length numbers.now ≤ most_runs }
-    requires small { All (λ n. n < 2 ^ 48) numbers.now }
     ensures text { OnOk result (string_bytes out.new ≡ string_bytes out.old ++ deviation_text format numbers.now) }
 {
     if numbers.len() > 1 {
@@ -118,7 +114,6 @@ fn put_cells(
 ) -> Result<(), AllocError>
     requires some { 1 ≤ length numbers.now }
     requires few { length numbers.now ≤ most_runs }
-    requires small { All (λ n. n < 2 ^ 48) numbers.now }
     ensures text { OnOk result (string_bytes out.new ≡ string_bytes out.old ++ mean_cells counting.now.format counting.now.names.now (names_of program.now) column numbers.now) }
 {
     put_cell_start(out, counting, program, column, " mean")?;

@@ -9,9 +9,8 @@ ghost use Rattle.run_counts.specs.Rows.{AreRows, IsRowOf, is_held, is_over};
 use crate::asked::{Counting, Holders, Until};
 use crate::figures::figures_of;
 use crate::table::Row;
-use rayon::current_num_threads;
-use rounds_plan::{Config, Plan};
-use rounds_walk::{RoundWalk, Start, count_values};
+use rounds_plan::RoundStates;
+use rounds_walk::{PlanRef, RoundWalk, Start, count_values};
 use rule_check::State;
 use run_watch::{Progress, Span};
 use std::alloc::{AllocError, Global};
@@ -62,7 +61,7 @@ fn is_over(until: Option<Until>, states: &[State]) -> bool
 }
 
 /// The round of a configuration, as it is counted.
-fn row_of(alloc: Global, counting: &Counting<'_>, config: &Config) -> Result<Row, AllocError>
+fn row_of(alloc: Global, counting: &Counting<'_>, config: &RoundStates) -> Result<Row, AllocError>
     ensures row { IfOk result (λ row. IsRowOf counting.now config.now row) }
 {
     let round = config.rounds();
@@ -75,31 +74,27 @@ fn row_of(alloc: Global, counting: &Counting<'_>, config: &Config) -> Result<Row
 fn config_at(
     rt: &(impl Threads + Sync),
     alloc: Global,
-    plan: &Plan,
     walk: &mut RoundWalk<'_>,
     round: u32,
-) -> Result<Config, AllocError>
-    requires plan { walk.old.plan ≡ plan.now }
+) -> Result<RoundStates, AllocError>
     requires late { walk.old.round ≤ round }
     requires few { round ≤ most_rounds }
     ensures config { IfOk result (λ config. config ≡ lockstep_config walk.old.plan round) }
     ensures walk { walk.new ≡ record { plan = walk.old.plan; round = round } }
 {
     walk.go_to_shared(rt, round);
-    walk.config(alloc, plan)
+    walk.round_states(alloc)
 }
 
 /// The rounds of a span, up to the one that ends them, as they are counted.
 pub(crate) fn rows_of<P: Progress>(
     rt: &(impl Threads + Sync),
     alloc: Global,
-    plan: &Plan,
     walk: &mut RoundWalk<'_>,
     span: &Span,
     counting: &Counting<'_>,
     progress: &mut P,
 ) -> Result<Vec<Row>, AllocError>
-    requires plan { walk.old.plan ≡ plan.now }
     requires late { walk.old.round ≤ span.now.first }
     requires few { span.now.last ≤ most_rounds }
     ensures rows { IfOk result (λ rows. AreRows walk.old.plan span.now counting.now rows.items) }
@@ -107,7 +102,7 @@ pub(crate) fn rows_of<P: Progress>(
     let mut rows = Vec::new(alloc);
     for place in 0..span.steps() + 1 {
         let round = span.round_at(place);
-        let config = config_at(rt, alloc, plan, walk, round)?;
+        let config = config_at(rt, alloc, walk, round)?;
         let row = row_of(alloc, counting, &config)?;
         rows.push(row)?;
         progress.reached(round);
@@ -118,22 +113,23 @@ pub(crate) fn rows_of<P: Progress>(
     Ok(rows)
 }
 
-/// The rounds of a span of a plan, up to the one that ends them, as they are counted, in one pass over the rounds: none
-/// is computed twice. Each round is shared among as many threads as there are processors where it has enough to compute
-/// for them. The form that is asked for makes no difference, and a field that the program does not have is 0.
+/// The rounds of a span of a plan of any size, up to the one that ends them, as they are counted, in one pass over the
+/// rounds: none is computed twice. Each round is shared among so many threads where it has enough to compute for them. The
+/// form that is asked for makes no difference, and a field that the program does not have is 0.
 pub fn counted_rows<P: Progress>(
     rt: &(impl Threads + Sync),
     alloc: Global,
-    plan: &Plan,
+    plan: &PlanRef<'_>,
     span: &Span,
     counting: &Counting<'_>,
+    threads: usize,
     progress: &mut P,
 ) -> Result<Vec<Row>, AllocError>
     requires late { plan.now.start ≤ span.now.first }
     requires few { span.now.last ≤ most_rounds }
     ensures rows { IfOk result (λ rows. AreRows plan.now span.now counting.now rows.items) }
 {
-    let start = Start::of_plan(alloc, plan)?;
-    let mut walk = start.shared_walk(alloc, current_num_threads(rt))?;
-    rows_of(rt, alloc, plan, &mut walk, span, counting, progress)
+    let start = Start::new(alloc, plan)?;
+    let mut walk = start.shared_walk(alloc, threads)?;
+    rows_of(rt, alloc, &mut walk, span, counting, progress)
 }

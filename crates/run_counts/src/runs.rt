@@ -72,10 +72,9 @@ fn run_of<P: RunsProgress>(
     requires fits { refusal_of variant.now.plan.now span.now counting.now ≡ None }
     ensures run { IfOk result (IsRunOf span.now counting.now variant.now) }
 {
-    let plan = variant.plan;
-    let start = Start::of_plan(alloc, plan)?;
+    let start = Start::new(alloc, variant.plan)?;
     let mut walk = start.walk(alloc)?;
-    let rows = rows_of(rt, alloc, plan, &mut walk, span, counting, &mut Silent)?;
+    let rows = rows_of(rt, alloc, &mut walk, span, counting, &mut Silent)?;
     progress.made();
     Ok(Run {
         value: variant.value,

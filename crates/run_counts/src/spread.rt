@@ -1,21 +1,26 @@
 //! The mean and the standard deviation of numbers, in ten-thousandths.
-ghost use Rattle.std.specs.Prelude.{◌≡◌, ◌≤◌, ◌<◌, ◌^◌, ◌*◌, ◌/◌, ◌++◌, All, OnOk, length, map, string_bytes, sum};
-ghost use Rattle.std.specs.Int.{abs_diff};
+ghost use Rattle.std.specs.Prelude.{◌≡◌, ◌≤◌, ◌<◌, ◌^◌, ◌+◌, ◌*◌, ◌/◌, ◌++◌, OnOk, length, map, string_bytes, sum};
 ghost use Rattle.run_counts.specs.Ensembles.{most_runs};
-ghost use Rattle.run_counts.specs.Spread.{deviation_of, four_digits, mean_of, square_off, squares_off};
+ghost use Rattle.run_counts.specs.Spread.{deviation_of, four_digits, mean_of, root, square_off, squares_off};
 
+use crate::wide::Wide;
 use std::alloc::AllocError;
 
+/// The step before the first one by which a root is raised: 2 to the 79, which is above all roots.
+const FIRST_STEP: u128 = 604_462_909_807_314_587_353_088;
+
+/// How often the step is halved until it is 1.
+const HALVINGS: u32 = 79;
+
 /// The sum of the numbers.
-fn sum_of(numbers: &[u64]) -> u64
+fn sum_of(numbers: &[u64]) -> u128
     requires few { length numbers.now ≤ most_runs }
-    requires small { All (λ n. n < 2 ^ 48) numbers.now }
     ensures sum { result ≡ sum numbers.now }
-    ensures small { result ≤ length numbers.now * 2 ^ 48 }
+    ensures small { result ≤ length numbers.now * 2 ^ 64 }
 {
-    let mut total: u64 = 0;
+    let mut total: u128 = 0;
     for number in numbers {
-        total += number;
+        total += u128::from(*number);
     }
     total
 }
@@ -24,70 +29,90 @@ fn sum_of(numbers: &[u64]) -> u64
 pub(crate) fn mean_of(numbers: &[u64]) -> u128
     requires some { 1 ≤ length numbers.now }
     requires few { length numbers.now ≤ most_runs }
-    requires small { All (λ n. n < 2 ^ 48) numbers.now }
     ensures mean { result ≡ mean_of numbers.now }
 {
     let count = numbers.len() as u128;
-    (20_000 * u128::from(sum_of(numbers)) + count) / (2 * count)
+    (20_000 * sum_of(numbers) + count) / (2 * count)
 }
 
 /// The square of how far a number is off the mean of so many numbers with this sum, all times how many they are.
-fn square_off(count: u64, sum: u64, number: u64) -> u128
+fn square_off(count: u64, sum: u128, number: u64) -> Wide
     requires few { count ≤ most_runs }
-    requires number { number < 2 ^ 48 }
-    requires sum { sum ≤ count * 2 ^ 48 }
+    requires sum { sum ≤ count * 2 ^ 64 }
     ensures square { result ≡ square_off count sum number }
-    ensures small { result ≤ (count * 2 ^ 48) * (count * 2 ^ 48) }
+    ensures small { result ≤ (count * 2 ^ 64) * (count * 2 ^ 64) }
 {
-    let off = u128::from((count * number).abs_diff(sum));
-    off * off
+    let off = (u128::from(count) * u128::from(number)).abs_diff(sum);
+    Wide::square(off)
 }
 
 /// The sum of the squares of how far numbers are off.
-fn squares_of(numbers: &[u64], count: u64, total: u64) -> u128
+fn squares_of(numbers: &[u64], count: u64, total: u128) -> Wide
     requires few { count ≤ most_runs }
     requires all { length numbers.now ≤ count }
-    requires small { All (λ n. n < 2 ^ 48) numbers.now }
-    requires total { total ≤ count * 2 ^ 48 }
+    requires total { total ≤ count * 2 ^ 64 }
     ensures squares { result ≡ sum (map (square_off count total) numbers.now) }
-    ensures small { result ≤ length numbers.now * ((count * 2 ^ 48) * (count * 2 ^ 48)) }
+    ensures small { result ≤ length numbers.now * ((count * 2 ^ 64) * (count * 2 ^ 64)) }
 {
-    let mut squares: u128 = 0;
+    let mut squares = Wide::zero();
     for number in numbers {
-        squares += square_off(count, total, *number);
+        squares = squares.plus(&square_off(count, total, *number));
     }
     squares
 }
 
 /// The sum of the squares of how far the numbers are off their mean.
-fn squares_off(numbers: &[u64]) -> u128
+fn squares_off(numbers: &[u64]) -> Wide
     requires few { length numbers.now ≤ most_runs }
-    requires small { All (λ n. n < 2 ^ 48) numbers.now }
     ensures squares { result ≡ squares_off numbers.now }
-    ensures small { result ≤ length numbers.now * ((length numbers.now * 2 ^ 48) * (length numbers.now * 2 ^ 48)) }
+    ensures small { result ≤ length numbers.now * ((length numbers.now * 2 ^ 64) * (length numbers.now * 2 ^ 64)) }
 {
     squares_of(numbers, numbers.len() as u64, sum_of(numbers))
 }
 
-/// So many times a quotient, rounded down: the product need not fit.
-fn scaled(number: u128, divisor: u128) -> u128
-    requires divisor { 1 ≤ divisor }
-    requires few { divisor < 2 ^ 64 }
-    requires small { number ≤ divisor * 2 ^ 97 }
-    ensures scaled { result ≡ 400000000 * number / divisor }
+/// A root that is raised by a step where the square of the higher one, times the divisor, is a number at most.
+fn raised(root: u128, step: u128, divisor: u64, number: &Wide) -> u128
+    requires few { divisor < 2 ^ 30 }
+    requires most { root + step ≤ 2 ^ 79 }
+    requires reached { divisor * (root * root) ≤ number.now }
+    requires above { number.now < divisor * ((root + 2 * step) * (root + 2 * step)) }
+    ensures most { result ≤ root + step }
+    ensures reached { divisor * (result * result) ≤ number.now }
+    ensures above { number.now < divisor * ((result + step) * (result + step)) }
 {
-    400_000_000 * (number / divisor) + 400_000_000 * (number % divisor) / divisor
+    let higher = root + step;
+    if Wide::square(higher).times(divisor).is_at_most(number) {
+        return higher;
+    }
+    root
+}
+
+/// The square root of a quotient, rounded down: it is raised by steps that are halved, the last of which is 1.
+fn root_of(number: &Wide, divisor: u64) -> u128
+    requires divisor { 1 ≤ divisor }
+    requires few { divisor < 2 ^ 30 }
+    requires small { number.now < divisor * 2 ^ 158 }
+    ensures root { result ≡ root (number.now / divisor) }
+    ensures small { result < 2 ^ 79 }
+{
+    let mut root: u128 = 0;
+    let mut step: u128 = FIRST_STEP;
+    for _halving in 0..HALVINGS {
+        step /= 2;
+        root = raised(root, step, divisor, number);
+    }
+    root
 }
 
 /// The standard deviation of the sample, to the nearest ten-thousandth.
 pub(crate) fn deviation_of(numbers: &[u64]) -> u128
     requires several { 2 ≤ length numbers.now }
     requires few { length numbers.now ≤ most_runs }
-    requires small { All (λ n. n < 2 ^ 48) numbers.now }
     ensures deviation { result ≡ deviation_of numbers.now }
 {
-    let count = numbers.len() as u128;
-    (scaled(squares_off(numbers), count * count * (count - 1)).isqrt() + 1) / 2
+    let count = numbers.len() as u64;
+    let squares = squares_off(numbers).times(400_000_000);
+    (root_of(&squares, count * count * (count - 1)) + 1) / 2
 }
 
 /// A number of ten-thousandths as a decimal with four digits behind the point.

@@ -1,5 +1,5 @@
 //! A round as it is counted.
-ghost use Rattle.std.specs.Prelude.{◌≡◌, ◌<◌, ◌^◌, All, map, slice_index_or};
+ghost use Rattle.std.specs.Prelude.{◌≡◌, map, slice_index_or};
 ghost use Rattle.run_counts.specs.Rows.{count_in};
 
 use crate::asked::Figure;
@@ -15,20 +15,16 @@ pub struct Row {
 }
 
 impl Model for Row {
-    ghost use Rattle.run_counts.specs.Rows.{IsRow, RowView};
+    ghost use Rattle.run_counts.specs.Rows.{RowView};
 
     ghost Value = { RowView };
 
     ghost view = { λ r. record { round = r.round; counts = r.counts.items; figures = r.figures.items } };
-
-    ghost invariant = { λ r. IsRow (record { round = r.round; counts = r.counts.items; figures = r.figures.items }) };
 }
 
 impl Row {
     /// A round with these numbers.
     pub(crate) fn new(round: u32, counts: Vec<(u32, u64)>, figures: Vec<(Figure, u64)>) -> Row
-        requires counts { All (λ c. c.1 < 2 ^ 48) counts.items }
-        requires figures { All (λ f. f.1 < 2 ^ 48) figures.items }
         ensures row { result ≡ record { round = round; counts = counts.items; figures = figures.items } }
     {
         Row {
@@ -53,10 +49,8 @@ impl Row {
     }
 
     /// How many nodes have a value.
-    #[tactic(auto, using(crate::proofs::Means::count_small))]
     pub(crate) fn count(&self, value: u32) -> u64
         ensures count { result ≡ count_in self.now.counts value }
-        ensures small { result < 2 ^ 48 }
     {
         count_in(self.counts.as_slice(), value)
     }
@@ -71,7 +65,6 @@ impl Row {
     /// The further number at a place, and 0 past the last.
     pub(crate) fn figure(&self, place: usize) -> u64
         ensures figure { result ≡ slice_index_or (map (λ f. f.1) self.now.figures) place 0 }
-        ensures small { result < 2 ^ 48 }
     {
         match self.figures.get(place) {
             Some(figure) => figure.1,

@@ -5,7 +5,7 @@ use Rattle.std.proofs.lemmas.Bool.Decides.{nat_tests}
 use Rattle.std.specs.List.{fold, filter, flat_map, range_with_len, enumerate_from}
 use Rattle.std.proofs.lemmas.List.Sums.{length-filter, count_by-le-length}
 use Rattle.std.proofs.lemmas.List.FromFn.{length-map-range_with_len, length-range_with_len}
-use Rattle.link_net.specs.Neighbours.{IsNetwork}
+use Rattle.link_net.specs.Neighbours.{AreRows}
 use Rattle.rounds_plan.specs.Configs.{most_rounds}
 use Rattle.rounds_plan.specs.Plans.{PlanView}
 use Rattle.run_cuts.specs.declared.cut.Cut.{Cut}
@@ -59,14 +59,14 @@ told_all occ below k (op ∷ ops) few = at (is_asked below (form_of op.form)) (t
   at false same = same
 
 -- at most so many in each part
-flat_few : (f : ℕ → List Occasion) (ts : List ℕ) → ((t : ℕ) → length (f t) ≤ 65536) → length (flat_map f ts) ≤ length ts * 65536
+flat_few : (f : ℕ → List Occasion) (ts : List ℕ) → ((t : ℕ) → length (f t) ≤ 4294967295) → length (flat_map f ts) ≤ length ts * 4294967295
 flat_few f [] few = omega arith
 flat_few f (t ∷ ts) few =
     let head = few t in
     let rest = flat_few f ts few in
     omega (arith, length-append (f t) (flat_map f ts), head, rest)
 
-step_few : (p : PlanView) (op : OperatorTree) (t : ℕ) → IsNetwork p.network → length (step_occasions p op t) ≤ 65536
+step_few : (p : PlanView) (op : OperatorTree) (t : ℕ) → AreRows p.network → length (step_occasions p op t) ≤ 4294967295
 step_few p op t network =
     let all : List Occasion = map (occasion t) (range_with_len 0 (length p.network)) in
     let kept = length-filter (λ o. is_cut (here_in p t o.node) op) all in
@@ -75,7 +75,7 @@ step_few p op t network =
     omega (arith, kept, few, long, network.nodes)
 
 -- a count of them fits
-pub occasions_few : (p : PlanView) (T : ℕ) (op : OperatorTree) → IsNetwork p.network → T ≤ most_rounds → length (occasions p T op) < 2 ^ 64
+pub occasions_few : (p : PlanView) (T : ℕ) (op : OperatorTree) → AreRows p.network → T ≤ most_rounds → length (occasions p T op) < 2 ^ 64
 occasions_few p T op network few =
     let all = flat_few (step_occasions p op) (range_with_len p.start (T - p.start)) (λ t. step_few p op t network) in
     let long = length-range_with_len p.start (T - p.start) in

@@ -3,7 +3,7 @@ ghost use Rattle.std.specs.Prelude.{◌≡◌, ◌+◌, ◌≤◌, ◌++◌, len
 ghost use Rattle.rounds_plan.specs.Lockstep.{nears_in, state_in};
 ghost use Rattle.run_cuts.specs.Counting.{nears_from};
 
-use link_net::Network;
+use link_net::NetRows;
 use rounds_plan::state_at;
 use rule_check::{Near, State};
 use std::alloc::AllocError;
@@ -32,16 +32,17 @@ fn put_nears(
 #[tactic(auto, using(crate::proofs::Standing::nears_of_row))]
 pub(crate) fn fill_nears(
     nears: &mut Vec<Near>,
-    network: &Network,
+    rows: &NetRows<'_>,
     states: &[State],
     node: u32,
 ) -> Result<(), AllocError>
-    ensures exact { OnOk result (nears.new.items ≡ nears_in network.now (state_in states.now) node) }
+    ensures exact { OnOk result (nears.new.items ≡ nears_in rows.now (state_in states.now) node) }
     ensures few { OnOk result (length nears.new.items ≤ 4294967295) }
 {
     nears.clear();
-    let neighbours = network.neighbours_of(node);
-    let weights = network.weights_of(node);
+    // For the proof: how many neighbours a node may have.
+    let _degree = rows.degree_of(node);
+    let (neighbours, weights) = rows.row_of(node);
     put_nears(nears, states, neighbours, weights)?;
     Ok(())
 }

@@ -11,15 +11,15 @@ use crate::operators::operators_in;
 use crate::steps::count_step;
 use crate::tally::Counted;
 use crate::telling::{counted_of, told};
-use rounds_plan::{MOST_ROUNDS, Plan, RoundFault};
-use rounds_walk::{RoundWalk, Start};
+use rounds_plan::{MOST_ROUNDS, RoundFault};
+use rounds_walk::{PlanRef, RoundWalk, Start};
 use rule_lang::Source;
 use std::alloc::{AllocError, Global};
 
 /// Goes on from the plan's start to a round, and notes what is cut on the way.
 fn count_rounds(
     alloc: Global,
-    plan: &Plan,
+    plan: &PlanRef<'_>,
     walk: &mut RoundWalk<'_>,
     rounds: u32,
     counted: &mut [Counted<'_>],
@@ -41,7 +41,7 @@ fn count_rounds(
 /// Makes the rounds of a plan up to one, and notes what is cut on the way.
 fn count_plan<'a>(
     alloc: Global,
-    plan: &Plan,
+    plan: &PlanRef<'_>,
     rounds: u32,
     mut counted: Vec<Counted<'a>>,
 ) -> Result<Vec<Counted<'a>>, AllocError>
@@ -49,7 +49,7 @@ fn count_plan<'a>(
     requires late { plan.now.start ≤ rounds }
     ensures exact { IfOk result (λ v. v.items ≡ map (after_all (occasions plan.now rounds)) counted.entry.items) }
 {
-    let start = Start::of_plan(alloc, plan)?;
+    let start = Start::new(alloc, plan)?;
     let mut walk = start.walk(alloc)?;
     count_rounds(alloc, plan, &mut walk, rounds, &mut counted)?;
     Ok(counted)
@@ -59,7 +59,7 @@ fn count_plan<'a>(
 fn found(
     alloc: Global,
     source: &Source,
-    plan: &Plan,
+    plan: &PlanRef<'_>,
     rounds: u32,
     below: bool,
 ) -> Result<Vec<Cut>, AllocError>
@@ -68,7 +68,7 @@ fn found(
     ensures cuts { IfOk result (λ v. v.items ≡ cuts_of plan.now rounds below (operators_of source.now)) }
 {
     // For the proof: what holds of every plan.
-    let _phase = plan.phase();
+    let _nodes = plan.nodes();
     let operators = operators_in(alloc, source.items())?;
     let fresh = counted_of(alloc, &operators, below)?;
     let counted = count_plan(alloc, plan, rounds, fresh)?;
@@ -85,7 +85,7 @@ fn found(
 pub fn cuts(
     alloc: Global,
     source: &Source,
-    plan: &Plan,
+    plan: &PlanRef<'_>,
     rounds: u32,
     below: bool,
 ) -> Result<Vec<Cut>, RoundFault>

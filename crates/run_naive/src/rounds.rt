@@ -9,7 +9,7 @@ use crate::comparing::{compare_moves, note_lockstep};
 use crate::difference::Difference;
 use crate::node::Node;
 use rounds_plan::Plan;
-use rounds_walk::{RoundWalk, Start};
+use rounds_walk::{PlanRef, RoundWalk, Start};
 use rule_check::State;
 use std::alloc::{AllocError, Global};
 
@@ -82,7 +82,7 @@ fn compare_from_start(
     ensures known { OnOk result (AreKnown plan.now (map shown nodes.now) rounds lockstep.new) }
     ensures room { OnOk result (length lockstep.new ≡ length plan.now.network) }
 {
-    let start = Start::of_plan(alloc, plan)?;
+    let start = Start::new(alloc, &PlanRef::of_plan(plan))?;
     let mut walk = start.walk(alloc)?;
     compare_rounds(alloc, plan, &mut walk, nodes, rounds, lockstep)
 }

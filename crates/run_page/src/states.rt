@@ -8,7 +8,7 @@ ghost use Rattle.run_page.specs.Pages.{numbers, states_of, values_at};
 use crate::parts::shown_array;
 use rayon::current_num_threads;
 use rounds_plan::Plan;
-use rounds_walk::{RoundWalk, Start};
+use rounds_walk::{PlanRef, RoundWalk, Start};
 use run_watch::{Progress, Span};
 use serde_json::Value;
 use std::alloc::{AllocError, Global};
@@ -70,7 +70,7 @@ pub(crate) fn states<P: Progress>(
     requires few { span.now.last ≤ most_rounds }
     ensures { IfOk result (λ v. view v ≡ states_of plan.now fields.now (rounds_in span.now)) }
 {
-    let start = Start::of_plan(alloc, plan)?;
+    let start = Start::new(alloc, &PlanRef::of_plan(plan))?;
     let mut walk = start.shared_walk(alloc, current_num_threads(rt))?;
     let mut items = Vec::with_capacity(alloc, span.steps() as usize + 1)?;
     put_rounds(rt, alloc, &mut items, &mut walk, span, fields, progress)?;

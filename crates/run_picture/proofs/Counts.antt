@@ -1,5 +1,5 @@
 -- How many values are shown.
-use Rattle.std.proofs.Common.{◌≡◌, ◌∙◌, ◌≤◌, ◌*◌, ℕ, List, [], ◌∷◌, Bool, true, false, if◌then◌else◌, ap, arith, length, nat_lt, refl, slice_index}
+use Rattle.std.proofs.Common.{◌≡◌, ◌∙◌, ◌≤◌, ◌==◌, ◌+◌, ◌-◌, ◌*◌, ◌/◌, ℕ, List, [], ◌∷◌, Bool, true, false, if◌then◌else◌, ap, arith, length, nat_lt, refl, slice_index}
 use Rattle.std.proofs.lemmas.Bool.Decides.{nat_tests}
 use Rattle.std.proofs.lemmas.Grind.{common_steps}
 use Rattle.std.proofs.lemmas.List.{length-map}
@@ -11,8 +11,9 @@ use Rattle.rounds_plan.specs.Lockstep.{lockstep, lockstep_states}
 use Rattle.rounds_plan.specs.Plans.{PlanView}
 use Rattle.run_watch.specs.Spans.{SpanView, count_of, round_at, rounds_in}
 use Rattle.run_picture.specs.declared.fault.PictureFault.{PictureFault}
-use Rattle.run_picture.specs.declared.fault.PictureFault.TheVariants.{TooManyCells}
-use Rattle.run_picture.specs.Frames.{most_cells, refusal_of, time_refusal, values_after, values_in}
+use Rattle.run_picture.specs.declared.fault.PictureFault.TheVariants.{NoWidth, TooManyCells, TooManyFrames}
+use Rattle.run_picture.specs.Frames.{grid_refusal, most_cells, refusal_of, time_refusal, values_after, values_in}
+use Rattle.run_picture.specs.Moving.{most_frames, moving_refusal}
 
 -- one for each node
 pub values_count : (p : PlanView) (field t : ℕ) → length (values_after p field t) ≡ length p.network
@@ -37,13 +38,41 @@ neither : (a b : Option PictureFault) → option_or a b ≡ None → b ≡ None
 neither None b none = none
 neither (Some fault) b none = absurd (let e : Some fault ≡ None = none in cc)
 
-not_over : (b : Bool) → (if b then Some TooManyCells else None) ≡ None → b ≡ false
-not_over true none = absurd (let e : Some TooManyCells ≡ None = none in cc)
-not_over false none = refl
+behind : (b : Bool) (fault : PictureFault) (rest : Option PictureFault) → (if b then Some fault else rest) ≡ None → rest ≡ None
+behind true fault rest none = absurd (let e : Some fault ≡ None = none in cc)
+behind false fault rest none = none
+
+not_over : (b : Bool) (rest : Option PictureFault) → (if b then Some TooManyCells else rest) ≡ None → b ≡ false
+not_over true rest none = absurd (let e : Some TooManyCells ≡ None = none in cc)
+not_over false rest none = refl
 
 -- where nothing is refused, they are few
 pub cells_few : (p : PlanView) (s : SpanView) (field : ℕ) → time_refusal p s field ≡ None → length (values_in p s field) ≤ most_cells
 cells_few p s field fits =
-    let few = not_over (nat_lt most_cells (length p.network * count_of s)) (neither (refusal_of p s.first s.last field) (if nat_lt most_cells (length p.network * count_of s) then Some TooManyCells else None) fits) in
+    let few = not_over (nat_lt most_cells (length p.network * count_of s)) None (neither (refusal_of p s.first s.last field) (if nat_lt most_cells (length p.network * count_of s) then Some TooManyCells else None) fits) in
     let total = values_total p s field in
     grind (arith, nat_tests, few, total)
+
+-- where nothing refuses a picture of a round, they are few
+pub grid_few : (p : PlanView) (field round width : ℕ) → grid_refusal p round field width ≡ None → length (values_after p field round) ≤ most_cells
+grid_few p field round width fits =
+    let over = if nat_lt most_cells (length p.network) then Some TooManyCells else None in
+    let few = not_over (nat_lt most_cells (length p.network)) None
+    (behind (width == 0) NoWidth over (neither (refusal_of p round round field) (if width == 0 then Some NoWidth else over) fits)) in
+    let total = values_count p field round in
+    grind (arith, nat_tests, few, total)
+
+fewer : (n k : ℕ) → n * (k + 1) ≤ most_cells → n ≤ most_cells
+fewer n k few =
+    let e : n * (k + 1) ≡ n * k + n = grind (arith, common_steps) in
+    omega (arith, few, e)
+
+-- where nothing refuses a moving picture, the nodes are few
+pub moving_few : (p : PlanView) (s : SpanView) (field width : ℕ) → moving_refusal p s field width ≡ None → length p.network ≤ most_cells
+moving_few p s field width fits =
+    let cells = length p.network * count_of s in
+    let long = if nat_lt most_frames (count_of s) then Some TooManyFrames else None in
+    let over = if nat_lt most_cells cells then Some TooManyCells else long in
+    let is = not_over (nat_lt most_cells cells) long (behind (width == 0) NoWidth over (neither (refusal_of p s.first s.last field) (if width == 0 then Some NoWidth else over) fits)) in
+    let few : cells ≤ most_cells = grind (arith, nat_tests, is) in
+    fewer (length p.network) ((s.last - s.first) / s.every) few

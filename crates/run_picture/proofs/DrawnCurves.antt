@@ -1,5 +1,5 @@
 -- A text that is made of counted rounds is the picture of their curves.
-use Rattle.std.proofs.Common.{◌≡◌, ◌≤◌, ℕ, List, Bool, true, false, if◌then◌else◌, arith, length, nat_le, nat_lt, refl}
+use Rattle.std.proofs.Common.{◌≡◌, ◌<◌, ◌≤◌, ◌^◌, ℕ, List, Bool, true, false, if◌then◌else◌, arith, length, nat_le, nat_lt, refl}
 use Rattle.std.proofs.lemmas.Bool.Decides.{nat_tests}
 use Rattle.std.specs.Option.{option_or}
 use Rattle.std.specs.Prelude.{Option, Some, None}
@@ -32,7 +32,7 @@ last_round p span field fits =
     let below = not_over (nat_lt most_rounds span.last) (if nat_lt span.first p.start then Some RoundsBelowStart else if nat_lt field (length p.program.fields) then None else Some (NoField field)) alone in
     grind (arith, nat_tests, below)
 
-pub is_count_picture : (styles : StylesView) (p : PlanView) (span : SpanView) (field : ℕ) (rows : List RowView) (values text : List ℕ) → curves_refusal p span field ≡ None → length p.network ≤ 65536
+pub is_count_picture : (styles : StylesView) (p : PlanView) (span : SpanView) (field : ℕ) (rows : List RowView) (values text : List ℕ) → curves_refusal p span field ≡ None → length p.network < 2 ^ 32
     → AreFieldRows p span field rows → AreValues (states_drawn styles) rows values → length values ≤ most_curves
     → text ≡ plotted span (length p.network) (ticks span.first span.last) (ticks 0 (length p.network)) (key_of styles values) rows values → IsCountPicture styles p span field text
 is_count_picture styles p span field rows values text fits nodes counted once few spelled = record {

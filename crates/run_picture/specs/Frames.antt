@@ -35,4 +35,5 @@ time_refusal p span field = option_or (refusal_of p span.first span.last field) 
 
 -- why there is no picture of a round in rows of a width
 abbrev pub grid_refusal : PlanView → ℕ → ℕ → ℕ → Option PictureFault
-grid_refusal p round field width = option_or (refusal_of p round round field) (if width == 0 then Some NoWidth else None)
+grid_refusal p round field width =
+    option_or (refusal_of p round round field) (if width == 0 then Some NoWidth else if nat_lt most_cells (length p.network) then Some TooManyCells else None)

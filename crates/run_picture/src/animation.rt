@@ -11,7 +11,7 @@ use crate::moving::{Pace, moving_of};
 use crate::picture::MOST_CELLS;
 use crate::styles::ValueStyles;
 use crate::values::{refusal, values_in};
-use rounds_plan::Plan;
+use rounds_walk::PlanRef;
 use run_watch::{Progress, Span};
 use std::alloc::{AllocError, Global};
 use std::thread::Threads;
@@ -20,7 +20,7 @@ use std::thread::Threads;
 pub const MOST_FRAMES: u64 = 10_000;
 
 /// Why there is no moving picture of the rounds of a span in rows of a width, whatever memory there is.
-fn moving_refusal(plan: &Plan, span: &Span, field: u32, width: u32) -> Option<PictureFault>
+fn moving_refusal(plan: &PlanRef<'_>, span: &Span, field: u32, width: u32) -> Option<PictureFault>
     ensures { result ≡ moving_refusal plan.now span.now field width }
 {
     if let Some(fault) = refusal(plan, span.first(), span.last(), field) {
@@ -30,7 +30,7 @@ fn moving_refusal(plan: &Plan, span: &Span, field: u32, width: u32) -> Option<Pi
         return Some(PictureFault::NoWidth);
     }
     let rounds = span.steps() as u64 + 1;
-    if plan.network().nodes() as u64 * rounds > MOST_CELLS {
+    if plan.nodes() as u64 * rounds > MOST_CELLS {
         return Some(PictureFault::TooManyCells);
     }
     if rounds > MOST_FRAMES {
@@ -43,7 +43,7 @@ fn moving_refusal(plan: &Plan, span: &Span, field: u32, width: u32) -> Option<Pi
 fn moving_text<P: Progress>(
     rt: &(impl Threads + Sync),
     alloc: Global,
-    plan: &Plan,
+    plan: &PlanRef<'_>,
     span: &Span,
     field: u32,
     width: u32,
@@ -54,12 +54,10 @@ fn moving_text<P: Progress>(
     requires fits { moving_refusal plan.now span.now field width ≡ None }
     ensures text { IfOk result (λ v. v.items ≡ moving_sheet (key_of styles.now (values_in plan.now span.now field)) (count_of span.now) time width (length plan.now.network) (values_in plan.now span.now field)) }
 {
-    // For the proof: how many nodes a plan may have.
-    let _phase = plan.phase();
     let values = values_in(rt, alloc, plan, span, field, progress)?;
     let frames = span.steps() + 1;
     let pace = Pace { frames, time };
-    moving_of(alloc, styles, pace, width, plan.network().nodes(), &values)
+    moving_of(alloc, styles, pace, width, plan.nodes(), &values)
 }
 
 /// The moving picture of a field as SVG that plays by itself, without a script: the nodes by rising number in rows of so many
@@ -76,7 +74,7 @@ fn moving_text<P: Progress>(
 pub fn moving_picture<P: Progress>(
     rt: &(impl Threads + Sync),
     alloc: Global,
-    plan: &Plan,
+    plan: &PlanRef<'_>,
     span: &Span,
     field: u32,
     width: u32,

@@ -7,7 +7,8 @@ use crate::curves::curves_picture;
 use crate::fault::PictureFault;
 use crate::styles::ValueStyles;
 use crate::values::refusal;
-use rounds_plan::Plan;
+use rayon::current_num_threads;
+use rounds_walk::PlanRef;
 use run_counts::{CountFormat, Counting, Row, counted_rows, values_of};
 use run_watch::{Progress, Span};
 use std::alloc::{AllocError, Global};
@@ -20,7 +21,7 @@ pub const MOST_POINTS: u32 = 10_000;
 pub const MOST_CURVES: usize = 64;
 
 /// Why there are no curves of the rounds of a span, of what is known before they are counted.
-fn curves_refusal(plan: &Plan, span: &Span, field: u32) -> Option<PictureFault>
+fn curves_refusal(plan: &PlanRef<'_>, span: &Span, field: u32) -> Option<PictureFault>
     ensures { result ≡ curves_refusal plan.now span.now field }
 {
     if let Some(fault) = refusal(plan, span.first(), span.last(), field) {
@@ -39,7 +40,7 @@ fn curves_refusal(plan: &Plan, span: &Span, field: u32) -> Option<PictureFault>
 fn field_rows<P: Progress>(
     rt: &(impl Threads + Sync),
     alloc: Global,
-    plan: &Plan,
+    plan: &PlanRef<'_>,
     span: &Span,
     field: u32,
     progress: &mut P,
@@ -55,7 +56,8 @@ fn field_rows<P: Progress>(
         figures: &[],
         until: None,
     };
-    counted_rows(rt, alloc, plan, span, &counting, progress)
+    let threads = current_num_threads(rt);
+    counted_rows(rt, alloc, plan, span, &counting, threads, progress)
 }
 
 /// How many states have a curve, whether or not they occur.
@@ -72,7 +74,7 @@ fn states_drawn(styles: &ValueStyles<'_>) -> u32
 /// The picture of counted rounds, where not too many values occur in them.
 fn picture_of(
     alloc: Global,
-    plan: &Plan,
+    plan: &PlanRef<'_>,
     span: &Span,
     field: u32,
     styles: &ValueStyles<'_>,
@@ -87,7 +89,7 @@ fn picture_of(
     if values.len() > MOST_CURVES {
         return Err(PictureFault::TooManyValues);
     }
-    let text = curves_picture(alloc, styles, span, plan.network().nodes(), rows, &values)?;
+    let text = curves_picture(alloc, styles, span, plan.nodes(), rows, &values)?;
     Ok(text)
 }
 
@@ -95,7 +97,7 @@ fn picture_of(
 fn count_text<P: Progress>(
     rt: &(impl Threads + Sync),
     alloc: Global,
-    plan: &Plan,
+    plan: &PlanRef<'_>,
     span: &Span,
     field: u32,
     styles: &ValueStyles<'_>,
@@ -109,11 +111,12 @@ fn count_text<P: Progress>(
     picture_of(alloc, plan, span, field, styles, &rows)
 }
 
-/// The curves of a field as SVG: how many nodes have each value in each round of a span of a plan, the rounds to the
-/// right and the nodes upwards, with axes. Each state has a curve, where there are 64 at most, and each value that a node
-/// has in one of these rounds, named and coloured as in `time_picture`, and below the curves stands which colour is which value. The points of a curve are whole numbers,
-/// `each_round_has_its_point` says which, and `each_axis_has_its_ticks` which numbers stand at the axes. In one pass over the rounds: none is computed twice. Each round is shared among
-/// as many threads as there are processors where it has enough to compute for them.
+/// The curves of a field as SVG: how many nodes have each value in each round of a span of a plan of any size, the rounds
+/// to the right and the nodes upwards, with axes. Each state has a curve, where there are 64 at most, and each value that
+/// a node has in one of these rounds, named and coloured as in `time_picture`, and below the curves stands which colour is
+/// which value. The points of a curve are whole numbers, `each_round_has_its_point` says which, and
+/// `each_axis_has_its_ticks` which numbers stand at the axes. In one pass over the rounds: none is computed twice. Each
+/// round is shared among as many threads as there are processors where it has enough to compute for them.
 ///
 /// `TooManyRounds` comes where the last round is above 1,000,000,000, else `RoundsBelowStart` where the first lies
 /// before the plan's start, else `NoField` where the program has no field at this place, else `OneRound` where the span
@@ -123,7 +126,7 @@ fn count_text<P: Progress>(
 pub fn count_picture<P: Progress>(
     rt: &(impl Threads + Sync),
     alloc: Global,
-    plan: &Plan,
+    plan: &PlanRef<'_>,
     span: &Span,
     field: u32,
     styles: &ValueStyles<'_>,

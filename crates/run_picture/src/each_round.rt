@@ -17,6 +17,7 @@ use crate::styles::ValueStyles;
 use crate::values::{refusal, values_in};
 use link_net::Network;
 use rounds_plan::Plan;
+use rounds_walk::PlanRef;
 use run_watch::{Progress, Span};
 use std::alloc::{AllocError, Global};
 use std::thread::Threads;
@@ -53,7 +54,8 @@ impl Layout {
 fn series_refusal(plan: &Plan, span: &Span, field: u32, layout: Layout) -> Option<PictureFault>
     ensures { result ≡ series_refusal plan.now span.now field layout }
 {
-    if let Some(fault) = refusal(plan, span.first(), span.last(), field) {
+    let lent = PlanRef::of_plan(plan);
+    if let Some(fault) = refusal(&lent, span.first(), span.last(), field) {
         return Some(fault);
     }
     let rounds = span.steps() as u64 + 1;
@@ -137,7 +139,8 @@ fn series_texts<P: Progress>(
     requires fits { series_refusal plan.now span.now field layout ≡ None }
     ensures texts { IfOk result (λ v. map (λ text. text.items) v.items ≡ round_sheets (key_of styles.now (values_in plan.now span.now field)) plan.now span.now field layout) }
 {
-    let values = values_in(rt, alloc, plan, span, field, progress)?;
+    let lent = PlanRef::of_plan(plan);
+    let values = values_in(rt, alloc, &lent, span, field, progress)?;
     let key = key_of(alloc, styles, &values)?;
     let network = plan.network();
     let texts = sheets_of(alloc, &key, layout, network, &values, span.steps() + 1)?;

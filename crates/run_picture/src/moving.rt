@@ -282,7 +282,7 @@ pub(crate) fn moving_of(
     requires width { 1 ≤ width }
     requires some { 1 ≤ pace.frames }
     requires few { pace.frames ≤ most_frames }
-    requires nodes { nodes ≤ 65536 }
+    requires nodes { nodes ≤ 1000000 }
     ensures text { IfOk result (λ v. v.items ≡ moving_sheet (key_of styles.now values.now) pace.frames pace.time width nodes values.now) }
 {
     let key = key_of(alloc, styles, values)?;

@@ -15,6 +15,7 @@ use crate::picture::MOST_CELLS;
 use crate::styles::ValueStyles;
 use crate::values::{refusal, values_in};
 use rounds_plan::Plan;
+use rounds_walk::PlanRef;
 use run_watch::{Progress, Span};
 use std::alloc::{AllocError, Global};
 use std::thread::Threads;
@@ -23,7 +24,8 @@ use std::thread::Threads;
 fn net_refusal(plan: &Plan, span: &Span, field: u32) -> Option<PictureFault>
     ensures { result ≡ net_refusal plan.now span.now field }
 {
-    if let Some(fault) = refusal(plan, span.first(), span.last(), field) {
+    let lent = PlanRef::of_plan(plan);
+    if let Some(fault) = refusal(&lent, span.first(), span.last(), field) {
         return Some(fault);
     }
     let rounds = span.steps() as u64 + 1;
@@ -50,7 +52,8 @@ fn net_text<P: Progress>(
     requires fits { net_refusal plan.now span.now field ≡ None }
     ensures text { IfOk result (λ v. v.items ≡ net_sheet (key_of styles.now (values_in plan.now span.now field)) (count_of span.now) time plan.now.network (values_in plan.now span.now field)) }
 {
-    let values = values_in(rt, alloc, plan, span, field, progress)?;
+    let lent = PlanRef::of_plan(plan);
+    let values = values_in(rt, alloc, &lent, span, field, progress)?;
     let key = key_of(alloc, styles, &values)?;
     let frames = span.steps() + 1;
     net_sheet(alloc, &key, Pace { frames, time }, plan.network(), &values)

@@ -13,6 +13,7 @@ use crate::styles::ValueStyles;
 use crate::values::{refusal, values_after};
 use link_net::Network;
 use rounds_plan::Plan;
+use rounds_walk::PlanRef;
 use std::alloc::{AllocError, Global};
 use std::thread::Threads;
 
@@ -63,7 +64,8 @@ fn text_of(
 {
     // For the proof: how many nodes a plan may have.
     let _phase = plan.phase();
-    let values = values_after(rt, alloc, plan, round, field)?;
+    let lent = PlanRef::of_plan(plan);
+    let values = values_after(rt, alloc, &lent, round, field)?;
     graph_of(alloc, styles, plan.network(), labels, round, &values)
 }
 
@@ -91,7 +93,8 @@ pub fn network_dot(
     ensures memory { IfErr result (λ fault. fault ≡ Memory → refusal_of plan.now round round field ≡ None) }
     ensures at_once { MatchOption (refusal_of plan.now round round field) (Unit {0}) (λ fault. result ≡ Err fault) }
 {
-    if let Some(fault) = refusal(plan, round, round, field) {
+    let lent = PlanRef::of_plan(plan);
+    if let Some(fault) = refusal(&lent, round, round, field) {
         return Err(fault);
     }
     let text = text_of(rt, alloc, plan, round, field, labels, styles)?;

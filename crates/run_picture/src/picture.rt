@@ -9,7 +9,7 @@ use crate::fault::PictureFault;
 use crate::sheet::picture_of;
 use crate::styles::ValueStyles;
 use crate::values::{refusal, values_after, values_in};
-use rounds_plan::Plan;
+use rounds_walk::PlanRef;
 use run_watch::{Progress, Span};
 use std::alloc::{AllocError, Global};
 use std::thread::Threads;
@@ -18,21 +18,21 @@ use std::thread::Threads;
 pub const MOST_CELLS: u64 = 1_000_000;
 
 /// Why there is no picture of the rounds of a span, whatever memory there is.
-fn time_refusal(plan: &Plan, span: &Span, field: u32) -> Option<PictureFault>
+fn time_refusal(plan: &PlanRef<'_>, span: &Span, field: u32) -> Option<PictureFault>
     ensures { result ≡ time_refusal plan.now span.now field }
 {
     if let Some(fault) = refusal(plan, span.first(), span.last(), field) {
         return Some(fault);
     }
     let rounds = span.steps() as u64 + 1;
-    if plan.network().nodes() as u64 * rounds > MOST_CELLS {
+    if plan.nodes() as u64 * rounds > MOST_CELLS {
         return Some(PictureFault::TooManyCells);
     }
     None
 }
 
 /// Why there is no picture of a round in rows of a width, whatever memory there is.
-fn grid_refusal(plan: &Plan, round: u32, field: u32, width: u32) -> Option<PictureFault>
+fn grid_refusal(plan: &PlanRef<'_>, round: u32, field: u32, width: u32) -> Option<PictureFault>
     ensures { result ≡ grid_refusal plan.now round field width }
 {
     if let Some(fault) = refusal(plan, round, round, field) {
@@ -41,6 +41,9 @@ fn grid_refusal(plan: &Plan, round: u32, field: u32, width: u32) -> Option<Pictu
     if width == 0 {
         return Some(PictureFault::NoWidth);
     }
+    if plan.nodes() as u64 > MOST_CELLS {
+        return Some(PictureFault::TooManyCells);
+    }
     None
 }
 
@@ -48,7 +51,7 @@ fn grid_refusal(plan: &Plan, round: u32, field: u32, width: u32) -> Option<Pictu
 fn time_text<P: Progress>(
     rt: &(impl Threads + Sync),
     alloc: Global,
-    plan: &Plan,
+    plan: &PlanRef<'_>,
     span: &Span,
     field: u32,
     styles: &ValueStyles<'_>,
@@ -58,14 +61,14 @@ fn time_text<P: Progress>(
     ensures text { IfOk result (λ v. v.items ≡ sheet_text (key_of styles.now (values_in plan.now span.now field)) (length plan.now.network) (values_in plan.now span.now field)) }
 {
     let values = values_in(rt, alloc, plan, span, field, progress)?;
-    picture_of(alloc, styles, plan.network().nodes(), &values)
+    picture_of(alloc, styles, plan.nodes(), &values)
 }
 
 /// The picture of a round, where nothing refuses it.
 fn grid_text(
     rt: &(impl Threads + Sync),
     alloc: Global,
-    plan: &Plan,
+    plan: &PlanRef<'_>,
     round: u32,
     field: u32,
     width: u32,
@@ -74,8 +77,6 @@ fn grid_text(
     requires fits { grid_refusal plan.now round field width ≡ None }
     ensures text { IfOk result (λ v. v.items ≡ sheet_text (key_of styles.now (values_after plan.now field round)) width (values_after plan.now field round)) }
 {
-    // For the proof: how many nodes a plan may have.
-    let _phase = plan.phase();
     let values = values_after(rt, alloc, plan, round, field)?;
     picture_of(alloc, styles, width, &values)
 }
@@ -95,7 +96,7 @@ fn grid_text(
 pub fn time_picture<P: Progress>(
     rt: &(impl Threads + Sync),
     alloc: Global,
-    plan: &Plan,
+    plan: &PlanRef<'_>,
     span: &Span,
     field: u32,
     styles: &ValueStyles<'_>,
@@ -118,12 +119,13 @@ pub fn time_picture<P: Progress>(
 /// may be shorter, coloured as in `time_picture`. `each_cell_has_its_place` says where each cell stands.
 ///
 /// `TooManyRounds` comes where the round is above 1,000,000,000, else `RoundsBelowStart` where it lies before the
-/// plan's start, else `NoField` where the program has no field at this place, and else `NoWidth` where the rows are to
-/// have no cells, all before anything is done; `Memory` only where none of them holds.
+/// plan's start, else `NoField` where the program has no field at this place, else `NoWidth` where the rows are to have
+/// no cells, and else `TooManyCells` where there are more than 1,000,000 nodes, all before anything is done; `Memory` only
+/// where none of them holds.
 pub fn grid_picture(
     rt: &(impl Threads + Sync),
     alloc: Global,
-    plan: &Plan,
+    plan: &PlanRef<'_>,
     round: u32,
     field: u32,
     width: u32,

@@ -6,15 +6,15 @@ ghost use Rattle.run_picture.specs.Frames.{refusal_of, values_after, values_in};
 
 use crate::fault::PictureFault;
 use rayon::current_num_threads;
-use rounds_plan::{MOST_ROUNDS, Plan};
-use rounds_walk::{RoundWalk, Start};
+use rounds_plan::MOST_ROUNDS;
+use rounds_walk::{PlanRef, RoundWalk, Start};
 use rule_check::State;
 use run_watch::{Progress, Span};
 use std::alloc::{AllocError, Global};
 use std::thread::Threads;
 
 /// Why rounds from a first one to a last one have no values of a field.
-pub(crate) fn refusal(plan: &Plan, first: u32, last: u32, field: u32) -> Option<PictureFault>
+pub(crate) fn refusal(plan: &PlanRef<'_>, first: u32, last: u32, field: u32) -> Option<PictureFault>
     ensures refusal { result ≡ refusal_of plan.now first last field }
 {
     if last > MOST_ROUNDS {
@@ -91,7 +91,7 @@ fn put_rounds<P: Progress>(
 pub(crate) fn values_in<P: Progress>(
     rt: &(impl Threads + Sync),
     alloc: Global,
-    plan: &Plan,
+    plan: &PlanRef<'_>,
     span: &Span,
     field: u32,
     progress: &mut P,
@@ -99,7 +99,7 @@ pub(crate) fn values_in<P: Progress>(
     requires fits { refusal_of plan.now span.now.first span.now.last field ≡ None }
     ensures values { IfOk result (λ v. v.items ≡ values_in plan.now span.now field) }
 {
-    let start = Start::of_plan(alloc, plan)?;
+    let start = Start::new(alloc, plan)?;
     let mut walk = start.shared_walk(alloc, current_num_threads(rt))?;
     let mut values = Vec::new(alloc);
     put_rounds(rt, alloc, &mut values, &mut walk, span, field, progress)?;
@@ -110,14 +110,14 @@ pub(crate) fn values_in<P: Progress>(
 pub(crate) fn values_after(
     rt: &(impl Threads + Sync),
     alloc: Global,
-    plan: &Plan,
+    plan: &PlanRef<'_>,
     round: u32,
     field: u32,
 ) -> Result<Vec<u32>, AllocError>
     requires fits { refusal_of plan.now round round field ≡ None }
     ensures values { IfOk result (λ v. v.items ≡ values_after plan.now field round) }
 {
-    let start = Start::of_plan(alloc, plan)?;
+    let start = Start::new(alloc, plan)?;
     let mut walk = start.shared_walk(alloc, current_num_threads(rt))?;
     let mut values = Vec::new(alloc);
     put_round(rt, alloc, &mut values, &mut walk, round, field)?;

@@ -12,8 +12,8 @@ use crate::fault::SettleFault;
 use crate::search::{Found, search};
 use crate::settling::Settling;
 use crate::tail::first_round;
-use rounds_plan::{MOST_ROUNDS, Plan};
-use rounds_walk::{InThreads, InTurn, Start, Way};
+use rounds_plan::MOST_ROUNDS;
+use rounds_walk::{InThreads, InTurn, PlanRef, Start, Way};
 use std::alloc::{AllocError, Global};
 use std::thread::Threads;
 
@@ -86,24 +86,20 @@ fn settled<W: Way>(
     Ok(settling)
 }
 
-/// What `settle` tells, of the rounds of a course.
+/// What becomes of the rounds of a course up to the limit, where nothing refuses it.
 fn settle_by<W: Way>(
     alloc: Global,
     course: &Course<'_, W>,
     limit: u32,
-) -> Result<Settling, SettleFault>
+) -> Result<Settling, AllocError>
     requires way { W.serves course.now.way.now }
+    requires fits { refusal_of course.now.start.now limit ≡ None }
     ensures settling { IfOk result (IsSettling course.now.start.now limit) }
     ensures only { IfOk result (λ found. (s : Settling) → IsSettling course.now.start.now limit s → s ≡ found) }
-    ensures refused { IfErr result (IsFaultOf course.now.start.now limit) }
-    ensures fits { IfOk result (λ _. refusal_of course.now.start.now limit ≡ None) }
 {
-    let start = course.first_round();
-    if let Some(fault) = refusal(course.start.program().uses_round(), start, limit) {
-        return Err(fault);
-    }
-    let settling = settled(alloc, course, limit)?;
-    Ok(settling)
+    // For the proof: what holds of every start.
+    let _start = course.first_round();
+    settled(alloc, course, limit)
 }
 
 /// What becomes of the lockstep rounds of a plan from its start up to a limit, a round counted from round 0: the states
@@ -115,7 +111,7 @@ fn settle_by<W: Way>(
 /// `ReadsRound` comes where the program reads the number of the round, else `LimitTooLarge` above 1,000,000,000, and
 /// else `LimitBelowStart` below the plan's start, all before any memory is taken; `Memory` only where none of them
 /// does.
-pub fn settle(alloc: Global, plan: &Plan, limit: u32) -> Result<Settling, SettleFault>
+pub fn settle(alloc: Global, plan: &PlanRef<'_>, limit: u32) -> Result<Settling, SettleFault>
     ensures settling { IfOk result (IsSettling plan.now limit) }
     ensures only { IfOk result (λ found. (s : Settling) → IsSettling plan.now limit s → s ≡ found) }
     ensures refused { IfErr result (IsFaultOf plan.now limit) }
@@ -124,7 +120,7 @@ pub fn settle(alloc: Global, plan: &Plan, limit: u32) -> Result<Settling, Settle
     if let Some(fault) = refusal(plan.program().uses_round(), plan.start(), limit) {
         return Err(fault);
     }
-    let start = Start::of_plan(alloc, plan)?;
+    let start = Start::new(alloc, plan)?;
     let way = InTurn;
     let course = Course {
         start: &start,
@@ -135,41 +131,35 @@ pub fn settle(alloc: Global, plan: &Plan, limit: u32) -> Result<Settling, Settle
     Ok(settling)
 }
 
-/// What `settle` tells, of the rounds of a start, whatever the size of its network.
+/// What `settle` tells, where each round that has enough to compute is shared among so many threads, and made
+/// sequentially where they are fewer than two.
 ///
-/// Each round that has enough to compute is shared among so many threads, and is made sequentially where they are fewer
-/// than two; the answer is the same. It takes memory for two walks over the rounds at a time, whatever the limit, and
-/// none makes more than twice the rounds from the start to the limit.
-///
-/// `ReadsRound` comes where the program reads the number of the round, else `LimitTooLarge` above 1,000,000,000, and
-/// else `LimitBelowStart` below the round of the initial states, all before any memory is taken; `Memory` only where none
-/// of them does.
-pub fn settle_shared<'a>(
-    rt: &'a (impl Threads + Sync),
+/// Refusals are those of `settle`, and come before any memory is taken.
+pub fn settle_shared(
+    rt: &(impl Threads + Sync),
     alloc: Global,
-    start: &'a Start<'a>,
+    plan: &PlanRef<'_>,
     limit: u32,
     threads: usize,
 ) -> Result<Settling, SettleFault>
-    ensures settling { IfOk result (IsSettling start.now limit) }
-    ensures only { IfOk result (λ found. (s : Settling) → IsSettling start.now limit s → s ≡ found) }
-    ensures refused { IfErr result (IsFaultOf start.now limit) }
-    ensures fits { IfOk result (λ _. refusal_of start.now limit ≡ None) }
+    ensures settling { IfOk result (IsSettling plan.now limit) }
+    ensures only { IfOk result (λ found. (s : Settling) → IsSettling plan.now limit s → s ≡ found) }
+    ensures refused { IfErr result (IsFaultOf plan.now limit) }
+    ensures fits { IfOk result (λ _. refusal_of plan.now limit ≡ None) }
 {
-    if threads > 1 {
-        let way = InThreads { rt };
-        let course = Course {
-            start,
-            way: &way,
-            threads,
-        };
-        return settle_by(alloc, &course, limit);
+    if threads < 2 {
+        return settle(alloc, plan, limit);
     }
-    let way = InTurn;
+    if let Some(fault) = refusal(plan.program().uses_round(), plan.start(), limit) {
+        return Err(fault);
+    }
+    let start = Start::to_share(alloc, plan)?;
+    let way = InThreads { rt };
     let course = Course {
-        start,
+        start: &start,
         way: &way,
         threads,
     };
-    settle_by(alloc, &course, limit)
+    let settling = settle_by(alloc, &course, limit)?;
+    Ok(settling)
 }

@@ -6,3 +6,4 @@ pub mod Names
 pub mod Cells
 pub mod Members
 pub mod Labels
+pub mod StatesLines

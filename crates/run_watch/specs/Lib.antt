@@ -3,3 +3,5 @@ pub mod Watching
 pub mod Reports
 pub mod Records
 pub mod Objects
+pub mod StatesCsv
+pub mod StatesRecords

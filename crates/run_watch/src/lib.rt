@@ -8,6 +8,7 @@ mod parts;
 mod rows;
 mod show;
 mod span;
+mod states_csv;
 mod watching;
 
 pub use fault::WatchFault;
@@ -15,4 +16,5 @@ pub use laws::{csv_is_read_back, json_is_read_back, whole_parts_are_reports};
 pub use rows::{put_json_label, put_label};
 pub use show::{Format, Show};
 pub use span::Span;
+pub use states_csv::{csv_states, states_csv_is_read_back};
 pub use watching::{Progress, missing_of, watched};

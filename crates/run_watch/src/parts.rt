@@ -9,7 +9,7 @@ ghost use Rattle.run_watch.specs.Watching.{head_text, node_text, part_text, show
 use crate::changes::is_shown;
 use crate::rows::put_row;
 use crate::show::{Format, Show};
-use rounds_plan::Config;
+use rounds_plan::RoundStates;
 use rule_check::{Program, State};
 use std::alloc::AllocError;
 
@@ -21,10 +21,10 @@ fn one_where(is_so: bool) -> u32
 }
 
 /// How many nodes are shown.
-fn count_shown(show: &Show<'_>, before: &[State], config: &Config) -> u32
+fn count_shown(show: &Show<'_>, before: &[State], config: &RoundStates) -> u32
     ensures count { result ≡ length (shown_nodes show.now before.now config.now.states) }
 {
-    // For the proof: how many nodes a configuration may have.
+    // For the proof: how many nodes there may be.
     let _rounds = config.rounds();
     let mut count = 0;
     for (node, state) in config.states().iter().enumerate() {
@@ -53,7 +53,7 @@ fn put_node(
     show: &Show<'_>,
     program: &Program,
     before: &[State],
-    config: &Config,
+    config: &RoundStates,
     node: u32,
     state: &State,
 ) -> Result<(), AllocError>
@@ -73,12 +73,12 @@ fn put_nodes(
     show: &Show<'_>,
     program: &Program,
     before: &[State],
-    config: &Config,
+    config: &RoundStates,
 ) -> Result<(), AllocError>
     requires fields { All (λ place. place < length program.now.fields) show.now.fields.now }
     ensures text { OnOk result (string_bytes out.new ≡ string_bytes out.old ++ flat_map (node_text show.now (names_of program.now) before.now config.now) (numbers_below (length config.now.states))) }
 {
-    // For the proof: how many nodes a configuration may have.
+    // For the proof: how many nodes there may be.
     let _rounds = config.rounds();
     for (node, state) in config.states().iter().enumerate() {
         put_node(out, show, program, before, config, node as u32, state)?;
@@ -92,7 +92,7 @@ pub(crate) fn put_part(
     show: &Show<'_>,
     program: &Program,
     before: &[State],
-    config: &Config,
+    config: &RoundStates,
 ) -> Result<(), AllocError>
     requires fields { All (λ place. place < length program.now.fields) show.now.fields.now }
     ensures text { OnOk result (string_bytes out.new ≡ string_bytes out.old ++ part_text show.now (names_of program.now) before.now config.now) }

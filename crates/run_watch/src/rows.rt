@@ -19,7 +19,7 @@ pub(crate) fn name_at(program: &Program, place: u32) -> &str
 }
 
 /// The names of the values of the field at a place; none past the last field.
-fn names_at(names: &[Vec<String>], place: u32) -> &[String]
+pub(crate) fn names_at(names: &[Vec<String>], place: u32) -> &[String]
     ensures names { result.now ≡ names_in (slice_get names.now place) }
 {
     match names.get(place as usize) {

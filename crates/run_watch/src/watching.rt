@@ -13,9 +13,8 @@ use crate::parts::put_part;
 use crate::rows::name_at;
 use crate::show::{Format, Show};
 use crate::span::Span;
-use rayon::current_num_threads;
-use rounds_plan::{Config, MOST_ROUNDS, Plan};
-use rounds_walk::{RoundWalk, Start};
+use rounds_plan::{MOST_ROUNDS, RoundStates};
+use rounds_walk::{PlanRef, RoundWalk, Start};
 use rule_check::{Program, State};
 use std::alloc::{AllocError, Global};
 use std::thread::Threads;
@@ -39,7 +38,7 @@ pub fn missing_of(count: u32, places: &[u32]) -> Option<u32>
 }
 
 /// Why the rounds cannot be watched, whatever memory there is.
-fn refusal(plan: &Plan, span: &Span, show: &Show<'_>) -> Option<WatchFault>
+fn refusal(plan: &PlanRef<'_>, span: &Span, show: &Show<'_>) -> Option<WatchFault>
     ensures { result ≡ refusal_of plan.now span.now show.now }
 {
     if span.last() > MOST_ROUNDS {
@@ -78,7 +77,7 @@ fn put_opening(out: &mut String, show: &Show<'_>, program: &Program) -> Result<(
 }
 
 /// The states of a configuration, or none.
-fn states_in(config: &Option<Config>) -> &[State]
+fn states_in(config: &Option<RoundStates>) -> &[State]
     ensures { result.now ≡ states_in config.now }
 {
     match config {
@@ -92,12 +91,12 @@ fn put_round(
     rt: &(impl Threads + Sync),
     alloc: Global,
     out: &mut String,
-    plan: &Plan,
+    plan: &PlanRef<'_>,
     walk: &mut RoundWalk<'_>,
     round: u32,
     show: &Show<'_>,
     before: &[State],
-) -> Result<Config, AllocError>
+) -> Result<RoundStates, AllocError>
     requires plan { walk.old.plan ≡ plan.now }
     requires late { walk.old.round ≤ round }
     requires few { round ≤ most_rounds }
@@ -107,7 +106,7 @@ fn put_round(
     ensures walk { OnOk result (walk.new ≡ record { plan = walk.old.plan; round = round }) }
 {
     walk.go_to_shared(rt, round);
-    let config = walk.config(alloc, plan)?;
+    let config = walk.round_states(alloc)?;
     put_part(out, show, plan.program(), before, &config)?;
     Ok(config)
 }
@@ -117,7 +116,7 @@ fn put_rounds<P: Progress>(
     rt: &(impl Threads + Sync),
     alloc: Global,
     out: &mut String,
-    plan: &Plan,
+    plan: &PlanRef<'_>,
     walk: &mut RoundWalk<'_>,
     span: &Span,
     show: &Show<'_>,
@@ -129,7 +128,7 @@ fn put_rounds<P: Progress>(
     requires fields { All (λ place. place < length plan.now.program.fields) show.now.fields.now }
     ensures text { OnOk result (string_bytes out.new ≡ string_bytes out.old ++ parts_text plan.now show.now [] (rounds_in span.now)) }
 {
-    let mut before: Option<Config> = None;
+    let mut before: Option<RoundStates> = None;
     for place in 0..span.steps() + 1 {
         let round = span.round_at(place);
         let config = put_round(rt, alloc, out, plan, walk, round, show, states_in(&before))?;
@@ -143,25 +142,26 @@ fn put_rounds<P: Progress>(
 fn text_of<P: Progress>(
     rt: &(impl Threads + Sync),
     alloc: Global,
-    plan: &Plan,
+    plan: &PlanRef<'_>,
     span: &Span,
     show: &Show<'_>,
+    threads: usize,
     progress: &mut P,
 ) -> Result<Vec<u8>, AllocError>
     requires fits { refusal_of plan.now span.now show.now ≡ None }
     ensures text { IfOk result (λ v. v.items ≡ watch_text plan.now span.now show.now) }
 {
-    let start = Start::of_plan(alloc, plan)?;
-    let mut walk = start.shared_walk(alloc, current_num_threads(rt))?;
+    let start = Start::new(alloc, plan)?;
+    let mut walk = start.shared_walk(alloc, threads)?;
     let mut out = String::new(alloc);
     put_opening(&mut out, show, plan.program())?;
     put_rounds(rt, alloc, &mut out, plan, &mut walk, span, show, progress)?;
     Ok(out.into_bytes())
 }
 
-/// The text of the rounds of a span of a plan, in one pass over the rounds: none is computed twice. Each round is
-/// shared among as many threads as there are processors where it has enough to compute for them. What a reader of a
-/// line gets back, `csv_is_read_back` and `json_is_read_back` say, and of a report `whole_parts_are_reports`.
+/// The text of the rounds of a span of a plan, however many nodes it has, in one pass over the rounds: none is computed
+/// twice. Each round is shared among so many threads where it has enough to compute for them. What a reader of a line gets back, `csv_is_read_back` and `json_is_read_back` say, and of a report
+/// `whole_parts_are_reports`.
 ///
 /// `TooManyRounds` comes where the last round is above 1,000,000,000, else `RoundsBelowStart` where the first lies
 /// before the plan's start, and else `NoField` with the first place of those that are to be shown at which the program
@@ -169,9 +169,10 @@ fn text_of<P: Progress>(
 pub fn watched<P: Progress>(
     rt: &(impl Threads + Sync),
     alloc: Global,
-    plan: &Plan,
+    plan: &PlanRef<'_>,
     span: &Span,
     show: &Show<'_>,
+    threads: usize,
     progress: &mut P,
 ) -> Result<Vec<u8>, WatchFault>
     ensures text { IfOk result (λ v. v.items ≡ watch_text plan.now span.now show.now) }
@@ -182,6 +183,6 @@ pub fn watched<P: Progress>(
     if let Some(fault) = refusal(plan, span, show) {
         return Err(fault);
     }
-    let text = text_of(rt, alloc, plan, span, show, progress)?;
+    let text = text_of(rt, alloc, plan, span, show, threads, progress)?;
     Ok(text)
 }

@@ -3,7 +3,7 @@
 #![tactic(auto)]
 
 ghost use Rattle.std.specs.Prelude.{◌≡◌, ◌≢◌, ◌≤◌, ◌<◌, length, true};
-ghost use Rattle.app_first_fault.specs.FirstFault.{IsUnrefused};
+ghost use Rattle.app_jobs.specs.FirstFault.{IsUnrefused};
 ghost use Rattle.app_calls.specs.Answers.{HasPlanWith, HasReplay, HasRoundWords, HasSettling, HaveRoundWords, IsSpelled, IsText, report_in, told_by};
 ghost use Rattle.app_calls.specs.Jobs.{HasJobWith, IsFirstNumber};
 ghost use Rattle.app_calls.specs.Numbers.{IsNumberOf};

@@ -4,12 +4,12 @@ ghost use Rattle.app_requests.specs.Requests.{HasRuns};
 
 use crate::count_runs::runs_text;
 use crate::notes::put_note;
-use crate::plan_texts::{NamedPlan, noted_plan_at, read_plan_once};
 use crate::progress::Telling;
+use crate::run_plan::{read_run_once, source_at, threads_for};
 use crate::watch::no_rounds;
 use app_files::{Ending, coloured_field, field_place, names_of_field, print_out, value_named};
 use app_requests::{CountRequest, FigureWord, UntilWord, ValueWord};
-use rounds_plan::Plan;
+use rounds_walk::PlanRef;
 use rule_check::Program;
 use run_counts::{CountFormat, Counting, Figure, FigureKind, Holders, Until, counted};
 use std::alloc::Global;
@@ -152,27 +152,29 @@ impl Counted {
 fn counted_text(
     rt: &HostRuntime,
     threads: &(impl Threads + Sync),
-    plan: &Plan,
+    plan: &PlanRef<'_>,
     asked: &CountRequest,
     counting: &Counting<'_>,
 ) -> Result<Vec<u8>, Ending> {
     let (alloc, span) = (rt.alloc(), &asked.span);
-    let mut telling = Telling::new(rt, span, plan.network().nodes());
-    let text = counted(threads, alloc, plan, span, counting, &mut telling).map_err(no_rounds);
+    let count = threads_for(threads, &asked.runs.texts);
+    let mut telling = Telling::new(rt, span, plan.nodes());
+    let text = counted(threads, alloc, plan, span, counting, count, &mut telling);
     telling.end();
-    text
+    text.map_err(no_rounds)
 }
 
 /// The text of the rounds of this plan.
 fn plan_text(
     rt: &HostRuntime,
     threads: &(impl Threads + Sync),
-    named: &NamedPlan,
+    plan: &PlanRef<'_>,
+    names: &[Vec<String>],
     asked: &CountRequest,
 ) -> Result<Vec<u8>, Ending> {
-    let found = Counted::of(rt.alloc(), named.plan.program(), &named.names, asked)?;
-    let counting = found.counting(found.names_among(&named.names));
-    counted_text(rt, threads, &named.plan, asked, &counting)
+    let found = Counted::of(rt.alloc(), plan.program(), names, asked)?;
+    let counting = found.counting(found.names_among(names));
+    counted_text(rt, threads, plan, asked, &counting)
 }
 
 /// The text of the rounds of one run.
@@ -181,8 +183,11 @@ fn run_text(
     threads: &(impl Threads + Sync),
     asked: &CountRequest,
 ) -> Result<Vec<u8>, Ending> {
-    let named = noted_plan_at(rt, &asked.runs.plan, asked.quiet)?;
-    plan_text(rt, threads, &named, asked)
+    let texts = &asked.runs.texts;
+    let source = source_at(rt, threads, texts)?;
+    let ground = source.noted_ground(rt, texts, asked.quiet)?;
+    let plan = ground.lent(rt.alloc())?;
+    plan_text(rt, threads, &plan, &source.program.names, asked)
 }
 
 /// The text of the rounds that are asked for.
@@ -227,7 +232,7 @@ fn put_counts<R: Threads + Sync>(
 ) -> Result<u8, Ending>
     requires runs { IfSome asked.now.runs.varied HasRuns }
 {
-    read_plan_once(rt.alloc(), &asked.runs.plan, "", "", "")?;
+    read_run_once(rt.alloc(), &asked.runs.texts, "")?;
     note_words(rt, asked)?;
     let text = text_for(rt, threads, asked)?;
     print_out(rt, &text)

@@ -4,15 +4,13 @@ ghost use Rattle.app_requests.specs.Requests.{HasRuns};
 ghost use Rattle.run_counts.specs.Ensembles.{most_runs};
 
 use crate::count::Counted;
-use crate::plan_texts::plan_of;
 use crate::progress::RunsTelling;
+use crate::run_plan::{Ground, RunNetwork, ground_on, run_network};
 use crate::watch::no_rounds;
-use app_files::{
-    Ending, bytes_at, bytes_where, check_model, expanded_text, network_at, state_names,
-};
-use app_requests::{CountRequest, PlanPaths, Varied};
+use app_files::{Ending, bytes_at, check_model, expanded_text, state_names};
+use app_requests::{CountRequest, PlanPaths, RunTexts, Varied};
 use model_rules::Given;
-use rounds_plan::Plan;
+use rounds_walk::PlanRef;
 use run_counts::{Counting, Ensemble, Variant, counted_runs, mean_counts};
 use std::alloc::{AllocError, Global};
 use std::thread::Threads;
@@ -21,41 +19,23 @@ use std::thread::Threads;
 #[derive(Drop)]
 struct Texts {
     model: Vec<u8>,
-    network: Vec<u8>,
-    report: Option<Vec<u8>>,
+    network: RunNetwork,
 }
 
 /// A run that can be made.
 #[derive(Drop)]
-struct Run {
+struct Run<'a> {
     /// The value that the constant has in it.
     value: u32,
-    plan: Plan,
-}
-
-/// Reads the texts at these paths beside that of the program.
-fn read_rest(rt: &HostRuntime, paths: &PlanPaths, texts: &mut Texts) -> Result<(), Ending> {
-    texts.network = network_at(rt, paths.network.as_str())?;
-    texts.report = bytes_where(rt, &paths.from)?;
-    Ok(())
-}
-
-/// The texts at these paths, of which that of the program is this.
-fn texts_with(rt: &HostRuntime, paths: &PlanPaths, model: Vec<u8>) -> Result<Texts, Ending> {
-    let mut texts = Texts {
-        model,
-        network: Vec::new(rt.alloc()),
-        report: None,
-    };
-    read_rest(rt, paths, &mut texts)?;
-    Ok(texts)
+    ground: Ground<'a>,
 }
 
 /// The texts at these paths; the program is to be a model.
-fn texts_at(rt: &HostRuntime, paths: &PlanPaths) -> Result<Texts, Ending> {
+fn texts_at(rt: &HostRuntime, threads: &impl Threads, paths: &PlanPaths) -> Result<Texts, Ending> {
     check_model(rt.alloc(), paths.program.as_str())?;
     let model = bytes_at(rt, paths.program.as_str())?;
-    texts_with(rt, paths, model)
+    let network = run_network(rt, threads, paths)?;
+    Ok(Texts { model, network })
 }
 
 /// Puts a constant with this value behind the others.
@@ -102,38 +82,57 @@ fn program_for(
     expanded_text(alloc, paths.program.as_str(), model, &constants)
 }
 
-/// The plan of the run in which the constant of this name has this value.
-fn plan_for(
-    alloc: Global,
-    paths: &PlanPaths,
-    texts: &Texts,
+/// The run in which the constant of this name has this value.
+fn run_for<'a>(
+    rt: &HostRuntime,
+    asked: &RunTexts,
+    texts: &'a Texts,
     name: &str,
     value: u32,
-) -> Result<Plan, Ending> {
-    let program = program_for(alloc, paths, &texts.model, name, value)?;
-    plan_of(alloc, &program, &texts.network, &texts.report)
+) -> Result<Run<'a>, Ending> {
+    let program = program_for(rt.alloc(), &asked.plan, &texts.model, name, value)?;
+    let ground = ground_on(rt, asked, &program, &texts.network)?;
+    Ok(Run { value, ground })
 }
 
 /// The runs of these texts, one for each value of the constant.
-fn runs_of(
-    alloc: Global,
-    paths: &PlanPaths,
-    texts: &Texts,
+fn runs_of<'a>(
+    rt: &HostRuntime,
+    asked: &RunTexts,
+    texts: &'a Texts,
     varied: &Varied,
-) -> Result<Vec<Run>, Ending>
+) -> Result<Vec<Run<'a>>, Ending>
     ensures each { IfOk result (λ runs. length runs.items ≡ length varied.now.values.items) }
 {
-    let mut runs = Vec::new(alloc);
+    let mut runs = Vec::new(rt.alloc());
     for value in &varied.values {
-        let value = *value;
-        let plan = plan_for(alloc, paths, texts, varied.name.as_str(), value)?;
-        runs.push(Run { value, plan })?;
+        let run = run_for(rt, asked, texts, varied.name.as_str(), *value)?;
+        runs.push(run)?;
     }
     Ok(runs)
 }
 
+/// A run, lent.
+#[derive(Drop)]
+struct LentRun<'a> {
+    value: u32,
+    plan: PlanRef<'a>,
+}
+
+/// The runs, lent.
+fn lent_runs<'a>(alloc: Global, runs: &'a [Run<'_>]) -> Result<Vec<LentRun<'a>>, Ending>
+    ensures each { IfOk result (λ lent. length lent.items ≡ length runs.now) }
+{
+    let mut lent = Vec::with_capacity(alloc, runs.len())?;
+    for run in runs {
+        let (value, plan) = (run.value, run.ground.lent(alloc)?);
+        lent.push(LentRun { value, plan })?;
+    }
+    Ok(lent)
+}
+
 /// The runs as they are counted together.
-fn variants_of<'a>(alloc: Global, runs: &'a [Run]) -> Result<Vec<Variant<'a>>, AllocError>
+fn variants_of<'a>(alloc: Global, runs: &'a [LentRun<'a>]) -> Result<Vec<Variant<'a>>, AllocError>
     ensures each { IfOk result (λ variants. length variants.items ≡ length runs.now) }
 {
     let mut variants = Vec::with_capacity(alloc, runs.len())?;
@@ -187,13 +186,13 @@ fn column_names<'a>(names: &'a [String], constant: &str) -> &'a [String] {
 }
 
 /// The text of these runs, counted so.
-fn variants_text<R: Threads + Sync>(
+fn variants_text<'a, R: Threads + Sync>(
     rt: &HostRuntime,
     threads: &R,
     asked: &CountRequest,
     name: &str,
     counting: &Counting<'_>,
-    runs: &[Run],
+    runs: &'a [LentRun<'a>],
 ) -> Result<Vec<u8>, Ending>
     requires some { 1 ≤ length runs.now }
     requires few { length runs.now ≤ most_runs }
@@ -213,14 +212,15 @@ fn text_of<R: Threads + Sync>(
     asked: &CountRequest,
     name: &str,
     names: &[Vec<String>],
-    runs: &[Run],
+    runs: &[Run<'_>],
 ) -> Result<Vec<u8>, Ending>
     requires some { 1 ≤ length runs.now }
     requires few { length runs.now ≤ most_runs }
 {
-    let found = Counted::of(rt.alloc(), runs[0].plan.program(), names, asked)?;
+    let lent = lent_runs(rt.alloc(), runs)?;
+    let found = Counted::of(rt.alloc(), lent[0].plan.program(), names, asked)?;
     let counting = found.counting(column_names(found.names_among(names), name));
-    variants_text(rt, threads, asked, name, &counting, runs)
+    variants_text(rt, threads, asked, name, &counting, &lent)
 }
 
 /// The text of these runs of the model of this text.
@@ -230,12 +230,12 @@ fn model_text<R: Threads + Sync>(
     asked: &CountRequest,
     name: &str,
     model: &[u8],
-    runs: &[Run],
+    runs: &[Run<'_>],
 ) -> Result<Vec<u8>, Ending>
     requires some { 1 ≤ length runs.now }
     requires few { length runs.now ≤ most_runs }
 {
-    let names = state_names(rt.alloc(), asked.runs.plan.program.as_str(), model)?;
+    let names = state_names(rt.alloc(), asked.runs.texts.plan.program.as_str(), model)?;
     text_of(rt, threads, asked, name, &names, runs)
 }
 
@@ -249,7 +249,7 @@ fn texts_text<R: Threads + Sync>(
 ) -> Result<Vec<u8>, Ending>
     requires runs { HasRuns varied.now }
 {
-    let runs = runs_of(rt.alloc(), &asked.runs.plan, texts, varied)?;
+    let runs = runs_of(rt, &asked.runs.texts, texts, varied)?;
     let name = varied.name.as_str();
     model_text(rt, threads, asked, name, &texts.model, &runs)
 }
@@ -263,6 +263,6 @@ pub(crate) fn runs_text<R: Threads + Sync>(
 ) -> Result<Vec<u8>, Ending>
     requires runs { HasRuns varied.now }
 {
-    let texts = texts_at(rt, &asked.runs.plan)?;
+    let texts = texts_at(rt, threads, &asked.runs.texts.plan)?;
     texts_text(rt, threads, asked, varied, &texts)
 }

@@ -2,15 +2,17 @@
 
 use crate::endings::asked_by;
 use crate::labels::labels_at;
-use crate::plan_texts::{plan_with, read_plan_once};
-use app_files::{Ending, path_in, print_out, program_at, program_name};
+use crate::run_plan::{read_run_once, source_at};
+use app_files::{Ending, path_in, print_out, program_name};
 use app_jobs::{ServeFault, program_of};
 use app_requests::{CutsFormat, CutsRequest};
 use app_why::place_at;
-use rounds_plan::{Plan, RoundFault};
+use rounds_plan::RoundFault;
+use rounds_walk::PlanRef;
 use run_cuts::{Cut, Site, Telling, cuts, operator_places, put_json, put_text};
 use run_watch::Format;
 use std::alloc::{AllocError, Global};
+use std::thread::Threads;
 
 /// The site that is at this place of a program's text.
 fn site_at(program: &[u8], at: usize) -> Site {
@@ -56,7 +58,7 @@ fn no_round(fault: RoundFault) -> Ending {
 fn cuts_in(
     alloc: Global,
     program: &[u8],
-    plan: &Plan,
+    plan: &PlanRef<'_>,
     asked: &CutsRequest,
 ) -> Result<Vec<Cut>, Ending> {
     match program_of(alloc, program) {
@@ -86,7 +88,7 @@ fn told_of(
 fn cuts_text(
     alloc: Global,
     program: &[u8],
-    plan: &Plan,
+    plan: &PlanRef<'_>,
     asked: &CutsRequest,
     telling: &Telling<'_>,
 ) -> Result<Vec<u8>, Ending> {
@@ -98,12 +100,12 @@ fn cuts_text(
 fn text_by(
     alloc: Global,
     program: &[u8],
-    plan: &Plan,
+    plan: &PlanRef<'_>,
     asked: &CutsRequest,
     sites: &[Site],
     labels: &[String],
 ) -> Result<Vec<u8>, Ending> {
-    let name = program_name(alloc, asked.plan.program.as_str())?;
+    let name = program_name(alloc, asked.texts.plan.program.as_str())?;
     let telling = Telling {
         name: name.as_str(),
         sites,
@@ -118,7 +120,7 @@ fn text_by(
 fn labelled(
     alloc: Global,
     program: &[u8],
-    plan: &Plan,
+    plan: &PlanRef<'_>,
     asked: &CutsRequest,
     labels: &[String],
 ) -> Result<Vec<u8>, Ending> {
@@ -130,35 +132,39 @@ fn labelled(
 fn text_on(
     rt: &HostRuntime,
     program: &[u8],
-    plan: &Plan,
+    plan: &PlanRef<'_>,
     asked: &CutsRequest,
 ) -> Result<Vec<u8>, Ending> {
-    let nodes = plan.network().nodes();
+    let nodes = plan.nodes();
     let labels = labels_at(rt, labels_form(asked.format), &asked.names, nodes)?;
     labelled(rt.alloc(), program, plan, asked, &labels)
 }
 
-/// What is told of the program with this text, on the network that is named.
-fn text_with(rt: &HostRuntime, program: &[u8], asked: &CutsRequest) -> Result<Vec<u8>, Ending> {
-    let plan = plan_with(rt, &asked.plan, program)?;
-    text_on(rt, program, &plan, asked)
-}
-
 /// What is told of the texts that are named.
-fn text_for(rt: &HostRuntime, asked: &CutsRequest) -> Result<Vec<u8>, Ending> {
-    let program = program_at(rt, asked.plan.program.as_str(), &asked.plan.constants)?;
-    text_with(rt, &program, asked)
+fn text_for(
+    rt: &HostRuntime,
+    threads: &impl Threads,
+    asked: &CutsRequest,
+) -> Result<Vec<u8>, Ending> {
+    let source = source_at(rt, threads, &asked.texts)?;
+    let ground = source.ground(rt, &asked.texts)?;
+    let plan = ground.lent(rt.alloc())?;
+    text_on(rt, &source.program.text, &plan, asked)
 }
 
 /// Prints what is told of the texts that are named. The status with which the program ends.
-fn put_told(rt: &HostRuntime, asked: &CutsRequest) -> Result<u8, Ending> {
-    read_plan_once(rt.alloc(), &asked.plan, path_in(&asked.names), "", "")?;
-    let text = text_for(rt, asked)?;
+fn put_told(rt: &HostRuntime, threads: &impl Threads, asked: &CutsRequest) -> Result<u8, Ending> {
+    read_run_once(rt.alloc(), &asked.texts, path_in(&asked.names))?;
+    let text = text_for(rt, threads, asked)?;
     print_out(rt, &text)
 }
 
 /// Tells where values were cut. The status with which the program ends.
-pub(crate) fn tell_cuts(rt: &HostRuntime, words: &[String]) -> Result<u8, Ending> {
+pub(crate) fn tell_cuts(
+    rt: &HostRuntime,
+    threads: &impl Threads,
+    words: &[String],
+) -> Result<u8, Ending> {
     let asked = asked_by(CutsRequest::parse(rt.alloc(), words))?;
-    put_told(rt, &asked)
+    put_told(rt, threads, &asked)
 }

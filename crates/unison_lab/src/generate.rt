@@ -1,14 +1,16 @@
-//! `generate SHAPE NUMBERS..`: the network file of a shape, or of a random network.
+//! `generate SHAPE NUMBERS..`: a network of a shape, or at random, as a network file or packed.
 
+use crate::binary::check_output;
 use crate::endings::asked_by;
+use crate::large::pack::{random_bytes, shape_bytes, text_bytes};
 use app_files::{Ending, print_out};
 use app_requests::{GenerateRequest, Topology, Weights};
 use link_net::{MOST_LINKS, MOST_NODES};
 use net_random::{
-    RandomFault, RandomNetwork, WeightFault, chance_list, chance_text, drawn, drawn_text,
-    weighted_text,
+    LargeRandom, RandomFault, RandomNetwork, WeightFault, chance_list, chance_text, drawn,
+    drawn_text, weighted_text,
 };
-use net_shapes::{Shape, ShapeFault, links_of, made_text};
+use net_shapes::{LargeShape, Shape, ShapeFault, links_of, made_text};
 use net_text::LinkList;
 use std::alloc::Global;
 
@@ -184,93 +186,150 @@ fn text_for(alloc: Global, asked: &GenerateRequest) -> Result<Vec<u8>, Ending> {
     }
 }
 
-/// A network as `pack` makes it: of any size.
-#[derive(Clone, Copy)]
-struct PackedForm {
-    /// What it is called by `pack`, as it is here.
-    name: &'static str,
-    nodes: u64,
-    /// How many links are drawn; of a shape 0.
-    links: u64,
-}
-
-/// A shape, with the nodes and links that it has.
-fn packed_form(name: &'static str, nodes: u64, links: u64) -> Option<PackedForm> {
-    Some(PackedForm { name, nodes, links })
-}
-
-/// The shape as `pack` makes it, where it does.
-fn packed_shape(shape: &Shape) -> Option<PackedForm> {
+/// The shape among those of any size, where it is one of them.
+fn large_shape_of(shape: &Shape) -> Option<LargeShape> {
     match *shape {
-        Shape::Path { nodes } => packed_form("path", nodes as u64, 0),
-        Shape::Ring { nodes } => packed_form("ring", nodes as u64, 0),
-        Shape::Grid { width, height } => packed_form("grid", width as u64 * height as u64, 0),
-        Shape::Torus { width, height, .. } => {
-            packed_form("torus", width as u64 * height as u64, 0)
-        }
+        Shape::Path { nodes } => Some(LargeShape::Path { nodes }),
+        Shape::Ring { nodes } => Some(LargeShape::Ring { nodes }),
+        Shape::Grid { width, height } => Some(LargeShape::Grid { width, height }),
+        Shape::Torus {
+            width,
+            height,
+            diagonals,
+        } => Some(LargeShape::Torus {
+            width,
+            height,
+            diagonals,
+        }),
         _ => None,
     }
 }
 
-/// The random network as `pack` makes it, where it does.
-fn packed_random(random: &RandomNetwork) -> Option<PackedForm> {
+/// The way to draw among those of any size, where it is one of them.
+fn large_random_of(random: &RandomNetwork) -> Option<LargeRandom> {
     match *random {
-        RandomNetwork::Random { nodes, links } => {
-            packed_form("random", nodes as u64, links as u64)
-        }
+        RandomNetwork::Random { nodes, links } => Some(LargeRandom::Random { nodes, links }),
         RandomNetwork::Preferential { nodes, each } => {
-            packed_form("preferential", nodes as u64, nodes as u64 * each as u64)
+            Some(LargeRandom::Preferential { nodes, each })
+        }
+        RandomNetwork::SmallWorld {
+            nodes,
+            near,
+            rewire,
+            of,
+        } => Some(LargeRandom::SmallWorld {
+            nodes,
+            near,
+            rewire,
+            of,
+        }),
+        _ => None,
+    }
+}
+
+/// How many nodes and links a random network has that may have any size where it is packed.
+fn drawn_size(random: &RandomNetwork) -> Option<(u64, u64)> {
+    match *random {
+        RandomNetwork::Random { nodes, links } => Some((nodes as u64, links as u64)),
+        RandomNetwork::Preferential { nodes, each } => {
+            Some((nodes as u64, nodes as u64 * each as u64))
         }
         RandomNetwork::SmallWorld { nodes, near, .. } => {
-            packed_form("small-world", nodes as u64, nodes as u64 * near as u64)
+            Some((nodes as u64, nodes as u64 * near as u64))
         }
         _ => None,
     }
 }
 
-/// What is asked for as `pack` makes it, where it does: without weights.
-fn packed_as(asked: &GenerateRequest) -> Option<PackedForm> {
-    if asked.weights.is_some() {
-        return None;
-    }
-    match &asked.topology {
-        Topology::Shape(shape) => packed_shape(shape),
-        Topology::RandomNetwork(random) => packed_random(random),
-        Topology::Chance { .. } => None,
+/// How many nodes and links a network has that may have any size where it is packed; of a shape the nodes alone.
+fn packed_size(topology: &Topology) -> Option<(u64, u64)> {
+    match topology {
+        Topology::Shape(Shape::Path { nodes } | Shape::Ring { nodes }) => Some((*nodes as u64, 0)),
+        Topology::Shape(Shape::Grid { width, height } | Shape::Torus { width, height, .. }) => {
+            Some((*width as u64 * *height as u64, 0))
+        }
+        Topology::RandomNetwork(random) => drawn_size(random),
+        _ => None,
     }
 }
 
-/// Whether no network file has so many nodes or links, and a packed network has.
-fn fits_packed_alone(form: &PackedForm) -> bool {
-    form.nodes <= MOST_PACKED_NODES
-        && form.links <= MOST_PACKED_LINKS
-        && (form.nodes > MOST_NODES as u64 || form.links > MOST_LINKS as u64)
+/// Whether no network file has so many nodes or links as are asked for, and a packed network without weights has.
+fn fits_packed_alone(asked: &GenerateRequest) -> bool {
+    match packed_size(&asked.topology) {
+        Some((nodes, links)) => {
+            nodes <= MOST_PACKED_NODES
+                && links <= MOST_PACKED_LINKS
+                && (nodes > MOST_NODES as u64 || links > MOST_LINKS as u64)
+        }
+        None => false,
+    }
 }
 
-/// What is told where no network file is made, with the way to a packed network where there is one.
-fn told_with_way(alloc: Global, asked: &GenerateRequest, text: String) -> Ending {
-    let name = match packed_as(asked) {
-        Some(form) if fits_packed_alone(&form) => form.name,
-        _ => return Ending::Usage(text),
-    };
-    Ending::usage(format!(in alloc;
-        "{text}\nunison pack {name} writes it as a packed network, of any size: unison pack {name} --help"
-    ))
+/// What is told beside where no network file is made: the way to a packed network, where there is one.
+fn way_of(asked: &GenerateRequest) -> &'static str {
+    if !fits_packed_alone(asked) {
+        return "";
+    }
+    match (asked.packed, asked.weights.is_some()) {
+        (false, false) => "\nwith --packed it is written as a packed network, of any size",
+        (false, true) => "",
+        (true, _) => "\nwith --weights a packed network has the size of a network file at most",
+    }
 }
 
 /// The ending where no network file is made.
 fn no_file(alloc: Global, asked: &GenerateRequest, ending: Ending) -> Ending {
+    let way = way_of(asked);
     match ending {
-        Ending::Usage(text) => told_with_way(alloc, asked, text),
+        Ending::Usage(text) => Ending::usage(format!(in alloc; "{text}{way}")),
         ending => ending,
     }
 }
 
-/// Prints the network file of a shape or a random network. The status with which the program ends.
+/// The network file that is asked for, or the ending with the way to a packed network, where there is one.
+fn file_for(alloc: Global, asked: &GenerateRequest) -> Result<Vec<u8>, Ending> {
+    match text_for(alloc, asked) {
+        Ok(text) => Ok(text),
+        Err(ending) => Err(no_file(alloc, asked, ending)),
+    }
+}
+
+/// The packed network that is asked for, where it may have any size.
+fn large_for(alloc: Global, asked: &GenerateRequest) -> Option<Result<Vec<u8>, Ending>> {
+    if asked.weights.is_some() {
+        return None;
+    }
+    match &asked.topology {
+        Topology::Shape(shape) => Some(shape_bytes(alloc, large_shape_of(shape)?)),
+        Topology::RandomNetwork(random) => {
+            Some(random_bytes(alloc, large_random_of(random)?, asked.seed))
+        }
+        Topology::Chance { .. } => None,
+    }
+}
+
+/// The packed network that is asked for: of any size where there is such a form, else that of the network file.
+fn packed_for(alloc: Global, asked: &GenerateRequest) -> Result<Vec<u8>, Ending> {
+    if let Some(bytes) = large_for(alloc, asked) {
+        return bytes;
+    }
+    let text = file_for(alloc, asked)?;
+    text_bytes(alloc, &text)
+}
+
+/// Prints the packed network that is asked for. The status with which the program ends.
+fn print_packed(rt: &HostRuntime, asked: &GenerateRequest) -> Result<u8, Ending> {
+    check_output(rt)?;
+    let bytes = packed_for(rt.alloc(), asked)?;
+    print_out(rt, &bytes)
+}
+
+/// Prints the network file of a shape or a random network, or the packed network. The status with which the program ends.
 pub(crate) fn generate_network(rt: &HostRuntime, words: &[String]) -> Result<u8, Ending> {
     let asked = asked_by(GenerateRequest::parse(rt.alloc(), words))?;
-    match text_for(rt.alloc(), &asked) {
-        Ok(text) => print_out(rt, &text),
-        Err(ending) => Err(no_file(rt.alloc(), &asked, ending)),
+    if asked.packed {
+        return print_packed(rt, &asked);
     }
+    let text = file_for(rt.alloc(), &asked)?;
+    print_out(rt, &text)
 }

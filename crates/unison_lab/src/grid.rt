@@ -3,7 +3,7 @@
 use crate::notes::put_note;
 use app_files::Ending;
 use app_requests::GridWidth;
-use link_net::Network;
+use link_net::NetRows;
 use run_picture::CellShape;
 use std::alloc::Global;
 
@@ -117,9 +117,9 @@ impl Rows {
     }
 
     /// Whether the links of a network are those of hexagonal cells that stand in these rows.
-    fn are_hexagons(self, network: &Network) -> bool {
+    fn are_hexagons(self, network: &NetRows<'_>) -> bool {
         for node in 0..network.nodes() {
-            if !self.has_hexagon(node, network.neighbours(node).unwrap_or(&[])) {
+            if !self.has_hexagon(node, network.neighbours_of(node)) {
                 return false;
             }
         }
@@ -127,9 +127,9 @@ impl Rows {
     }
 
     /// Whether the links of a network are those of nodes that stand in these rows.
-    fn are_of(self, network: &Network) -> bool {
+    fn are_of(self, network: &NetRows<'_>) -> bool {
         for node in 0..network.nodes() {
-            let neighbours = network.neighbours(node).unwrap_or(&[]);
+            let neighbours = network.neighbours_of(node);
             if !self.links_next(node, neighbours)
                 || !self.links_below(node, neighbours)
                 || !self.touch_all(node, neighbours)
@@ -152,8 +152,8 @@ fn rows_of(nodes: u32, width: u32) -> Option<Rows> {
 
 /// How many nodes stand in a row of the grid or torus that the links of a network show, where they show one: node 0 is linked
 /// with the one below it.
-fn shown_width(network: &Network) -> Option<u32> {
-    for neighbour in network.neighbours(0).unwrap_or(&[]) {
+fn shown_width(network: &NetRows<'_>) -> Option<u32> {
+    for neighbour in network.neighbours_of(0) {
         if let Some(rows) = rows_of(network.nodes(), *neighbour) {
             if rows.are_of(network) {
                 return Some(rows.width);
@@ -164,7 +164,7 @@ fn shown_width(network: &Network) -> Option<u32> {
 }
 
 /// The shape of the cells that nodes are which stand in rows of a width, by their links.
-pub(crate) fn cell_shape(network: &Network, width: u32) -> CellShape {
+pub(crate) fn cell_shape(network: &NetRows<'_>, width: u32) -> CellShape {
     match rows_of(network.nodes(), width) {
         Some(rows) if rows.are_hexagons(network) => CellShape::Hexagon,
         _ => CellShape::Square,
@@ -201,7 +201,7 @@ fn note_width(rt: &HostRuntime, width: u32, shown: Option<u32>) -> Result<(), En
 }
 
 /// The same width, where it makes whole rows of the nodes; a note tells where the links show another one.
-fn checked_width(rt: &HostRuntime, network: &Network, width: u32) -> Result<u32, Ending> {
+fn checked_width(rt: &HostRuntime, network: &NetRows<'_>, width: u32) -> Result<u32, Ending> {
     let nodes = network.nodes();
     if nodes.checked_rem(width) != Some(0) {
         return Err(no_rows(rt.alloc(), nodes, width));
@@ -213,7 +213,7 @@ fn checked_width(rt: &HostRuntime, network: &Network, width: u32) -> Result<u32,
 /// How many nodes of a network stand in a row of the grid that words ask for.
 pub(crate) fn grid_width(
     rt: &HostRuntime,
-    network: &Network,
+    network: &NetRows<'_>,
     grid: GridWidth,
 ) -> Result<u32, Ending> {
     match grid {

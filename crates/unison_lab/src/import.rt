@@ -1,9 +1,12 @@
-//! `import FORMAT FILE`: a network from another format, and the names of its nodes.
+//! `import FORMAT FILE`: a network from another format, as a network file or packed, and the names of its nodes.
 
+use crate::binary::check_output;
 use crate::endings::asked_by;
 use crate::import_columns::{columns_for, looks_headed, names_headings};
+use crate::import_packed::{MadeNetwork, packed_beyond, takes_any_size};
 use crate::json_refusals::json_refusal;
-use crate::refusals::refusal;
+use crate::large::pack::text_bytes;
+use crate::refusals::{is_too_large, refusal};
 use app_files::{Ending, bytes_at, name_at, put_note, write_file, write_out};
 use app_requests::{Delimiter, Format, ImportRequest};
 use app_table::Draft;
@@ -16,6 +19,7 @@ use import_network::{
 };
 use std::alloc::{AllocError, Global};
 use std::io;
+use std::thread::Threads;
 
 /// The network of a table of edges.
 fn take_rows(
@@ -142,15 +146,15 @@ fn guesses_edge(alloc: Global, asked: &ImportRequest, text: &[u8]) -> Result<boo
 /// What was made of a text, and what was guessed: that the first line is an edge, that weights stand in it.
 #[derive(Drop)]
 struct Imported {
-    taken: Taken,
+    made: MadeNetwork,
     guesses_edge: bool,
     guesses_weights: bool,
 }
 
 /// Writes the names into their file, where there is one.
-fn keep_names(rt: &HostRuntime, asked: &ImportRequest, taken: &Taken) -> Result<(), Ending> {
+fn keep_names(rt: &HostRuntime, asked: &ImportRequest, made: &MadeNetwork) -> Result<(), Ending> {
     match &asked.names {
-        Some(path) => write_file(rt, path.as_str(), taken.names.as_slice()),
+        Some(path) => write_file(rt, path.as_str(), made.names.as_slice()),
         None => Ok(()),
     }
 }
@@ -166,22 +170,22 @@ fn put_guess(draft: &mut Draft, was_guessed: bool, told: &str) {
 /// How many edges were dropped or merged, and how many weights rounded; and what was guessed. Nothing where nothing was.
 fn notes_text(alloc: Global, imported: &Imported) -> Result<String, AllocError> {
     let mut draft = Draft::new(alloc);
-    let taken = &imported.taken;
+    let made = &imported.made;
     put_note(
         &mut draft,
         "dropped",
-        taken.dropped as u64,
+        made.dropped,
         "edge",
         " of a node with itself",
     );
     put_note(
         &mut draft,
         "merged",
-        taken.merged as u64,
+        made.merged,
         "edge",
         " into an earlier one",
     );
-    put_note(&mut draft, "rounded", taken.rounded as u64, "weight", "");
+    put_note(&mut draft, "rounded", made.rounded, "weight", "");
     put_guess(
         &mut draft,
         imported.guesses_edge,
@@ -203,6 +207,19 @@ fn tell_notes(rt: &HostRuntime, notes: &str) -> io::Result<()> {
     Ok(())
 }
 
+/// What is told beside where a text is too large for a network file: the way to a packed network, where there is one.
+fn way_of(asked: &ImportRequest) -> &'static str {
+    if takes_any_size(asked) {
+        return "; with --packed any number of nodes and links is taken";
+    }
+    match asked.format {
+        Format::Edges => {
+            "; --packed takes any number, but not with --columns, and of words that blanks, tabs or commas part (--delimiter any)"
+        }
+        _ => "",
+    }
+}
+
 /// What is told where a text has no network.
 fn refusal_text(
     alloc: Global,
@@ -211,9 +228,14 @@ fn refusal_text(
     fault: TakeFault,
 ) -> Result<String, AllocError> {
     let name = name_at(asked.path.as_str());
+    let way = if is_too_large(fault) {
+        way_of(asked)
+    } else {
+        ""
+    };
     match asked.format {
         Format::Json => json_refusal(alloc, name, text, fault),
-        _ => refusal(alloc, asked.format, name, fault),
+        _ => refusal(alloc, asked.format, name, fault, way),
     }
 }
 
@@ -222,46 +244,101 @@ fn no_network(alloc: Global, asked: &ImportRequest, text: &[u8], fault: TakeFaul
     Ending::refused(refusal_text(alloc, asked, text, fault))
 }
 
+/// A network file as it is printed, or where that is asked the packed network of it.
+fn printed(alloc: Global, asked: &ImportRequest, file: Vec<u8>) -> Result<Vec<u8>, Ending> {
+    if asked.packed {
+        return text_bytes(alloc, &file);
+    }
+    Ok(file)
+}
+
+/// What is made of a network file that was taken from a text.
+fn made_of(alloc: Global, asked: &ImportRequest, taken: Taken) -> Result<MadeNetwork, Ending> {
+    let Taken {
+        network,
+        names,
+        dropped,
+        merged,
+        rounded,
+    } = taken;
+    let bytes = printed(alloc, asked, network)?;
+    Ok(MadeNetwork {
+        bytes,
+        names,
+        dropped: dropped as u64,
+        merged: merged as u64,
+        rounded: rounded as u64,
+    })
+}
+
+/// What is made of a text that has no network file: a packed network where that is asked and only the size is in the way.
+fn made_without_file(
+    rt: &HostRuntime,
+    threads: &(impl Threads + Sync),
+    asked: &ImportRequest,
+    text: &[u8],
+    fault: TakeFault,
+) -> Result<MadeNetwork, Ending> {
+    if asked.packed && takes_any_size(asked) && is_too_large(fault) {
+        return packed_beyond(rt.alloc(), threads, asked, text);
+    }
+    Err(no_network(rt.alloc(), asked, text, fault))
+}
+
 /// The network of this text, or what is told where it has none.
-fn taken_from(alloc: Global, asked: &ImportRequest, text: &[u8]) -> Result<Taken, Ending> {
-    let columns = columns_for(alloc, asked, text)?;
-    match take_text(alloc, text, asked, columns) {
-        Ok(taken) => Ok(taken),
-        Err(fault) => Err(no_network(alloc, asked, text, fault)),
+fn made_from(
+    rt: &HostRuntime,
+    threads: &(impl Threads + Sync),
+    asked: &ImportRequest,
+    text: &[u8],
+) -> Result<MadeNetwork, Ending> {
+    let columns = columns_for(rt.alloc(), asked, text)?;
+    match take_text(rt.alloc(), text, asked, columns) {
+        Ok(taken) => made_of(rt.alloc(), asked, taken),
+        Err(fault) => made_without_file(rt, threads, asked, text, fault),
     }
 }
 
 /// What is made of this text, or what is told where it has no network.
-fn import_from(alloc: Global, asked: &ImportRequest, text: &[u8]) -> Result<Imported, Ending> {
-    let taken = taken_from(alloc, asked, text)?;
-    let guesses_edge = guesses_edge(alloc, asked, text)?;
+fn import_from(
+    rt: &HostRuntime,
+    threads: &(impl Threads + Sync),
+    asked: &ImportRequest,
+    text: &[u8],
+) -> Result<Imported, Ending> {
+    let made = made_from(rt, threads, asked, text)?;
+    let guesses_edge = guesses_edge(rt.alloc(), asked, text)?;
     Ok(Imported {
-        taken,
+        made,
         guesses_edge,
         guesses_weights: guesses_weights(asked, text),
     })
 }
 
 /// What is made of the text that is asked for, or what is told where it has no network.
-fn import_for(rt: &HostRuntime, asked: &ImportRequest) -> Result<Imported, Ending> {
+fn import_for(
+    rt: &HostRuntime,
+    threads: &(impl Threads + Sync),
+    asked: &ImportRequest,
+) -> Result<Imported, Ending> {
     let text = bytes_at(rt, asked.path.as_str())?;
-    import_from(rt.alloc(), asked, &text)
+    import_from(rt, threads, asked, &text)
 }
 
 /// Writes the names of the nodes, and prints the network.
-fn put_texts(rt: &HostRuntime, asked: &ImportRequest, taken: &Taken) -> Result<(), Ending> {
-    keep_names(rt, asked, taken)?;
-    write_out(rt, taken.network.as_slice())
+fn put_texts(rt: &HostRuntime, asked: &ImportRequest, made: &MadeNetwork) -> Result<(), Ending> {
+    keep_names(rt, asked, made)?;
+    write_out(rt, made.bytes.as_slice())
 }
 
 /// Writes the names of the nodes, prints the network, and tells these notes. The status with which the program ends.
 fn put_noted(
     rt: &HostRuntime,
     asked: &ImportRequest,
-    taken: &Taken,
+    made: &MadeNetwork,
     notes: &str,
 ) -> Result<u8, Ending> {
-    put_texts(rt, asked, taken)?;
+    put_texts(rt, asked, made)?;
     let _ = tell_notes(rt, notes);
     Ok(0)
 }
@@ -270,18 +347,35 @@ fn put_noted(
 /// ends.
 fn put_import(rt: &HostRuntime, asked: &ImportRequest, imported: &Imported) -> Result<u8, Ending> {
     let notes = notes_text(rt.alloc(), imported)?;
-    put_noted(rt, asked, &imported.taken, notes.as_str())
+    put_noted(rt, asked, &imported.made, notes.as_str())
+}
+
+/// Refuses a terminal as standard output, where a packed network is asked for.
+fn check_packed(rt: &HostRuntime, asked: &ImportRequest) -> Result<(), Ending> {
+    if asked.packed {
+        return check_output(rt);
+    }
+    Ok(())
 }
 
 /// Does what is asked for. The status with which the program ends.
-fn import(rt: &HostRuntime, asked: &ImportRequest) -> Result<u8, Ending> {
-    let imported = import_for(rt, asked)?;
+fn import(
+    rt: &HostRuntime,
+    threads: &(impl Threads + Sync),
+    asked: &ImportRequest,
+) -> Result<u8, Ending> {
+    check_packed(rt, asked)?;
+    let imported = import_for(rt, threads, asked)?;
     put_import(rt, asked, &imported)
 }
 
 /// Prints the network of a text in another format, and writes the names of its nodes before. The status with which the
 /// program ends.
-pub(crate) fn import_network(rt: &HostRuntime, words: &[String]) -> Result<u8, Ending> {
+pub(crate) fn import_network(
+    rt: &HostRuntime,
+    threads: &(impl Threads + Sync),
+    words: &[String],
+) -> Result<u8, Ending> {
     let asked = asked_by(ImportRequest::parse(rt.alloc(), words))?;
-    import(rt, &asked)
+    import(rt, threads, &asked)
 }

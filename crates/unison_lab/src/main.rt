@@ -1,9 +1,13 @@
 //! Unison's other commands, beside the five of `unison_cli`.
 #![tactic(auto)]
 
+mod arrays;
+mod binary;
 mod cells;
+mod columns;
 mod count;
 mod count_runs;
+mod counts;
 mod csv_text;
 mod cuts;
 mod endings;
@@ -14,14 +18,17 @@ mod grid;
 mod help;
 mod import;
 mod import_columns;
+mod import_packed;
 mod info;
 mod init;
+mod initial;
 mod json_refusals;
 mod labels;
 mod large;
 mod naive;
 mod names;
 mod notes;
+mod packed;
 mod page;
 mod page_names;
 mod page_size;
@@ -31,8 +38,11 @@ mod plan_texts;
 mod progress;
 mod refusals;
 mod report_cells;
+mod round_report;
+mod run_plan;
 mod schedule;
 mod settle;
+mod shown_rounds;
 mod text_lines;
 mod verify;
 mod watch;
@@ -53,6 +63,7 @@ use crate::naive::tell_naive;
 use crate::page::make_page;
 use crate::picture::{make_dot, make_image};
 use crate::report_cells::print_cells;
+use crate::round_report::report_round;
 use crate::schedule::make_schedule;
 use crate::settle::settle_rounds;
 use crate::verify::verify_trace;
@@ -83,16 +94,17 @@ fn run_task(
         Task::Completion => print_completion(rt, words),
         Task::Count => count_rounds(rt, threads, words),
         Task::Csv => print_csv(rt, words),
-        Task::Cuts => tell_cuts(rt, words),
+        Task::Cuts => tell_cuts(rt, threads, words),
         Task::Dot => make_dot(rt, threads, words),
         Task::Expand => expand_model(rt, words),
         Task::Explain => explain_schedule(rt, words),
         Task::Generate => generate_network(rt, words),
         Task::Image => make_image(rt, threads, words),
-        Task::Import => import_network(rt, words),
-        Task::Info => show_info(rt, words),
+        Task::Import => import_network(rt, threads, words),
+        Task::Info => show_info(rt, threads, words),
         Task::Init => init_network(rt, words),
         Task::Large => run_large(rt, threads, words),
+        Task::Lockstep => report_round(rt, threads, words),
         Task::Manual => print_manual(rt, words),
         Task::Naive => tell_naive(rt, words),
         Task::Pack => pack_network(rt, threads, words),

@@ -2,7 +2,7 @@
 
 use app_files::{Ending, NamedProgram, name_at, program_name, slips_in};
 use app_why::{Named, cut_note};
-use link_net::Network;
+use link_net::NetRows;
 use run_picture::{Colour, ValueColour, is_in_palette};
 use std::alloc::{AllocError, Global};
 
@@ -16,14 +16,14 @@ fn note_of(
     alloc: Global,
     path: &str,
     program: &[u8],
-    network: &Network,
+    rows: &NetRows<'_>,
 ) -> Result<Option<String>, AllocError> {
     let name = program_name(alloc, path)?;
     let named = Named {
         name: name.as_str(),
         text: program,
     };
-    cut_note(alloc, named, network)
+    cut_note(alloc, named, rows)
 }
 
 /// The text that was given for a program: of a model its own, not that to which it is expanded.
@@ -35,11 +35,7 @@ fn given_text(program: &NamedProgram) -> &[u8] {
 }
 
 /// Prints notes on what is accepted in the program or the model at a path and rarely meant, a line for each.
-pub(crate) fn put_slip_notes(
-    rt: &HostRuntime,
-    path: &str,
-    program: &NamedProgram,
-) -> Result<(), Ending> {
+fn put_slip_notes(rt: &HostRuntime, path: &str, program: &NamedProgram) -> Result<(), Ending> {
     let named = Named {
         name: name_at(path),
         text: given_text(program),
@@ -53,16 +49,27 @@ pub(crate) fn put_slip_notes(
 
 /// Prints a note where products or totals of a program can be cut on a network, so that a run may have other values than the
 /// program seems to say.
-pub(crate) fn put_cut_note(
+fn put_cut_note(
     rt: &HostRuntime,
     path: &str,
     program: &[u8],
-    network: &Network,
+    rows: &NetRows<'_>,
 ) -> Result<(), Ending> {
-    if let Some(note) = note_of(rt.alloc(), path, program, network)? {
+    if let Some(note) = note_of(rt.alloc(), path, program, rows)? {
         put_note(rt, note.as_str());
     }
     Ok(())
+}
+
+/// Prints the notes on a program or a model at a path, on a network.
+pub(crate) fn put_program_notes(
+    rt: &HostRuntime,
+    path: &str,
+    program: &NamedProgram,
+    rows: &NetRows<'_>,
+) -> Result<(), Ending> {
+    put_slip_notes(rt, path, program)?;
+    put_cut_note(rt, path, &program.text, rows)
 }
 
 /// Whether two colours are the same.

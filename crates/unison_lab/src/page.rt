@@ -13,6 +13,7 @@ use app_files::{Ending, bytes_at, name_at, path_in, print_out, shown_fields};
 use app_jobs::ServeFault;
 use app_requests::{PageRequest, PageRun};
 use rounds_plan::Plan;
+use rounds_walk::PlanRef;
 use run_page::{EmbedFault, Look, PageFault, embedded, naive_data, rounds_data, steps_data};
 use run_settle::{SettleFault, Settling, settle};
 use run_watch::{Format, Span, WatchFault};
@@ -41,7 +42,7 @@ fn no_data(alloc: Global, fault: PageFault) -> Ending {
 
 /// What becomes of the rounds of a plan up to a round, where that is told: of programs that do not read the round.
 fn settling_of(alloc: Global, plan: &Plan, limit: u32) -> Result<Option<Settling>, Ending> {
-    match settle(alloc, plan, limit) {
+    match settle(alloc, &PlanRef::of_plan(plan), limit) {
         Ok(settling) => Ok(Some(settling)),
         Err(SettleFault::Memory) => Err(Ending::Memory),
         Err(_) => Ok(None),
@@ -154,7 +155,7 @@ fn run_text(
 /// The width of the grid that is asked for, on the network of a plan, where there is one.
 fn grid_of(rt: &HostRuntime, plan: &Plan, asked: &PageRequest) -> Result<Option<u32>, Ending> {
     match asked.view.grid {
-        Some(grid) => grid_width(rt, plan.network(), grid).map(Some),
+        Some(grid) => grid_width(rt, &plan.network().rows(), grid).map(Some),
         None => Ok(None),
     }
 }

@@ -7,10 +7,13 @@ use crate::notes::put_colour_notes;
 use crate::picture_files::RoundFiles;
 use crate::plan_texts::{NamedPlan, named_plan_at, read_plan_once};
 use crate::progress::Telling;
+use crate::run_plan::{file_run_at, read_run_once, source_at};
 use crate::watch::no_rounds;
 use app_files::{Ending, coloured_field, names_of_field, path_in, print_out};
 use app_requests::{DotRequest, GridWidth, ImageRequest};
+use link_net::NetRows;
 use rounds_plan::Plan;
+use rounds_walk::PlanRef;
 use run_picture::{
     CellShape, Layout, MOST_CELLS, MOST_CURVES, MOST_FRAMES, MOST_POINTS, MOST_STROKES,
     PictureFault, StylesFault, ValueColour, ValueStyles, count_picture, grid_picture,
@@ -109,9 +112,9 @@ fn styles_for<'a>(
 }
 
 /// The shape of the cells of a picture: that of the grid on which the nodes stand by their links, where they are drawn as one.
-fn shape_for(plan: &Plan, asked: &ImageRequest) -> CellShape {
+fn shape_for(rows: &NetRows<'_>, asked: &ImageRequest) -> CellShape {
     match asked.grid {
-        Some(GridWidth::Given(width)) => cell_shape(plan.network(), width),
+        Some(GridWidth::Given(width)) => cell_shape(rows, width),
         _ => CellShape::Square,
     }
 }
@@ -120,7 +123,7 @@ fn shape_for(plan: &Plan, asked: &ImageRequest) -> CellShape {
 fn rounds_or_curves(
     alloc: Global,
     threads: &(impl Threads + Sync),
-    plan: &Plan,
+    plan: &PlanRef<'_>,
     asked: &ImageRequest,
     field: u32,
     styles: &ValueStyles<'_>,
@@ -137,13 +140,13 @@ fn rounds_or_curves(
 fn drawn_rounds(
     rt: &HostRuntime,
     threads: &(impl Threads + Sync),
-    plan: &Plan,
+    plan: &PlanRef<'_>,
     asked: &ImageRequest,
     field: u32,
     styles: &ValueStyles<'_>,
 ) -> Result<Vec<u8>, PictureFault> {
     let span = &asked.span;
-    let mut telling = Telling::new(rt, span, plan.network().nodes());
+    let mut telling = Telling::new(rt, span, plan.nodes());
     rounds_or_curves(
         rt.alloc(),
         threads,
@@ -184,7 +187,7 @@ fn drawn_network(
 fn drawn_grids(
     rt: &HostRuntime,
     threads: &(impl Threads + Sync),
-    plan: &Plan,
+    plan: &PlanRef<'_>,
     asked: &ImageRequest,
     field: u32,
     time: u32,
@@ -193,7 +196,7 @@ fn drawn_grids(
     let alloc = rt.alloc();
     let span = &asked.span;
     let width = GridWidth::number(asked.grid);
-    let mut telling = Telling::new(rt, span, plan.network().nodes());
+    let mut telling = Telling::new(rt, span, plan.nodes());
     moving_picture(
         threads,
         alloc,
@@ -211,7 +214,7 @@ fn drawn_grids(
 fn drawn_grid(
     rt: &HostRuntime,
     threads: &(impl Threads + Sync),
-    plan: &Plan,
+    plan: &PlanRef<'_>,
     asked: &ImageRequest,
     field: u32,
     styles: &ValueStyles<'_>,
@@ -223,42 +226,59 @@ fn drawn_grid(
     }
 }
 
-/// The picture of rounds, of one of them as a grid or a network, or of each in turn, coloured by a field, or the curves of its
-/// counts.
-fn drawn(
+/// The picture of rounds, or of one of them or each in turn as a grid, coloured by a field, or the curves of its counts.
+fn drawn_cells(
     rt: &HostRuntime,
     threads: &(impl Threads + Sync),
-    plan: &Plan,
+    plan: &PlanRef<'_>,
     asked: &ImageRequest,
     field: u32,
     styles: &ValueStyles<'_>,
 ) -> Result<Vec<u8>, PictureFault> {
-    if asked.links {
-        return drawn_network(rt, threads, plan, asked, field, styles);
-    }
     if asked.grid.is_some() {
         return drawn_grid(rt, threads, plan, asked, field, styles);
     }
     drawn_rounds(rt, threads, plan, asked, field, styles)
 }
 
-/// The picture of a plan, coloured so by a field.
-fn drawn_in_style(
-    rt: &HostRuntime,
-    threads: &(impl Threads + Sync),
-    plan: &Plan,
-    asked: &ImageRequest,
-    field: u32,
-    styles: &ValueStyles<'_>,
-) -> Result<Vec<u8>, Ending> {
-    match drawn(rt, threads, plan, asked, field, styles) {
+/// A picture, where there is one.
+fn picture_in(alloc: Global, drawn: Result<Vec<u8>, PictureFault>) -> Result<Vec<u8>, Ending> {
+    match drawn {
         Ok(text) => Ok(text),
-        Err(fault) => Err(no_picture(rt.alloc(), fault)),
+        Err(fault) => Err(no_picture(alloc, fault)),
     }
 }
 
-/// The picture of a plan, coloured by a field.
-fn styled_picture(
+/// The picture of a run, coloured by a field.
+fn styled_cells(
+    rt: &HostRuntime,
+    threads: &(impl Threads + Sync),
+    plan: &PlanRef<'_>,
+    names: &[Vec<String>],
+    asked: &ImageRequest,
+    field: u32,
+) -> Result<Vec<u8>, Ending> {
+    let names = names_of_field(names, field);
+    let shape = shape_for(&plan.rows(), asked);
+    let styles = styles_for(rt.alloc(), names, &asked.colours, shape)?;
+    let drawn = drawn_cells(rt, threads, plan, asked, field, &styles);
+    picture_in(rt.alloc(), drawn)
+}
+
+/// The picture of a run.
+fn cells_of(
+    rt: &HostRuntime,
+    threads: &(impl Threads + Sync),
+    plan: &PlanRef<'_>,
+    names: &[Vec<String>],
+    asked: &ImageRequest,
+) -> Result<Vec<u8>, Ending> {
+    let field = coloured_field(rt.alloc(), plan.program(), &asked.field)?;
+    styled_cells(rt, threads, plan, names, asked, field)
+}
+
+/// The picture of a plan's network, coloured by a field.
+fn styled_network(
     rt: &HostRuntime,
     threads: &(impl Threads + Sync),
     named: &NamedPlan,
@@ -266,20 +286,20 @@ fn styled_picture(
     field: u32,
 ) -> Result<Vec<u8>, Ending> {
     let names = names_of_field(&named.names, field);
-    let shape = shape_for(&named.plan, asked);
-    let styles = styles_for(rt.alloc(), names, &asked.colours, shape)?;
-    drawn_in_style(rt, threads, &named.plan, asked, field, &styles)
+    let styles = styles_for(rt.alloc(), names, &asked.colours, CellShape::Square)?;
+    let drawn = drawn_network(rt, threads, &named.plan, asked, field, &styles);
+    picture_in(rt.alloc(), drawn)
 }
 
-/// The picture of a plan.
-fn picture_of(
+/// The picture of a plan's network.
+fn network_picture_of(
     rt: &HostRuntime,
     threads: &(impl Threads + Sync),
     named: &NamedPlan,
     asked: &ImageRequest,
 ) -> Result<Vec<u8>, Ending> {
     let field = coloured_field(rt.alloc(), named.plan.program(), &asked.field)?;
-    styled_picture(rt, threads, named, asked, field)
+    styled_network(rt, threads, named, asked, field)
 }
 
 /// How the nodes of single rounds are drawn.
@@ -329,7 +349,7 @@ fn round_texts(
     field: u32,
 ) -> Result<Vec<Vec<u8>>, Ending> {
     let names = names_of_field(&named.names, field);
-    let shape = shape_for(&named.plan, asked);
+    let shape = shape_for(&named.plan.network().rows(), asked);
     let styles = styles_for(rt.alloc(), names, &asked.colours, shape)?;
     rounds_in_style(rt, threads, &named.plan, asked, field, &styles)
 }
@@ -381,19 +401,7 @@ fn put_files_of(
     put_coloured(rt, threads, named, asked, field, folder)
 }
 
-/// Prints the picture of a plan that is asked for. The status with which the program ends.
-fn put_picture(
-    rt: &HostRuntime,
-    threads: &(impl Threads + Sync),
-    named: &NamedPlan,
-    asked: &ImageRequest,
-) -> Result<u8, Ending> {
-    let text = picture_of(rt, threads, named, asked)?;
-    print_out(rt, &text)
-}
-
-/// Prints the picture of a plan that is asked for, or writes those of all rounds into files. The status with which the program
-/// ends.
+/// Prints the picture of a plan's network, or writes those of all rounds into files. The status with which the program ends.
 fn put_drawn(
     rt: &HostRuntime,
     threads: &(impl Threads + Sync),
@@ -402,30 +410,59 @@ fn put_drawn(
 ) -> Result<u8, Ending> {
     match &asked.frames {
         Some(folder) => put_files_of(rt, threads, named, asked, folder.as_str()),
-        None => put_picture(rt, threads, named, asked),
+        None => {
+            let text = network_picture_of(rt, threads, named, asked)?;
+            print_out(rt, &text)
+        }
     }
 }
 
-/// Notes the width of the grid that is asked for, on the network of a plan.
-fn set_width(rt: &HostRuntime, plan: &Plan, asked: &mut ImageRequest) -> Result<(), Ending> {
+/// Notes the width of the grid that is asked for, on a network.
+fn set_width(rt: &HostRuntime, rows: &NetRows<'_>, asked: &mut ImageRequest) -> Result<(), Ending> {
     if let Some(grid) = asked.grid {
-        let width = grid_width(rt, plan.network(), grid)?;
+        let width = grid_width(rt, rows, grid)?;
         asked.grid = Some(GridWidth::Given(width));
     }
-    Ok(())
+    put_colour_notes(rt, &asked.colours)
+}
+
+/// Prints the picture of a network file's network, or writes those of all rounds into files. The status with which the program
+/// ends.
+fn put_plan(
+    rt: &HostRuntime,
+    threads: &(impl Threads + Sync),
+    mut asked: ImageRequest,
+) -> Result<u8, Ending> {
+    let named = file_run_at(rt, &asked.texts)?;
+    set_width(rt, &named.plan.network().rows(), &mut asked)?;
+    put_drawn(rt, threads, &named, &asked)
+}
+
+/// Prints the picture of a run. The status with which the program ends.
+fn put_run(
+    rt: &HostRuntime,
+    threads: &(impl Threads + Sync),
+    mut asked: ImageRequest,
+) -> Result<u8, Ending> {
+    let source = source_at(rt, threads, &asked.texts)?;
+    let ground = source.ground(rt, &asked.texts)?;
+    let plan = ground.lent(rt.alloc())?;
+    set_width(rt, &plan.rows(), &mut asked)?;
+    let text = cells_of(rt, threads, &plan, &source.program.names, &asked)?;
+    print_out(rt, &text)
 }
 
 /// Prints the picture that is asked for, or writes those of all rounds into files. The status with which the program ends.
 fn put_image(
     rt: &HostRuntime,
     threads: &(impl Threads + Sync),
-    mut asked: ImageRequest,
+    asked: ImageRequest,
 ) -> Result<u8, Ending> {
-    read_plan_once(rt.alloc(), &asked.plan, "", "", "")?;
-    let named = named_plan_at(rt, &asked.plan)?;
-    set_width(rt, &named.plan, &mut asked)?;
-    put_colour_notes(rt, &asked.colours)?;
-    put_drawn(rt, threads, &named, &asked)
+    read_run_once(rt.alloc(), &asked.texts, "")?;
+    if asked.links || asked.frames.is_some() {
+        return put_plan(rt, threads, asked);
+    }
+    put_run(rt, threads, asked)
 }
 
 /// Prints a picture of rounds, or writes one of each into a file. The status with which the program ends.

@@ -1,6 +1,6 @@
 //! Plans of the texts that the words name.
 
-use crate::notes::{put_cut_note, put_slip_notes};
+use crate::notes::put_program_notes;
 use app_files::{
     Ending, NamedProgram, bytes_where, named_program_at, network_at, path_in, program_at, read_once,
 };
@@ -82,7 +82,8 @@ fn named_plan_with(
     Ok(NamedPlan { plan, names })
 }
 
-/// The same, where notes on the program are printed unless they are left out.
+/// The plan of this program and of the network and the report at these paths, where notes on the program are printed unless
+/// they are left out.
 fn noted_plan_with(
     rt: &HostRuntime,
     paths: &PlanPaths,
@@ -91,8 +92,8 @@ fn noted_plan_with(
 ) -> Result<NamedPlan, Ending> {
     let plan = plan_with(rt, paths, &program.text)?;
     if !quiet {
-        put_slip_notes(rt, paths.program.as_str(), &program)?;
-        put_cut_note(rt, paths.program.as_str(), &program.text, plan.network())?;
+        let (path, rows) = (paths.program.as_str(), plan.network().rows());
+        put_program_notes(rt, path, &program, &rows)?;
     }
     let NamedProgram { names, .. } = program;
     Ok(NamedPlan { plan, names })

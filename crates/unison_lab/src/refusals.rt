@@ -274,7 +274,7 @@ fn put_detail(draft: &mut Draft, fault: TakeFault) {
 }
 
 /// Whether a text says more than a network file may have.
-fn is_too_large(fault: TakeFault) -> bool {
+pub(crate) fn is_too_large(fault: TakeFault) -> bool {
     match fault {
         TakeFault::Join(JoinFault::TooManyNodes { .. })
         | TakeFault::Numbers(NumberFault::NumberTooLarge { .. })
@@ -289,23 +289,13 @@ fn is_too_large(fault: TakeFault) -> bool {
     }
 }
 
-/// Adds by which command a text of this format is packed, where it is too large for a network file.
-fn put_way(draft: &mut Draft, format: Format, fault: TakeFault) {
-    if is_too_large(fault) {
-        draft.put(match format {
-            Format::Edges => "; unison pack edges takes networks of any size",
-            Format::MatrixMarket => "; unison pack matrix-market takes networks of any size",
-            Format::Dot | Format::Json => "",
-        });
-    }
-}
-
-/// What is told where a text of this format has no network.
+/// What is told where a text of this format has no network, and behind it the way to one, where there is a way.
 pub(crate) fn refusal(
     alloc: Global,
     format: Format,
     name: &str,
     fault: TakeFault,
+    way: &str,
 ) -> Result<String, AllocError> {
     let (line, kind, why) = told_of(fault);
     if kind == "Memory" {
@@ -320,6 +310,6 @@ pub(crate) fn refusal(
     draft.put(": ");
     draft.put(why);
     put_detail(&mut draft, fault);
-    put_way(&mut draft, format, fault);
+    draft.put(way);
     draft.end()
 }

@@ -1,69 +1,57 @@
-//! `settle PROGRAM NETWORK`: from which round on nothing changes, or all states come again.
+//! `settle PROGRAM NETWORK` and `large settle`: from which round on nothing changes, or all states come again.
 
 use crate::endings::asked_by;
-use crate::plan_texts::{noted_plan_at, read_plan_once};
-use crate::progress::Silent;
-use crate::watch::no_rounds;
-use app_files::{Ending, all_fields, not_settled, print_out, settled_round, settling_line};
-use app_requests::SettleRequest;
-use rounds_plan::Plan;
-use run_settle::{Settling, settle};
-use run_watch::{Format, Show, Span, watched};
+use crate::round_report::states_after;
+use crate::run_plan::{Ground, read_run_once, source_at, threads_for};
+use crate::shown_rounds::start_of;
+use app_files::{Ending, not_settled, print_out, settled_round, settling_line};
+use app_requests::{RunTexts, SettleRequest};
+use report_text::report_states;
+use rounds_walk::PlanRef;
+use run_settle::{Settling, settle_shared};
 use std::alloc::{AllocError, Global};
 use std::thread::Threads;
 
-/// The report of rounds of which these fields are shown.
-fn report_with(
+/// What becomes of the rounds of a plan, whose program stands at a path, up to a limit; they are shared among so many
+/// threads.
+fn found_for(
     alloc: Global,
     threads: &(impl Threads + Sync),
-    plan: &Plan,
-    span: &Span,
-    fields: &[u32],
-) -> Result<Vec<u8>, Ending> {
-    let show = Show {
-        format: Format::Report,
-        fields,
-        labels: &[],
-        names: &[],
-        changes: false,
-    };
-    watched(threads, alloc, plan, span, &show, &mut Silent).map_err(no_rounds)
-}
-
-/// The report of rounds.
-fn report_in(
-    alloc: Global,
-    threads: &(impl Threads + Sync),
-    plan: &Plan,
-    span: &Span,
-) -> Result<Vec<u8>, Ending> {
-    let fields = all_fields(alloc, plan.program())?;
-    report_with(alloc, threads, plan, span, &fields)
-}
-
-/// The report of a round: what is watched where it is the first and the last one.
-fn report_of(
-    alloc: Global,
-    threads: &(impl Threads + Sync),
-    plan: &Plan,
-    round: u32,
-) -> Result<Vec<u8>, Ending> {
-    match Span::new(round, round, 1) {
-        Some(span) => report_in(alloc, threads, plan, &span),
-        None => Ok(Vec::new(alloc)),
+    plan: &PlanRef<'_>,
+    path: &str,
+    limit: u32,
+    count: usize,
+) -> Result<Settling, Ending> {
+    match settle_shared(threads, alloc, plan, limit, count) {
+        Ok(found) => Ok(found),
+        Err(fault) => Err(not_settled(alloc, path, fault)),
     }
 }
 
-/// The report of the round that was found, where it is asked for.
+/// The report of a round of a plan.
+fn report_of(
+    alloc: Global,
+    threads: &(impl Threads + Sync),
+    plan: &PlanRef<'_>,
+    round: u32,
+    count: usize,
+) -> Result<Vec<u8>, Ending> {
+    let start = start_of(alloc, plan, count)?;
+    let states = states_after(alloc, threads, &start, round, count)?;
+    Ok(report_states(alloc, plan.program(), round, &states)?)
+}
+
+/// The report of the round that was found; nothing where there is none, or none is asked for.
 fn found_report(
     alloc: Global,
     threads: &(impl Threads + Sync),
-    plan: &Plan,
-    asked: &SettleRequest,
+    plan: &PlanRef<'_>,
     found: Settling,
+    count: usize,
+    is_reported: bool,
 ) -> Result<Vec<u8>, Ending> {
     match settled_round(found) {
-        Some(round) if asked.report => report_of(alloc, threads, plan, round),
+        Some(round) if is_reported => report_of(alloc, threads, plan, round, count),
         _ => Ok(Vec::new(alloc)),
     }
 }
@@ -75,45 +63,35 @@ fn text_with(alloc: Global, found: Settling, report: &[u8]) -> Result<Vec<u8>, A
     Ok(text)
 }
 
-/// What was found, and the report of its round where it is asked for.
+/// What becomes of the rounds of a plan, whose program stands at a path, as text.
 fn text_of(
     alloc: Global,
     threads: &(impl Threads + Sync),
-    plan: &Plan,
-    asked: &SettleRequest,
-    found: Settling,
+    plan: &PlanRef<'_>,
+    path: &str,
+    limit: u32,
+    count: usize,
+    is_reported: bool,
 ) -> Result<Vec<u8>, Ending> {
-    let report = found_report(alloc, threads, plan, asked, found)?;
-    text_with(alloc, found, &report).map_err(Ending::from)
+    let found = found_for(alloc, threads, plan, path, limit, count)?;
+    let report = found_report(alloc, threads, plan, found, count, is_reported)?;
+    Ok(text_with(alloc, found, &report)?)
 }
 
-/// What becomes of the rounds of the plan that is asked for.
-fn found_for(alloc: Global, plan: &Plan, asked: &SettleRequest) -> Result<Settling, Ending> {
-    match settle(alloc, plan, asked.limit) {
-        Ok(found) => Ok(found),
-        Err(fault) => Err(not_settled(alloc, asked.plan.program.as_str(), fault)),
-    }
-}
-
-/// What is told of a plan.
-fn told_of(
-    alloc: Global,
-    threads: &(impl Threads + Sync),
-    plan: &Plan,
-    asked: &SettleRequest,
-) -> Result<Vec<u8>, Ending> {
-    let found = found_for(alloc, plan, asked)?;
-    text_of(alloc, threads, plan, asked, found)
-}
-
-/// What is told of the plan that is asked for.
-fn text_for(
+/// Prints what becomes of the rounds of a plan. The status with which the program ends.
+pub(crate) fn settle_run(
     rt: &HostRuntime,
     threads: &(impl Threads + Sync),
-    asked: &SettleRequest,
-) -> Result<Vec<u8>, Ending> {
-    let named = noted_plan_at(rt, &asked.plan, asked.quiet)?;
-    told_of(rt.alloc(), threads, &named.plan, asked)
+    ground: &Ground<'_>,
+    texts: &RunTexts,
+    limit: u32,
+    is_reported: bool,
+) -> Result<u8, Ending> {
+    let (alloc, path) = (rt.alloc(), texts.plan.program.as_str());
+    let plan = ground.lent(alloc)?;
+    let count = threads_for(threads, texts);
+    let text = text_of(alloc, threads, &plan, path, limit, count, is_reported)?;
+    print_out(rt, &text)
 }
 
 /// Prints what is told of the plan that is asked for. The status with which the program ends.
@@ -122,9 +100,11 @@ fn put_told(
     threads: &(impl Threads + Sync),
     asked: &SettleRequest,
 ) -> Result<u8, Ending> {
-    read_plan_once(rt.alloc(), &asked.plan, "", "", "")?;
-    let text = text_for(rt, threads, asked)?;
-    print_out(rt, &text)
+    read_run_once(rt.alloc(), &asked.texts, "")?;
+    let texts = &asked.texts;
+    let source = source_at(rt, threads, texts)?;
+    let ground = source.noted_ground(rt, texts, asked.quiet)?;
+    settle_run(rt, threads, &ground, texts, asked.limit, asked.report)
 }
 
 /// Tells from which round on nothing changes, or all states come again. The status with which the program ends.

@@ -2,14 +2,15 @@
 
 use crate::endings::asked_by;
 use crate::labels::labels_at;
-use crate::plan_texts::{NamedPlan, noted_plan_at, read_plan_once};
 use crate::progress::Telling;
+use crate::run_plan::{read_run_once, source_at, threads_for};
 use app_files::{Ending, path_in, print_out, shown_fields};
 use app_jobs::ServeFault;
 use app_requests::WatchRequest;
-use rounds_plan::{Plan, RoundFault};
+use rounds_plan::RoundFault;
+use rounds_walk::PlanRef;
 use rule_check::Program;
-use run_watch::{Format, Show, Span, WatchFault, watched};
+use run_watch::{Format, Show, WatchFault, watched};
 use std::alloc::Global;
 use std::thread::Threads;
 
@@ -54,55 +55,60 @@ pub(crate) fn no_rounds(fault: WatchFault) -> Ending {
 fn watched_text(
     rt: &HostRuntime,
     threads: &(impl Threads + Sync),
-    plan: &Plan,
-    span: &Span,
+    plan: &PlanRef<'_>,
+    asked: &WatchRequest,
     show: &Show<'_>,
 ) -> Result<Vec<u8>, Ending> {
-    let mut telling = Telling::new(rt, span, plan.network().nodes());
-    watched(threads, rt.alloc(), plan, span, show, &mut telling).map_err(no_rounds)
+    let (alloc, span) = (rt.alloc(), &asked.span);
+    let count = threads_for(threads, &asked.texts);
+    let mut telling = Telling::new(rt, span, plan.nodes());
+    watched(threads, alloc, plan, span, show, count, &mut telling).map_err(no_rounds)
 }
 
 /// The text of the rounds, these fields being shown.
 fn shown_text(
     rt: &HostRuntime,
     threads: &(impl Threads + Sync),
-    named: &NamedPlan,
+    plan: &PlanRef<'_>,
+    names: &[Vec<String>],
     asked: &WatchRequest,
     fields: &[u32],
 ) -> Result<Vec<u8>, Ending> {
-    let nodes = named.plan.network().nodes();
+    let nodes = plan.nodes();
     let labels = labels_at(rt, asked.view.format, &asked.view.names, nodes)?;
     let show = Show {
         format: asked.view.format,
         fields,
         labels: &labels,
-        names: &named.names,
+        names,
         changes: asked.view.changes,
     };
-    watched_text(rt, threads, &named.plan, &asked.span, &show)
+    watched_text(rt, threads, plan, asked, &show)
 }
 
 /// The text of the rounds, these fields being shown, where they may be.
 fn text_with(
     rt: &HostRuntime,
     threads: &(impl Threads + Sync),
-    named: &NamedPlan,
+    plan: &PlanRef<'_>,
+    names: &[Vec<String>],
     asked: &WatchRequest,
     fields: &[u32],
 ) -> Result<Vec<u8>, Ending> {
-    check_headings(rt.alloc(), named.plan.program(), asked.view.format, fields)?;
-    shown_text(rt, threads, named, asked, fields)
+    check_headings(rt.alloc(), plan.program(), asked.view.format, fields)?;
+    shown_text(rt, threads, plan, names, asked, fields)
 }
 
 /// The text of the rounds of a plan.
 fn text_of(
     rt: &HostRuntime,
     threads: &(impl Threads + Sync),
-    named: &NamedPlan,
+    plan: &PlanRef<'_>,
+    names: &[Vec<String>],
     asked: &WatchRequest,
 ) -> Result<Vec<u8>, Ending> {
-    let fields = shown_fields(rt.alloc(), named.plan.program(), &asked.view.only)?;
-    text_with(rt, threads, named, asked, &fields)
+    let fields = shown_fields(rt.alloc(), plan.program(), &asked.view.only)?;
+    text_with(rt, threads, plan, names, asked, &fields)
 }
 
 /// The text of the rounds that are asked for.
@@ -111,8 +117,10 @@ fn text_for(
     threads: &(impl Threads + Sync),
     asked: &WatchRequest,
 ) -> Result<Vec<u8>, Ending> {
-    let named = noted_plan_at(rt, &asked.plan, asked.quiet)?;
-    text_of(rt, threads, &named, asked)
+    let source = source_at(rt, threads, &asked.texts)?;
+    let ground = source.noted_ground(rt, &asked.texts, asked.quiet)?;
+    let plan = ground.lent(rt.alloc())?;
+    text_of(rt, threads, &plan, &source.program.names, asked)
 }
 
 /// Prints the rounds that are asked for. The status with which the program ends.
@@ -121,7 +129,7 @@ fn put_rounds(
     threads: &(impl Threads + Sync),
     asked: &WatchRequest,
 ) -> Result<u8, Ending> {
-    read_plan_once(rt.alloc(), &asked.plan, path_in(&asked.view.names), "", "")?;
+    read_run_once(rt.alloc(), &asked.texts, path_in(&asked.view.names))?;
     let text = text_for(rt, threads, asked)?;
     print_out(rt, &text)
 }

@@ -10,8 +10,7 @@ use app_jobs::ServeFault;
 use app_requests::{PlanPaths, constants_among};
 use app_why::{Finding, Named, Texts, why};
 use app_words::{Request, UsageFault, command_as, job_by};
-use model_program::{ModelProgramFault, expanded};
-use model_rules::Given;
+use model_rules::{Given, ModelProgramFault, expanded};
 use std::alloc::{AllocError, Global};
 
 /// What stands behind the help of `why`.

@@ -17,7 +17,7 @@ use crate::large::lists::check_lists;
 use crate::large::states::{put_states, states_of};
 use app_jobs::program_of;
 use link_net::NetRows;
-use rounds_walk::{MOST_ROUNDS, RoundFault, Start, StartFault};
+use rounds_walk::{MOST_ROUNDS, PlanRef, RoundFault, Start};
 use rule_check::{Program, State};
 use std::alloc::{AllocError, Global};
 
@@ -47,9 +47,8 @@ pub(crate) fn plan_on<'a>(
     requires plan { start_of program.now rows opening.now start ≡ Ok (given_plan program.now rows opening.now start) }
     ensures plan { IfOk result (λ plan. plan ≡ given_plan program.now rows.entry opening.now start) }
 {
-    match Start::new(alloc, program, rows, opening, start) {
-        Ok(plan) => Ok(plan),
-        Err(StartFault::Memory) => Err(AllocError),
+    match PlanRef::new(program, rows, opening, start) {
+        Ok(plan) => Start::new(alloc, &plan),
         Err(_) => unreachable!(),
     }
 }

@@ -1,7 +1,7 @@
 //! `large info`: what one wants to know of a network of any size.
 
-use crate::large::network::network_at;
-use app_files::{Ending, print_out};
+use crate::packed::packed_in;
+use app_files::{Ending, bytes_at, print_out};
 use large_net::LargeNetwork;
 use link_net::NetRows;
 use std::alloc::{AllocError, Global};
@@ -76,7 +76,7 @@ fn put_lines(text: &mut String, network: &LargeNetwork) -> Result<(), AllocError
 }
 
 /// The lines about a network.
-fn lines_of(alloc: Global, network: &LargeNetwork) -> Result<String, AllocError> {
+pub(crate) fn large_lines(alloc: Global, network: &LargeNetwork) -> Result<String, AllocError> {
     let mut text = String::new(alloc);
     put_lines(&mut text, network)?;
     Ok(text)
@@ -88,7 +88,8 @@ pub(crate) fn show_info(
     threads: &impl Threads,
     path: &str,
 ) -> Result<u8, Ending> {
-    let network = network_at(rt, threads, path)?;
-    let lines = lines_of(rt.alloc(), &network)?;
+    let bytes = bytes_at(rt, path)?;
+    let network = packed_in(rt, threads, path, &bytes)?;
+    let lines = large_lines(rt.alloc(), &network)?;
     print_out(rt, lines.as_bytes())
 }

@@ -1,27 +1,47 @@
 //! Networks of any size: `pack` and `large`.
 
-mod arrays;
-mod binary;
-mod columns;
-mod counts;
 mod info;
-mod network;
-mod pack;
-mod refusals;
-mod reports;
-mod rounds;
-mod settle;
-mod start;
+pub(crate) mod pack;
+pub(crate) mod refusals;
 mod watch;
 
+pub(crate) use crate::large::info::large_lines;
 use crate::large::info::show_info;
-use crate::large::rounds::report_round;
-use crate::large::settle::settle_rounds;
 use crate::large::watch::watch_rounds;
+use crate::round_report::report_run;
+use crate::run_plan::{packed_source_at, read_run_once};
+use crate::settle::settle_run;
 use app_files::Ending;
-use app_requests::LargeRequest;
+use app_requests::{LargeRequest, RunTexts, StatesView};
 pub(crate) use pack::pack_network;
 use std::thread::Threads;
+
+/// Prints what is shown of the states after a round. The status with which the program ends.
+fn report_round(
+    rt: &HostRuntime,
+    threads: &(impl Threads + Sync),
+    texts: &RunTexts,
+    rounds: u32,
+    view: &StatesView,
+) -> Result<u8, Ending> {
+    read_run_once(rt.alloc(), texts, "")?;
+    let source = packed_source_at(rt, threads, texts)?;
+    report_run(rt, threads, source, texts, rounds, view, true)
+}
+
+/// Tells from which round on nothing changes, or all states come again. The status with which the program ends.
+fn settle_rounds(
+    rt: &HostRuntime,
+    threads: &(impl Threads + Sync),
+    texts: &RunTexts,
+    limit: u32,
+    is_reported: bool,
+) -> Result<u8, Ending> {
+    read_run_once(rt.alloc(), texts, "")?;
+    let source = packed_source_at(rt, threads, texts)?;
+    let ground = source.ground(rt, texts)?;
+    settle_run(rt, threads, &ground, texts, limit, is_reported)
+}
 
 /// Does what `large` is asked for. The status with which the program ends.
 fn serve_large(

@@ -1,6 +1,6 @@
 //! `pack`: a network of any size as a binary file.
 
-use crate::large::binary::check_output;
+use crate::binary::check_output;
 use crate::large::refusals::{matrix_refusal, names_refusal, refusal};
 use app_files::{Ending, bytes_at, file_at, name_at, print_out, put_note, write_file};
 use app_requests::PackRequest;
@@ -8,7 +8,7 @@ use app_table::Draft;
 use import_network::{MatrixOptions, NamedNetwork, pack_matrix, pack_names};
 use large_net::{LargeNetwork, large_bytes};
 use large_pack::{PackOptions, Packed, pack_edges};
-use link_net::NetFile;
+use link_net::{NetFile, read_network};
 use net_names::list_text;
 use net_random::{LargeRandom, LargeRandomFault, large_random};
 use net_shapes::{LargeShape, LargeShapeFault, large_shape};
@@ -36,16 +36,19 @@ struct Output {
     notes: String,
 }
 
-/// The binary file of a network, with these notes.
-fn output_of(alloc: Global, network: &LargeNetwork, notes: String) -> Result<Output, Ending> {
-    let bytes = large_bytes(alloc, network)?;
-    Ok(Output { bytes, notes })
+/// A binary file beside which nothing is told.
+fn plain_output(alloc: Global, bytes: Vec<u8>) -> Output {
+    Output {
+        bytes,
+        notes: String::new(alloc),
+    }
 }
 
 /// The binary file of a network that is packed, with its notes.
 fn packed_output(alloc: Global, packed: &Packed) -> Result<Output, Ending> {
     let notes = notes_text(alloc, packed)?;
-    output_of(alloc, &packed.network, notes)
+    let bytes = large_bytes(alloc, &packed.network)?;
+    Ok(Output { bytes, notes })
 }
 
 /// The binary file of the list of edges at a path.
@@ -103,15 +106,24 @@ fn names_at(
 }
 
 /// The binary file of a network file's network.
-fn copied(alloc: Global, file: &NetFile) -> Result<Output, Ending> {
+fn file_bytes(alloc: Global, file: &NetFile) -> Result<Vec<u8>, Ending> {
     let network = LargeNetwork::of_network(alloc, file.network())?;
-    output_of(alloc, &network, String::new(alloc))
+    Ok(large_bytes(alloc, &network)?)
+}
+
+/// The binary file of the network of a network file with this text.
+pub(crate) fn text_bytes(alloc: Global, text: &[u8]) -> Result<Vec<u8>, Ending> {
+    match read_network(alloc, text) {
+        Ok(file) => file_bytes(alloc, &file),
+        Err(fault) => Err(Ending::Network(fault)),
+    }
 }
 
 /// The binary file of the network file at a path.
 fn copied_at(rt: &HostRuntime, path: &str) -> Result<Output, Ending> {
     let file = file_at(rt, path)?;
-    copied(rt.alloc(), &file)
+    let bytes = file_bytes(rt.alloc(), &file)?;
+    Ok(plain_output(rt.alloc(), bytes))
 }
 
 /// The ending where a shape has no network.
@@ -127,9 +139,9 @@ fn no_shape(alloc: Global, fault: LargeShapeFault) -> Ending {
 }
 
 /// The binary file of a shape.
-fn shape_of(alloc: Global, shape: LargeShape) -> Result<Output, Ending> {
+pub(crate) fn shape_bytes(alloc: Global, shape: LargeShape) -> Result<Vec<u8>, Ending> {
     match large_shape(alloc, shape) {
-        Ok(network) => output_of(alloc, &network, String::new(alloc)),
+        Ok(network) => Ok(large_bytes(alloc, &network)?),
         Err(fault) => Err(no_shape(alloc, fault)),
     }
 }
@@ -147,11 +159,27 @@ fn no_random(alloc: Global, fault: LargeRandomFault) -> Ending {
 }
 
 /// The binary file of the random network that a seed draws.
-fn random_of(alloc: Global, wanted: LargeRandom, seed: u32) -> Result<Output, Ending> {
+pub(crate) fn random_bytes(
+    alloc: Global,
+    wanted: LargeRandom,
+    seed: u32,
+) -> Result<Vec<u8>, Ending> {
     match large_random(alloc, wanted, seed as u64) {
-        Ok(network) => output_of(alloc, &network, String::new(alloc)),
+        Ok(network) => Ok(large_bytes(alloc, &network)?),
         Err(fault) => Err(no_random(alloc, fault)),
     }
+}
+
+/// The binary file of a shape, beside which nothing is told.
+fn shape_output(alloc: Global, shape: LargeShape) -> Result<Output, Ending> {
+    let bytes = shape_bytes(alloc, shape)?;
+    Ok(plain_output(alloc, bytes))
+}
+
+/// The binary file of the random network that a seed draws, beside which nothing is told.
+fn random_output(alloc: Global, wanted: LargeRandom, seed: u32) -> Result<Output, Ending> {
+    let bytes = random_bytes(alloc, wanted, seed)?;
+    Ok(plain_output(alloc, bytes))
 }
 
 /// The binary file that is asked for.
@@ -173,8 +201,8 @@ fn output_for(
         } => names_at(rt, path.as_str(), options, names.as_str()),
         PackRequest::Matrix { path, options } => matrix_at(rt, path.as_str(), options),
         PackRequest::Network { path } => copied_at(rt, path.as_str()),
-        PackRequest::Shape(shape) => shape_of(rt.alloc(), *shape),
-        PackRequest::Random { wanted, seed } => random_of(rt.alloc(), *wanted, *seed),
+        PackRequest::Shape(shape) => shape_output(rt.alloc(), *shape),
+        PackRequest::Random { wanted, seed } => random_output(rt.alloc(), *wanted, *seed),
     }
 }
 

@@ -1,219 +1,168 @@
 //! `large watch`: how many nodes changed, or have each value, round by round.
 
-use crate::large::columns::watch_column;
-use crate::large::counts::{counted, put_counts};
-use crate::large::rounds::{no_round, plan_of, states_at, threads_for};
-use crate::large::start::{Setup, start_at};
-use crate::progress::Telling;
-use app_files::{Ending, names_of_field, print_out};
-use app_requests::{LargeTexts, RoundsView};
+use crate::binary::check_output;
+use crate::columns::{ShownField, column_output};
+use crate::counts::{counted, put_counts};
+use crate::round_report::no_round;
+use crate::run_plan::{packed_source_at, read_run_once, threads_for};
+use crate::shown_rounds::{ShownRounds, start_of};
+use app_files::{Ending, field_place, names_of_field, print_out};
+use app_requests::{ColumnFormat, RoundsView, RunTexts};
 use rounds_plan::RoundFault;
-use rounds_walk::{RoundWalk, Start, changed_nodes};
-use rule_check::State;
+use rounds_walk::{PlanRef, changed_nodes};
+use rule_check::Program;
 use run_watch::Span;
-use std::alloc::{AllocError, Global};
+use std::alloc::AllocError;
 use std::thread::Threads;
 
-/// What is shown of each round.
-#[derive(Clone, Copy)]
-enum Show {
-    /// How many nodes changed since the round that was shown before.
-    Changes,
-    /// How many nodes have each value of the field at this place.
-    Counts(u32),
-}
-
-impl Show {
-    /// The line that stands first.
-    fn heading(self) -> &'static str {
-        match self {
-            Show::Changes => "round,changed\n",
-            Show::Counts(_) => "round,value,nodes\n",
-        }
-    }
-}
-
-/// Adds how many nodes changed up to a round, before which these were the states. Those of the round.
-fn put_change(
-    threads: &(impl Threads + Sync),
+/// Adds how many nodes changed in each shown round since the one before; in the first one none.
+fn put_changes<R: Threads + Sync>(
     text: &mut String,
-    alloc: Global,
-    walk: &mut RoundWalk<'_>,
-    round: u32,
-    before: &[State],
-    telling: &mut Telling<'_>,
-) -> Result<Vec<State>, AllocError> {
-    let states = states_at(alloc, threads, walk, round, telling)?;
-    let changed = changed_nodes(before, &states);
-    write!(text, "{round},{changed}\n")?;
-    Ok(states)
-}
-
-/// Adds how many nodes changed in each round of a span since the round before in it; in the first one none.
-fn put_changes(
-    threads: &(impl Threads + Sync),
-    text: &mut String,
-    alloc: Global,
-    walk: &mut RoundWalk<'_>,
-    span: &Span,
-    telling: &mut Telling<'_>,
+    rounds: &mut ShownRounds<'_, R>,
 ) -> Result<(), AllocError> {
+    let span = rounds.span();
     write!(text, "{},0\n", span.first())?;
-    let mut before = states_at(alloc, threads, walk, span.first(), telling)?;
+    let mut before = rounds.states(span.first())?;
     for step in 1..=span.steps() {
         let round = span.round_at(step);
-        before = put_change(threads, text, alloc, walk, round, &before, telling)?;
+        let states = rounds.states(round)?;
+        let changed = changed_nodes(&before, &states);
+        write!(text, "{round},{changed}\n")?;
+        before = states;
     }
     Ok(())
 }
 
-/// Adds how many nodes have each value of a field in each round of a span; the values have these names.
-fn put_all_counts(
-    threads: &(impl Threads + Sync),
+/// Adds how many nodes have each value of a field in each shown round; the values have these names.
+fn put_all_counts<R: Threads + Sync>(
     text: &mut String,
-    alloc: Global,
-    walk: &mut RoundWalk<'_>,
-    span: &Span,
+    rounds: &mut ShownRounds<'_, R>,
     field: u32,
     names: &[String],
-    telling: &mut Telling<'_>,
 ) -> Result<(), AllocError> {
+    let (alloc, span) = (rounds.alloc(), rounds.span());
     for step in 0..=span.steps() {
         let round = span.round_at(step);
-        let states = states_at(alloc, threads, walk, round, telling)?;
+        let states = rounds.states(round)?;
         put_counts(text, alloc, round, &states, field, names)?;
     }
     Ok(())
 }
 
-/// Adds what is shown of each round of a span; the values of fields have these names.
-fn put_rounds(
-    threads: &(impl Threads + Sync),
-    text: &mut String,
-    alloc: Global,
-    walk: &mut RoundWalk<'_>,
-    span: &Span,
-    show: Show,
-    names: &[Vec<String>],
-    telling: &mut Telling<'_>,
-) -> Result<(), AllocError> {
-    match show {
-        Show::Changes => put_changes(threads, text, alloc, walk, span, telling),
-        Show::Counts(field) => {
-            let names = names_of_field(names, field);
-            put_all_counts(threads, text, alloc, walk, span, field, names, telling)
-        }
-    }
+/// The text of the shown rounds: how many nodes changed in each.
+fn changes_text<R: Threads + Sync>(rounds: &mut ShownRounds<'_, R>) -> Result<String, AllocError> {
+    let mut text = String::from_str(rounds.alloc(), "round,changed\n")?;
+    put_changes(&mut text, rounds)?;
+    Ok(text)
+}
+
+/// The text of the shown rounds: how many nodes have each value of a field in each; the values have these names.
+fn counts_text<R: Threads + Sync>(
+    rounds: &mut ShownRounds<'_, R>,
+    field: u32,
+    names: &[String],
+) -> Result<String, AllocError> {
+    let mut text = String::from_str(rounds.alloc(), "round,value,nodes\n")?;
+    put_all_counts(&mut text, rounds, field, names)?;
+    Ok(text)
 }
 
 /// Refuses a round before the start.
-fn check_span(start: &Setup, span: &Span) -> Result<(), Ending> {
-    if span.first() < start.opening.round {
+fn check_span(plan: &PlanRef<'_>, span: &Span) -> Result<(), Ending> {
+    if span.first() < plan.start() {
         return Err(no_round(RoundFault::RoundsBelowStart));
     }
     Ok(())
 }
 
-/// Adds what is shown of the rounds of a span of a plan, which are shared among so many threads.
-fn put_along<'a>(
-    rt: &HostRuntime,
-    threads: &(impl Threads + Sync),
-    text: &mut String,
-    start: &Setup,
-    plan: &'a Start<'a>,
-    span: &Span,
-    show: Show,
-    count: usize,
-) -> Result<(), AllocError> {
-    let alloc = rt.alloc();
-    let mut walk = plan.shared_walk(alloc, count)?;
-    let mut telling = Telling::of_rounds(rt, start.opening.round, span.round_at(span.steps()));
-    let names = start.names.as_slice();
-    put_rounds(
-        threads,
-        text,
-        alloc,
-        &mut walk,
-        span,
-        show,
-        names,
-        &mut telling,
-    )
+/// What is shown of each round, where fields have their places.
+#[derive(Clone, Copy)]
+enum Show {
+    /// How many nodes changed since the round that was shown before.
+    Changes,
+    /// How many nodes have each value of the field at a place.
+    Counts(u32),
+    /// The field at a place, of all nodes.
+    Column { place: u32, format: ColumnFormat },
 }
 
-/// The text of the rounds of a span of a plan.
-fn text_along<'a>(
-    rt: &HostRuntime,
-    threads: &(impl Threads + Sync),
-    start: &Setup,
-    plan: &'a Start<'a>,
-    span: &Span,
-    show: Show,
-    count: usize,
-) -> Result<String, AllocError> {
-    let mut text = String::from_str(rt.alloc(), show.heading())?;
-    put_along(rt, threads, &mut text, start, plan, span, show, count)?;
-    Ok(text)
-}
-
-/// The text of the rounds of a span, which are shared among so many threads.
-fn text_of(
-    rt: &HostRuntime,
-    threads: &(impl Threads + Sync),
-    start: &Setup,
-    span: &Span,
-    show: Show,
-    count: usize,
-) -> Result<String, Ending> {
-    let plan = plan_of(rt.alloc(), start, count)?;
-    Ok(text_along(rt, threads, start, &plan, span, show, count)?)
-}
-
-/// Prints what is shown of the rounds of a span, which are shared among so many threads. The status with which the program
-/// ends.
-fn print_rounds(
-    rt: &HostRuntime,
-    threads: &(impl Threads + Sync),
-    start: &Setup,
-    span: &Span,
-    show: Show,
-    count: usize,
-) -> Result<u8, Ending> {
-    let text = text_of(rt, threads, start, span, show, count)?;
-    print_out(rt, text.as_bytes())
-}
-
-/// Prints what the words ask for of the rounds of a span. The status with which the program ends.
-fn print_view(
-    rt: &HostRuntime,
-    threads: &(impl Threads + Sync),
-    start: &Setup,
-    span: &Span,
-    view: &RoundsView,
-    count: usize,
-) -> Result<u8, Ending> {
-    match view {
-        RoundsView::Changes => print_rounds(rt, threads, start, span, Show::Changes, count),
-        RoundsView::Counts(name) => {
-            let field = counted(rt.alloc(), &start.program, name.as_str())?;
-            print_rounds(rt, threads, start, span, Show::Counts(field), count)
+impl Show {
+    /// What the words ask for. An array is refused where standard output is a terminal.
+    fn of(rt: &HostRuntime, program: &Program, view: &RoundsView) -> Result<Show, Ending> {
+        match view {
+            RoundsView::Changes => Ok(Show::Changes),
+            RoundsView::Counts(name) => {
+                let field = counted(rt.alloc(), program, name.as_str())?;
+                Ok(Show::Counts(field))
+            }
+            RoundsView::Column { field, format } => {
+                if *format == ColumnFormat::Npy {
+                    check_output(rt)?;
+                }
+                let place = field_place(rt.alloc(), program, "--field", field.as_str())?;
+                let format = *format;
+                Ok(Show::Column { place, format })
+            }
         }
-        RoundsView::Column { field, format } => {
-            let name = field.as_str();
-            watch_column(rt, threads, start, span, name, *format, count)
+    }
+
+    /// What is printed of the shown rounds of a program on so many nodes; the values of fields have these names.
+    fn output<R: Threads + Sync>(
+        self,
+        rounds: &mut ShownRounds<'_, R>,
+        program: &Program,
+        names: &[Vec<String>],
+        nodes: u32,
+    ) -> Result<Vec<u8>, Ending> {
+        match self {
+            Show::Changes => Ok(changes_text(rounds)?.into_bytes()),
+            Show::Counts(field) => {
+                let names = names_of_field(names, field);
+                Ok(counts_text(rounds, field, names)?.into_bytes())
+            }
+            Show::Column { place, format } => {
+                let field = ShownField {
+                    place,
+                    name: program.field_name(place).unwrap_or(""),
+                    values: names_of_field(names, place),
+                };
+                column_output(rounds, field, nodes, format)
+            }
         }
     }
 }
 
-/// Prints the rounds of a span. The status with which the program ends.
-pub(crate) fn watch_rounds(
+/// What is printed of the rounds of a span of a plan, each shared among so many threads; the values of fields have these
+/// names.
+fn output_of<R: Threads + Sync>(
     rt: &HostRuntime,
-    threads: &(impl Threads + Sync),
-    texts: &LargeTexts,
+    threads: &R,
+    plan: &PlanRef<'_>,
+    names: &[Vec<String>],
+    span: &Span,
+    show: Show,
+    count: usize,
+) -> Result<Vec<u8>, Ending> {
+    let start = start_of(rt.alloc(), plan, count)?;
+    let mut rounds = ShownRounds::new(rt, threads, &start, span, count)?;
+    show.output(&mut rounds, plan.program(), names, plan.nodes())
+}
+
+/// Prints the rounds of a span. The status with which the program ends.
+pub(crate) fn watch_rounds<R: Threads + Sync>(
+    rt: &HostRuntime,
+    threads: &R,
+    texts: &RunTexts,
     span: &Span,
     view: &RoundsView,
 ) -> Result<u8, Ending> {
-    let start = start_at(rt, threads, texts)?;
-    check_span(&start, span)?;
-    print_view(rt, threads, &start, span, view, threads_for(threads, texts))
+    read_run_once(rt.alloc(), texts, "")?;
+    let source = packed_source_at(rt, threads, texts)?;
+    let ground = source.ground(rt, texts)?;
+    let (plan, count) = (ground.lent(rt.alloc())?, threads_for(threads, texts));
+    check_span(&plan, span)?;
+    let show = Show::of(rt, plan.program(), view)?;
+    let names = &source.program.names;
+    let output = output_of(rt, threads, &plan, names, span, show, count)?;
+    print_out(rt, &output)
 }

@@ -1,6 +1,6 @@
 use Rattle.std.proofs.Common.{List, [], ℕ, Option, rules, subst}
 use Rattle.app_jobs.specs.Served.{IsUnscheduled}
-use Rattle.app_first_fault.specs.FirstFault.{IsFirstFault}
+use Rattle.app_jobs.specs.FirstFault.{IsFirstFault}
 use Rattle.app_calls.proofs.Unread.{unscheduled_first}
 use Rattle.app_calls.proofs.reasons.texts_of.Goals as goal
 

@@ -8,5 +8,5 @@ pub returns : goal.returns
 returns c = record {
   within = λ network rules round u at whole weights.
       let bounds : Bounds = record { id = 65535; degree = 4096; weight = M } in
-      here_within bounds network rules round u at whole (omega (arith, whole.nodes)) whole.degrees weights;
+      here_within bounds network rules round u at whole.within (omega (arith, whole.nodes)) whole.degrees weights;
 }

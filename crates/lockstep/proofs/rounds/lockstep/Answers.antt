@@ -10,7 +10,7 @@ pub returns-clause-exact : goal.returns-clause-exact
 returns-clause-exact c =
     let a = c.args in
     let config = λ (v : RoundView). lockstep_config v.plan v.round in
-    let from : c.in_ok-walk.walk.plan ≡ a.plan.now = ap (λ (v : RoundView). v.plan) c.in_ok-walk.ensures.start ∙ c.in_ok-start.ensures.plan in
+    let from : c.in_ok-walk.walk.plan ≡ a.plan.now = ap (λ (v : RoundView). v.plan) c.in_ok-walk.ensures.start ∙ c.in_ok-start.ensures.plan ∙ c.of_plan.ensures.plan in
     let is : c.in_ok-config.field-0 ≡ lockstep_config a.plan.now a.rounds =
     c.in_ok-config.ensures.exact ∙ ap config c.go_to.ensures.there ∙ ap (λ (p : PlanView). lockstep_config p a.rounds) from in
     let late : a.plan.now.start ≤ a.rounds = omega (arith, c.in_ok-check_round.ensures.there.0, c.start.ensures.start) in

@@ -4,7 +4,7 @@ use Rattle.rule_lang.specs.View.{items_of as rules_of}
 use Rattle.model_text.specs.View.{items_of}
 use Rattle.model_rules.specs.ScopeView.{frame_of, givens_of}
 use Rattle.model_rules.specs.Models.{setting}
-use Rattle.model_rules.proofs.Expanded.{next_by, initials_by, all_in_states, same_fields}
+use Rattle.model_rules.proofs.Expanding.{next_by, initials_by, all_in_states, same_fields}
 use Rattle.model_rules.proofs.Accepted.{accepted}
 use Rattle.model_rules.proofs.RefusalsTold.{first_refused, model_sound, is_program}
 use Rattle.model_rules.proofs.Wrong.{by_names, by_definitions, by_rules, by_none, made_is}

@@ -1,4 +1,4 @@
-use Rattle.std.proofs.Common.{◌≡◌, length, map, None, Some}
+use Rattle.std.proofs.Common.{length, map}
 use Rattle.std.proofs.lemmas.List.{length-map}
 use Rattle.report_text.specs.ReadReport.{IsStateOf}
 use Rattle.report_text.specs.Report.{fields_text}

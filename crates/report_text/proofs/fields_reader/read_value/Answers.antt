@@ -1,4 +1,4 @@
-use Rattle.std.proofs.Common.{◌≡◌, ◌∙◌, ◌++◌, ◌<◌, ◌^◌, ℕ, ap, codes, None}
+use Rattle.std.proofs.Common.{◌∙◌, ◌++◌, ap, codes, None}
 use Rattle.std.specs.Fmt.{decimal}
 use Rattle.report_text.specs.Front.{Ends}
 use Rattle.report_text.proofs.Fronts.{lead, lead_none}

@@ -1,4 +1,4 @@
-use Rattle.std.proofs.Common.{◌≡◌, ◌≢◌, ◌∙◌, ◌<◌, ◌≤◌, ◌^◌, ◌+◌, ◌++◌, get_or-set_other, length, get_or, take, drop, map, ap, sym, subst, arith, None, Some}
+use Rattle.std.proofs.Common.{◌≢◌, ◌∙◌, ◌<◌, ◌≤◌, ◌^◌, ◌+◌, ◌++◌, get_or-set_other, length, get_or, drop, map, ap, subst, arith, None, Some}
 use Rattle.std.proofs.lemmas.List.{take_all, length-set, length-map}
 use Rattle.std.proofs.lemmas.List.Elements.{All-set}
 use Rattle.report_text.specs.Front.{IsFront, Ends}

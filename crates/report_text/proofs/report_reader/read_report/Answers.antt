@@ -1,64 +1,67 @@
-use Rattle.std.proofs.Common.{All, ◌≡◌, ◌≤◌, ◌∙◌, length, sym, ap, subst, arith, Ok}
-use Rattle.rule_check.specs.Value.{names_of}
-use Rattle.rule_check.specs.WellFormed.{IsFieldName}
-use Rattle.rounds_plan.specs.Configs.{Configuration}
-use Rattle.report_text.specs.NodeLines.{HasNodeLines, IsStopped}
-use Rattle.report_text.proofs.ReportOnce.{round_first}
-use Rattle.report_text.proofs.BadLines.{bad_round, good_round}
-use Rattle.report_text.proofs.Refusals.{is_report, only_report, err_memory, err_refused, low_round, high_round}
+use Rattle.std.proofs.Common.{◌≡◌, ◌≤◌, ◌∙◌, All, Err, Ok, ap, arith, length, subst, sym}
+use Rattle.std.proofs.lemmas.Grind.{common_steps}
+use Rattle.std.proofs.lemmas.Result.{err_from_is_err_and}
+use Rattle.rounds_plan.specs.Configs.{IsPlain, most_rounds}
+use Rattle.report_text.specs.ReadReport.{IsReportOf}
+use Rattle.report_text.proofs.Elsewhere.{bad_line_on_nodes, config_read, refused_of_plan, report_of_plan, report_on_nodes}
 use Rattle.report_text.proofs.report_reader.read_report.Goals as goal
 
-pub returns-in_default-clause-refused : goal.returns-in_default-clause-refused
-returns-in_default-clause-refused c = bad_round c.args.plan.now c.args.text.now c.in_default.ensures
+pub returns-in_err-read-clause-every_report : goal.returns-in_err-read-clause-every_report
+returns-in_err-read-clause-every_report c report is =
+    let count = c.nodes.ensures.count ∙ ap length c.network.ensures.network in
+    let told = err_from_is_err_and c.from_residual.result c.from_residual.ensures.1 in
+    rw (told.1, told.2) (c.in_err-read.ensures.every_report report (report_on_nodes c.args.plan.now c.program.result.now c.nodes.result c.program.ensures.program count c.args.text.now report is))
 
-pub returns-in_err-states-clause-every_report : goal.returns-in_err-states-clause-every_report
-returns-in_err-states-clause-every_report c report is =
+pub returns-in_err-read-clause-refused : goal.returns-in_err-read-clause-refused
+returns-in_err-read-clause-refused c =
+    let count = c.nodes.ensures.count ∙ ap length c.network.ensures.network in
+    let told = err_from_is_err_and c.from_residual.result c.from_residual.ensures.1 in
+    rw (told.1, told.2) (refused_of_plan c.args.plan.now c.program.result.now c.nodes.result c.program.ensures.program count c.args.text.now c.in_err-read.field-0.0 c.in_err-read.ensures.refused)
+
+pub returns-in_err-read-clause-at_once : goal.returns-in_err-read-clause-at_once
+returns-in_err-read-clause-at_once c first =
+    let count = c.nodes.ensures.count ∙ ap length c.network.ensures.network in
+    let told = err_from_is_err_and c.from_residual.result c.from_residual.ensures.1 in
+    told.1 ∙ ap Err told.2 ∙ c.in_err-read.ensures.at_once (bad_line_on_nodes c.args.plan.now c.program.result.now c.nodes.result c.program.ensures.program count c.args.text.now 1 first)
+
+pub of-requires-clause-nodes : goal.of-requires-clause-nodes
+of-requires-clause-nodes c =
+    let count = c.nodes.ensures.count ∙ ap length c.network.ensures.network in
+    let there = report_of_plan c.args.plan.now c.program.result.now c.nodes.result c.program.ensures.program count c.args.text.now c.in_ok-read.read c.in_ok-read.ensures.report.0 in
+    let long : length c.into_states.result.items ≡ length c.args.plan.now.network = ap length c.into_states.ensures.states ∙ there.shape.nodes in
+    grind (arith, common_steps, long)
+
+pub of-requires-clause-plain : goal.of-requires-clause-plain
+of-requires-clause-plain c =
     let p = c.args.plan.now in
-    let lines = c.in-Some.lines.now in
-    let fault = c.in_err-states.field-0.0 in
-    let stop = c.in_err-states.ensures.bad in
-    err_memory p c.phase-phase.ensures.whole.fields c.args.text.now lines c.in-Some.rounds c.in-Some.ensures.1 c.in-Some.ensures.0 c.from_residual.result fault c.from_residual.ensures.1 stop report is
+    let count = c.nodes.ensures.count ∙ ap length c.network.ensures.network in
+    let there = report_of_plan p c.program.result.now c.nodes.result c.program.ensures.program count c.args.text.now c.in_ok-read.read c.in_ok-read.ensures.report.0 in
+    subst (All (IsPlain (length p.program.fields))) (sym c.into_states.ensures.states) (λ k d inside. (there.shape.states k d inside).plain)
 
-pub returns-in_err-states-clause-refused : goal.returns-in_err-states-clause-refused
-returns-in_err-states-clause-refused c =
+pub returns-clause-report : goal.returns-clause-report
+returns-clause-report c =
     let p = c.args.plan.now in
-    let lines = c.in-Some.lines.now in
-    let fault = c.in_err-states.field-0.0 in
-    let stop = c.in_err-states.ensures.bad in
-    let names = subst (λ r. All IsFieldName (names_of r)) c.program.ensures.program c.field_count-names.ensures.names in
-    let narrow : length p.network ≤ 65536 = c.phase-phase.ensures.whole.network.nodes in
-    err_refused p c.phase-phase.ensures.whole.fields c.args.text.now lines c.in-Some.rounds c.in-Some.ensures.1 c.in-Some.ensures.0 narrow names c.from_residual.result fault c.from_residual.ensures.1 stop
-
-pub returns-then-rounds-gt-MOST_ROUNDS-clause-every_report :
-    goal.returns-then-rounds-gt-MOST_ROUNDS-clause-every_report
-returns-then-rounds-gt-MOST_ROUNDS-clause-every_report c report is =
-    let first = round_first c.args.plan.now c.args.text.now c.in-Some.lines.now c.in-Some.rounds report c.in-Some.ensures.0 c.in-Some.ensures.1 is in
-    λ other. high_round report (omega (arith, first.0))
-
-pub returns-then-rounds-gt-MOST_ROUNDS-clause-refused :
-    goal.returns-then-rounds-gt-MOST_ROUNDS-clause-refused
-returns-then-rounds-gt-MOST_ROUNDS-clause-refused c =
-    let p = c.args.plan.now in
-    let lines = c.in-Some.lines.now in
-    let states = c.in_ok-states.states.items in
-    let has = c.in_ok-states.ensures.ok in
-    (_, is_report p c.phase-phase.ensures.whole.fields c.args.text.now lines c.in-Some.rounds c.in-Some.ensures.1 c.in-Some.ensures.0 states has, omega arith)
+    let text = c.args.text.now in
+    let count = c.nodes.ensures.count ∙ ap length c.network.ensures.network in
+    let read = c.in_ok-read.ensures.report in
+    let there = report_of_plan p c.program.result.now c.nodes.result c.program.ensures.program count text c.in_ok-read.read read.0 in
+    let same =
+    c.of.ensures.parts
+    ∙ config_read p c.program.result.now c.nodes.result c.program.ensures.program count text c.in_ok-read.read c.rounds-rounds.result c.into_states.result.items read.0 c.rounds-rounds.ensures.round c.into_states.ensures.states in
+    subst (λ config. IsReportOf p text config × (config.rounds ≤ most_rounds)) (sym same) (there, read.1)
 
 pub returns-clause-every_report : goal.returns-clause-every_report
 returns-clause-every_report c report is =
     let p = c.args.plan.now in
-    let lines = c.in-Some.lines.now in
-    let states = c.in_ok-states.states.items in
-    let has = c.in_ok-states.ensures.ok in
-    let same = only_report p c.phase-phase.ensures.whole.fields c.args.text.now lines c.in-Some.rounds c.in-Some.ensures.1 c.in-Some.ensures.0 states report has is in
-    low_round report (omega (arith, ap (λ (r : Configuration). r.rounds) same)) ∙ ap Ok (sym (c.of.ensures.parts ∙ same))
-
-pub returns-in_err-states-clause-at_once : goal.returns-in_err-states-clause-at_once
-returns-in_err-states-clause-at_once c first = absurd (good_round c.args.plan.now c.args.text.now c.in-Some.lines.now c.in-Some.rounds c.in-Some.ensures.1 c.in-Some.ensures.0 first)
-
-pub returns-then-rounds-gt-MOST_ROUNDS-clause-at_once :
-    goal.returns-then-rounds-gt-MOST_ROUNDS-clause-at_once
-returns-then-rounds-gt-MOST_ROUNDS-clause-at_once c first = absurd (good_round c.args.plan.now c.args.text.now c.in-Some.lines.now c.in-Some.rounds c.in-Some.ensures.1 c.in-Some.ensures.0 first)
+    let text = c.args.text.now in
+    let count = c.nodes.ensures.count ∙ ap length c.network.ensures.network in
+    let same =
+    c.of.ensures.parts
+    ∙ config_read p c.program.result.now c.nodes.result c.program.ensures.program count text c.in_ok-read.read c.rounds-rounds.result c.into_states.result.items c.in_ok-read.ensures.report.0 c.rounds-rounds.ensures.round c.into_states.ensures.states in
+    c.in_ok-read.ensures.every_report report (report_on_nodes p c.program.result.now c.nodes.result c.program.ensures.program count text report is) ∙ ap Ok (sym same)
 
 pub returns-clause-at_once : goal.returns-clause-at_once
-returns-clause-at_once c first = absurd (good_round c.args.plan.now c.args.text.now c.in-Some.lines.now c.in-Some.rounds c.in-Some.ensures.1 c.in-Some.ensures.0 first)
+returns-clause-at_once c first =
+    let count = c.nodes.ensures.count ∙ ap length c.network.ensures.network in
+    let same = c.in_ok-read.ensures.at_once (bad_line_on_nodes c.args.plan.now c.program.result.now c.nodes.result c.program.ensures.program count c.args.text.now 1 first) in
+    absurd cc

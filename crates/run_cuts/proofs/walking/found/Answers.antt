@@ -20,6 +20,6 @@ returns c =
       cuts =
           c.in_ok-cuts.ensures.told
           ∙ ap (flat_map told_by) (c.deref-2.ensures.value ∙ c.in_ok-counted.ensures.exact ∙ ap (map (after_all (occasions p T))) all)
-          ∙ told_all (occasions p T) below 0 operators (λ op. occasions_few p T op c.phase-phase.ensures.whole.network c.requires.few)
+          ∙ told_all (occasions p T) below 0 operators (λ op. occasions_few p T op c.nodes-nodes.ensures.whole.network c.requires.few)
           ∙ ap (cuts_of p T below) (c.in_ok-operators.ensures.all ∙ ap operators_of c.items.ensures.same);
     }

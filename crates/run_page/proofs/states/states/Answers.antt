@@ -12,7 +12,7 @@ pub returns : goal.returns
 returns g c =
     let fields = c.args.fields.now in
     let rounds = rounds_in c.args.span.now in
-    let plan : c.in_ok-walk.walk.plan ≡ c.args.plan.now = ap (λ (v : RoundView). v.plan) c.in_ok-walk.ensures.start ∙ c.in_ok-start.ensures.plan in
+    let plan : c.in_ok-walk.walk.plan ≡ c.args.plan.now = ap (λ (v : RoundView). v.plan) c.in_ok-walk.ensures.start ∙ c.in_ok-start.ensures.plan ∙ c.of_plan.ensures.plan in
     let made : map view c.put_rounds.new.items.items ≡ map (λ (t : ℕ). numbers (values_at c.args.plan.now fields t)) rounds =
     c.in_ok-put_rounds.ensures.states
     ∙ ap (λ (vs : List Value). map view vs ++ map (λ (t : ℕ). numbers (values_at c.in_ok-walk.walk.plan fields t)) rounds) c.in_ok-items.ensures.items

@@ -1,5 +1,4 @@
-use Rattle.std.proofs.Common.{◌≡◌, ◌∙◌, ◌≤◌, ℕ, List, ap, arith, length, subst}
-use Rattle.link_net.specs.Neighbours.{Neighbours}
+use Rattle.std.proofs.Common.{◌≡◌, ◌∙◌, ◌<◌, ◌≤◌, ◌^◌, ℕ, List, ap, arith, length, subst}
 use Rattle.run_counts.specs.Rows.{AreValues}
 use Rattle.run_picture.specs.Curves.{most_curves, plotted}
 use Rattle.run_picture.specs.Keys.{key_of}
@@ -14,8 +13,8 @@ returns-clause-text c =
     let span = c.args.span.now in
     let rows = c.args.rows.now in
     let values = c.in_ok-values.values.items in
-    let count : c.nodes.result ≡ length p.network = c.nodes.ensures.count ∙ ap (λ (n : Neighbours). length n) c.network.ensures.network in
-    let nodes : length p.network ≤ 65536 = omega (arith, count, c.nodes.ensures.count, c.nodes.ensures.whole.nodes) in
+    let count : c.nodes.result ≡ length p.network = c.nodes.ensures.count in
+    let nodes : length p.network < 2 ^ 32 = omega (arith, c.nodes.ensures.whole.network.nodes) in
     let few : length values ≤ most_curves = omega (arith, c.len.ensures, c.if-len-gt-MOST_CURVES.false) in
     let once = subst (λ (n : ℕ). AreValues n rows values) c.states_drawn.ensures.states c.in_ok-values.ensures.values in
     is_count_picture styles p span c.args.field rows values c.in_ok-text.text.items c.requires.fits nodes c.requires.rows once few

@@ -1,7 +1,7 @@
 use Rattle.std.proofs.Common.{ap, arith, length}
-use Rattle.run_picture.proofs.Counts.{values_count}
+use Rattle.run_picture.proofs.Counts.{grid_few}
 use Rattle.run_picture.proofs.picture.grid_text.Goals as goal
 
 pub picture_of-requires-clause-count : goal.picture_of-requires-clause-count
 picture_of-requires-clause-count g c =
-    omega (arith, ap length c.deref.ensures.value, ap length c.in_ok-values.ensures.values, values_count c.args.plan.now c.args.field c.args.round, c.phase-phase.ensures.whole.network.nodes)
+    omega (arith, ap length c.deref.ensures.value, ap length c.in_ok-values.ensures.values, grid_few c.args.plan.now c.args.field c.args.round c.args.width c.requires.fits)

@@ -1,0 +1,2 @@
+mod Unison
+mod Reported

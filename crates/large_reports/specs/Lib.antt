@@ -1,3 +1,0 @@
-pub mod Reported
-pub mod Csv
-pub mod Records
