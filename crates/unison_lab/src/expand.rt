@@ -1,8 +1,8 @@
 //! `expand MODEL`: the program that a model is expanded to.
 
-use crate::endings::asked_by;
+use crate::expand_request::ExpandRequest;
+use app_commands::asked_by;
 use app_files::{Ending, Text, expanded_text, print_out, text_at};
-use app_requests::ExpandRequest;
 
 /// Prints the program that the model of a text is expanded to. The status with which the program ends.
 fn put_program(rt: &HostRuntime, text: &Text, asked: &ExpandRequest) -> Result<u8, Ending> {

@@ -1,7 +1,7 @@
 //! What the program tells of its commands: help, the completion of a shell, and the page of the manual.
 
+use crate::commands::{GROUPS, Group, check_completion, check_manual};
 use app_files::{Ending, print_out};
-use app_requests::{GROUPS, Group, check_completion, check_manual};
 use app_table::{Draft, completion, manual};
 use app_words::five_commands;
 use std::alloc::{AllocError, Global};

@@ -1,76 +1,24 @@
 //! Unison's other commands, beside the five of `unison_cli`.
 #![tactic(auto)]
 
-mod arrays;
-mod binary;
-mod cells;
-mod columns;
-mod count;
-mod count_runs;
-mod counts;
-mod csv_text;
-mod cuts;
-mod endings;
+mod commands;
 mod expand;
-mod explain;
-mod generate;
-mod grid;
+mod expand_request;
 mod help;
-mod import;
-mod import_columns;
-mod import_packed;
-mod info;
-mod init;
-mod initial;
-mod json_refusals;
-mod labels;
-mod large;
-mod naive;
-mod names;
-mod notes;
-mod packed;
-mod page;
-mod page_names;
-mod page_size;
-mod picture;
-mod picture_files;
-mod plan_texts;
-mod progress;
-mod refusals;
-mod report_cells;
-mod round_report;
-mod run_plan;
-mod schedule;
-mod settle;
-mod shown_rounds;
-mod text_lines;
-mod verify;
-mod watch;
 mod why;
 
-use crate::count::count_rounds;
-use crate::csv_text::print_csv;
-use crate::cuts::tell_cuts;
+use crate::commands::Task;
 use crate::expand::expand_model;
-use crate::explain::explain_schedule;
-use crate::generate::generate_network;
 use crate::help::{help_text, print_completion, print_manual};
-use crate::import::import_network;
-use crate::info::show_info;
-use crate::init::init_network;
-use crate::large::{pack_network, run_large};
-use crate::naive::tell_naive;
-use crate::page::make_page;
-use crate::picture::{make_dot, make_image};
-use crate::report_cells::print_cells;
-use crate::round_report::report_round;
-use crate::schedule::make_schedule;
-use crate::settle::settle_rounds;
-use crate::verify::verify_trace;
-use crate::watch::watch_rounds;
 use crate::why::why_command;
 use app_files::{Ending, print_ending, words_of};
-use app_requests::Task;
+use app_networks::{generate_network, import_network, init_network, pack_network, show_info};
+use app_pictures::{make_dot, make_image, make_page};
+use app_rounds::{
+    count_rounds, print_cells, print_csv, report_round, run_large, settle_rounds, tell_cuts,
+    watch_rounds,
+};
+use app_steps::{explain_schedule, make_schedule, tell_naive, verify_trace};
 use std::process::ExitCode;
 use std::thread::Threads;
 

@@ -1,13 +1,11 @@
 //! `why COMMAND WORDS..`: why a command refuses its texts.
 
-use crate::endings::asked_by;
-use crate::plan_texts::noted_plan_at;
+use app_commands::{PlanPaths, asked_by, constants_among, noted_plan_at};
 use app_files::{
     Ending, ModelRefusal, Text, check_constants, is_model, network_where, path_in, print_fault,
     program_name, read_once, refusal_of, slips_in, text_at, text_where, write_out,
 };
 use app_jobs::ServeFault;
-use app_requests::{PlanPaths, constants_among};
 use app_why::{Finding, Named, Texts, why};
 use app_words::{Request, UsageFault, command_as, job_by};
 use model_rules::{Given, ModelProgramFault, expanded};

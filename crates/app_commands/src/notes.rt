@@ -1,0 +1,120 @@
+//! Notes on standard error, beside what a command prints: on what is accepted and may not be meant.
+
+use app_files::{Ending, NamedProgram, name_at, program_name, slips_in};
+use app_why::{Named, cut_note};
+use link_net::NetRows;
+use run_picture::{Colour, ValueColour, is_in_palette};
+use std::alloc::{AllocError, Global};
+
+/// Prints a note of one line on standard error; where that refuses, the command goes on without it.
+pub fn put_note(rt: &impl Eprint, note: &str) {
+    let _ = eprintln!(rt; "note: {note}");
+}
+
+/// The note on products and totals that can be cut, of a program's text, which stands at a path, on a network.
+fn note_of(
+    alloc: Global,
+    path: &str,
+    program: &[u8],
+    rows: &NetRows<'_>,
+) -> Result<Option<String>, AllocError> {
+    let name = program_name(alloc, path)?;
+    let named = Named {
+        name: name.as_str(),
+        text: program,
+    };
+    cut_note(alloc, named, rows)
+}
+
+/// The text that was given for a program: of a model its own, not that to which it is expanded.
+fn given_text(program: &NamedProgram) -> &[u8] {
+    match &program.model {
+        Some(model) => model,
+        None => &program.text,
+    }
+}
+
+/// Prints notes on what is accepted in the program or the model at a path and rarely meant, a line for each.
+fn put_slip_notes(rt: &HostRuntime, path: &str, program: &NamedProgram) -> Result<(), Ending> {
+    let named = Named {
+        name: name_at(path),
+        text: given_text(program),
+    };
+    let slips = slips_in(rt.alloc(), named)?;
+    if let Some(lines) = slips.as_str().strip_suffix('\n') {
+        let _ = eprintln!(rt; "{lines}");
+    }
+    Ok(())
+}
+
+/// Prints a note where products or totals of a program can be cut on a network, so that a run may have other values than the
+/// program seems to say.
+fn put_cut_note(
+    rt: &HostRuntime,
+    path: &str,
+    program: &[u8],
+    rows: &NetRows<'_>,
+) -> Result<(), Ending> {
+    if let Some(note) = note_of(rt.alloc(), path, program, rows)? {
+        put_note(rt, note.as_str());
+    }
+    Ok(())
+}
+
+/// Prints the notes on a program or a model at a path, on a network.
+pub(crate) fn put_program_notes(
+    rt: &HostRuntime,
+    path: &str,
+    program: &NamedProgram,
+    rows: &NetRows<'_>,
+) -> Result<(), Ending> {
+    put_slip_notes(rt, path, program)?;
+    put_cut_note(rt, path, &program.text, rows)
+}
+
+/// Whether two colours are the same.
+fn is_same(one: Colour, other: Colour) -> bool {
+    one.red == other.red && one.green == other.green && one.blue == other.blue
+}
+
+/// The first of these values that has this colour for itself.
+fn value_with(colours: &[ValueColour], colour: Colour) -> Option<u32> {
+    for own in colours {
+        if is_same(own.colour, colour) {
+            return Some(own.value);
+        }
+    }
+    None
+}
+
+/// The note on a colour that a value behind others has for itself, where another value has it, too.
+fn colour_note(
+    alloc: Global,
+    before: &[ValueColour],
+    own: ValueColour,
+) -> Result<Option<String>, AllocError> {
+    let value = own.value;
+    if let Some(other) = value_with(before, own.colour) {
+        let note = format!(in alloc;
+            "--colours: the values {other} and {value} have the same colour"
+        )?;
+        return Ok(Some(note));
+    }
+    if is_in_palette(alloc, own.colour)? {
+        let note = format!(in alloc;
+            "--colours: the colour of the value {value} stands in the palette, too: another value may have it"
+        )?;
+        return Ok(Some(note));
+    }
+    Ok(None)
+}
+
+/// Prints a note for each colour that a value has for itself, and that another value has, or may have, too.
+pub fn put_colour_notes(rt: &HostRuntime, colours: &[ValueColour]) -> Result<(), Ending> {
+    for (place, own) in colours.iter().enumerate() {
+        if let Some(note) = colour_note(rt.alloc(), &colours[..place], *own)? {
+            put_note(rt, note.as_str());
+        }
+    }
+    Ok(())
+}

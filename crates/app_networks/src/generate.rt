@@ -1,0 +1,334 @@
+//! `generate SHAPE NUMBERS..`: a network of a shape, or at random, as a network file or packed.
+
+use crate::generate_request::{GenerateRequest, Topology, Weights};
+use crate::pack::{random_bytes, shape_bytes, text_bytes};
+use app_commands::{asked_by, check_output};
+use app_files::{Ending, print_out};
+use link_net::{MOST_LINKS, MOST_NODES};
+use net_random::{
+    LargeRandom, RandomFault, RandomNetwork, WeightFault, chance_list, chance_text, drawn,
+    drawn_text, weighted_text,
+};
+use net_shapes::{LargeShape, Shape, ShapeFault, links_of, made_text};
+use net_text::LinkList;
+use std::alloc::Global;
+
+/// The most nodes of a packed network.
+const MOST_PACKED_NODES: u64 = 4_294_967_295;
+
+/// The most links of a packed network that is drawn.
+const MOST_PACKED_LINKS: u64 = 2_147_483_647;
+
+/// How many nodes a shape has.
+fn size_text(shape: &Shape) -> &'static str {
+    match shape {
+        Shape::Path { .. } | Shape::Star { .. } | Shape::Complete { .. } =>
+            "there are 1 to 65536 nodes",
+        Shape::Ring { .. } => "a ring has 3 to 65536 nodes",
+        Shape::Bipartite { .. } => "each side has a node, and both together have 65536 at most",
+        Shape::Tree { .. } => "a tree has 1 to 65536 nodes, and an arity of 1 or more",
+        Shape::Hypercube { .. } => "a hypercube has 0 to 15 digits",
+        Shape::Grid { .. } | Shape::DiagonalGrid { .. } => {
+            "a grid has a row and a column, and 65536 nodes at most"
+        }
+        Shape::Torus { .. } => "a torus has 3 rows and 3 columns or more, and 65536 nodes at most",
+    }
+}
+
+/// The ending where a shape has no network.
+fn no_network(alloc: Global, shape: &Shape, fault: ShapeFault) -> Ending {
+    let text = match fault {
+        ShapeFault::NodeCount => size_text(shape),
+        ShapeFault::TooManyLinks => "a network has 262144 links at most, and this shape has more",
+        ShapeFault::TooManyNeighbours =>
+            "a node has 4096 neighbours at most, and a node of this shape has more",
+        ShapeFault::Memory => return Ending::Memory,
+    };
+    Ending::usage(String::from_str(alloc, text))
+}
+
+/// The ending where a random network cannot be drawn.
+fn no_random(alloc: Global, fault: RandomFault) -> Ending {
+    let text = match fault {
+        RandomFault::NodeCount => "there are 1 to 65536 nodes",
+        RandomFault::TooManyLinks =>
+            "a network has 262144 links at most, and no more than there are pairs of nodes: a node has fewer neighbours than there are nodes",
+        RandomFault::TooManyNeighbours =>
+            "a node came out with more than 4096 neighbours: take another seed, or fewer links",
+        RandomFault::OddEnds =>
+            "--degree: an odd number of nodes cannot have an odd number of neighbours each: take one node or neighbour more",
+        RandomFault::Undrawn => "by this seed no such network came out: take another one",
+        RandomFault::Memory => return Ending::Memory,
+    };
+    Ending::usage(String::from_str(alloc, text))
+}
+
+/// The ending where no network is drawn each of whose pairs is linked with a chance.
+fn no_chance(alloc: Global, fault: RandomFault) -> Ending {
+    let text = match fault {
+        RandomFault::NodeCount => "there are 1 to 65536 nodes",
+        RandomFault::TooManyLinks =>
+            "--probability: more than 262144 links came out, which a network may not have: take a smaller one",
+        RandomFault::TooManyNeighbours =>
+            "--probability: a node came out with more than 4096 neighbours: take another seed, or a smaller one",
+        RandomFault::OddEnds | RandomFault::Undrawn | RandomFault::Memory => return Ending::Memory,
+    };
+    Ending::usage(String::from_str(alloc, text))
+}
+
+/// The ending where links get no weights.
+fn no_weights(alloc: Global, fault: WeightFault) -> Ending {
+    match fault {
+        WeightFault::NoWeight => Ending::usage(String::from_str(
+            alloc,
+            "--weights: the first number is above the second one",
+        )),
+        WeightFault::Memory => Ending::Memory,
+    }
+}
+
+/// The links of a shape.
+fn shape_links(alloc: Global, shape: &Shape) -> Result<LinkList, Ending> {
+    match links_of(alloc, shape) {
+        Ok(links) => Ok(links),
+        Err(fault) => Err(no_network(alloc, shape, fault)),
+    }
+}
+
+/// The links of a random network.
+fn random_links(alloc: Global, random: &RandomNetwork, seed: u32) -> Result<LinkList, Ending> {
+    match drawn(alloc, random, seed as u64) {
+        Ok(links) => Ok(links),
+        Err(fault) => Err(no_random(alloc, fault)),
+    }
+}
+
+/// The links of the pairs that are drawn with a chance.
+fn chance_links(alloc: Global, nodes: u32, billionths: u32, seed: u32) -> Result<LinkList, Ending> {
+    match chance_list(alloc, nodes, billionths, seed as u64) {
+        Ok(links) => Ok(links),
+        Err(fault) => Err(no_chance(alloc, fault)),
+    }
+}
+
+/// The links that are asked for, all with weight 1.
+fn links_for(alloc: Global, asked: &GenerateRequest) -> Result<LinkList, Ending> {
+    match &asked.topology {
+        Topology::Shape(shape) => shape_links(alloc, shape),
+        Topology::RandomNetwork(random) => random_links(alloc, random, asked.seed),
+        Topology::Chance { nodes, billionths } => {
+            chance_links(alloc, *nodes, *billionths, asked.seed)
+        }
+    }
+}
+
+/// The network file of the links with weights that are drawn apart from the links: the generator's seed is 2 to the power
+/// of 32 greater.
+fn weighted(
+    alloc: Global,
+    links: &LinkList,
+    weights: &Weights,
+    seed: u32,
+) -> Result<Vec<u8>, Ending> {
+    let apart = seed as u64 + 4_294_967_296;
+    match weighted_text(alloc, links, weights.low, weights.high, apart) {
+        Ok(text) => Ok(text),
+        Err(fault) => Err(no_weights(alloc, fault)),
+    }
+}
+
+/// The network file of a shape, all of whose links have weight 1.
+fn shape_text(alloc: Global, shape: &Shape) -> Result<Vec<u8>, Ending> {
+    match made_text(alloc, shape) {
+        Ok(text) => Ok(text),
+        Err(fault) => Err(no_network(alloc, shape, fault)),
+    }
+}
+
+/// The network file of a random network, all of whose links have weight 1.
+fn random_text(alloc: Global, random: &RandomNetwork, seed: u32) -> Result<Vec<u8>, Ending> {
+    match drawn_text(alloc, random, seed as u64) {
+        Ok(text) => Ok(text),
+        Err(fault) => Err(no_random(alloc, fault)),
+    }
+}
+
+/// The network file of the pairs that are drawn with a chance, all of whose links have weight 1.
+fn chance_file(alloc: Global, nodes: u32, billionths: u32, seed: u32) -> Result<Vec<u8>, Ending> {
+    match chance_text(alloc, nodes, billionths, seed as u64) {
+        Ok(text) => Ok(text),
+        Err(fault) => Err(no_chance(alloc, fault)),
+    }
+}
+
+/// The network file with weights that are drawn.
+fn weighted_for(
+    alloc: Global,
+    asked: &GenerateRequest,
+    weights: &Weights,
+) -> Result<Vec<u8>, Ending> {
+    let links = links_for(alloc, asked)?;
+    weighted(alloc, &links, weights, asked.seed)
+}
+
+/// The network file that is asked for.
+fn text_for(alloc: Global, asked: &GenerateRequest) -> Result<Vec<u8>, Ending> {
+    if let Some(weights) = &asked.weights {
+        return weighted_for(alloc, asked, weights);
+    }
+    match &asked.topology {
+        Topology::Shape(shape) => shape_text(alloc, shape),
+        Topology::RandomNetwork(random) => random_text(alloc, random, asked.seed),
+        Topology::Chance { nodes, billionths } => {
+            chance_file(alloc, *nodes, *billionths, asked.seed)
+        }
+    }
+}
+
+/// The shape among those of any size, where it is one of them.
+fn large_shape_of(shape: &Shape) -> Option<LargeShape> {
+    match *shape {
+        Shape::Path { nodes } => Some(LargeShape::Path { nodes }),
+        Shape::Ring { nodes } => Some(LargeShape::Ring { nodes }),
+        Shape::Grid { width, height } => Some(LargeShape::Grid { width, height }),
+        Shape::Torus {
+            width,
+            height,
+            diagonals,
+        } => Some(LargeShape::Torus {
+            width,
+            height,
+            diagonals,
+        }),
+        _ => None,
+    }
+}
+
+/// The way to draw among those of any size, where it is one of them.
+fn large_random_of(random: &RandomNetwork) -> Option<LargeRandom> {
+    match *random {
+        RandomNetwork::Random { nodes, links } => Some(LargeRandom::Random { nodes, links }),
+        RandomNetwork::Preferential { nodes, each } => {
+            Some(LargeRandom::Preferential { nodes, each })
+        }
+        RandomNetwork::SmallWorld {
+            nodes,
+            near,
+            rewire,
+            of,
+        } => Some(LargeRandom::SmallWorld {
+            nodes,
+            near,
+            rewire,
+            of,
+        }),
+        _ => None,
+    }
+}
+
+/// How many nodes and links a random network has that may have any size where it is packed.
+fn drawn_size(random: &RandomNetwork) -> Option<(u64, u64)> {
+    match *random {
+        RandomNetwork::Random { nodes, links } => Some((nodes as u64, links as u64)),
+        RandomNetwork::Preferential { nodes, each } => {
+            Some((nodes as u64, nodes as u64 * each as u64))
+        }
+        RandomNetwork::SmallWorld { nodes, near, .. } => {
+            Some((nodes as u64, nodes as u64 * near as u64))
+        }
+        _ => None,
+    }
+}
+
+/// How many nodes and links a network has that may have any size where it is packed; of a shape the nodes alone.
+fn packed_size(topology: &Topology) -> Option<(u64, u64)> {
+    match topology {
+        Topology::Shape(Shape::Path { nodes } | Shape::Ring { nodes }) => Some((*nodes as u64, 0)),
+        Topology::Shape(Shape::Grid { width, height } | Shape::Torus { width, height, .. }) => {
+            Some((*width as u64 * *height as u64, 0))
+        }
+        Topology::RandomNetwork(random) => drawn_size(random),
+        _ => None,
+    }
+}
+
+/// Whether no network file has so many nodes or links as are asked for, and a packed network without weights has.
+fn fits_packed_alone(asked: &GenerateRequest) -> bool {
+    match packed_size(&asked.topology) {
+        Some((nodes, links)) => {
+            nodes <= MOST_PACKED_NODES
+                && links <= MOST_PACKED_LINKS
+                && (nodes > MOST_NODES as u64 || links > MOST_LINKS as u64)
+        }
+        None => false,
+    }
+}
+
+/// What is told beside where no network file is made: the way to a packed network, where there is one.
+fn way_of(asked: &GenerateRequest) -> &'static str {
+    if !fits_packed_alone(asked) {
+        return "";
+    }
+    match (asked.packed, asked.weights.is_some()) {
+        (false, false) => "\nwith --packed it is written as a packed network, of any size",
+        (false, true) => "",
+        (true, _) => "\nwith --weights a packed network has the size of a network file at most",
+    }
+}
+
+/// The ending where no network file is made.
+fn no_file(alloc: Global, asked: &GenerateRequest, ending: Ending) -> Ending {
+    let way = way_of(asked);
+    match ending {
+        Ending::Usage(text) => Ending::usage(format!(in alloc; "{text}{way}")),
+        ending => ending,
+    }
+}
+
+/// The network file that is asked for, or the ending with the way to a packed network, where there is one.
+fn file_for(alloc: Global, asked: &GenerateRequest) -> Result<Vec<u8>, Ending> {
+    match text_for(alloc, asked) {
+        Ok(text) => Ok(text),
+        Err(ending) => Err(no_file(alloc, asked, ending)),
+    }
+}
+
+/// The packed network that is asked for, where it may have any size.
+fn large_for(alloc: Global, asked: &GenerateRequest) -> Option<Result<Vec<u8>, Ending>> {
+    if asked.weights.is_some() {
+        return None;
+    }
+    match &asked.topology {
+        Topology::Shape(shape) => Some(shape_bytes(alloc, large_shape_of(shape)?)),
+        Topology::RandomNetwork(random) => {
+            Some(random_bytes(alloc, large_random_of(random)?, asked.seed))
+        }
+        Topology::Chance { .. } => None,
+    }
+}
+
+/// The packed network that is asked for: of any size where there is such a form, else that of the network file.
+fn packed_for(alloc: Global, asked: &GenerateRequest) -> Result<Vec<u8>, Ending> {
+    if let Some(bytes) = large_for(alloc, asked) {
+        return bytes;
+    }
+    let text = file_for(alloc, asked)?;
+    text_bytes(alloc, &text)
+}
+
+/// Prints the packed network that is asked for. The status with which the program ends.
+fn print_packed(rt: &HostRuntime, asked: &GenerateRequest) -> Result<u8, Ending> {
+    check_output(rt)?;
+    let bytes = packed_for(rt.alloc(), asked)?;
+    print_out(rt, &bytes)
+}
+
+/// Prints the network file of a shape or a random network, or the packed network. The status with which the program ends.
+pub fn generate_network(rt: &HostRuntime, words: &[String]) -> Result<u8, Ending> {
+    let asked = asked_by(GenerateRequest::parse(rt.alloc(), words))?;
+    if asked.packed {
+        return print_packed(rt, &asked);
+    }
+    let text = file_for(rt.alloc(), &asked)?;
+    print_out(rt, &text)
+}

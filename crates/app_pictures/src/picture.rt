@@ -1,0 +1,549 @@
+//! `image PROGRAM NETWORK` and `dot PROGRAM NETWORK`: rounds as pictures, and networks for Graphviz.
+
+use crate::drawing_request::{DotRequest, ImageRequest};
+use crate::grid::{cell_shape, grid_width};
+use crate::picture_files::RoundFiles;
+use app_commands::{
+    GridWidth, NamedPlan, Telling, asked_by, file_run_at, labels_at, named_plan_at, no_rounds,
+    put_colour_notes, read_plan_once, read_run_once, source_at,
+};
+use app_files::{Ending, coloured_field, names_of_field, path_in, print_out};
+use link_net::NetRows;
+use rounds_plan::Plan;
+use rounds_walk::PlanRef;
+use run_picture::{
+    CellShape, Layout, MOST_CELLS, MOST_CURVES, MOST_FRAMES, MOST_POINTS, MOST_STROKES,
+    PictureFault, StylesFault, ValueColour, ValueStyles, count_picture, grid_picture,
+    moving_picture, network_dot, network_picture, round_pictures, time_picture,
+};
+use run_watch::{Format, WatchFault};
+use std::alloc::Global;
+use std::thread::Threads;
+
+/// The ending where a picture has too many cells.
+fn too_many_cells(alloc: Global) -> Ending {
+    Ending::refused(format!(in alloc;
+        "image TooManyCells\na picture has at most {MOST_CELLS} cells, one for each node in each round; --every K shows fewer rounds"
+    ))
+}
+
+/// The ending where a picture that moves would have too many frames.
+fn too_many_frames(alloc: Global) -> Ending {
+    Ending::refused(format!(in alloc;
+        "image TooManyFrames\na picture that moves has at most {MOST_FRAMES} frames, one for each round, and --frames writes no more files; --every K shows fewer rounds"
+    ))
+}
+
+/// The ending where networks would be drawn with too many links in all.
+fn too_many_links(alloc: Global) -> Ending {
+    Ending::refused(format!(in alloc;
+        "image TooManyLinks\nthe files of --frames have at most {MOST_STROKES} lines of links in all, one for each link in each round; --every K draws fewer rounds"
+    ))
+}
+
+/// The ending where curves would have too many points.
+fn too_many_points(alloc: Global) -> Ending {
+    Ending::refused(format!(in alloc;
+        "image TooManyPoints\na curve has at most {MOST_POINTS} points, one for each round; --every K shows fewer rounds"
+    ))
+}
+
+/// The ending where there would be too many curves.
+fn too_many_values(alloc: Global) -> Ending {
+    Ending::refused(format!(in alloc;
+        "image TooManyValues\nat most {MOST_CURVES} values have curves, and more occur in these rounds; unison count prints how many nodes have each"
+    ))
+}
+
+/// The ending where one round alone would have curves.
+fn one_round(alloc: Global) -> Ending {
+    Ending::refused(String::from_str(
+        alloc,
+        "image OneRound\ncurves go over two rounds or more, as in --rounds 0..8",
+    ))
+}
+
+/// The ending where there is no picture.
+fn no_picture(alloc: Global, fault: PictureFault) -> Ending {
+    match fault {
+        PictureFault::TooManyRounds => no_rounds(WatchFault::TooManyRounds),
+        PictureFault::RoundsBelowStart => no_rounds(WatchFault::RoundsBelowStart),
+        PictureFault::TooManyCells => too_many_cells(alloc),
+        PictureFault::TooManyFrames => too_many_frames(alloc),
+        PictureFault::TooManyLinks => too_many_links(alloc),
+        PictureFault::OneRound => one_round(alloc),
+        PictureFault::TooManyPoints => too_many_points(alloc),
+        PictureFault::TooManyValues => too_many_values(alloc),
+        PictureFault::NoField { .. } | PictureFault::NoWidth | PictureFault::Memory => {
+            Ending::Memory
+        }
+    }
+}
+
+/// How values are shown: by these names, and some in colours of their own.
+fn styles_with<'a>(
+    alloc: Global,
+    names: &'a [String],
+    colours: &[ValueColour],
+    shape: CellShape,
+) -> Result<ValueStyles<'a>, StylesFault> {
+    let mut styles = ValueStyles::new(alloc, names, shape);
+    for own in colours {
+        styles.add(own.value, own.colour)?;
+    }
+    Ok(styles)
+}
+
+/// The same. Words give no value two colours, and no more values colours than there may be, so that memory alone is wanting
+/// where there are none.
+fn styles_for<'a>(
+    alloc: Global,
+    names: &'a [String],
+    colours: &[ValueColour],
+    shape: CellShape,
+) -> Result<ValueStyles<'a>, Ending> {
+    match styles_with(alloc, names, colours, shape) {
+        Ok(styles) => Ok(styles),
+        Err(_) => Err(Ending::Memory),
+    }
+}
+
+/// The shape of the cells of a picture: that of the grid on which the nodes stand by their links, where they are drawn as one.
+fn shape_for(rows: &NetRows<'_>, asked: &ImageRequest) -> CellShape {
+    match asked.grid {
+        Some(GridWidth::Given(width)) => cell_shape(rows, width),
+        _ => CellShape::Square,
+    }
+}
+
+/// The picture of rounds one below the other, coloured by a field, or the curves of its counts, with what tells how far it is.
+fn rounds_or_curves(
+    alloc: Global,
+    threads: &(impl Threads + Sync),
+    plan: &PlanRef<'_>,
+    asked: &ImageRequest,
+    field: u32,
+    styles: &ValueStyles<'_>,
+    telling: &mut Telling<'_>,
+) -> Result<Vec<u8>, PictureFault> {
+    let span = &asked.span;
+    if asked.counts {
+        return count_picture(threads, alloc, plan, span, field, styles, telling);
+    }
+    time_picture(threads, alloc, plan, span, field, styles, telling)
+}
+
+/// The picture of rounds one below the other, coloured by a field, or the curves of its counts.
+fn drawn_rounds(
+    rt: &HostRuntime,
+    threads: &(impl Threads + Sync),
+    plan: &PlanRef<'_>,
+    asked: &ImageRequest,
+    field: u32,
+    styles: &ValueStyles<'_>,
+) -> Result<Vec<u8>, PictureFault> {
+    let span = &asked.span;
+    let mut telling = Telling::new(rt, span, plan.nodes());
+    rounds_or_curves(
+        rt.alloc(),
+        threads,
+        plan,
+        asked,
+        field,
+        styles,
+        &mut telling,
+    )
+}
+
+/// The network in one round, or in each of several in turn, coloured by a field.
+fn drawn_network(
+    rt: &HostRuntime,
+    threads: &(impl Threads + Sync),
+    plan: &Plan,
+    asked: &ImageRequest,
+    field: u32,
+    styles: &ValueStyles<'_>,
+) -> Result<Vec<u8>, PictureFault> {
+    let alloc = rt.alloc();
+    let span = &asked.span;
+    let time = asked.frame_time.unwrap_or(1);
+    let mut telling = Telling::new(rt, span, plan.network().nodes());
+    network_picture(
+        threads,
+        alloc,
+        plan,
+        span,
+        field,
+        time,
+        styles,
+        &mut telling,
+    )
+}
+
+/// The grid of each of several rounds in turn, each shown for so long, coloured by a field.
+fn drawn_grids(
+    rt: &HostRuntime,
+    threads: &(impl Threads + Sync),
+    plan: &PlanRef<'_>,
+    asked: &ImageRequest,
+    field: u32,
+    time: u32,
+    styles: &ValueStyles<'_>,
+) -> Result<Vec<u8>, PictureFault> {
+    let alloc = rt.alloc();
+    let span = &asked.span;
+    let width = GridWidth::number(asked.grid);
+    let mut telling = Telling::new(rt, span, plan.nodes());
+    moving_picture(
+        threads,
+        alloc,
+        plan,
+        span,
+        field,
+        width,
+        time,
+        styles,
+        &mut telling,
+    )
+}
+
+/// The grid of one round, or of each of several in turn, coloured by a field.
+fn drawn_grid(
+    rt: &HostRuntime,
+    threads: &(impl Threads + Sync),
+    plan: &PlanRef<'_>,
+    asked: &ImageRequest,
+    field: u32,
+    styles: &ValueStyles<'_>,
+) -> Result<Vec<u8>, PictureFault> {
+    let (round, width) = (asked.span.first(), GridWidth::number(asked.grid));
+    match asked.frame_time {
+        Some(time) => drawn_grids(rt, threads, plan, asked, field, time, styles),
+        None => grid_picture(threads, rt.alloc(), plan, round, field, width, styles),
+    }
+}
+
+/// The picture of rounds, or of one of them or each in turn as a grid, coloured by a field, or the curves of its counts.
+fn drawn_cells(
+    rt: &HostRuntime,
+    threads: &(impl Threads + Sync),
+    plan: &PlanRef<'_>,
+    asked: &ImageRequest,
+    field: u32,
+    styles: &ValueStyles<'_>,
+) -> Result<Vec<u8>, PictureFault> {
+    if asked.grid.is_some() {
+        return drawn_grid(rt, threads, plan, asked, field, styles);
+    }
+    drawn_rounds(rt, threads, plan, asked, field, styles)
+}
+
+/// A picture, where there is one.
+fn picture_in(alloc: Global, drawn: Result<Vec<u8>, PictureFault>) -> Result<Vec<u8>, Ending> {
+    match drawn {
+        Ok(text) => Ok(text),
+        Err(fault) => Err(no_picture(alloc, fault)),
+    }
+}
+
+/// The picture of a run, coloured by a field.
+fn styled_cells(
+    rt: &HostRuntime,
+    threads: &(impl Threads + Sync),
+    plan: &PlanRef<'_>,
+    names: &[Vec<String>],
+    asked: &ImageRequest,
+    field: u32,
+) -> Result<Vec<u8>, Ending> {
+    let names = names_of_field(names, field);
+    let shape = shape_for(&plan.rows(), asked);
+    let styles = styles_for(rt.alloc(), names, &asked.colours, shape)?;
+    let drawn = drawn_cells(rt, threads, plan, asked, field, &styles);
+    picture_in(rt.alloc(), drawn)
+}
+
+/// The picture of a run.
+fn cells_of(
+    rt: &HostRuntime,
+    threads: &(impl Threads + Sync),
+    plan: &PlanRef<'_>,
+    names: &[Vec<String>],
+    asked: &ImageRequest,
+) -> Result<Vec<u8>, Ending> {
+    let field = coloured_field(rt.alloc(), plan.program(), &asked.field)?;
+    styled_cells(rt, threads, plan, names, asked, field)
+}
+
+/// The picture of a plan's network, coloured by a field.
+fn styled_network(
+    rt: &HostRuntime,
+    threads: &(impl Threads + Sync),
+    named: &NamedPlan,
+    asked: &ImageRequest,
+    field: u32,
+) -> Result<Vec<u8>, Ending> {
+    let names = names_of_field(&named.names, field);
+    let styles = styles_for(rt.alloc(), names, &asked.colours, CellShape::Square)?;
+    let drawn = drawn_network(rt, threads, &named.plan, asked, field, &styles);
+    picture_in(rt.alloc(), drawn)
+}
+
+/// The picture of a plan's network.
+fn network_picture_of(
+    rt: &HostRuntime,
+    threads: &(impl Threads + Sync),
+    named: &NamedPlan,
+    asked: &ImageRequest,
+) -> Result<Vec<u8>, Ending> {
+    let field = coloured_field(rt.alloc(), named.plan.program(), &asked.field)?;
+    styled_network(rt, threads, named, asked, field)
+}
+
+/// How the nodes of single rounds are drawn.
+fn layout_of(asked: &ImageRequest) -> Layout {
+    if asked.links {
+        Layout::Network
+    } else {
+        Layout::Cells {
+            width: GridWidth::number(asked.grid),
+        }
+    }
+}
+
+/// The pictures of all rounds, coloured so by a field.
+fn rounds_in_style(
+    rt: &HostRuntime,
+    threads: &(impl Threads + Sync),
+    plan: &Plan,
+    asked: &ImageRequest,
+    field: u32,
+    styles: &ValueStyles<'_>,
+) -> Result<Vec<Vec<u8>>, Ending> {
+    let alloc = rt.alloc();
+    let span = &asked.span;
+    let mut telling = Telling::new(rt, span, plan.network().nodes());
+    match round_pictures(
+        threads,
+        alloc,
+        plan,
+        span,
+        field,
+        layout_of(asked),
+        styles,
+        &mut telling,
+    ) {
+        Ok(texts) => Ok(texts),
+        Err(fault) => Err(no_picture(alloc, fault)),
+    }
+}
+
+/// The pictures of all rounds, coloured by a field.
+fn round_texts(
+    rt: &HostRuntime,
+    threads: &(impl Threads + Sync),
+    named: &NamedPlan,
+    asked: &ImageRequest,
+    field: u32,
+) -> Result<Vec<Vec<u8>>, Ending> {
+    let names = names_of_field(&named.names, field);
+    let shape = shape_for(&named.plan.network().rows(), asked);
+    let styles = styles_for(rt.alloc(), names, &asked.colours, shape)?;
+    rounds_in_style(rt, threads, &named.plan, asked, field, &styles)
+}
+
+/// The files of the rounds that are asked for, in a folder.
+fn files_in(rt: &HostRuntime, asked: &ImageRequest, folder: &str) -> Result<RoundFiles, Ending> {
+    if u64::from(asked.span.steps()) >= MOST_FRAMES {
+        return Err(too_many_frames(rt.alloc()));
+    }
+    RoundFiles::new(rt, folder, &asked.span)
+}
+
+/// Writes the picture of each round of a plan, coloured by a field, into its file. The status with which the program ends.
+fn put_rounds(
+    rt: &HostRuntime,
+    threads: &(impl Threads + Sync),
+    named: &NamedPlan,
+    asked: &ImageRequest,
+    field: u32,
+    files: &RoundFiles,
+) -> Result<u8, Ending> {
+    let texts = round_texts(rt, threads, named, asked, field)?;
+    files.write(rt, &texts)
+}
+
+/// Writes the picture of each round of a plan, coloured by a field, into a file of a folder. The status with which the program
+/// ends.
+fn put_coloured(
+    rt: &HostRuntime,
+    threads: &(impl Threads + Sync),
+    named: &NamedPlan,
+    asked: &ImageRequest,
+    field: u32,
+    folder: &str,
+) -> Result<u8, Ending> {
+    let files = files_in(rt, asked, folder)?;
+    put_rounds(rt, threads, named, asked, field, &files)
+}
+
+/// Writes the picture of each round of a plan into a file of a folder. The status with which the program ends.
+fn put_files_of(
+    rt: &HostRuntime,
+    threads: &(impl Threads + Sync),
+    named: &NamedPlan,
+    asked: &ImageRequest,
+    folder: &str,
+) -> Result<u8, Ending> {
+    let field = coloured_field(rt.alloc(), named.plan.program(), &asked.field)?;
+    put_coloured(rt, threads, named, asked, field, folder)
+}
+
+/// Prints the picture of a plan's network, or writes those of all rounds into files. The status with which the program ends.
+fn put_drawn(
+    rt: &HostRuntime,
+    threads: &(impl Threads + Sync),
+    named: &NamedPlan,
+    asked: &ImageRequest,
+) -> Result<u8, Ending> {
+    match &asked.frames {
+        Some(folder) => put_files_of(rt, threads, named, asked, folder.as_str()),
+        None => {
+            let text = network_picture_of(rt, threads, named, asked)?;
+            print_out(rt, &text)
+        }
+    }
+}
+
+/// Notes the width of the grid that is asked for, on a network.
+fn set_width(rt: &HostRuntime, rows: &NetRows<'_>, asked: &mut ImageRequest) -> Result<(), Ending> {
+    if let Some(grid) = asked.grid {
+        let width = grid_width(rt, rows, grid)?;
+        asked.grid = Some(GridWidth::Given(width));
+    }
+    put_colour_notes(rt, &asked.colours)
+}
+
+/// Prints the picture of a network file's network, or writes those of all rounds into files. The status with which the program
+/// ends.
+fn put_plan(
+    rt: &HostRuntime,
+    threads: &(impl Threads + Sync),
+    mut asked: ImageRequest,
+) -> Result<u8, Ending> {
+    let named = file_run_at(rt, &asked.texts)?;
+    set_width(rt, &named.plan.network().rows(), &mut asked)?;
+    put_drawn(rt, threads, &named, &asked)
+}
+
+/// Prints the picture of a run. The status with which the program ends.
+fn put_run(
+    rt: &HostRuntime,
+    threads: &(impl Threads + Sync),
+    mut asked: ImageRequest,
+) -> Result<u8, Ending> {
+    let source = source_at(rt, threads, &asked.texts)?;
+    let ground = source.ground(rt, &asked.texts)?;
+    let plan = ground.lent(rt.alloc())?;
+    set_width(rt, &plan.rows(), &mut asked)?;
+    let text = cells_of(rt, threads, &plan, &source.program.names, &asked)?;
+    print_out(rt, &text)
+}
+
+/// Prints the picture that is asked for, or writes those of all rounds into files. The status with which the program ends.
+fn put_image(
+    rt: &HostRuntime,
+    threads: &(impl Threads + Sync),
+    asked: ImageRequest,
+) -> Result<u8, Ending> {
+    read_run_once(rt.alloc(), &asked.texts, "")?;
+    if asked.links || asked.frames.is_some() {
+        return put_plan(rt, threads, asked);
+    }
+    put_run(rt, threads, asked)
+}
+
+/// Prints a picture of rounds, or writes one of each into a file. The status with which the program ends.
+pub fn make_image(
+    rt: &HostRuntime,
+    threads: &(impl Threads + Sync),
+    words: &[String],
+) -> Result<u8, Ending> {
+    let asked = asked_by(ImageRequest::parse(rt.alloc(), words))?;
+    put_image(rt, threads, asked)
+}
+
+/// The network of a plan in a round, for Graphviz, each node with its label, coloured so by a field.
+fn dot_in_style(
+    alloc: Global,
+    threads: &(impl Threads + Sync),
+    plan: &Plan,
+    round: u32,
+    field: u32,
+    labels: &[String],
+    styles: &ValueStyles<'_>,
+) -> Result<Vec<u8>, Ending> {
+    match network_dot(threads, alloc, plan, round, field, labels, styles) {
+        Ok(text) => Ok(text),
+        Err(fault) => Err(no_picture(alloc, fault)),
+    }
+}
+
+/// The network of a plan in a round, for Graphviz, each node with its label.
+fn labelled(
+    rt: &HostRuntime,
+    threads: &(impl Threads + Sync),
+    named: &NamedPlan,
+    asked: &DotRequest,
+    field: u32,
+    labels: &[String],
+) -> Result<Vec<u8>, Ending> {
+    let names = names_of_field(&named.names, field);
+    let styles = styles_for(rt.alloc(), names, &asked.colours, CellShape::Square)?;
+    let (plan, round) = (&named.plan, asked.round);
+    dot_in_style(rt.alloc(), threads, plan, round, field, labels, &styles)
+}
+
+/// The network of a plan in a round, for Graphviz.
+fn network_of(
+    rt: &HostRuntime,
+    threads: &(impl Threads + Sync),
+    named: &NamedPlan,
+    asked: &DotRequest,
+) -> Result<Vec<u8>, Ending> {
+    let plan = &named.plan;
+    let field = coloured_field(rt.alloc(), plan.program(), &asked.field)?;
+    let labels = labels_at(rt, Format::Report, &asked.names, plan.network().nodes())?;
+    labelled(rt, threads, named, asked, field, &labels)
+}
+
+/// The network that is asked for.
+fn network_for(
+    rt: &HostRuntime,
+    threads: &(impl Threads + Sync),
+    asked: &DotRequest,
+) -> Result<Vec<u8>, Ending> {
+    let named = named_plan_at(rt, &asked.plan)?;
+    network_of(rt, threads, &named, asked)
+}
+
+/// Prints the network that is asked for. The status with which the program ends.
+fn put_dot(
+    rt: &HostRuntime,
+    threads: &(impl Threads + Sync),
+    asked: &DotRequest,
+) -> Result<u8, Ending> {
+    read_plan_once(rt.alloc(), &asked.plan, path_in(&asked.names), "", "")?;
+    let text = network_for(rt, threads, asked)?;
+    put_colour_notes(rt, &asked.colours)?;
+    print_out(rt, &text)
+}
+
+/// Prints a network in a round for Graphviz. The status with which the program ends.
+pub fn make_dot(
+    rt: &HostRuntime,
+    threads: &(impl Threads + Sync),
+    words: &[String],
+) -> Result<u8, Ending> {
+    let asked = asked_by(DotRequest::parse(rt.alloc(), words))?;
+    put_dot(rt, threads, &asked)
+}
