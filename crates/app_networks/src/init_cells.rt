@@ -151,22 +151,6 @@ fn put_alike(
     put_same(openings, alloc, field, Chosen::These(nodes), value)
 }
 
-/// Puts the opening that the cells of a state ask for, where there are some, or are to be none.
-fn put_some(
-    openings: &mut Vec<Opening>,
-    alloc: Global,
-    grid: &Grid,
-    word: &CellsWord,
-    cells: &[Cell],
-    state: u8,
-    may_be_none: bool,
-) -> Result<(), Ending> {
-    if cells.is_empty() && !may_be_none {
-        return Ok(());
-    }
-    put_alike(openings, alloc, grid, word, cells, state)
-}
-
 /// Puts the opening that the cells of a state ask for, where there are some, or no cells at all.
 fn put_state(
     openings: &mut Vec<Opening>,
@@ -177,7 +161,10 @@ fn put_state(
     state: u8,
 ) -> Result<(), Ending> {
     let alike = cells_of_state(alloc, cells, state)?;
-    put_some(openings, alloc, grid, word, &alike, state, cells.is_empty())
+    if alike.is_empty() && !cells.is_empty() {
+        return Ok(());
+    }
+    put_alike(openings, alloc, grid, word, &alike, state)
 }
 
 /// The greatest state of cells; 0 where there are none.

@@ -83,20 +83,28 @@ fn rounds_text(
     told_rounds(rt, threads, plan, span, look, settling)
 }
 
+/// How far steps go.
+#[derive(Clone, Copy)]
+struct Extent {
+    /// The round at which each node stops.
+    stop: u32,
+    /// Whether the steps of nodes that do not wait stand beside them.
+    naive: bool,
+}
+
 /// The data of steps on a plan, naively with those of nodes that do not wait.
 fn steps_made(
     alloc: Global,
     threads: &(impl Threads + Sync),
     plan: Arc<Plan>,
     steps: &[Step],
-    stop: u32,
-    naive: bool,
+    extent: Extent,
     look: &Look<'_>,
 ) -> Result<Vec<u8>, PageFault> {
-    if naive {
-        naive_data(threads, alloc, plan, stop, steps, look)
+    if extent.naive {
+        naive_data(threads, alloc, plan, extent.stop, steps, look)
     } else {
-        steps_data(threads, alloc, plan, stop, steps, look)
+        steps_data(threads, alloc, plan, extent.stop, steps, look)
     }
 }
 
@@ -106,12 +114,11 @@ fn steps_on(
     threads: &(impl Threads + Sync),
     plan: &Arc<Plan>,
     steps: &[Step],
-    stop: u32,
-    naive: bool,
+    extent: Extent,
     look: &Look<'_>,
 ) -> Result<Vec<u8>, Ending> {
     let shared = Arc::try_clone(plan)?;
-    match steps_made(alloc, threads, shared, steps, stop, naive, look) {
+    match steps_made(alloc, threads, shared, steps, extent, look) {
         Ok(data) => Ok(data),
         Err(fault) => Err(no_data(alloc, fault)),
     }
@@ -123,12 +130,11 @@ fn steps_text(
     threads: &(impl Threads + Sync),
     plan: &Arc<Plan>,
     schedule: &str,
-    stop: u32,
-    naive: bool,
+    extent: Extent,
     look: &Look<'_>,
 ) -> Result<Vec<u8>, Ending> {
     let steps = steps_at(rt, schedule)?;
-    steps_on(rt.alloc(), threads, plan, &steps, stop, naive, look)
+    steps_on(rt.alloc(), threads, plan, &steps, extent, look)
 }
 
 /// The data of the run that is asked for, these fields and names being shown.
@@ -145,7 +151,11 @@ fn run_text(
             schedule,
             stop,
             naive,
-        } => steps_text(rt, threads, plan, schedule.as_str(), *stop, *naive, look),
+        } => {
+            let (stop, naive) = (*stop, *naive);
+            let extent = Extent { stop, naive };
+            steps_text(rt, threads, plan, schedule.as_str(), extent, look)
+        }
     }
 }
 
@@ -157,18 +167,32 @@ fn grid_of(rt: &HostRuntime, plan: &Plan, asked: &PageRequest) -> Result<Option<
     }
 }
 
-/// The data of what is asked for, these fields and names being shown, where the values of each field have these names.
+/// What nodes and values are called.
+#[derive(Clone, Copy)]
+struct Names<'a> {
+    /// The labels of the nodes.
+    nodes: &'a [String],
+    /// The names of the values of each field.
+    values: &'a [Vec<String>],
+}
+
+/// The data of what is asked for, these fields and names being shown.
 fn data_with(
     rt: &HostRuntime,
     threads: &(impl Threads + Sync),
     plan: &Arc<Plan>,
     asked: &PageRequest,
     fields: &[u32],
-    labels: &[String],
-    states: &[Vec<String>],
+    called: Names<'_>,
 ) -> Result<Vec<u8>, Ending> {
-    let node_fields = asked.view.node_fields.as_slice();
-    let names = value_names(rt.alloc(), plan.program(), states, node_fields, labels)?;
+    let (labels, node_fields) = (called.nodes, asked.view.node_fields.as_slice());
+    let names = value_names(
+        rt.alloc(),
+        plan.program(),
+        called.values,
+        node_fields,
+        labels,
+    )?;
     let grid = grid_of(rt, plan, asked)?;
     let look = Look {
         fields,
@@ -190,7 +214,11 @@ fn labelled(
 ) -> Result<Vec<u8>, Ending> {
     let nodes = plan.network().nodes();
     let labels = labels_at(rt, Format::Report, &asked.view.names, nodes)?;
-    data_with(rt, threads, plan, asked, fields, &labels, states)
+    let called = Names {
+        nodes: &labels,
+        values: states,
+    };
+    data_with(rt, threads, plan, asked, fields, called)
 }
 
 /// The data of what is asked for, where the values of each field have these names.

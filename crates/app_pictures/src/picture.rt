@@ -116,23 +116,6 @@ fn shape_for(rows: &NetRows<'_>, asked: &ImageRequest) -> CellShape {
     }
 }
 
-/// The picture of rounds one below the other, coloured by a field, or the curves of its counts, with what tells how far it is.
-fn rounds_or_curves(
-    alloc: Global,
-    threads: &(impl Threads + Sync),
-    plan: &PlanRef<'_>,
-    asked: &ImageRequest,
-    field: u32,
-    styles: &ValueStyles<'_>,
-    telling: &mut Telling<'_>,
-) -> Result<Vec<u8>, PictureFault> {
-    let span = &asked.span;
-    if asked.counts {
-        return count_picture(threads, alloc, plan, span, field, styles, telling);
-    }
-    time_picture(threads, alloc, plan, span, field, styles, telling)
-}
-
 /// The picture of rounds one below the other, coloured by a field, or the curves of its counts.
 fn drawn_rounds(
     rt: &HostRuntime,
@@ -142,17 +125,12 @@ fn drawn_rounds(
     field: u32,
     styles: &ValueStyles<'_>,
 ) -> Result<Vec<u8>, PictureFault> {
-    let span = &asked.span;
+    let (alloc, span) = (rt.alloc(), &asked.span);
     let mut telling = Telling::new(rt, span, plan.nodes());
-    rounds_or_curves(
-        rt.alloc(),
-        threads,
-        plan,
-        asked,
-        field,
-        styles,
-        &mut telling,
-    )
+    if asked.counts {
+        return count_picture(threads, alloc, plan, span, field, styles, &mut telling);
+    }
+    time_picture(threads, alloc, plan, span, field, styles, &mut telling)
 }
 
 /// The network in one round, or in each of several in turn, coloured by a field.
@@ -180,19 +158,18 @@ fn drawn_network(
     )
 }
 
-/// The grid of each of several rounds in turn, each shown for so long, coloured by a field.
+/// The grid of each of several rounds in turn, coloured by a field.
 fn drawn_grids(
     rt: &HostRuntime,
     threads: &(impl Threads + Sync),
     plan: &PlanRef<'_>,
     asked: &ImageRequest,
     field: u32,
-    time: u32,
     styles: &ValueStyles<'_>,
 ) -> Result<Vec<u8>, PictureFault> {
     let alloc = rt.alloc();
     let span = &asked.span;
-    let width = GridWidth::number(asked.grid);
+    let (width, time) = (GridWidth::number(asked.grid), asked.frame_time.unwrap_or(1));
     let mut telling = Telling::new(rt, span, plan.nodes());
     moving_picture(
         threads,
@@ -217,10 +194,10 @@ fn drawn_grid(
     styles: &ValueStyles<'_>,
 ) -> Result<Vec<u8>, PictureFault> {
     let (round, width) = (asked.span.first(), GridWidth::number(asked.grid));
-    match asked.frame_time {
-        Some(time) => drawn_grids(rt, threads, plan, asked, field, time, styles),
-        None => grid_picture(threads, rt.alloc(), plan, round, field, width, styles),
+    if asked.frame_time.is_some() {
+        return drawn_grids(rt, threads, plan, asked, field, styles);
     }
+    grid_picture(threads, rt.alloc(), plan, round, field, width, styles)
 }
 
 /// The picture of rounds, or of one of them or each in turn as a grid, coloured by a field, or the curves of its counts.
@@ -472,22 +449,6 @@ pub fn make_image(
     put_image(rt, threads, asked)
 }
 
-/// The network of a plan in a round, for Graphviz, each node with its label, coloured so by a field.
-fn dot_in_style(
-    alloc: Global,
-    threads: &(impl Threads + Sync),
-    plan: &Plan,
-    round: u32,
-    field: u32,
-    labels: &[String],
-    styles: &ValueStyles<'_>,
-) -> Result<Vec<u8>, Ending> {
-    match network_dot(threads, alloc, plan, round, field, labels, styles) {
-        Ok(text) => Ok(text),
-        Err(fault) => Err(no_picture(alloc, fault)),
-    }
-}
-
 /// The network of a plan in a round, for Graphviz, each node with its label.
 fn labelled(
     rt: &HostRuntime,
@@ -499,8 +460,9 @@ fn labelled(
 ) -> Result<Vec<u8>, Ending> {
     let names = names_of_field(&named.names, field);
     let styles = styles_for(rt.alloc(), names, &asked.colours, CellShape::Square)?;
-    let (plan, round) = (&named.plan, asked.round);
-    dot_in_style(rt.alloc(), threads, plan, round, field, labels, &styles)
+    let (alloc, plan, round) = (rt.alloc(), &named.plan, asked.round);
+    let drawn = network_dot(threads, alloc, plan, round, field, labels, &styles);
+    picture_in(alloc, drawn)
 }
 
 /// The network of a plan in a round, for Graphviz.

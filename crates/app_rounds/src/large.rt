@@ -2,10 +2,11 @@
 
 use crate::large_request::LargeRequest;
 use crate::large_watch::watch_rounds;
-use crate::lockstep_request::StatesView;
+use crate::lockstep_request::LockstepRequest;
 use crate::round_report::report_run;
 use crate::settle::settle_run;
-use app_commands::{RunTexts, packed_source_at, read_run_once, show_info};
+use crate::settle_request::SettleRequest;
+use app_commands::{packed_source_at, read_run_once, show_info};
 use app_files::Ending;
 use std::thread::Threads;
 
@@ -13,27 +14,23 @@ use std::thread::Threads;
 fn report_round(
     rt: &HostRuntime,
     threads: &(impl Threads + Sync),
-    texts: &RunTexts,
-    rounds: u32,
-    view: &StatesView,
+    asked: &LockstepRequest,
 ) -> Result<u8, Ending> {
-    read_run_once(rt.alloc(), texts, "")?;
-    let source = packed_source_at(rt, threads, texts)?;
-    report_run(rt, threads, source, texts, rounds, view, true)
+    read_run_once(rt.alloc(), &asked.texts, "")?;
+    let source = packed_source_at(rt, threads, &asked.texts)?;
+    report_run(rt, threads, source, asked)
 }
 
 /// Tells from which round on nothing changes, or all states come again. The status with which the program ends.
 fn settle_rounds(
     rt: &HostRuntime,
     threads: &(impl Threads + Sync),
-    texts: &RunTexts,
-    limit: u32,
-    is_reported: bool,
+    asked: &SettleRequest,
 ) -> Result<u8, Ending> {
-    read_run_once(rt.alloc(), texts, "")?;
-    let source = packed_source_at(rt, threads, texts)?;
-    let ground = source.ground(rt, texts)?;
-    settle_run(rt, threads, &ground, texts, limit, is_reported)
+    read_run_once(rt.alloc(), &asked.texts, "")?;
+    let source = packed_source_at(rt, threads, &asked.texts)?;
+    let ground = source.ground(rt, &asked.texts)?;
+    settle_run(rt, threads, &ground, asked)
 }
 
 /// Does what `large` is asked for. The status with which the program ends.
@@ -44,17 +41,9 @@ fn serve_large(
 ) -> Result<u8, Ending> {
     match asked {
         LargeRequest::Info { network } => show_info(rt, threads, network.as_str()),
-        LargeRequest::Lockstep {
-            texts,
-            rounds,
-            view,
-        } => report_round(rt, threads, texts, *rounds, view),
+        LargeRequest::Lockstep(asked) => report_round(rt, threads, asked),
         LargeRequest::Watch { texts, span, view } => watch_rounds(rt, threads, texts, span, view),
-        LargeRequest::Settle {
-            texts,
-            limit,
-            report,
-        } => settle_rounds(rt, threads, texts, *limit, *report),
+        LargeRequest::Settle(asked) => settle_rounds(rt, threads, asked),
     }
 }
 

@@ -1,10 +1,14 @@
 //! `large`: rounds on networks of any size.
+ghost use Rattle.std.specs.Prelude.{IfOk, IfSome};
+ghost use Rattle.app_rounds.specs.Requests.{IsLargeWithin};
 
 use crate::lockstep_request::{
-    FORMAT, FORMAT_ARGUMENT, LAST, ONE_FIELD, StatesFormat, StatesView, format_in, round_in,
-    states_view_in,
+    FORMAT, FORMAT_ARGUMENT, LAST, LockstepRequest, ONE_FIELD, StatesFormat, StatesView, format_in,
+    round_in, states_view_in,
 };
-use crate::settle_request::{DEFAULT_LIMIT, LIMIT, LIMIT_ARGUMENT, REPORT, REPORT_ARGUMENT};
+use crate::settle_request::{
+    DEFAULT_LIMIT, LIMIT, LIMIT_ARGUMENT, REPORT, REPORT_ARGUMENT, SettleRequest,
+};
 use app_commands::{
     CONSTANT, EVERY, FILE, FROM, NETWORK_ARGUMENT, OVERLAP, PROGRAM, ROUNDS, RunTexts, SEED,
     SEQUENTIAL, SET, SET_FILE, SET_RANDOM, THREADS, span_in,
@@ -160,25 +164,16 @@ pub enum LargeRequest {
     Info {
         network: String,
     },
-    /// The states after a round.
-    Lockstep {
-        texts: RunTexts,
-        rounds: u32,
-        view: StatesView,
-    },
+    /// The states after a round; notes are left out.
+    Lockstep(LockstepRequest),
     /// What rounds are like, one by one.
     Watch {
         texts: RunTexts,
         span: Span,
         view: RoundsView,
     },
-    /// From which round on nothing changes, or all states come again, looked for up to a limit.
-    Settle {
-        texts: RunTexts,
-        limit: u32,
-        /// Whether the report of the round that is found is printed too.
-        report: bool,
-    },
+    /// From which round on nothing changes, or all states come again; notes are left out.
+    Settle(SettleRequest),
 }
 
 /// Counts of a field's values, of which CSV is the one form.
@@ -223,31 +218,39 @@ fn rounds_view_in(reading: &mut Reading) -> RoundsView {
 }
 
 /// What the words of `settle` ask for.
-fn settle_in(reading: &mut Reading) -> LargeRequest {
+fn settle_in(reading: &mut Reading) -> LargeRequest
+    ensures within { IsLargeWithin result }
+{
     let limit = reading.number_or(&LIMIT_ARGUMENT, DEFAULT_LIMIT);
     let report = reading.has(&REPORT_ARGUMENT);
     let texts = RunTexts::of(reading);
-    LargeRequest::Settle {
+    LargeRequest::Settle(SettleRequest {
         texts,
         limit,
         report,
-    }
+        quiet: true,
+    })
 }
 
 /// What the words of `lockstep` ask for.
-fn lockstep_in(reading: &mut Reading) -> LargeRequest {
+fn lockstep_in(reading: &mut Reading) -> LargeRequest
+    ensures within { IsLargeWithin result }
+{
     let rounds = round_in(reading);
     let view = view_in(reading);
     let texts = RunTexts::of(reading);
-    LargeRequest::Lockstep {
+    LargeRequest::Lockstep(LockstepRequest {
         texts,
         rounds,
         view,
-    }
+        quiet: true,
+    })
 }
 
 /// What the words of `watch` ask for, where they name rounds.
-fn watch_in(reading: &mut Reading) -> Option<LargeRequest> {
+fn watch_in(reading: &mut Reading) -> Option<LargeRequest>
+    ensures within { IfSome result IsLargeWithin }
+{
     let span = span_in(reading)?;
     let view = rounds_view_in(reading);
     let texts = RunTexts::of(reading);
@@ -255,7 +258,9 @@ fn watch_in(reading: &mut Reading) -> Option<LargeRequest> {
 }
 
 /// What plain words ask for, where they name rounds.
-fn request_in(reading: &mut Reading) -> Option<LargeRequest> {
+fn request_in(reading: &mut Reading) -> Option<LargeRequest>
+    ensures within { IfSome result IsLargeWithin }
+{
     match reading.subcommand() {
         "info" | "show" => Some(LargeRequest::Info {
             network: reading.needed_text(&NETWORK_ARGUMENT),
@@ -268,7 +273,9 @@ fn request_in(reading: &mut Reading) -> Option<LargeRequest> {
 
 impl LargeRequest {
     /// What the words ask for, the command's name first.
-    pub fn parse(alloc: Global, line: &[String]) -> Result<LargeRequest, WordsFault> {
+    pub fn parse(alloc: Global, line: &[String]) -> Result<LargeRequest, WordsFault>
+        ensures within { IfOk result IsLargeWithin }
+    {
         let mut reading = Reading::of(alloc, large_command(), line)?;
         let asked = request_in(&mut reading);
         reading.end_some(asked)

@@ -131,20 +131,27 @@ impl Show {
     }
 }
 
-/// What is printed of the rounds of a span of a plan, each shared among so many threads; the values of fields have these
-/// names.
+/// Which rounds are shown, and how.
+struct Shown<'a> {
+    span: &'a Span,
+    show: Show,
+    /// The names of the values of each field.
+    names: &'a [Vec<String>],
+}
+
+/// What is printed of the rounds of a plan, each shared among so many threads.
 fn output_of<R: Threads + Sync>(
     rt: &HostRuntime,
     threads: &R,
     plan: &PlanRef<'_>,
-    names: &[Vec<String>],
-    span: &Span,
-    show: Show,
+    shown: &Shown<'_>,
     count: usize,
 ) -> Result<Vec<u8>, Ending> {
     let start = start_of(rt.alloc(), plan, count)?;
-    let mut rounds = ShownRounds::new(rt, threads, &start, span, count)?;
-    show.output(&mut rounds, plan.program(), names, plan.nodes())
+    let mut rounds = ShownRounds::new(rt, threads, &start, shown.span, count)?;
+    shown
+        .show
+        .output(&mut rounds, plan.program(), shown.names, plan.nodes())
 }
 
 /// Prints the rounds of a span. The status with which the program ends.
@@ -161,7 +168,8 @@ pub(crate) fn watch_rounds<R: Threads + Sync>(
     let (plan, count) = (ground.lent(rt.alloc())?, threads_for(threads, texts));
     check_span(&plan, span)?;
     let show = Show::of(rt, plan.program(), view)?;
-    let names = &source.program.names;
-    let output = output_of(rt, threads, &plan, names, span, show, count)?;
+    let names = source.program.names.as_slice();
+    let shown = Shown { span, show, names };
+    let output = output_of(rt, threads, &plan, &shown, count)?;
     print_out(rt, &output)
 }

@@ -5,8 +5,7 @@ use crate::counts::{counted, put_counts};
 use crate::lockstep_request::{LockstepRequest, StatesFormat, StatesView};
 use crate::shown_rounds::{ShownRounds, start_of};
 use app_commands::{
-    RunSource, RunTexts, array_of, asked_by, check_output, program_in, read_run_once, source_at,
-    threads_for,
+    RunSource, array_of, asked_by, check_output, program_in, read_run_once, source_at, threads_for,
 };
 use app_files::{Ending, field_place, names_of_field, print_out};
 use app_jobs::ServeFault;
@@ -189,15 +188,13 @@ fn packed_of(
     rt: &HostRuntime,
     threads: &(impl Threads + Sync),
     source: &RunSource,
-    texts: &RunTexts,
-    rounds: u32,
-    view: &StatesView,
-    quiet: bool,
+    asked: &LockstepRequest,
 ) -> Result<(PackedStates, Show), Ending> {
-    let ground = source.noted_ground(rt, texts, quiet)?;
+    let ground = source.noted_ground(rt, &asked.texts, asked.quiet)?;
     let plan = ground.lent(rt.alloc())?;
-    let show = Show::of(rt, plan.program(), view)?;
-    let packed = packed_from(rt, threads, &plan, rounds, threads_for(threads, texts))?;
+    let show = Show::of(rt, plan.program(), &asked.view)?;
+    let count = threads_for(threads, &asked.texts);
+    let packed = packed_from(rt, threads, &plan, asked.rounds, count)?;
     Ok((packed, show))
 }
 
@@ -206,14 +203,12 @@ pub(crate) fn report_run(
     rt: &HostRuntime,
     threads: &(impl Threads + Sync),
     source: RunSource,
-    texts: &RunTexts,
-    rounds: u32,
-    view: &StatesView,
-    quiet: bool,
+    asked: &LockstepRequest,
 ) -> Result<u8, Ending> {
-    let (packed, show) = packed_of(rt, threads, &source, texts, rounds, view, quiet)?;
+    let (packed, show) = packed_of(rt, threads, &source, asked)?;
     // The network and the initial states are dropped before the list of the states is made.
     let RunSource { program, .. } = source;
+    let rounds = asked.rounds;
     print_states(rt, &program.text, &program.names, rounds, packed, show)
 }
 
@@ -223,18 +218,9 @@ fn put_states(
     threads: &(impl Threads + Sync),
     asked: &LockstepRequest,
 ) -> Result<u8, Ending> {
-    let texts = &asked.texts;
-    read_run_once(rt.alloc(), texts, "")?;
-    let source = source_at(rt, threads, texts)?;
-    report_run(
-        rt,
-        threads,
-        source,
-        texts,
-        asked.rounds,
-        &asked.view,
-        asked.quiet,
-    )
+    read_run_once(rt.alloc(), &asked.texts, "")?;
+    let source = source_at(rt, threads, &asked.texts)?;
+    report_run(rt, threads, source, asked)
 }
 
 /// Reports the states after a round. The status with which the program ends.

@@ -3,7 +3,7 @@
 use crate::round_report::states_after;
 use crate::settle_request::SettleRequest;
 use crate::shown_rounds::start_of;
-use app_commands::{Ground, RunTexts, asked_by, read_run_once, source_at, threads_for};
+use app_commands::{Ground, asked_by, read_run_once, source_at, threads_for};
 use app_files::{Ending, not_settled, print_out, settled_round, settling_line};
 use report_text::report_states;
 use rounds_walk::PlanRef;
@@ -11,19 +11,17 @@ use run_settle::{Settling, settle_shared};
 use std::alloc::{AllocError, Global};
 use std::thread::Threads;
 
-/// What becomes of the rounds of a plan, whose program stands at a path, up to a limit; they are shared among so many
-/// threads.
+/// What becomes of the rounds of a plan up to the limit that is asked for; they are shared among so many threads.
 fn found_for(
     alloc: Global,
     threads: &(impl Threads + Sync),
     plan: &PlanRef<'_>,
-    path: &str,
-    limit: u32,
+    asked: &SettleRequest,
     count: usize,
 ) -> Result<Settling, Ending> {
-    match settle_shared(threads, alloc, plan, limit, count) {
+    match settle_shared(threads, alloc, plan, asked.limit, count) {
         Ok(found) => Ok(found),
-        Err(fault) => Err(not_settled(alloc, path, fault)),
+        Err(fault) => Err(not_settled(alloc, asked.texts.plan.program.as_str(), fault)),
     }
 }
 
@@ -62,18 +60,16 @@ fn text_with(alloc: Global, found: Settling, report: &[u8]) -> Result<Vec<u8>, A
     Ok(text)
 }
 
-/// What becomes of the rounds of a plan, whose program stands at a path, as text.
+/// What becomes of the rounds of a plan, as text.
 fn text_of(
     alloc: Global,
     threads: &(impl Threads + Sync),
     plan: &PlanRef<'_>,
-    path: &str,
-    limit: u32,
+    asked: &SettleRequest,
     count: usize,
-    is_reported: bool,
 ) -> Result<Vec<u8>, Ending> {
-    let found = found_for(alloc, threads, plan, path, limit, count)?;
-    let report = found_report(alloc, threads, plan, found, count, is_reported)?;
+    let found = found_for(alloc, threads, plan, asked, count)?;
+    let report = found_report(alloc, threads, plan, found, count, asked.report)?;
     Ok(text_with(alloc, found, &report)?)
 }
 
@@ -82,14 +78,11 @@ pub(crate) fn settle_run(
     rt: &HostRuntime,
     threads: &(impl Threads + Sync),
     ground: &Ground<'_>,
-    texts: &RunTexts,
-    limit: u32,
-    is_reported: bool,
+    asked: &SettleRequest,
 ) -> Result<u8, Ending> {
-    let (alloc, path) = (rt.alloc(), texts.plan.program.as_str());
-    let plan = ground.lent(alloc)?;
-    let count = threads_for(threads, texts);
-    let text = text_of(alloc, threads, &plan, path, limit, count, is_reported)?;
+    let plan = ground.lent(rt.alloc())?;
+    let count = threads_for(threads, &asked.texts);
+    let text = text_of(rt.alloc(), threads, &plan, asked, count)?;
     print_out(rt, &text)
 }
 
@@ -100,10 +93,9 @@ fn put_told(
     asked: &SettleRequest,
 ) -> Result<u8, Ending> {
     read_run_once(rt.alloc(), &asked.texts, "")?;
-    let texts = &asked.texts;
-    let source = source_at(rt, threads, texts)?;
-    let ground = source.noted_ground(rt, texts, asked.quiet)?;
-    settle_run(rt, threads, &ground, texts, asked.limit, asked.report)
+    let source = source_at(rt, threads, &asked.texts)?;
+    let ground = source.noted_ground(rt, &asked.texts, asked.quiet)?;
+    settle_run(rt, threads, &ground, asked)
 }
 
 /// Tells from which round on nothing changes, or all states come again. The status with which the program ends.
