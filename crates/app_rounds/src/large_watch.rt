@@ -132,6 +132,7 @@ impl Show {
 }
 
 /// Which rounds are shown, and how.
+#[derive(Clone, Copy)]
 struct Shown<'a> {
     span: &'a Span,
     show: Show,
