@@ -8,6 +8,7 @@ import pathlib
 import shutil
 import subprocess
 import sys
+import threading
 
 TOP = pathlib.Path(__file__).resolve().parent.parent
 PROGRAMS = ("unison_cli", "unison_lab")
@@ -37,7 +38,30 @@ def rtlib_of_kit():
     sys.path.insert(0, str(root_of_kit() / "bin"))
     import rtlib
 
+    sum_each_crate_once(rtlib)
     return rtlib
+
+
+def sum_each_crate_once(rtlib):
+    """Has the kit's sum of a crate and of those below it (`Crate.stamp`) look at each crate once. By itself it goes along each way from a crate to
+    those below, some 18,000 for the program of most commands, and reads their files each time."""
+    if hasattr(rtlib.Crate.stamp, "along_each_way"):
+        return
+    along_each_way, here = rtlib.Crate.stamp, threading.local()
+
+    def stamp(crate):
+        if getattr(here, "sums", None) is None:
+            here.sums = {}
+            try:
+                return stamp(crate)
+            finally:
+                here.sums = None
+        if crate.folder not in here.sums:
+            here.sums[crate.folder] = along_each_way(crate)
+        return here.sums[crate.folder]
+
+    stamp.along_each_way = along_each_way
+    rtlib.Crate.stamp = stamp
 
 
 def crates(rtlib):
