@@ -131,25 +131,25 @@ impl Show {
     }
 }
 
-/// Which rounds are shown, and how.
+/// What is shown of each round, and how the values of fields are called.
 #[derive(Clone, Copy)]
 struct Shown<'a> {
-    span: &'a Span,
     show: Show,
     /// The names of the values of each field.
     names: &'a [Vec<String>],
 }
 
-/// What is printed of the rounds of a plan, each shared among so many threads.
+/// What is printed of the rounds of a span of a plan, each shared among so many threads.
 fn output_of<R: Threads + Sync>(
     rt: &HostRuntime,
     threads: &R,
     plan: &PlanRef<'_>,
-    shown: &Shown<'_>,
+    span: &Span,
+    shown: Shown<'_>,
     count: usize,
 ) -> Result<Vec<u8>, Ending> {
     let start = start_of(rt.alloc(), plan, count)?;
-    let mut rounds = ShownRounds::new(rt, threads, &start, shown.span, count)?;
+    let mut rounds = ShownRounds::new(rt, threads, &start, span, count)?;
     shown
         .show
         .output(&mut rounds, plan.program(), shown.names, plan.nodes())
@@ -170,7 +170,7 @@ pub(crate) fn watch_rounds<R: Threads + Sync>(
     check_span(&plan, span)?;
     let show = Show::of(rt, plan.program(), view)?;
     let names = source.program.names.as_slice();
-    let shown = Shown { span, show, names };
-    let output = output_of(rt, threads, &plan, &shown, count)?;
+    let shown = Shown { show, names };
+    let output = output_of(rt, threads, &plan, span, shown, count)?;
     print_out(rt, &output)
 }
