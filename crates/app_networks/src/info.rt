@@ -1,10 +1,11 @@
 //! `info NETWORK`: what one wants to know of a network before a run.
 
 use crate::info_request::InfoRequest;
+use crate::network_fault::no_network;
 use app_commands::{asked_by, large_lines, packed_in};
 use app_files::{Ending, bytes_at, is_packed, print_out};
 use large_net::LargeNetwork;
-use link_net::{NetFault, NetFile, read_network};
+use link_net::{NetFile, read_network};
 use net_facts::{facts_of, facts_text};
 use net_text::{RowsFault, row_text};
 use std::alloc::{AllocError, Global};
@@ -30,8 +31,7 @@ fn packed_lines(alloc: Global, network: &LargeNetwork) -> Result<String, Ending>
 fn text_lines(alloc: Global, text: &[u8]) -> Result<String, Ending> {
     match read_network(alloc, text) {
         Ok(file) => Ok(lines_of(alloc, &file)?),
-        Err(NetFault::Memory) => Err(Ending::Memory),
-        Err(fault) => Err(Ending::Network(fault)),
+        Err(fault) => Err(no_network(fault)),
     }
 }
 

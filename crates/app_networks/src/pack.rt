@@ -1,5 +1,6 @@
 //! `pack`: a network of any size as a binary file.
 
+use crate::network_fault::no_network;
 use crate::pack_refusals::{matrix_refusal, names_refusal, refusal};
 use crate::pack_request::PackRequest;
 use app_commands::check_output;
@@ -115,7 +116,7 @@ fn file_bytes(alloc: Global, file: &NetFile) -> Result<Vec<u8>, Ending> {
 pub(crate) fn text_bytes(alloc: Global, text: &[u8]) -> Result<Vec<u8>, Ending> {
     match read_network(alloc, text) {
         Ok(file) => file_bytes(alloc, &file),
-        Err(fault) => Err(Ending::Network(fault)),
+        Err(fault) => Err(no_network(fault)),
     }
 }
 
