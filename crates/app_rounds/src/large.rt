@@ -1,4 +1,4 @@
-//! Networks of any size: `pack` and `large`.
+//! `large`: rounds on networks of any size, by its old words.
 
 use crate::large_request::LargeRequest;
 use crate::large_watch::watch_rounds;
