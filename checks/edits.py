@@ -1,5 +1,5 @@
-"""What an edit is: a bug that is planted in a crate, which the prover has to refuse. Those in crates/NAME/wrong_bodies/ are tried by each run of
-the gate (`checks/wrong_bodies`), those in crates/NAME/planted/ before a release (`checks/planted`)."""
+"""What an edit is: a bug that is planted in a crate, which the prover has to refuse. Those in crates/NAME/must-fail/ are tried by each run of
+the gate, those in crates/NAME/planted/ by `checks/planted`."""
 
 import pathlib
 import re
@@ -21,7 +21,6 @@ class Edit:
         self.pairs = list(self.read(path))
         texts = {file: (folder / file).read_text() for file, _, _ in self.pairs}
         self.functions = {(file, enclosing(texts[file], texts[file].find(old))) for file, old, _ in self.pairs}
-        self.paths = {path_of(file, texts[file], texts[file].find(old)) for file, old, _ in self.pairs}
 
     @staticmethod
     def read(path):
@@ -73,19 +72,6 @@ def enclosing(text, at):
     """The name of the function in which a place stands; empty where it stands before all."""
     names = [found[2] for found in FUNCTION.finditer(text) if found.start() <= at]
     return names[-1] if names else ""
-
-
-def path_of(file, text, at):
-    """The path below the crate of the function in which a place of a source stands; of its type, where a trait has the function; of its module, where
-    it stands in no function."""
-    module = file.removeprefix("src/").removesuffix(".rt").removesuffix("/mod").replace("/", "::")
-    place = place_of(file, text, at)
-    if place == file:
-        return module
-    owners = [found for found in IMPLEMENTATION.finditer(text) if found.start() < at]
-    if place.startswith(f"{pathlib.Path(file).stem}::"):
-        return f"{module}::{place.split('::')[1]}"
-    return f"{module}::{place.split('::')[0]}" if owners[-1][1] else f"{module}::{place}"
 
 
 def place_of(file, text, at):
