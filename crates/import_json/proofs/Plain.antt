@@ -7,6 +7,7 @@ use Rattle.serde_json.specs.Data.{Data}
 use Rattle.serde_json.specs.Find.{get}
 use Rattle.net_names.specs.declared.fault.NamesFault.{NamesFault}
 use Rattle.net_names.specs.declared.fault.NamesFault.TheVariants as name
+use Rattle.link_net.specs.Limits.{most_nodes}
 use Rattle.net_names.specs.Naming.{number_in}
 use Rattle.import_lines.specs.declared.weight.Weight.{Weight}
 use Rattle.import_lines.specs.declared.weight_fault.WeightFault.{WeightFault}
@@ -56,7 +57,7 @@ numbered_plain place names text (Err name.Memory) = refl
 node_plain : (place : ℕ) (names : List (List ℕ)) (d : Data) → IsPlain (with_node place names d)
 node_plain place names d =
     then_plain (id_in (holder.Node place) (codes "id") d) (with_new place names) (said_plain (holder.Node place) (get (codes "id") d))
-    (λ name. if_plain (is_some (position (bytes_eq name) names)) (BadNode place node.SameName) (numbered place names name (number_in names name)) refl (numbered_plain place names name (number_in names name)))
+    (λ name. if_plain (is_some (position (bytes_eq name) names)) (BadNode place node.SameName) (numbered place names name (number_in most_nodes names name)) refl (numbered_plain place names name (number_in most_nodes names name)))
 
 names_plain : (place : ℕ) (names : List (List ℕ)) (ds : List Data) → IsPlain (names_from place names ds)
 names_plain place names [] = tt

@@ -11,6 +11,7 @@ use Rattle.serde_json.specs.Find.{get, as_str, as_number, as_u64, as_i64, as_boo
 use Rattle.serde_json.specs.Read.{read}
 use Rattle.net_names.specs.declared.fault.NamesFault.{NamesFault}
 use Rattle.net_names.specs.declared.fault.NamesFault.TheVariants as name
+use Rattle.link_net.specs.Limits.{most_nodes}
 use Rattle.net_names.specs.Naming.{with_name, number_in}
 use Rattle.import_lines.specs.declared.weight_fault.WeightFault.{WeightFault}
 use Rattle.import_lines.specs.declared.weight_fault.WeightFault.TheVariants.{Negative, Decimal, BadWeight}
@@ -85,7 +86,7 @@ numbered place names name (Err fault) = Err (name_fault place fault)
 abbrev pub with_new : ℕ → List (List ℕ) → List ℕ → Result (List (List ℕ)) JsonFault
 with_new place names name =
     if is_some (position (bytes_eq name) names) then Err (BadNode place node.SameName)
-    else numbered place names name (number_in names name)
+    else numbered place names name (number_in most_nodes names name)
 
 -- the names with the id of the node at a place
 abbrev pub with_node : ℕ → List (List ℕ) → Data → Result (List (List ℕ)) JsonFault

@@ -7,6 +7,7 @@ ghost use Rattle.import_json.specs.Graphs.{name_fault, with_new, with_node, name
 
 use crate::fault::{JsonFault, NodeFault};
 use crate::ids::{Holder, id_in};
+use link_net::MOST_NODES;
 use net_names::{NamesFault, NodeNames};
 use serde_json::Value;
 use std::alloc::Global;
@@ -39,7 +40,7 @@ fn put_name(names: &mut NodeNames, place: u64, name: &str) -> Result<(), JsonFau
             fault: NodeFault::SameName,
         });
     }
-    match names.number(name) {
+    match names.number(name, MOST_NODES) {
         Ok(_) => Ok(()),
         Err(fault) => Err(name_fault(place, fault)),
     }

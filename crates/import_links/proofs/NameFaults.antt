@@ -1,11 +1,11 @@
 -- Names that have no number.
-use Rattle.std.proofs.Common.{◌≡◌, ◌≢◌, ℕ, ◌<◌, Bool, true, false, not, List, [], ◌∷◌, length, nat_lt, Result, Ok, Err, refl, arith, if◌then◌else◌}
-use Rattle.std.proofs.lemmas.Bool.{ltb-true, ltb-false, false_from_ne_true}
+use Rattle.std.proofs.Common.{◌≡◌, ◌≢◌, ℕ, ◌<◌, ◌≤◌, Bool, true, false, not, List, [], ◌∷◌, length, nat_lt, Result, Ok, Err, refl, arith, if◌then◌else◌}
+use Rattle.std.proofs.lemmas.Bool.{ltb-true, ltb-false}
 use Rattle.std.proofs.lemmas.List.{length-append}
 use Rattle.link_net.specs.Limits.{most_nodes}
 use Rattle.net_names.specs.declared.fault.NamesFault.{NamesFault}
 use Rattle.net_names.specs.declared.fault.NamesFault.TheVariants.{BadName, TooManyNames, Memory}
-use Rattle.net_names.specs.Naming.{AreNames, is_name, has_name, place_in, with_name, number_in}
+use Rattle.net_names.specs.Naming.{is_name, has_name, place_in, with_name, number_in}
 use Rattle.net_names.proofs.Refusals.{bad_when, full_when}
 use Rattle.net_names.proofs.Names.{place_of_new}
 use Rattle.import_links.specs.Refusals.{IsNameFault, at_line}
@@ -20,19 +20,20 @@ ok_when false b i k h = grind (arith, h)
 
 module _ (names : List (List ℕ)) (name : List ℕ) where
   -- a number is a place
-  pub number_place : (k : ℕ) → number_in names name ≡ Ok k → k ≡ place_in names name
+  pub number_place : (k : ℕ) → number_in most_nodes names name ≡ Ok k → k ≡ place_in names name
   number_place k is = ok_when (is_name name) (nat_lt (place_in names name) most_nodes) (place_in names name) k is
 
-  -- a name that finds no room would be one too many
-  one_too_many : AreNames names → nat_lt (place_in names name) most_nodes ≡ false → most_nodes < length (with_name names name)
-  one_too_many are past =
-      let few = are.few in
-      let most = ltb-false (place_in names name) most_nodes past in
-      let new : has_name names name ≡ false = false_from_ne_true (has_name names name) (λ has. let low = ltb-true (place_in names name) (length names) has in omega (arith, low, most, few)) in
-      let at = place_of_new names name new in
-      rw new (omega (arith, at, most, length-append names (name ∷ [])))
+  -- a name that finds no room is one too many
+  one_too_many : nat_lt (place_in names name) most_nodes ≡ false → most_nodes < length (with_name names name)
+  one_too_many past = at (has_name names name) refl where
+    most : most_nodes ≤ place_in names name
+    most = ltb-false (place_in names name) most_nodes past
 
-  pub refused_at : (line : ℕ) (fault : NamesFault) → AreNames names → (fault ≢ Memory → number_in names name ≡ Err fault) → IsNameFault names name line (at_line line fault)
-  refused_at line BadName are why = (refl, bad_when (is_name name) (nat_lt (place_in names name) most_nodes) (place_in names name) (why (λ e. cc)))
-  refused_at line TooManyNames are why = (refl, one_too_many are (full_when (is_name name) (nat_lt (place_in names name) most_nodes) (place_in names name) (why (λ e. cc))).1)
-  refused_at line Memory are why = tt
+    at : (has : Bool) → has_name names name ≡ has → most_nodes < length (with_name names name)
+    at true has = (let low = ltb-true (place_in names name) (length names) has in rw has (omega (arith, low, most)))
+    at false new = (let end = place_of_new names name new in rw new (omega (arith, end, most, length-append names (name ∷ []))))
+
+  pub refused_at : (line : ℕ) (fault : NamesFault) → (fault ≢ Memory → number_in most_nodes names name ≡ Err fault) → IsNameFault names name line (at_line line fault)
+  refused_at line BadName why = (refl, bad_when (is_name name) (nat_lt (place_in names name) most_nodes) (place_in names name) (why (λ e. cc)))
+  refused_at line TooManyNames why = (refl, one_too_many (full_when (is_name name) (nat_lt (place_in names name) most_nodes) (place_in names name) (why (λ e. cc))).1)
+  refused_at line Memory why = tt

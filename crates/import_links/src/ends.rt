@@ -7,6 +7,7 @@ ghost use Rattle.import_links.specs.Refusals.{IsRefusal, IsEdgeFault, IsNameFaul
 
 use crate::{JoinFault, PlacedLink};
 use import_lines::Edge;
+use link_net::MOST_NODES;
 use net_names::{NamesFault, NodeNames};
 use std::alloc::Global;
 
@@ -29,7 +30,7 @@ pub(crate) fn number(names: &mut NodeNames, name: &str, line: u64) -> Result<u32
     ensures place { IfOk result (λ number. number ≡ place_in names.old name.now) }
     ensures refused { IfErr result (IsNameFault names.old name.now line) }
 {
-    match names.number(name) {
+    match names.number(name, MOST_NODES) {
         Ok(number) => Ok(number),
         Err(fault) => Err(at_line(fault, line)),
     }

@@ -2,13 +2,13 @@
 use Rattle.std.proofs.Common.{◌≡◌, ℕ, ◌<◌, ◌≤◌, Bool, true, false, not, cond, List, [], ◌∷◌, ◌++◌, length, Some, None, Ok, refl, ap, sym, ◌∙◌, arith}
 use Rattle.std.specs.List.{AllByRecursion, IsDistinct, list_any, position, slice_get}
 use Rattle.std.specs.Str.{is_utf8, bytes_eq}
-use Rattle.std.proofs.lemmas.Bool.{ltb-true, ltb-false, lt-ltb, le-leb}
+use Rattle.std.proofs.lemmas.Bool.{ltb-false, lt-ltb, le-leb}
 use Rattle.std.proofs.lemmas.List.{length-append}
 use Rattle.std.proofs.lemmas.List.Sums.{prefix_len-le-length}
 use Rattle.std.proofs.lemmas.List.Quantifiers.{position-Some}
 use Rattle.std.proofs.lemmas.Option.{slice_get-get_or}
 use Rattle.std.proofs.lemmas.Slice.Eq.{bytes_eq-Decides}
-use Rattle.link_net.specs.Limits.{most_nodes, most_rows}
+use Rattle.link_net.specs.Limits.{most_rows}
 use Rattle.net_names.specs.Naming.{AreNames, AreListed, most_name_bytes, is_control, is_name, place_in, has_name, with_name, number_in}
 
 -- text of the right length is a name where it has no control character
@@ -21,7 +21,7 @@ each-push P [] x all here = (here, tt)
 each-push P (y ∷ ys) x all here = (all.0, each-push P ys x all.1 here)
 
 -- one more name
-pub names-push : (names : List (List ℕ)) (name : List ℕ) → AreNames names → is_name name ≡ true → length names < most_nodes → IsDistinct bytes_eq (names ++ name ∷ []) → AreNames (names ++ name ∷ [])
+pub names-push : (names : List (List ℕ)) (name : List ℕ) → AreNames names → is_name name ≡ true → length names < most_rows → IsDistinct bytes_eq (names ++ name ∷ []) → AreNames (names ++ name ∷ [])
 names-push names name are named room distinct = record {
   each = each-push (λ n. is_name n ≡ true) names name are.each named;
   distinct = distinct;
@@ -48,13 +48,15 @@ last-get [] x = refl
 last-get (y ∷ ys) x = last-get ys x
 
 module _ (names : List (List ℕ)) (name : List ℕ) where
+  -- a name whose place is low enough
+  pub number_is : (most : ℕ) → is_name name ≡ true → place_in names name < most → number_in most names name ≡ Ok (place_in names name)
+  number_is most named low = rw (named, lt-ltb (place_in names name) most low) refl
+
   -- a name that is there
-  pub number_there : (i : ℕ) → is_name name ≡ true → AreNames names → Some i ≡ position (bytes_eq name) names → number_in names name ≡ Ok i
-  number_there i named are at =
-      let p = placed (has_name names name) (place_in names name) i at in
-      let low : place_in names name < length names = ltb-true (place_in names name) (length names) p.0 in
-      let few = are.few in
-      rw (named, lt-ltb (place_in names name) most_nodes (omega arith), p.1) refl
+  pub there_at : (i : ℕ) → i ≡ place_in names name → i < length names → Some i ≡ position (bytes_eq name) names
+  there_at i at low =
+      let has : has_name names name ≡ true = lt-ltb (place_in names name) (length names) (omega (arith, at, low)) in
+      rw has (ap Some at)
 
   pub get_there : (i : ℕ) → Some i ≡ position (bytes_eq name) names → slice_get names i ≡ Some name
   get_there i at =
@@ -67,11 +69,6 @@ module _ (names : List (List ℕ)) (name : List ℕ) where
 
   pub place_of_new : has_name names name ≡ false → place_in names name ≡ length names
   place_of_new new = omega (arith, prefix_len-le-length (λ n. not (bytes_eq name n)) names, ltb-false (place_in names name) (length names) new)
-
-  pub number_new : is_name name ≡ true → None ≡ position (bytes_eq name) names → length names < most_nodes → number_in names name ≡ Ok (length names)
-  number_new named none room =
-      let at = place_of_new (is_new none) in
-      rw (named, at, lt-ltb (length names) most_nodes room) refl
 
   pub get_new : slice_get (names ++ name ∷ []) (length names) ≡ Some name
   get_new = last-get names name

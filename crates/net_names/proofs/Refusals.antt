@@ -6,7 +6,7 @@ use Rattle.std.specs.List.{list_any}
 use Rattle.std.specs.Str.{is_utf8, IsUtf8}
 use Rattle.std.proofs.lemmas.Bool.{ltb-false, and_left, and_right, false_from_ne_true}
 use Rattle.std.proofs.lemmas.Str.{IsUtf8-from_is_utf8}
-use Rattle.link_net.specs.Limits.{most_nodes}
+use Rattle.link_net.specs.Limits.{most_rows}
 use Rattle.net_names.specs.declared.fault.NamesFault.{NamesFault}
 use Rattle.net_names.specs.declared.fault.NamesFault.TheVariants.{BadName, TooManyNames, Memory}
 use Rattle.net_names.specs.Naming.{AreNames, is_control, most_name_bytes, is_name, place_in, number_in}
@@ -31,12 +31,12 @@ full_when false b i h = grind (arith, h)
 
 module _ (earlier : List (List ℕ)) (here : List ℕ) (line : ℕ) (at : line ≡ length earlier + 1) (are : AreNames earlier) (none : None ≡ position (bytes_eq here) earlier) where
   -- a name that has no number refuses its line
-  pub refused_at : (fault : NamesFault) → (fault ≢ Memory → number_in earlier here ≡ Err fault) → IsLineFault earlier here (at_line line fault)
-  refused_at BadName why = (at, bad_when (is_name here) (nat_lt (place_in earlier here) most_nodes) (place_in earlier here) (why (λ e. cc)))
+  pub refused_at : (fault : NamesFault) → (fault ≢ Memory → number_in most_rows earlier here ≡ Err fault) → IsLineFault earlier here (at_line line fault)
+  refused_at BadName why = (at, bad_when (is_name here) (nat_lt (place_in earlier here) most_rows) (place_in earlier here) (why (λ e. cc)))
   refused_at TooManyNames why =
-      let full = full_when (is_name here) (nat_lt (place_in earlier here) most_nodes) (place_in earlier here) (why (λ e. cc)) in
+      let full = full_when (is_name here) (nat_lt (place_in earlier here) most_rows) (place_in earlier here) (why (λ e. cc)) in
       let new = is_new earlier here none in
       let few = are.few in
-      let most = ltb-false (place_in earlier here) most_nodes full.1 in
+      let most = ltb-false (place_in earlier here) most_rows full.1 in
       (at, full.0, new, omega (arith, place_of_new earlier here new))
   refused_at Memory why = tt

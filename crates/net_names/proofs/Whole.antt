@@ -5,7 +5,7 @@ use Rattle.std.specs.Cmp.Lexicographic.{nat_list_eq_equiv}
 use Rattle.std.specs.Str.{bytes_eq}
 use Rattle.std.proofs.lemmas.Bool.{both_ways}
 use Rattle.std.proofs.lemmas.List.{length-append}
-use Rattle.link_net.specs.Limits.{most_nodes}
+use Rattle.link_net.specs.Limits.{most_rows}
 use Rattle.net_names.specs.declared.fault.NamesFileFault.{NamesFileFault}
 use Rattle.net_names.specs.declared.fault.NamesFileFault.TheVariants.{BadName, NameTwice, TooManyNames, Memory}
 use Rattle.net_names.specs.Naming.{AreNames, is_name, has_name}
@@ -30,7 +30,7 @@ module _ (earlier later : List (List ℕ)) (here : List ℕ) (are : AreNames (ea
   new : has_name earlier here ≡ false
   new = sym (any-place (bytes_eq here) earlier) ∙ new-mid earlier later here are.distinct
 
-  room : length earlier < most_nodes
+  room : length earlier < most_rows
   room = let few = are.few in omega (arith, length-append earlier (here ∷ later))
 
   not_bad : (fault : NamesFileFault) → IsLineFault earlier here fault → fault ≡ Memory

@@ -1,7 +1,7 @@
 -- Files of names: a line for each, in the order of their numbers.
 use Rattle.std.specs.Prelude.{◌≡◌, ℕ, ◌+◌, true, false, List, [], ◌∷◌, ◌++◌, length}
 use Rattle.std.specs.Str.Lines.{lines}
-use Rattle.link_net.specs.Limits.{most_nodes}
+use Rattle.link_net.specs.Limits.{most_rows}
 use Rattle.net_names.specs.declared.fault.NamesFileFault.{NamesFileFault}
 use Rattle.net_names.specs.declared.fault.NamesFileFault.TheVariants.{BadName, NameTwice, TooManyNames, Memory}
 use Rattle.net_names.specs.declared.fault.NamesFault.{NamesFault}
@@ -28,7 +28,7 @@ at_line line name.Memory = Memory
 abbrev pub IsLineFault : List (List ℕ) → List ℕ → NamesFileFault → Type 0
 IsLineFault earlier here (BadName line) = (line ≡ length earlier + 1) × (is_name here ≡ false)
 IsLineFault earlier here (NameTwice line first) = (line ≡ length earlier + 1) × (has_name earlier here ≡ true) × (first ≡ place_in earlier here + 1)
-IsLineFault earlier here (TooManyNames line) = (line ≡ length earlier + 1) × (is_name here ≡ true) × (has_name earlier here ≡ false) × (length earlier ≡ most_nodes)
+IsLineFault earlier here (TooManyNames line) = (line ≡ length earlier + 1) × (is_name here ≡ true) × (has_name earlier here ≡ false) × (length earlier ≡ most_rows)
 IsLineFault earlier here Memory = Unit {0}
 
 -- why bytes are no file of names: the lines up to one give names, and that one does not

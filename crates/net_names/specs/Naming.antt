@@ -2,7 +2,7 @@
 use Rattle.std.specs.Prelude.{◌≡◌, ◌≤◌, ℕ, ◌==◌, Bool, true, ◌&&◌, ◌||◌, not, List, [], ◌∷◌, ◌++◌, length, nat_lt, nat_le, Result, Ok, Err, if◌then◌else◌}
 use Rattle.std.specs.List.{list_any, position_or_len, IsDistinct, AllByRecursion}
 use Rattle.std.specs.Str.{is_utf8, bytes_eq}
-use Rattle.link_net.specs.Limits.{most_nodes, most_rows}
+use Rattle.link_net.specs.Limits.{most_rows}
 use Rattle.net_names.specs.declared.fault.NamesFault.{NamesFault}
 use Rattle.net_names.specs.declared.fault.NamesFault.TheVariants.{BadName, TooManyNames}
 
@@ -18,11 +18,11 @@ is_control b = nat_lt b 32 || b == 127
 abbrev pub is_name : List ℕ → Bool
 is_name bytes = (nat_lt 0 (length bytes) && nat_le (length bytes) most_name_bytes) && (is_utf8 bytes && not (list_any is_control bytes))
 
--- these are the names of nodes: each is a name, no two are equal, and they are no more than a network has nodes
+-- these are the names of nodes: each is a name, no two are equal, and they are no more than a network of any size has nodes
 pub record AreNames (names : List (List ℕ)) : Type 0 where
   pub each : AllByRecursion (λ name. is_name name ≡ true) names
   pub distinct : IsDistinct bytes_eq names
-  pub few : length names ≤ most_nodes
+  pub few : length names ≤ most_rows
 
 -- these are the names of nodes of a network of any size: no two are equal, and they are no more than it has nodes
 pub record AreListed (names : List (List ℕ)) : Type 0 where
@@ -41,9 +41,9 @@ has_name names name = nat_lt (place_in names name) (length names)
 abbrev pub with_name : List (List ℕ) → List ℕ → List (List ℕ)
 with_name names name = if has_name names name then names else names ++ name ∷ []
 
--- the number of a name, which is its place, or where it is new the next; or why it has none
-abbrev pub number_in : List (List ℕ) → List ℕ → Result ℕ NamesFault
-number_in names name =
+-- the number of a name, which is its place, or where it is new the next, among so many at most; or why it has none
+abbrev pub number_in : ℕ → List (List ℕ) → List ℕ → Result ℕ NamesFault
+number_in most names name =
     if not (is_name name) then Err BadName
-    else if nat_lt (place_in names name) most_nodes then Ok (place_in names name)
+    else if nat_lt (place_in names name) most then Ok (place_in names name)
     else Err TooManyNames

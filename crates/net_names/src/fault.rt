@@ -13,8 +13,8 @@ pub enum NamesFault {
     /// It is empty, has more than 65,536 bytes, or has a control character (a byte below 32, or 127).
     #[error("not a name")]
     BadName,
-    /// It is new, and there are 65,536 names.
-    #[error("there are 65536 names, and no more may be")]
+    /// It is new, and there are as many names as there may be.
+    #[error("there are as many names as there may be")]
     TooManyNames,
     /// Memory ran out.
     #[error("not enough memory")]
@@ -43,13 +43,13 @@ impl<T: Drop> From<AllocFailed<T>> for NamesFault {
 pub enum NamesFileFault {
     /// The line is no name: it is empty, has more than 65,536 bytes, has a control character, or is not UTF-8.
     #[error("line {line}: not a name")]
-    BadName { line: u32 },
+    BadName { line: u64 },
     /// The line is the name of an earlier line.
     #[error("line {line}: the name stands on line {first} already")]
-    NameTwice { line: u32, first: u32 },
-    /// 65,536 names stand on the lines before it.
-    #[error("line {line}: there are 65536 names, and no more may be")]
-    TooManyNames { line: u32 },
+    NameTwice { line: u64, first: u64 },
+    /// 4,294,967,295 names stand on the lines before it.
+    #[error("line {line}: there are 4294967295 names, and no more may be")]
+    TooManyNames { line: u64 },
     /// Memory ran out.
     #[error("not enough memory")]
     Memory,

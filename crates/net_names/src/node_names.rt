@@ -4,18 +4,18 @@ ghost use Rattle.std.specs.List.{IsDistinct};
 ghost use Rattle.std.specs.Str.{bytes_eq};
 ghost use Rattle.std.specs.String.{string_eq};
 ghost use Rattle.indexmap.specs.IndexSet.{IsUnchanged, contains_text};
-ghost use Rattle.link_net.specs.Limits.{most_nodes};
+ghost use Rattle.link_net.specs.Limits.{most_rows};
 ghost use Rattle.net_names.specs.declared.fault.NamesFault.TheVariants.{Memory};
-ghost use Rattle.net_names.specs.Naming.{AreNames, is_name, has_name, with_name, number_in};
+ghost use Rattle.net_names.specs.Naming.{AreNames, is_name, has_name, place_in, with_name, number_in};
 
 use crate::NamesFault;
 use crate::name_test::is_name;
 use indexmap::IndexSet;
-use link_net::MOST_NODES;
 use std::alloc::{AllocError, Global};
 use std::marker::Model;
 
-/// Names of nodes, one to one: the name at place k, counted from 0, is that of node k. They are at most 65,536.
+/// Names of nodes, one to one: the name at place k, counted from 0, is that of node k. They are at most
+/// 4,294,967,295.
 #[derive(Drop)]
 pub struct NodeNames {
     alloc: Global,
@@ -60,7 +60,7 @@ impl NodeNames {
         }
     }
 
-    /// How many names there are, at most 65,536.
+    /// How many names there are, at most 4,294,967,295.
     pub fn count(&self) -> u32
         ensures count { result ≡ length self.now }
         ensures names { AreNames self.now }
@@ -85,11 +85,21 @@ impl NodeNames {
         Some(text.as_str())
     }
 
+    /// The place of a name, and how many names there are where it is not among them.
+    fn place_in(&self, name: &str) -> u32
+        ensures place { result ≡ place_in self.now name.now }
+    {
+        match self.number_of(name) {
+            Some(place) => place,
+            None => self.count(),
+        }
+    }
+
     /// Puts a new name behind the others.
     fn put(&mut self, name: &str) -> Result<(), AllocError>
         requires name { is_name name.now ≡ true }
         requires new { has_name self.old name.now ≡ false }
-        requires room { length self.old < most_nodes }
+        requires room { length self.old < most_rows }
         ensures put { OnOk result (self.new ≡ self.old ++ name.now ∷ []) }
         ensures are_names { OnOk result (AreNames self.new) }
         ensures unchanged { OnErr result (self.new ≡ self.old) }
@@ -98,13 +108,13 @@ impl NodeNames {
         Ok(())
     }
 
-    /// The number of a name; a name that is not there yet is put behind the others. The first fault of [`NamesFault`]:
-    /// `BadName` where it is no name, `TooManyNames` where it is new and there are 65,536; `Memory` comes only where
-    /// memory runs out, and where neither of these holds. With a fault the names stay as they were.
-    pub fn number(&mut self, name: &str) -> Result<u32, NamesFault>
-        ensures number { IfOk result (λ number. number_in self.old name.now ≡ Ok number) }
-        ensures fault { IfErr result (λ fault. fault ≢ Memory → number_in self.old name.now ≡ Err fault) }
-        ensures refused { IfErr (number_in self.old name.now) (λ fault. result ≡ Err fault) }
+    /// The number of a name, below so many; a name that is not there yet is put behind the others. The first fault of
+    /// [`NamesFault`]: `BadName` where it is no name, `TooManyNames` where the number would be no lower; `Memory` comes
+    /// only where memory runs out, and where neither of these holds. With a fault the names stay as they were.
+    pub fn number(&mut self, name: &str, most: u32) -> Result<u32, NamesFault>
+        ensures number { IfOk result (λ number. number_in most self.old name.now ≡ Ok number) }
+        ensures fault { IfErr result (λ fault. fault ≢ Memory → number_in most self.old name.now ≡ Err fault) }
+        ensures refused { IfErr (number_in most self.old name.now) (λ fault. result ≡ Err fault) }
         ensures names { OnOk result (self.new ≡ with_name self.old name.now) }
         ensures are_names { OnOk result (AreNames self.new) }
         ensures place { IfOk result (λ number. slice_get self.new number ≡ Some name.now) }
@@ -113,12 +123,12 @@ impl NodeNames {
         if !is_name(name) {
             return Err(NamesFault::BadName);
         }
-        if let Some(number) = self.number_of(name) {
-            return Ok(number);
-        }
-        let number = self.count();
-        if number >= MOST_NODES {
+        let number = self.place_in(name);
+        if number >= most {
             return Err(NamesFault::TooManyNames);
+        }
+        if number < self.count() {
+            return Ok(number);
         }
         self.put(name)?;
         Ok(number)

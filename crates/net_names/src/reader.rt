@@ -10,7 +10,7 @@ use std::alloc::Global;
 use std::str;
 
 /// The fault of a line that has no number.
-fn at_line(fault: NamesFault, line: u32) -> NamesFileFault
+fn at_line(fault: NamesFault, line: u64) -> NamesFileFault
     ensures { result ≡ at_line line fault }
 {
     match fault {
@@ -27,17 +27,17 @@ fn read_line(names: &mut NodeNames, bytes: &[u8]) -> Result<(), NamesFileFault>
     ensures were_names { AreNames names.old }
     ensures refused { IfErr result (IsLineFault names.old bytes.now) }
 {
-    let line = names.count() + 1;
+    let line = names.count() as u64 + 1;
     let Ok(name) = str::from_utf8(bytes) else {
         return Err(NamesFileFault::BadName { line });
     };
     if let Some(place) = names.number_of(name) {
         return Err(NamesFileFault::NameTwice {
             line,
-            first: place + 1,
+            first: place as u64 + 1,
         });
     }
-    match names.number(name) {
+    match names.number(name, u32::MAX) {
         Ok(_) => Ok(()),
         Err(fault) => Err(at_line(fault, line)),
     }

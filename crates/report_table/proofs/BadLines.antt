@@ -3,7 +3,7 @@ use Rattle.std.proofs.Common.{Result, Ok, Err, IfErr, ◌⊎◌, inl, inr, ◌�
 use Rattle.std.proofs.lemmas.Bool.{cases_lt}
 use Rattle.std.proofs.lemmas.List.{append-nil, length-take, take_at}
 use Rattle.std.proofs.lemmas.List.Elements.{All-take}
-use Rattle.link_net.specs.Limits.{most_nodes}
+use Rattle.link_net.specs.Limits.{most_rows}
 use Rattle.rounds_plan.specs.Configs.{blank}
 use Rattle.report_text.specs.Front.{IsFront, Anything}
 use Rattle.report_text.specs.Lines.{lines_of}
@@ -45,7 +45,7 @@ round_same (Some r) (Some q) text lines names rows more has fit some e =
     (ap Some once.0, sym once.1)
 
 -- lines that stop do not begin with more rows, and are not those of a table
-stopped : (names : List (List ℕ)) (counted : Bool) (few : length names ≤ 8) (lines : List ℕ) (passed : ℕ) → StopsAt names counted lines passed → (rows : List Row) (more : List ℕ) → 1 ≤ length rows → length rows ≤ most_nodes → All (IsRow (length names) counted) rows
+stopped : (names : List (List ℕ)) (counted : Bool) (few : length names ≤ 8) (lines : List ℕ) (passed : ℕ) → StopsAt names counted lines passed → (rows : List Row) (more : List ℕ) → 1 ≤ length rows → length rows ≤ most_rows → All (IsRow (length names) counted) rows
     → lines ≡ row_lines names 0 rows ++ more → (passed < length rows) ⊎ (more ≡ []) → ⊥
 stopped names counted few lines passed stop rows more some many fits is (inl less) =
     let next = rows_next names (length names) counted refl few 0 stop.good rows stop.rest more stop.fit fits (omega (arith, stop.place)) (sym stop.cut ∙ is) in
@@ -62,7 +62,7 @@ first_named counted lines fields found names [] more are some fits is = absurd (
 first_named counted lines fields found names (row ∷ rows) more are some fits is =
     found.only names row (row_lines names 1 rows ++ more) are (fits 0 any_row (omega arith)) (is ∙ append_assoc (row_line names 0 row) (row_lines names 1 rows) more)
 
-refuted : (counted : Bool) (lines : List ℕ) (fields : List (List ℕ)) (passed : ℕ) → AreFirstNames counted lines fields → StopsAt fields counted lines passed → (names : List (List ℕ)) (rows : List Row) (more : List ℕ) → AreFields names → 1 ≤ length rows → length rows ≤ most_nodes → All (IsRow (length names) counted) rows
+refuted : (counted : Bool) (lines : List ℕ) (fields : List (List ℕ)) (passed : ℕ) → AreFirstNames counted lines fields → StopsAt fields counted lines passed → (names : List (List ℕ)) (rows : List Row) (more : List ℕ) → AreFields names → 1 ≤ length rows → length rows ≤ most_rows → All (IsRow (length names) counted) rows
     → lines ≡ row_lines names 0 rows ++ more → (passed < length rows) ⊎ (more ≡ []) → ⊥
 refuted counted lines fields passed found stop names rows more are some many fits is why =
     let same = first_named counted lines fields found names rows more are some fits is in
@@ -90,7 +90,7 @@ round_front None names row = refl
 round_front (Some round) names row = refl
 
 module _ (round : Option ℕ) (text : List ℕ) (names : List (List ℕ)) (fit : FitRound round) (are : AreFields names) where
-  likes : (good : List Row) (rest : List ℕ) → text ≡ round_text round ++ (row_lines names 0 good ++ rest) → All (IsRow (length names) (is_counted round)) good → length good < most_nodes → BeginsLikeTable text (round_lines round + length good)
+  likes : (good : List Row) (rest : List ℕ) → text ≡ round_text round ++ (row_lines names 0 good ++ rest) → All (IsRow (length names) (is_counted round)) good → length good < most_rows → BeginsLikeTable text (round_lines round + length good)
   likes [] rest cut fits few =
       let row = plain_row (is_counted round) in
       let n = round_lines round + 0 in
@@ -119,7 +119,7 @@ module _ (round : Option ℕ) (text : List ℕ) (names : List (List ℕ)) (fit :
 -- ---- why a text is refused
 
 module _ (round : Option ℕ) (text lines : List ℕ) (has : HasRound text round lines) (fields : List (List ℕ)) (found : AreFirstNames (is_counted round) lines fields) where
-  too_many : (line : ℕ) → GoesOn fields (is_counted round) lines → line ≡ round_lines round + (most_nodes + 1) → HasTooManyNodes text line
+  too_many : (line : ℕ) → GoesOn fields (is_counted round) lines → line ≡ round_lines round + (most_rows + 1) → HasTooManyNodes text line
   too_many line long at =
       let fit = round_fits round text lines has in
       let its = ap length (lines_of_table round fields (is_counted round) long.good fit found.are_fields (omega (arith, long.full)) long.fit) ∙ count_lines round fields long.good in

@@ -3,7 +3,7 @@ use Rattle.std.proofs.Common.{◌≡◌, ℕ, zero, suc, ◌+◌, ◌-◌, ◌<�
 use Rattle.std.specs.Fmt.{decimal}
 use Rattle.std.proofs.lemmas.Bool.Decides.{Decides-eqb}
 use Rattle.std.proofs.lemmas.List.{append-nil, length-take, take-append-drop, drop_all}
-use Rattle.link_net.specs.Limits.{most_nodes}
+use Rattle.link_net.specs.Limits.{most_rows}
 use Rattle.report_text.specs.Lines.{put_byte, lines_of}
 use Rattle.report_text.specs.Report.{fields_text, round_line}
 use Rattle.report_text.proofs.FieldNames.{names_in_line}
@@ -101,7 +101,7 @@ joined_table None names rows = joined_texts names 0 rows
 joined_table (Some round) names rows = ap (λ t. round_line round ++ t) (joined_texts names 0 rows)
 
 -- the lines of a text that begins with those of a table
-pub split_table : (round : Option ℕ) (names : List (List ℕ)) (counted : Bool) (rows : List Row) (rest : List ℕ) → FitRound round → AreFields names → length rows ≤ most_nodes → All (IsRow (length names) counted) rows
+pub split_table : (round : Option ℕ) (names : List (List ℕ)) (counted : Bool) (rows : List Row) (rest : List ℕ) → FitRound round → AreFields names → length rows ≤ most_rows → All (IsRow (length names) counted) rows
     → lines_of (round_text round ++ (row_lines names 0 rows ++ rest)) ≡ table_lines round names rows ++ lines_of rest
 split_table None names counted rows rest fit are many fits = rows_split names counted are.few (names_in_line names are.names) 0 rows rest (omega arith) fits
 split_table (Some round) names counted rows rest fit are many fits =
@@ -109,7 +109,7 @@ split_table (Some round) names counted rows rest fit are many fits =
     ∙ ap (λ ls. round_line round ∷ ls) (rows_split names counted are.few (names_in_line names are.names) 0 rows rest (omega arith) fits)
 
 -- the lines of a table's text
-pub lines_of_table : (round : Option ℕ) (names : List (List ℕ)) (counted : Bool) (rows : List Row) → FitRound round → AreFields names → length rows ≤ most_nodes → All (IsRow (length names) counted) rows → lines_of (round_text round ++ row_lines names 0 rows) ≡ table_lines round names rows
+pub lines_of_table : (round : Option ℕ) (names : List (List ℕ)) (counted : Bool) (rows : List Row) → FitRound round → AreFields names → length rows ≤ most_rows → All (IsRow (length names) counted) rows → lines_of (round_text round ++ row_lines names 0 rows) ≡ table_lines round names rows
 lines_of_table round names counted rows fit are many fits =
     ap (λ t. lines_of (round_text round ++ t)) (sym (append-nil (row_lines names 0 rows)))
     ∙ split_table round names counted rows [] fit are many fits ∙ append-nil (table_lines round names rows)

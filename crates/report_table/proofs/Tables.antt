@@ -4,7 +4,7 @@ use Rattle.std.specs.Fmt.{decimal}
 use Rattle.std.proofs.lemmas.Bool.Decides.{Decides-eqb}
 use Rattle.std.proofs.lemmas.Fmt.{decimal_digit}
 use Rattle.std.proofs.lemmas.List.{append-nil}
-use Rattle.link_net.specs.Limits.{most_nodes}
+use Rattle.link_net.specs.Limits.{most_rows}
 use Rattle.report_text.specs.Front.{IsFront, Anything}
 use Rattle.report_text.specs.Report.{round_line}
 use Rattle.report_text.proofs.Once.{round_once}
@@ -35,7 +35,7 @@ pub first_row : (names : List (List ℕ)) (fields : ℕ) (counted : Bool) (lines
 first_row names fields counted lines [] some fits is = absurd (omega arith)
 first_row names fields counted lines (r ∷ rows) some fits is = record { row = r; rest = row_lines names 1 rows; fits = fits 0 any_row (omega arith); is = is }
 
-module _ (names : List (List ℕ)) (counted : Bool) (few : length names ≤ 8) (lines : List ℕ) (rows : List Row) (some : 1 ≤ length rows) (many : length rows ≤ most_nodes) (fits : All (IsRow (length names) counted) rows) (is : lines ≡ row_lines names 0 rows) where
+module _ (names : List (List ℕ)) (counted : Bool) (few : length names ≤ 8) (lines : List ℕ) (rows : List Row) (some : 1 ≤ length rows) (many : length rows ≤ most_rows) (fits : All (IsRow (length names) counted) rows) (is : lines ≡ row_lines names 0 rows) where
   no_row : (good tail : List Row) (rest : List ℕ) → rows ≡ good ++ tail → rest ≡ row_lines names (0 + length good) tail → ((good ≡ []) ⊎ (rest ≢ [])) → ((row : Row) (behind : List ℕ) → IsRow (length names) counted row → rest ≢ row_line names (length good) row ++ behind) → ⊥
   no_row good [] rest whole left (inl none) missing = (let size = ap length (whole ∙ append-nil good ∙ none) in omega (arith, size, some))
   no_row good [] rest whole left (inr open_end) missing = open_end left
@@ -49,7 +49,7 @@ module _ (names : List (List ℕ)) (counted : Bool) (few : length names ≤ 8) (
       behind_all [] all = all 0 any_row (omega arith)
       behind_all (f ∷ front) all = behind_all front (all_behind (IsRow (length names) counted) f (front ++ s ∷ tail) all)
 
-  too_long : (good tail : List Row) (rest : List ℕ) → rows ≡ good ++ tail → rest ≡ row_lines names (0 + length good) tail → length good ≡ most_nodes → rest ≢ [] → ⊥
+  too_long : (good tail : List Row) (rest : List ℕ) → rows ≡ good ++ tail → rest ≡ row_lines names (0 + length good) tail → length good ≡ most_rows → rest ≢ [] → ⊥
   too_long good [] rest whole left full open_end = open_end left
   too_long good (s ∷ tail) rest whole left full open_end = (let size : length rows ≡ length good + length (s ∷ tail) = ap length whole ∙ length-append good (s ∷ tail) in omega (arith, many, full, size))
 
@@ -108,7 +108,7 @@ err_is : {A : Type 0} (result : Result A TableFault) (fault : TableFault) → Is
 err_is (Ok x) fault given is = tt
 err_is (Err e) fault given is = given ∙ is
 
-pub err_memory : {A : Type 0} (names : List (List ℕ)) (counted : Bool) (few : length names ≤ 8) (lines : List ℕ) (rows : List Row) → 1 ≤ length rows → length rows ≤ most_nodes → All (IsRow (length names) counted) rows → lines ≡ row_lines names 0 rows
+pub err_memory : {A : Type 0} (names : List (List ℕ)) (counted : Bool) (few : length names ≤ 8) (lines : List ℕ) (rows : List Row) → 1 ≤ length rows → length rows ≤ most_rows → All (IsRow (length names) counted) rows → lines ≡ row_lines names 0 rows
     → (before : ℕ) (fault : TableFault) (result : Result A TableFault) → IsErrAnd result (λ e. e ≡ fault) → IsStopped names counted before lines fault → IfErr result (λ f. f ≡ Memory)
 err_memory names counted few lines rows some many fits is before fault result given stop = err_is result fault given (only_memory names counted few lines rows some many fits is before fault stop)
 

@@ -1,6 +1,6 @@
 -- Why a text has no table.
 use Rattle.std.specs.Prelude.{◌≡◌, ◌≢◌, ◌≤◌, ℕ, ◌+◌, ◌-◌, List, [], ◌++◌, length, take}
-use Rattle.link_net.specs.Limits.{most_nodes}
+use Rattle.link_net.specs.Limits.{most_rows}
 use Rattle.report_text.specs.Lines.{lines_of}
 use Rattle.report_table.specs.declared.fault.TableFault.{TableFault}
 use Rattle.report_table.specs.declared.fault.TableFault.TheVariants.{BadLine, TooManyNodes, Memory}
@@ -16,7 +16,7 @@ pub record BeginsLikeTable (text : List ℕ) (count : ℕ) : Type 0 where
 pub record HasTooManyNodes (text : List ℕ) (number : ℕ) : Type 0 where
   pub table : TableView
   pub is_table : IsTable table
-  pub full : length table.rows ≡ most_nodes
+  pub full : length table.rows ≡ most_rows
   pub rest : List ℕ
   pub whole : text ≡ table_text table ++ rest
   pub more : rest ≢ []

@@ -1,6 +1,6 @@
 -- How far the lines of nodes in a text go, with some names of fields.
 use Rattle.std.specs.Prelude.{◌≡◌, ◌≢◌, ◌<◌, ℕ, ◌+◌, Bool, List, [], ◌++◌, length, All, ◌⊎◌, Option, Some, None}
-use Rattle.link_net.specs.Limits.{most_nodes}
+use Rattle.link_net.specs.Limits.{most_rows}
 use Rattle.report_table.specs.declared.row.Row.{Row}
 use Rattle.report_table.specs.declared.fault.TableFault.{TableFault}
 use Rattle.report_table.specs.declared.fault.TableFault.TheVariants.{BadLine, TooManyNodes, Memory}
@@ -12,7 +12,7 @@ pub record StopsAt (names : List (List ℕ)) (counted : Bool) (text : List ℕ) 
   pub rest : List ℕ
   pub cut : text ≡ row_lines names 0 good ++ rest
   pub fit : All (IsRow (length names) counted) good
-  pub few : length good < most_nodes
+  pub few : length good < most_rows
   pub place : passed ≡ length good
   pub missing : (row : Row) (behind : List ℕ) → IsRow (length names) counted row → rest ≢ row_line names (length good) row ++ behind
   pub opened : (good ≡ []) ⊎ (rest ≢ [])
@@ -23,13 +23,13 @@ pub record GoesOn (names : List (List ℕ)) (counted : Bool) (text : List ℕ) :
   pub rest : List ℕ
   pub cut : text ≡ row_lines names 0 good ++ rest
   pub fit : All (IsRow (length names) counted) good
-  pub full : length good ≡ most_nodes
+  pub full : length good ≡ most_rows
   pub opened : rest ≢ []
 
 -- why a text is not the lines of nodes; so many lines stand before it. Lines are counted from 1
 abbrev pub IsStopped : List (List ℕ) → Bool → ℕ → List ℕ → TableFault → Type 0
 IsStopped names counted before text (BadLine line) = (passed : ℕ) × StopsAt names counted text passed × (line ≡ before + (passed + 1))
-IsStopped names counted before text (TooManyNodes line) = GoesOn names counted text × (line ≡ before + (most_nodes + 1))
+IsStopped names counted before text (TooManyNodes line) = GoesOn names counted text × (line ≡ before + (most_rows + 1))
 IsStopped names counted before text Memory = Unit {0}
 
 -- how many lines a round has

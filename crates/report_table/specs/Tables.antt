@@ -4,7 +4,7 @@ use Rattle.std.specs.Fmt.{decimal}
 use Rattle.rule_check.specs.WellFormed.{IsFieldName}
 use Rattle.report_text.specs.Report.{fields_text, round_line}
 use Rattle.report_text.specs.ReadReport.{IsStateOf}
-use Rattle.link_net.specs.Limits.{most_nodes}
+use Rattle.link_net.specs.Limits.{most_rows}
 use Rattle.report_table.specs.declared.row.Row.{Row}
 
 -- the round of a report (a replay report has none), the names of the fields, and the rows of the nodes by rising number from 0
@@ -67,12 +67,12 @@ abbrev pub FitRound : Option ℕ → Type 0
 FitRound None = Unit {0}
 FitRound (Some round) = round < 2 ^ 32
 
--- a table that some report has: one node or more, no more than a network has
+-- a table that some report has: one node or more, no more than a network of any size has
 pub record IsTable (t : TableView) : Type 0 where
   pub round : FitRound t.round
   pub fields : AreFields t.fields
   pub some : 1 ≤ length t.rows
-  pub few : length t.rows ≤ most_nodes
+  pub few : length t.rows ≤ most_rows
   pub rows : All (IsRow (length t.fields) (is_counted t.round)) t.rows
 
 -- the bytes are the text of this table

@@ -11,8 +11,8 @@ pub enum TableFault {
     /// This line, counted from 1, can't stand behind those before it, or is missing.
     #[error("line {line}: no line of a report")]
     BadLine { line: u64 },
-    /// Behind the lines of 65,536 nodes there is something, from this line on, counted from 1.
-    #[error("line {line}: there are more than 65536 nodes")]
+    /// Behind the lines of 4,294,967,295 nodes there is something, from this line on, counted from 1.
+    #[error("line {line}: there are more than 4294967295 nodes")]
     TooManyNodes { line: u64 },
     /// Memory ran out.
     #[error("not enough memory")]

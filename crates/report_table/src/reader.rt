@@ -1,7 +1,7 @@
 //! Tables that are read.
 ghost use Rattle.std.specs.Prelude.{◌≡◌, ◌≤◌, ◌<◌, ◌++◌, ◌^◌, ℕ, List, All, Bool, length, map, IfOk, IfErr, Some, None};
 ghost use Rattle.std.specs.Option.{option_map};
-ghost use Rattle.link_net.specs.Limits.{most_nodes};
+ghost use Rattle.link_net.specs.Limits.{most_rows};
 ghost use Rattle.report_text.specs.Front.{IsFront, Anything};
 ghost use Rattle.report_text.specs.Report.{round_line};
 ghost use Rattle.report_table.specs.declared.fault.TableFault.TheVariants.{Memory};
@@ -14,7 +14,6 @@ use crate::first_line::first_names;
 use crate::row::Row;
 use crate::row_reader::read_row;
 use crate::table::Table;
-use link_net::MOST_NODES;
 use report_text::read_round;
 use std::alloc::Global;
 
@@ -29,13 +28,13 @@ fn read_rows(
     requires few { length fields.now ≤ 8 }
     ensures text { IfOk result (λ v. lines.now ≡ row_lines (map (λ f. f.now) fields.now) 0 v.items) }
     ensures some { IfOk result (λ v. 1 ≤ length v.items) }
-    ensures few { IfOk result (λ v. length v.items ≤ most_nodes) }
+    ensures few { IfOk result (λ v. length v.items ≤ most_rows) }
     ensures rows { IfOk result (λ v. All (IsRow (length fields.now) counted) v.items) }
     ensures refused { IfErr result (IsStopped (map (λ f. f.now) fields.now) counted before lines.now) }
 {
     let mut rows = Vec::new(alloc);
     let mut rest = lines;
-    for node in 0..MOST_NODES {
+    for node in 0..u32::MAX {
         let Some((row, more)) = read_row(fields, counted, node, rest) else {
             return Err(TableFault::BadLine {
                 line: before as u64 + (node as u64 + 1),
@@ -48,7 +47,7 @@ fn read_rows(
         }
     }
     Err(TableFault::TooManyNodes {
-        line: before as u64 + (MOST_NODES as u64 + 1),
+        line: before as u64 + (u32::MAX as u64 + 1),
     })
 }
 
@@ -94,8 +93,8 @@ fn read_lines<'a>(
 /// single spaces, the same names of fields in the same order on each line, and LF at each line's end.
 ///
 /// `BadLine` comes where the text has no table, and names the first line that can't stand behind those before it, or
-/// the first that is missing; `TooManyNodes` where more stands behind the lines of 65,536 nodes. `Memory` comes only
-/// where memory runs out.
+/// the first that is missing; `TooManyNodes` where more stands behind the lines of 4,294,967,295 nodes. `Memory` comes
+/// only where memory runs out.
 pub fn read_table<'a>(alloc: Global, bytes: &'a [u8]) -> Result<Table<'a>, TableFault>
     ensures table { IfOk result (λ table. HasTable bytes.now table) }
     ensures one { (t : TableView) → HasTable bytes.now t → IfOk result (λ table. table ≡ t) }
