@@ -1,13 +1,12 @@
 -- Rows that are laid out one behind the other.
-use Rattle.std.proofs.Common.{◌≡◌, ◌∙◌, ℕ, ◌+◌, ◌-◌, ◌<◌, ◌≤◌, List, [], ◌∷◌, ◌++◌, length, get_or, zero, suc, refl, sym, ap, map, take, drop, Option, Some, None, option_map, unwrap_or, Bor, arith}
+use Rattle.std.proofs.Common.{◌≡◌, ◌∙◌, ℕ, ◌+◌, ◌-◌, ◌<◌, ◌≤◌, List, [], ◌∷◌, ◌++◌, length, get_or, zero, suc, refl, sym, ap, map, take, drop, arith}
 use Rattle.std.proofs.Math.Seq.{get_or-append_seam, drop-append_seam}
-use Rattle.std.specs.List.{zip, slice_get, slice_range}
+use Rattle.std.specs.List.{zip, slice_range}
 use Rattle.std.proofs.lemmas.List.{take-append-le, drop-append-le, get_or_append_left, take_all, length-append, length-drop, length_push}
 use Rattle.std.proofs.lemmas.List.FromFn.{map-range_with_len_more}
 use Rattle.std.proofs.lemmas.Grind.{get_or_default_zero}
-use Rattle.std.proofs.lemmas.Option.{slice_get-get_or}
 use Rattle.std.proofs.lemmas.List.Sorted.{IsNonDecreasingBy-push, IsNonDecreasingBy-short}
-use Rattle.link_net.specs.Neighbours.{Neighbours, numbers_below, row}
+use Rattle.link_net.specs.Neighbours.{numbers_below, row}
 use Rattle.link_net.specs.Layout.{part, rows_of, AreOffsets}
 use Rattle.large_net.proofs.Parts.{offset_within, paired_length}
 

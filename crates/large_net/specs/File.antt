@@ -1,5 +1,5 @@
 -- The binary files in which networks of any size are kept.
-use Rattle.std.specs.Prelude.{◌≡◌, ◌≢◌, ℕ, ◌+◌, ◌-◌, ◌*◌, ◌^◌, Bool, not, ◌&&◌, ◌||◌, ◌==◌, nat_eq, nat_lt, nat_le, List, length, map, drop, min, replicate, position, find, codes, slice_index, slice_range, MatchResult, Option, Some, None, option_map, Result, Ok, Err, if◌then◌else◌}
+use Rattle.std.specs.Prelude.{◌≡◌, ◌≢◌, ℕ, ◌+◌, ◌-◌, ◌*◌, ◌^◌, ◌%◌, Bool, not, ◌&&◌, ◌||◌, ◌==◌, nat_eq, nat_lt, nat_le, List, length, map, drop, min, replicate, position, find, codes, slice_index, slice_range, MatchResult, Option, Some, None, option_map, Result, Ok, Err, if◌then◌else◌}
 use Rattle.std.specs.Int.{from_le_bytes, w32, w64}
 use Rattle.std.specs.List.{list_any, starts_with}
 use Rattle.std.specs.Option.{option_or}
@@ -39,17 +39,21 @@ length_for nodes ends weighted = neighbours_start nodes + (if weighted then 8 * 
 abbrev pub asked_length : FileHeader → ℕ
 asked_length header = length_for header.nodes header.ends header.weighted
 
--- what the numbers of the first 32 bytes say: how many nodes and how many neighbours there are, and whether the flags are 1, so that weights follow
+-- what the numbers of the first 32 bytes say: how many nodes and how many neighbours there are, whether the flags are 1 or 3, so that weights follow, and whether they are 2 or 3, so that something stands behind the rows
 abbrev pub spelled_header : List ℕ → FileHeader
-spelled_header bytes = record { nodes = long_at bytes 8; ends = long_at bytes 16; weighted = long_at bytes 24 == 1 }
+spelled_header bytes = record { nodes = long_at bytes 8; ends = long_at bytes 16; weighted = long_at bytes 24 % 2 == 1; tailed = nat_lt 1 (long_at bytes 24) }
 
--- the header of a file that begins as it should, has flags 0 or 1, a number of nodes in range and as many bytes as the header asks for, or the first fault
+-- a file has as many bytes as are asked for, or more where something stands behind the rows
+abbrev pub has_length : Bool → ℕ → ℕ → Bool
+has_length tailed asked found = found == asked || (tailed && nat_lt asked found)
+
+-- the header of a file that begins as it should, has flags from 0 to 3, a number of nodes in range and as many bytes as the header asks for, or the first fault
 abbrev pub header_of : List ℕ → Result FileHeader LargeFault
 header_of bytes =
     if not (starts_with nat_eq bytes magic) then Err Magic
-    else (if nat_lt (length bytes) 32 || nat_lt 1 (long_at bytes 24) then Err BadHeader
+    else (if nat_lt (length bytes) 32 || nat_lt 3 (long_at bytes 24) then Err BadHeader
     else (if long_at bytes 8 == 0 || nat_lt most_rows (long_at bytes 8) then Err (NodeCount (long_at bytes 8))
-    else (if length bytes == asked_length (spelled_header bytes) then Ok (spelled_header bytes)
+    else (if has_length (spelled_header bytes).tailed (asked_length (spelled_header bytes)) (length bytes) then Ok (spelled_header bytes)
     else Err (Length (min (asked_length (spelled_header bytes)) (2 ^ 64 - 1)) (length bytes)))))
 
 -- whether an offset is bad: the first is not 0, or the next is lower, or the last is not the number of neighbours
@@ -86,6 +90,11 @@ abbrev pub and_then : Result FileHeader LargeFault → (FileHeader → Result Ne
 and_then (Ok header) next = next header
 and_then (Err fault) next = Err fault
 
+-- what a header that is read tells, or its fault
+abbrev pub with_header : {A : Type 0} → Result FileHeader LargeFault → (FileHeader → A) → Result A LargeFault
+with_header (Ok header) told = Ok (told header)
+with_header (Err fault) told = Err fault
+
 -- the network, unless there is a fault
 abbrev pub unless : Option LargeFault → Neighbours → Result Neighbours LargeFault
 unless None network = Ok network
@@ -95,6 +104,14 @@ unless (Some fault) network = Err fault
 abbrev pub large_of : List ℕ → Result Neighbours LargeFault
 large_of bytes = and_then (header_of bytes) (λ header.
     unless (rows_fault (offsets_in header bytes) (neighbours_in header bytes)) (rows_of (offsets_in header bytes) (neighbours_in header bytes) (weights_in header bytes)))
+
+-- what stands behind the rows of a file with this header, where something does
+abbrev pub tail_in : FileHeader → List ℕ → Option (List ℕ)
+tail_in header bytes = if header.tailed then Some (drop (asked_length header) bytes) else None
+
+-- what stands behind the rows of a file, where something does, or the first fault of its header
+abbrev pub tail_of : List ℕ → Result (Option (List ℕ)) LargeFault
+tail_of bytes = with_header (header_of bytes) (λ header. tail_in header bytes)
 
 -- whether the weight of some link is not 1
 abbrev pub is_weighted : Neighbours → Bool

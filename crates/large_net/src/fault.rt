@@ -12,13 +12,13 @@ pub enum LargeFault {
     /// The first eight bytes are not `UNISONW1`.
     #[error("the file does not begin with UNISONW1")]
     Magic,
-    /// There are fewer than 32 bytes, or the flags, bytes 24 to 31, are neither 0 nor 1.
-    #[error("the header is cut off or its flags are neither 0 nor 1")]
+    /// There are fewer than 32 bytes, or the flags, bytes 24 to 31, are above 3.
+    #[error("the header is cut off or its flags are above 3")]
     Header,
     /// The number of nodes is not from 1 to 4,294,967,295.
     #[error("{nodes} nodes: there may be 1 to 4294967295")]
     NodeCount { nodes: u64 },
-    /// The file has so many bytes, and not as many as its header asks for. Where that is more than
+    /// The file has so many bytes, and not as many as its header asks for, or fewer where something follows. Where that is more than
     /// 18,446,744,073,709,551,615, that number stands for it.
     #[error("the file has {found} bytes, and its header asks for {expected}")]
     Length { expected: u64, found: u64 },

@@ -1,7 +1,7 @@
 //! The first 32 bytes of a network file.
 ghost use Rattle.std.specs.Prelude.{◌≡◌, ◌≤◌, ◌+◌, ◌-◌, ◌^◌, length, min, IfOk};
 ghost use Rattle.link_net.specs.Limits.{most_rows};
-ghost use Rattle.large_net.specs.File.{asked_length, header_of, length_for, neighbours_start};
+ghost use Rattle.large_net.specs.File.{asked_length, has_length, header_of, length_for, neighbours_start};
 
 use crate::fault::LargeFault;
 use crate::numbers::long_at;
@@ -21,6 +21,7 @@ pub(crate) struct FileHeader {
     pub(crate) nodes: u64,
     pub(crate) ends: u64,
     pub(crate) weighted: bool,
+    pub(crate) tailed: bool,
 }
 
 impl FileHeader {
@@ -50,17 +51,24 @@ pub(crate) fn file_length(nodes: u64, ends: u64, weighted: bool) -> u64
     (32 + 8 * (nodes + 1)).saturating_add(ends.saturating_mul(each))
 }
 
+/// Whether a file has as many bytes as are expected, or more where something follows.
+fn has_length(tailed: bool, expected: u64, found: u64) -> bool
+    ensures { result ≡ has_length tailed expected found }
+{
+    found == expected || (tailed && found > expected)
+}
+
 /// The header of a network file whose length is as its header asks.
 pub(crate) fn read_header(bytes: &[u8]) -> Result<FileHeader, LargeFault>
     ensures exact { result ≡ header_of bytes.now }
     ensures some { IfOk result (λ header. 1 ≤ header.nodes) }
     ensures few { IfOk result (λ header. header.nodes ≤ most_rows) }
-    ensures whole { IfOk result (λ header. length bytes.now ≡ asked_length header) }
+    ensures whole { IfOk result (λ header. asked_length header ≤ length bytes.now) }
 {
     if !bytes.starts_with(&MAGIC) {
         return Err(LargeFault::Magic);
     }
-    if bytes.len() < HEADER || long_at(bytes, 24) > 1 {
+    if bytes.len() < HEADER || long_at(bytes, 24) > 3 {
         return Err(LargeFault::Header);
     }
     let nodes = long_at(bytes, 8);
@@ -68,15 +76,17 @@ pub(crate) fn read_header(bytes: &[u8]) -> Result<FileHeader, LargeFault>
         return Err(LargeFault::NodeCount { nodes });
     }
     let ends = long_at(bytes, 16);
-    let weighted = long_at(bytes, 24) == 1;
-    let found = bytes.len() as u64;
-    let expected = file_length(nodes, ends, weighted);
-    if found != expected {
-        return Err(LargeFault::Length { expected, found });
-    }
-    Ok(FileHeader {
+    let flags = long_at(bytes, 24);
+    let header = FileHeader {
         nodes,
         ends,
-        weighted,
-    })
+        weighted: flags % 2 == 1,
+        tailed: flags > 1,
+    };
+    let found = bytes.len() as u64;
+    let expected = file_length(nodes, ends, header.weighted);
+    if !has_length(header.tailed, expected, found) {
+        return Err(LargeFault::Length { expected, found });
+    }
+    Ok(header)
 }

@@ -12,5 +12,5 @@ mod writer;
 
 pub use fault::LargeFault;
 pub use network::LargeNetwork;
-pub use reader::{read_large, read_sequentially};
-pub use writer::large_bytes;
+pub use reader::{file_tail, read_large, read_sequentially};
+pub use writer::{large_bytes, tailed_bytes};

@@ -1,12 +1,13 @@
 //! Network files that are read.
 ghost use Rattle.std.specs.Prelude.{◌≡◌, ◌≤◌, length, map, IfOk, IfErr, Ok, Err};
+ghost use Rattle.std.specs.Option.{option_map};
 ghost use Rattle.std.specs.Int.{from_le_bytes, w32};
 ghost use Rattle.link_net.specs.Limits.{most_rows};
-ghost use Rattle.large_net.specs.File.{IsAnswer, asked_length, header_of, large_of, weights_in};
+ghost use Rattle.large_net.specs.File.{IsAnswer, asked_length, header_of, large_of, tail_of, weights_in};
 
 use crate::checks::check_rows;
 use crate::fault::LargeFault;
-use crate::header::{FileHeader, HEADER, read_header};
+use crate::header::{FileHeader, HEADER, file_length, read_header};
 use crate::network::LargeNetwork;
 use crate::numbers::{eights, fours, read_longs, read_words};
 use std::alloc::{AllocError, Global};
@@ -18,7 +19,7 @@ const LEAST_ENDS: usize = 1_048_576;
 /// The weights of a file, each 1 where none follow.
 fn read_weights(alloc: Global, bytes: &[u8], header: FileHeader) -> Result<Vec<u32>, AllocError>
     requires few { header.nodes ≤ most_rows }
-    requires whole { length bytes.now ≡ asked_length header }
+    requires whole { asked_length header ≤ length bytes.now }
     ensures weights { IfOk result (λ v. v.items ≡ weights_in header bytes.now) }
     ensures count { IfOk result (λ v. length v.items ≡ header.ends) }
 {
@@ -38,7 +39,7 @@ fn read_in_turn(
     neighbours: &[[u8; 4]],
 ) -> Result<(Vec<u32>, Vec<u32>), AllocError>
     requires few { header.nodes ≤ most_rows }
-    requires whole { length bytes.now ≡ asked_length header }
+    requires whole { asked_length header ≤ length bytes.now }
     ensures neighbours { IfOk result (λ v. v.0.items ≡ map (from_le_bytes w32) neighbours.now) }
     ensures weights { IfOk result (λ v. v.1.items ≡ weights_in header bytes.now) }
     ensures count { IfOk result (λ v. length v.1.items ≡ header.ends) }
@@ -57,7 +58,7 @@ fn read_ends<R: Threads>(
     neighbours: &[[u8; 4]],
 ) -> Result<(Vec<u32>, Vec<u32>), AllocError>
     requires few { header.nodes ≤ most_rows }
-    requires whole { length bytes.now ≡ asked_length header }
+    requires whole { asked_length header ≤ length bytes.now }
     ensures neighbours { IfOk result (λ v. v.0.items ≡ map (from_le_bytes w32) neighbours.now) }
     ensures weights { IfOk result (λ v. v.1.items ≡ weights_in header bytes.now) }
     ensures count { IfOk result (λ v. length v.1.items ≡ header.ends) }
@@ -69,7 +70,7 @@ fn read_ends<R: Threads>(
         ensures { IfOk result (λ v. v.items ≡ map (from_le_bytes w32) neighbours.entry.now) }
     { read_words(alloc, neighbours) };
     let second = move || -> Result<Vec<u32>, AllocError>
-        requires { (header.nodes ≤ most_rows) × (length bytes.now ≡ asked_length header) }
+        requires { (header.nodes ≤ most_rows) × (asked_length header ≤ length bytes.now) }
         ensures { IfOk result (λ v. (v.items ≡ weights_in header bytes.entry.now) × (length v.items ≡ header.ends)) }
     { read_weights(alloc, bytes, header) };
     let (words, weights) = join(rt, first, second);
@@ -87,7 +88,7 @@ fn read_rows<R: Threads>(
 ) -> Result<LargeNetwork, LargeFault>
     requires some { 1 ≤ header.nodes }
     requires few { header.nodes ≤ most_rows }
-    requires whole { length bytes.now ≡ asked_length header }
+    requires whole { asked_length header ≤ length bytes.now }
     requires header { header_of bytes.now ≡ Ok header }
     ensures answer { IsAnswer (large_of bytes.now) result }
     ensures refused { IfErr (large_of bytes.now) (λ fault. result ≡ Err fault) }
@@ -114,6 +115,19 @@ pub fn read_large<R: Threads>(
     read_rows(rt, alloc, bytes, header)
 }
 
+/// What stands behind the rows of a file, where its flags say that something does; or the fault of its header.
+pub fn file_tail(bytes: &[u8]) -> Result<Option<&[u8]>, LargeFault>
+    ensures tail { IfOk result (λ tail. tail_of bytes.now ≡ Ok (option_map (λ s. s.now) tail)) }
+    ensures refused { IfErr result (λ fault. tail_of bytes.now ≡ Err fault) }
+{
+    let header = read_header(bytes)?;
+    if !header.tailed {
+        return Ok(None);
+    }
+    let asked = file_length(header.nodes, header.ends, header.weighted);
+    Ok(Some(&bytes[asked as usize..]))
+}
+
 /// The network of a file with this header, read in one thread, or what is wrong with its rows.
 fn read_rows_in_turn(
     alloc: Global,
@@ -122,7 +136,7 @@ fn read_rows_in_turn(
 ) -> Result<LargeNetwork, LargeFault>
     requires some { 1 ≤ header.nodes }
     requires few { header.nodes ≤ most_rows }
-    requires whole { length bytes.now ≡ asked_length header }
+    requires whole { asked_length header ≤ length bytes.now }
     requires header { header_of bytes.now ≡ Ok header }
     ensures answer { IsAnswer (large_of bytes.now) result }
     ensures refused { IfErr (large_of bytes.now) (λ fault. result ≡ Err fault) }

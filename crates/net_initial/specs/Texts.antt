@@ -6,6 +6,7 @@ use Rattle.std.specs.Option.{option_or, unwrap_or}
 use Rattle.rule_lang.specs.Tokens.{is_word_byte}
 use Rattle.rule_lang.specs.Keywords.{keyword_of}
 use Rattle.link_net.specs.declared.field_set.FieldSet.{FieldSet}
+use Rattle.link_net.specs.Links.{network_of}
 use Rattle.link_net.specs.Reading.{Description, reading_of}
 use Rattle.net_initial.specs.declared.fault.OpenFault.{OpenFault}
 use Rattle.net_initial.specs.declared.fault.OpenFault.TheVariants.{BadPhase, BadName, BadClear, NoNode, BadSet}
@@ -49,14 +50,28 @@ asking_fault n cleared openings phase =
     else if list_any (λ o. pass_nodes n o.values) openings then Some NoNode
     else None
 
+-- the first fault of what is asked for, of n nodes on which a file sets this
+abbrev pub fault_on : ℕ → List FieldSet → List (List ℕ) → List Opening → Option ℕ → Option OpenFault
+fault_on n sets cleared openings phase =
+    option_or (asking_fault n cleared openings phase) (if has_undefined n (kept_sets cleared sets) openings then Some BadSet else None)
+
 -- the first fault of what is asked for of a file
 abbrev pub fault_of : Description → List (List ℕ) → List Opening → Option ℕ → Option OpenFault
-fault_of d cleared openings phase =
-    option_or (asking_fault (length d.network) cleared openings phase)
-    (if has_undefined (length d.network) (kept_sets cleared d.sets) openings then Some BadSet else None)
+fault_of d cleared openings phase = fault_on (length d.network) d.sets cleared openings phase
 
 -- the text is a network file: it reads to the same network, the phase that is asked for or else the file's, and the sets of the file that are not cleared, opened
 pub record IsOpened (d : Description) (cleared : List (List ℕ)) (openings : List Opening) (phase : Option ℕ) (text : List ℕ) : Type 0 where
   pub sets : List FieldSet
   pub opened : AreOpened (length d.network) (kept_sets cleared d.sets) openings sets
   pub reads : reading_of text ≡ Ok (record { network = d.network; phase = unwrap_or phase d.phase; sets = sets })
+
+-- what a packed network says beside its rows: nothing in phase 0 where it sets nothing, and else a network file of one node, without links, with its phase and its sets
+abbrev pub AreSettings : ℕ → List FieldSet → Option (List ℕ) → Type 0
+AreSettings phase sets None = (phase ≡ 0) × (sets ≡ [])
+AreSettings phase sets (Some text) = reading_of text ≡ Ok (record { network = network_of 1 []; phase = phase; sets = sets })
+
+-- these are the settings of n nodes: the phase that is asked for or else the file's, and the sets of the file that are not cleared, opened
+pub record AreSettingsOpened (n : ℕ) (d : Description) (cleared : List (List ℕ)) (openings : List Opening) (phase : Option ℕ) (text : Option (List ℕ)) : Type 0 where
+  pub sets : List FieldSet
+  pub opened : AreOpened n (kept_sets cleared d.sets) openings sets
+  pub said : AreSettings (unwrap_or phase d.phase) sets text

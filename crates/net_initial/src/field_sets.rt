@@ -35,7 +35,7 @@ fn opened_table(
     openings: &[Opening],
     field: &str,
 ) -> Result<Vec<Option<u32>>, OpenFault>
-    requires { nodes ≤ 65536 }
+    requires { nodes ≤ 4294967295 }
     ensures count { IfOk result (λ v. length v.items ≡ nodes) }
     ensures values { IfOk result (λ v. (u : ℕ) → u < nodes
         → slice_index_or v.items u None ≡ opened_value openings.now field.now u (given (pairs_at sets.now field.now) u)) }
@@ -58,7 +58,7 @@ fn opened_set(
     openings: &[Opening],
     field: &str,
 ) -> Result<FieldSet, OpenFault>
-    requires { nodes ≤ 65536 }
+    requires { nodes ≤ 4294967295 }
     ensures set { IfOk result (λ s. s ≡ opened_set nodes sets.now openings.now field.now) }
     ensures defined { IfOk result (λ _. is_undefined nodes (pairs_at sets.now field.now) ≡ false) }
     ensures refused { IfErr result (λ fault. fault ≢ OpenFault.Memory → (fault ≡ OpenFault.BadSet) × (is_undefined nodes (pairs_at sets.now field.now) ≡ true)) }
@@ -180,7 +180,7 @@ fn put_field(
     openings: &[Opening],
     place: usize,
 ) -> Result<(), OpenFault>
-    requires few { nodes ≤ 65536 }
+    requires few { nodes ≤ 4294967295 }
     requires low { place < length openings.now }
     requires rising { AreRising opened.old.items }
     requires each { (f : List ℕ) → set_at opened.old.items f ≡ set_after nodes sets.now openings.now (take place openings.now) f }
@@ -206,7 +206,7 @@ fn opened_sets(
     sets: &[FieldSet],
     openings: &[Opening],
 ) -> Result<Vec<FieldSet>, OpenFault>
-    requires few { nodes ≤ 65536 }
+    requires few { nodes ≤ 4294967295 }
     requires rising { AreRising sets.now }
     ensures opened { IfOk result (λ v. AreOpened nodes sets.now openings.now v.items) }
     ensures defined { IfOk result (λ _. has_undefined nodes sets.now openings.now ≡ false) }
@@ -227,7 +227,7 @@ pub(crate) fn sets_anew(
     cleared: &[Name],
     openings: &[Opening],
 ) -> Result<Vec<FieldSet>, OpenFault>
-    requires few { nodes ≤ 65536 }
+    requires few { nodes ≤ 4294967295 }
     requires rising { AreRising sets.now }
     ensures opened { IfOk result (λ v. AreOpened nodes (kept_sets cleared.now sets.now) openings.now v.items) }
     ensures defined { IfOk result (λ _. has_undefined nodes (kept_sets cleared.now sets.now) openings.now ≡ false) }

@@ -19,5 +19,5 @@ pub use fault::OpenFault;
 pub use network_links::listed;
 pub use node_list::{NodeLine, node_lines};
 pub use opening::{Chosen, Opening, Values};
-pub use text::opened_text;
+pub use text::{opened_settings, opened_text};
 pub use value_draw::drawn_values;

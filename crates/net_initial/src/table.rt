@@ -27,7 +27,7 @@ fn natural(bound: u64, number: i64) -> u64
 /// Puts the value of a pair into the place of its node, or says that the pair has no node or no word, or a node that has a
 /// value.
 fn put_pair(table: &mut [Option<u32>], pair: &(i64, i64)) -> bool
-    requires few { length table.old ≤ 65536 }
+    requires few { length table.old ≤ 4294967295 }
     ensures fits { result ≡ (is_entry (length table.old) pair.now && is_none (slice_index_or table.old (node_of pair.now) None)) }
     ensures put { IsTrue result → (u : ℕ) → u < length table.old
         → slice_index_or table.new u None ≡ (if node_of pair.now == u then Some (number_of pair.now.1) else slice_index_or table.old u None) }
@@ -47,7 +47,7 @@ fn put_pair(table: &mut [Option<u32>], pair: &(i64, i64)) -> bool
 
 /// Puts the values of pairs into a table with no values, or says that what they give is not defined.
 pub(crate) fn put_pairs(table: &mut [Option<u32>], pairs: &[(i64, i64)]) -> bool
-    requires few { length table.old ≤ 65536 }
+    requires few { length table.old ≤ 4294967295 }
     requires fresh { table.old ≡ replicate (length table.old) None }
     ensures fits { result ≡ not (is_undefined (length table.old) pairs.now) }
     ensures given { IsTrue result → (u : ℕ) → u < length table.old → slice_index_or table.new u None ≡ given pairs.now u }
@@ -150,7 +150,7 @@ pub(crate) fn put_openings(table: &mut [Option<u32>], openings: &[Opening], fiel
 
 /// Puts the pair of a node behind the others, where the node has a value.
 fn put_shown(pairs: &mut Vec<(i64, i64)>, node: usize, value: Option<u32>) -> Result<(), AllocError>
-    requires { node < 65536 }
+    requires { node < 4294967295 }
     ensures { OnOk result (pairs.new.items ≡ pairs.old.items ++ option_to_list (option_map (λ v. (pos node, pos v)) value)) }
 {
     if let Some(value) = value {
@@ -164,7 +164,7 @@ pub(crate) fn shown_pairs(
     alloc: Global,
     table: &[Option<u32>],
 ) -> Result<Vec<(i64, i64)>, AllocError>
-    requires { length table.now ≤ 65536 }
+    requires { length table.now ≤ 4294967295 }
     ensures { IfOk result (λ v. v.items ≡ shown_pairs (length table.now) (λ u. slice_index_or table.now u None)) }
 {
     let mut pairs = Vec::new(alloc);

@@ -54,7 +54,7 @@ fn has_bad_value(set: &FieldSet) -> bool
 fn repeats_node(seen: &mut [bool], pairs: &[(i64, i64)]) -> bool
     requires nodes { list_any (λ p. not (is_below (length seen.old) p.0)) pairs.now ≡ false }
     requires fresh { seen.old ≡ replicate (length seen.old) false }
-    requires few { length seen.old ≤ 65536 }
+    requires few { length seen.old ≤ 4294967295 }
     ensures twice { result ≡ has_number_twice (nodes_in pairs.now) }
 {
     for pair in pairs {
@@ -70,7 +70,7 @@ fn repeats_node(seen: &mut [bool], pairs: &[(i64, i64)]) -> bool
 /// Puts each pair's value into the field of its node.
 fn put_values(states: &mut [State], field: u32, pairs: &[(i64, i64)])
     requires field { field < 8 }
-    requires few { length states.old ≤ 65536 }
+    requires few { length states.old ≤ 4294967295 }
     requires nodes { list_any (λ p. not (is_below (length states.old) p.0)) pairs.now ≡ false }
     requires values { list_any (λ p. not (is_below 4294967296 p.1)) pairs.now ≡ false }
     ensures each { (u : ℕ) → u < length states.old
@@ -85,7 +85,7 @@ fn put_values(states: &mut [State], field: u32, pairs: &[(i64, i64)])
 
 /// Whether a node stands twice in the list of one field.
 fn sets_node_twice(alloc: Global, nodes: u32, sets: &[FieldSet]) -> Result<bool, AllocError>
-    requires few { nodes ≤ 65536 }
+    requires few { nodes ≤ 4294967295 }
     requires nodes { list_any (has_bad_node nodes) sets.now ≡ false }
     ensures twice { IfOk result (λ twice. twice ≡ list_any sets_twice sets.now) }
 {
@@ -128,7 +128,7 @@ fn check_sets(
     nodes: u32,
     sets: &[FieldSet],
 ) -> Result<(), PlanFault>
-    requires few { nodes ≤ 65536 }
+    requires few { nodes ≤ 4294967295 }
     ensures ok { OnOk result (set_fault (names_of program.now) nodes sets.now ≡ None) }
     ensures err { IfErr result (λ fault. fault ≢ PlanFault.Memory → set_fault (names_of program.now) nodes sets.now ≡ Some fault) }
     ensures at_once { IfSome (set_fault (names_of program.now) nodes sets.now) (λ fault. fault ≢ PlanFault.SetTwice → result ≡ Err fault) }
@@ -150,7 +150,7 @@ fn check_sets(
 
 /// Puts the values of one field more into the initial states.
 fn put_set(program: &Program, states: &mut [State], set: &FieldSet)
-    requires few { length states.old ≤ 65536 }
+    requires few { length states.old ≤ 4294967295 }
     requires known { is_among (names_of program.now) set.now.name ≡ true }
     requires nodes { has_bad_node (length states.old) set.now ≡ false }
     requires values { has_bad_value set.now ≡ false }
@@ -166,13 +166,13 @@ fn put_set(program: &Program, states: &mut [State], set: &FieldSet)
 }
 
 /// The initial states of so many nodes, where the keys and the pairs of `set` have no fault.
-fn opening_states(
+fn states_by(
     alloc: Global,
     program: &Program,
     nodes: u32,
     sets: &[FieldSet],
 ) -> Result<Vec<State>, AllocError>
-    requires few { nodes ≤ 65536 }
+    requires few { nodes ≤ 4294967295 }
     requires sets { set_fault (names_of program.now) nodes sets.now ≡ None }
     ensures states { IfOk result (λ v. v.items ≡ openings_of program.now nodes sets.now) }
     ensures plain { IfOk result (λ v. All (IsPlain (length program.now.fields)) v.items) }
@@ -183,6 +183,26 @@ fn opening_states(
     for set in sets {
         put_set(program, &mut states, set);
     }
+    Ok(states)
+}
+
+/// The initial states of so many nodes: the program's initial values, replaced by those of `set`. The first fault of the
+/// keys and the pairs of `set` is answered; all but `SetTwice`, which takes a mark for each node, are found before any
+/// memory is taken.
+pub fn opening_states(
+    alloc: Global,
+    program: &Program,
+    nodes: u32,
+    sets: &[FieldSet],
+) -> Result<Vec<State>, PlanFault>
+    ensures states { IfOk result (λ v. v.items ≡ openings_of program.now nodes sets.now) }
+    ensures plain { IfOk result (λ v. All (IsPlain (length program.now.fields)) v.items) }
+    ensures faultless { OnOk result (set_fault (names_of program.now) nodes sets.now ≡ None) }
+    ensures fault { IfErr result (λ fault. fault ≢ PlanFault.Memory → set_fault (names_of program.now) nodes sets.now ≡ Some fault) }
+    ensures at_once { IfSome (set_fault (names_of program.now) nodes sets.now) (λ fault. fault ≢ PlanFault.SetTwice → result ≡ Err fault) }
+{
+    check_sets(alloc, program, nodes, sets)?;
+    let states = states_by(alloc, program, nodes, sets)?;
     Ok(states)
 }
 
@@ -213,7 +233,6 @@ pub(crate) fn opening_by(
     // For the proof: the phase is at most 2, and the program has at most 8 fields.
     let _phase = file.phase();
     let _fields = program.field_count();
-    check_sets(alloc, program, nodes, file.sets())?;
     let states = opening_states(alloc, program, nodes, file.sets())?;
     Ok(states)
 }

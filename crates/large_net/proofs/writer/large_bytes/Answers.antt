@@ -1,6 +1,6 @@
-use Rattle.std.proofs.Common.{◌≡◌, ◌∙◌, ◌-◌, ℕ, length, not, eqb, sym, ap}
+use Rattle.std.proofs.Common.{◌≡◌, ◌∙◌, ◌+◌, ◌-◌, ℕ, length, not, eqb, sym, ap, arith}
 use Rattle.std.specs.List.{list_any, sum_by}
-use Rattle.large_net.specs.File.{is_weighted}
+use Rattle.large_net.specs.File.{is_weighted, length_for}
 use Rattle.large_net.proofs.Parts.{rows_count, rows_sum}
 use Rattle.large_net.proofs.Weighted.{weighted_rows}
 use Rattle.large_net.proofs.writer.large_bytes.Goals as goal
@@ -15,4 +15,5 @@ returns-clause-short c =
     let nodes : length c.args.network.now ≡ length offsets - 1 = ap length rows ∙ rows_count offsets ns ws in
     let ends : sum_by (length {A = ℕ × ℕ}) c.args.network.now ≡ length ns = ap (sum_by length) rows ∙ rows_sum offsets ns ws held.paired held.placed in
     let weighted : is_weighted c.args.network.now ≡ list_any (λ w. not (eqb w 1)) ws = ap is_weighted rows ∙ weighted_rows offsets ns ws held.placed held.paired in
-    rw (nodes, ends, weighted) c.spell.ensures.short
+    let more : length_for (length offsets - 1) (length ns) (list_any (λ w. not (eqb w 1)) ws) ≡ length_for (length offsets - 1) (length ns) (list_any (λ w. not (eqb w 1)) ws) + 0 = omega arith in
+    rw (nodes, ends, weighted, more) c.spell.ensures.short

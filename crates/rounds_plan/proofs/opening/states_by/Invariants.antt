@@ -3,7 +3,7 @@ use Rattle.std.specs.List.{list_any}
 use Rattle.rule_check.specs.Value.{names_of}
 use Rattle.rule_check.specs.WellFormed.{is_among}
 use Rattle.rounds_plan.specs.Plans.{has_bad_node, has_bad_value, openings_of}
-use Rattle.rounds_plan.proofs.opening.opening_states.Given as goal
+use Rattle.rounds_plan.proofs.opening.states_by.Given as goal
 
 abbrev pub invariant-loop-set : goal.invariant-loop-set
 invariant-loop-set l = record {

@@ -10,8 +10,8 @@ use Rattle.rounds_plan.proofs.Entries.{place_at, none_left}
 use Rattle.rounds_plan.proofs.Names.{name_count}
 use Rattle.rounds_plan.proofs.Faultless.{faultless}
 use Rattle.rounds_plan.proofs.Openings.{openings-none, openings-plain}
-use Rattle.rounds_plan.proofs.opening.opening_states.Goals as goal
-use Rattle.rounds_plan.proofs.opening.opening_states.Goals.{After-deref_mut, After-loop-set}
+use Rattle.rounds_plan.proofs.opening.states_by.Goals as goal
+use Rattle.rounds_plan.proofs.opening.states_by.Goals.{After-deref_mut, After-loop-set}
 
 pub loop-set-init : goal.loop-set-init
 loop-set-init c =
