@@ -18,21 +18,21 @@ _unison() {
     ;;
   watch:*)
     words=""
-    options="--rounds --every --format --only --changes --names --from --set --set-file --set-random --overlap --seed --threads --sequential --const --quiet"
+    options="--rounds --every --format --only --changes --names --from --set --set-file --set-names --set-random --overlap --seed --threads --sequential --const --quiet"
     [ "$previous" = --format ] && words="report csv json"
     ;;
   count:*)
     words=""
-    options="--rounds --every --field --until --sum --least --most --format --mean --from --set --set-file --set-random --overlap --seed --threads --sequential --const --quiet"
+    options="--rounds --every --field --until --sum --least --most --format --mean --from --set --set-file --set-names --set-random --overlap --seed --threads --sequential --const --quiet"
     [ "$previous" = --format ] && words="csv json"
     ;;
   settle:*)
     words=""
-    options="--limit --report --from --set --set-file --set-random --overlap --seed --threads --sequential --const --quiet"
+    options="--limit --report --from --set --set-file --set-names --set-random --overlap --seed --threads --sequential --const --quiet"
     ;;
   cuts:*)
     words=""
-    options="--rounds --below --format --names --from --set --set-file --set-random --overlap --seed --const"
+    options="--rounds --below --format --names --from --set --set-file --set-names --set-random --overlap --seed --const"
     [ "$previous" = --format ] && words="text json"
     ;;
   schedule:sweeps | steps:sweeps)
@@ -90,7 +90,7 @@ _unison() {
     ;;
   image:*)
     words=""
-    options="--rounds --every --field --counts --grid --links --animate --frame-time --frames --colours --from --set --set-file --set-random --overlap --seed --const"
+    options="--rounds --every --field --counts --grid --links --animate --frame-time --frames --colours --from --set --set-file --set-names --set-random --overlap --seed --const"
     ;;
   dot:*)
     words=""
@@ -171,7 +171,7 @@ _unison() {
     ;;
   init:* | open:*)
     words=""
-    options="--set --set-random --overlap --random --seed --cells --width --clear --names --phase --quiet"
+    options="--set --set-random --overlap --random --seed --cells --width --clear --names --phase --packed --quiet"
     [ "$previous" = --phase ] && words="0 1 2"
     ;;
   info:* | show:*)

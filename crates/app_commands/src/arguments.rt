@@ -61,7 +61,7 @@ pub(crate) static PROGRAM_ARGUMENT: Argument = PROGRAM;
 pub const NETWORK: Argument = Argument {
     name: "network",
     value_name: "NETWORK",
-    help: "The file of the network, a TOML document, or - for standard input",
+    help: "The network, a network file or a packed one, or - for standard input",
     ..FILE
 };
 

@@ -1,21 +1,24 @@
 //! Initial values that the words ask for, put into the states of all nodes.
 
 use crate::arrays::column_at;
+use crate::names::names_at;
 use crate::set_words::{RandomWord, SetWord, amounts_of};
 use crate::start::{FileWord, StartWords};
 use app_files::{Ending, NodeCalls, drawn_parts, field_place, listed_nodes};
-use app_table::number;
 use net_initial::Chosen;
 use rounds_walk::{set_all_values, set_value};
 use rule_check::{Program, State};
 use std::alloc::Global;
 
 /// The ending where a word of `--set` names no node.
-fn no_node(alloc: Global, nodes: usize, word: &SetWord) -> Ending {
+fn no_node(alloc: Global, calls: &NodeCalls<'_>, word: &SetWord) -> Ending {
     let (field, node) = (word.field.as_str(), word.node.as_str());
-    Ending::usage(format!(in alloc;
-        "--set: {field}: expected * or a node's number below {nodes}, found `{node}`"
-    ))
+    match calls.expected(alloc) {
+        Ok(expected) => Ending::usage(format!(in alloc;
+            "--set: {field}: expected * or {expected}, found `{node}`"
+        )),
+        Err(_) => Ending::Memory,
+    }
 }
 
 /// Gives a node's field the value that a word of `--set` names.
@@ -23,14 +26,15 @@ fn put_value(
     states: &mut [State],
     alloc: Global,
     program: &Program,
+    calls: &NodeCalls<'_>,
     field: u32,
     word: &SetWord,
 ) -> Result<(), Ending> {
-    let nodes = states.len();
-    match number(word.node.as_str(), 0, 4_294_967_295) {
-        Some(node) if set_value(program, states, node, field, word.value).is_ok() => Ok(()),
-        _ => Err(no_node(alloc, nodes, word)),
-    }
+    let Some(node) = calls.node(word.node.as_str()) else {
+        return Err(no_node(alloc, calls, word));
+    };
+    let _ = set_value(program, states, node, field, word.value);
+    Ok(())
 }
 
 /// Gives a field of these nodes a value.
@@ -68,13 +72,16 @@ fn put_chosen(states: &mut [State], program: &Program, chosen: &Chosen, field: u
     }
 }
 
-/// The nodes that a word of `--set` names for a network with so many, where they are not one alone.
-fn nodes_for(rt: &HostRuntime, nodes: u32, word: &SetWord) -> Result<Option<Chosen>, Ending> {
+/// The nodes that a word of `--set` names, where they are not one alone.
+fn nodes_for(
+    rt: &HostRuntime,
+    calls: &NodeCalls<'_>,
+    word: &SetWord,
+) -> Result<Option<Chosen>, Ending> {
     if word.node.as_str() == "*" {
         return Ok(Some(Chosen::Every));
     }
-    let calls = NodeCalls { nodes, names: None };
-    listed_nodes(rt, &calls, word.field.as_str(), word.node.as_str())
+    listed_nodes(rt, calls, word.field.as_str(), word.node.as_str())
 }
 
 /// Gives the values that a word of `--set` names.
@@ -82,27 +89,32 @@ fn put_set(
     states: &mut [State],
     rt: &HostRuntime,
     program: &Program,
-    nodes: u32,
+    calls: &NodeCalls<'_>,
     word: &SetWord,
 ) -> Result<(), Ending> {
     let field = field_place(rt.alloc(), program, "--set", word.field.as_str())?;
-    let Some(chosen) = nodes_for(rt, nodes, word)? else {
-        return put_value(states, rt.alloc(), program, field, word);
+    let Some(nodes) = nodes_for(rt, calls, word)? else {
+        return put_value(states, rt.alloc(), program, calls, field, word);
     };
-    put_chosen(states, program, &chosen, field, word.value);
+    put_chosen(states, program, &nodes, field, word.value);
     Ok(())
 }
 
-/// Gives the values that the words of `--set` name, in their order.
+/// Gives the values that the words of `--set` name, in their order, of so many nodes.
 fn put_sets(
     states: &mut [State],
     rt: &HostRuntime,
     program: &Program,
     nodes: u32,
-    words: &[SetWord],
+    words: &StartWords,
 ) -> Result<(), Ending> {
-    for word in words {
-        put_set(states, rt, program, nodes, word)?;
+    let names = names_at(rt, &words.names)?;
+    let calls = NodeCalls {
+        nodes,
+        names: names.as_ref(),
+    };
+    for word in &words.sets {
+        put_set(states, rt, program, &calls, word)?;
     }
     Ok(())
 }
@@ -194,5 +206,5 @@ pub(crate) fn put_start(
 ) -> Result<(), Ending> {
     put_randoms(states, rt.alloc(), program, nodes, words)?;
     put_files(states, rt, program, nodes, words.files.as_slice())?;
-    put_sets(states, rt, program, nodes, words.sets.as_slice())
+    put_sets(states, rt, program, nodes, words)
 }

@@ -51,5 +51,5 @@ pub use set_words::{
     OVERLAP, REPEATED, RandomWord, SEED, SET, SET_RANDOM, SET_RANDOM_ARGUMENT, SetWord, amounts_of,
     overlap_in, random_in, sets_in,
 };
-pub use start::{FileWord, RunTexts, SEQUENTIAL, SET_FILE, StartWords, THREADS};
+pub use start::{FileWord, RunTexts, SEQUENTIAL, SET_FILE, SET_NAMES, StartWords, THREADS};
 pub use steps::{no_world, steps_at};

@@ -1,6 +1,6 @@
 //! Packed networks, and reports of rounds on them, that are read.
 
-use app_files::{Ending, bytes_at, name_at, no_packed};
+use app_files::{Ending, PackedNetwork, bytes_at, name_at, packed_with};
 use large_net::{LargeNetwork, read_large};
 use report_text::{ReportFault, read_states};
 use rounds_plan::RoundStates;
@@ -8,17 +8,15 @@ use rule_check::Program;
 use std::alloc::Global;
 use std::thread::Threads;
 
-/// The network of the bytes of a packed network at a path.
+/// The packed network of the bytes at a path.
 pub fn packed_in(
     rt: &HostRuntime,
     threads: &impl Threads,
     path: &str,
     bytes: &[u8],
-) -> Result<LargeNetwork, Ending> {
-    match read_large(threads, rt.alloc(), bytes) {
-        Ok(network) => Ok(network),
-        Err(fault) => Err(no_packed(rt.alloc(), path, fault)),
-    }
+) -> Result<PackedNetwork, Ending> {
+    let alloc = rt.alloc();
+    packed_with(alloc, path, bytes, read_large(threads, alloc, bytes))
 }
 
 /// The ending where a text is no report of the program and the network.

@@ -85,7 +85,7 @@ pub fn large_lines(alloc: Global, network: &LargeNetwork) -> Result<String, Allo
 /// Prints what one wants to know of the network at a path. The status with which the program ends.
 pub fn show_info(rt: &HostRuntime, threads: &impl Threads, path: &str) -> Result<u8, Ending> {
     let bytes = bytes_at(rt, path)?;
-    let network = packed_in(rt, threads, path, &bytes)?;
-    let lines = large_lines(rt.alloc(), &network)?;
+    let packed = packed_in(rt, threads, path, &bytes)?;
+    let lines = large_lines(rt.alloc(), &packed.network)?;
     print_out(rt, lines.as_bytes())
 }

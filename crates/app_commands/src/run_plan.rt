@@ -8,14 +8,15 @@ use crate::plan_texts::{NamedPlan, plan_of};
 use crate::set_words::SetWord;
 use crate::start::RunTexts;
 use app_files::{
-    Ending, NamedProgram, bytes_at, bytes_where, is_packed, list_path, named_program_at,
-    network_at, path_in, read_once,
+    Ending, NamedProgram, PackedNetwork, bytes_at, bytes_where, is_packed, list_path,
+    named_program_at, network_at, path_in, read_once,
 };
-use app_jobs::program_of;
+use app_jobs::{ServeFault, program_of};
 use large_net::LargeNetwork;
+use link_net::FieldSet;
 use rayon::current_num_threads;
-use rounds_plan::Plan;
-use rounds_walk::{PlanRef, StartFault, begun_with, openings};
+use rounds_plan::{Plan, opening_states};
+use rounds_walk::{PlanRef, StartFault, begun_with};
 use rule_check::{Program, State};
 use std::alloc::{AllocError, Global};
 use std::thread::Threads;
@@ -29,7 +30,7 @@ pub enum RunNetwork {
         report: Option<Vec<u8>>,
     },
     /// A packed network.
-    Packed(LargeNetwork),
+    Packed(PackedNetwork),
 }
 
 /// The states of all nodes after a round, counted from round 0.
@@ -111,6 +112,7 @@ fn put_paths<'a>(paths: &mut Vec<&'a str>, texts: &'a RunTexts) -> Result<(), Al
     paths.push(texts.plan.program.as_str())?;
     paths.push(texts.plan.network.as_str())?;
     paths.push(path_in(&texts.plan.from))?;
+    paths.push(path_in(&texts.start.names))?;
     for word in &texts.start.files {
         paths.push(word.path.as_str())?;
     }
@@ -134,14 +136,29 @@ pub fn program_in(alloc: Global, text: &[u8]) -> Result<Program, Ending> {
     }
 }
 
-/// The initial states of so many nodes of a program, with the values that the words ask for.
+/// The initial states of so many nodes of a program, with the values that a packed network sets.
+fn set_states(
+    alloc: Global,
+    program: &Program,
+    nodes: u32,
+    sets: &[FieldSet],
+) -> Result<Vec<State>, Ending> {
+    match opening_states(alloc, program, nodes, sets) {
+        Ok(states) => Ok(states),
+        Err(fault) => Err(Ending::Served(ServeFault::from(fault))),
+    }
+}
+
+/// The initial states of the nodes of a program on a packed network: with the values that the network sets, and those that the
+/// words ask for over them.
 fn states_for(
     rt: &HostRuntime,
     program: &Program,
-    nodes: u32,
+    packed: &PackedNetwork,
     texts: &RunTexts,
 ) -> Result<Vec<State>, Ending> {
-    let mut states = openings(rt.alloc(), program, nodes)?;
+    let nodes = packed.network.nodes();
+    let mut states = set_states(rt.alloc(), program, nodes, packed.settings.sets())?;
     put_start(&mut states, rt, program, nodes, &texts.start)?;
     Ok(states)
 }
@@ -151,14 +168,14 @@ fn states_for(
 fn opening_for(
     rt: &HostRuntime,
     program: &Program,
-    network: &LargeNetwork,
+    packed: &PackedNetwork,
     texts: &RunTexts,
 ) -> Result<Opening, Ending> {
     let Some(path) = &texts.plan.from else {
-        let states = states_for(rt, program, network.nodes(), texts)?;
+        let states = states_for(rt, program, packed, texts)?;
         return Ok(Opening { round: 0, states });
     };
-    let report = report_at(rt, path.as_str(), program, network)?;
+    let report = report_at(rt, path.as_str(), program, &packed.network)?;
     Ok(Opening {
         round: report.rounds(),
         states: report.into_states(),
@@ -170,13 +187,13 @@ fn packed_plan<'a>(
     rt: &HostRuntime,
     texts: &RunTexts,
     text: &[u8],
-    network: &'a LargeNetwork,
+    packed: &'a PackedNetwork,
 ) -> Result<PackedPlan<'a>, Ending> {
     let program = program_in(rt.alloc(), text)?;
-    let opening = opening_for(rt, &program, network, texts)?;
+    let opening = opening_for(rt, &program, packed, texts)?;
     Ok(PackedPlan {
         program,
-        network,
+        network: &packed.network,
         opening,
     })
 }
@@ -230,8 +247,8 @@ pub fn ground_on<'a>(
             let plan = file_plan(rt, texts, text, file, report)?;
             Ok(Ground::File(plan))
         }
-        RunNetwork::Packed(network) => {
-            let plan = packed_plan(rt, texts, text, network)?;
+        RunNetwork::Packed(packed) => {
+            let plan = packed_plan(rt, texts, text, packed)?;
             Ok(Ground::Packed(plan))
         }
     }
@@ -244,8 +261,8 @@ fn packed_network(
     path: &str,
     bytes: &[u8],
 ) -> Result<RunNetwork, Ending> {
-    let network = packed_in(rt, threads, path, bytes)?;
-    Ok(RunNetwork::Packed(network))
+    let packed = packed_in(rt, threads, path, bytes)?;
+    Ok(RunNetwork::Packed(packed))
 }
 
 /// The network and the report at these paths.

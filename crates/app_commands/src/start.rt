@@ -22,6 +22,16 @@ pub const SET_FILE: Argument = Argument {
 /// `SET_FILE`, as it is read.
 static SET_FILE_ARGUMENT: Argument = SET_FILE;
 
+pub const SET_NAMES: Argument = Argument {
+    name: "set-names",
+    help: "Let --set call nodes by the names in FILE, a line each, node 0 first",
+    needs: Some("set"),
+    ..FILE_OPTION
+};
+
+/// `SET_NAMES`, as it is read.
+static SET_NAMES_ARGUMENT: Argument = SET_NAMES;
+
 pub const THREADS: Argument = Argument {
     name: "threads",
     value: Value::Number {
@@ -62,6 +72,8 @@ pub struct StartWords {
     pub overlap: bool,
     pub files: Vec<FileWord>,
     pub sets: Vec<SetWord>,
+    /// The path of the names by which `sets` call nodes, where they do.
+    pub names: Option<String>,
     /// By what nodes are drawn; where none are, 0.
     pub seed: u32,
 }
@@ -129,12 +141,14 @@ fn start_in(reading: &mut Reading) -> StartWords {
     let overlap = overlap_in(reading);
     let files = files_in(reading);
     let sets = sets_in(reading);
+    let names = reading.text(&SET_NAMES_ARGUMENT);
     let seed = reading.number_or(&SEED_ARGUMENT, 0);
     StartWords {
         random,
         overlap,
         files,
         sets,
+        names,
         seed,
     }
 }

@@ -30,7 +30,9 @@ pub use files::{
 pub use lines::{put_note, put_place, weight_told, words_told};
 pub use model_notes::{model_slips, slips_in};
 pub use model_told::{ModelRefusal, refusal_of};
-pub use networks::{file_at, is_packed, network_at, network_where, no_packed};
+pub use networks::{
+    PackedNetwork, file_at, file_of, is_packed, network_at, network_where, packed_of, packed_with,
+};
 pub use node_calls::{NodeCalls, list_path, listed_nodes};
 pub use output::{check_new, make_folder, print_out, write_file, write_new, write_out};
 pub use programs::{

@@ -2,9 +2,10 @@
 
 use crate::ending::Ending;
 use crate::files::{Text, bytes_at, name_at};
-use large_net::{LargeFault, LargeNetwork, read_sequentially};
+use large_net::{LargeFault, LargeNetwork, file_tail, read_sequentially};
 use link_net::{NetFault, NetFile, read_network};
-use net_text::{RowsFault, row_text};
+use net_initial::listed;
+use net_text::{RowsFault, row_text, write_network};
 use std::alloc::Global;
 use std::rt::Files;
 
@@ -28,7 +29,7 @@ fn packed_name(fault: LargeFault) -> &'static str {
 }
 
 /// The ending where the bytes at a path are no packed network.
-pub fn no_packed(alloc: Global, path: &str, fault: LargeFault) -> Ending {
+fn no_packed(alloc: Global, path: &str, fault: LargeFault) -> Ending {
     if fault == LargeFault::Memory {
         return Ending::Memory;
     }
@@ -72,7 +73,7 @@ fn no_file_of(alloc: Global, path: &str, network: &LargeNetwork, fault: RowsFaul
     };
     let more = if nodes == 1 { "" } else { "s" };
     Ending::refused(format!(in alloc;
-        "network {kind}\n{name}: a packed network of {nodes} node{more}; this command takes networks {why}; lockstep, watch, count, settle, cuts, image and info take any"
+        "network {kind}\n{name}: a packed network of {nodes} node{more}; this command takes networks {why}; lockstep, watch, count, settle, cuts, image, info and init --packed take any"
     ))
 }
 
@@ -84,12 +85,87 @@ fn file_text(alloc: Global, path: &str, network: &LargeNetwork) -> Result<Vec<u8
     }
 }
 
-/// The text of the network file that says the same as these bytes of a packed network.
-fn unpacked(alloc: Global, path: &str, bytes: &[u8]) -> Result<Vec<u8>, Ending> {
-    match read_sequentially(alloc, bytes) {
-        Ok(network) => file_text(alloc, path, &network),
+/// A packed network, and what it says beside its rows.
+#[derive(Drop)]
+pub struct PackedNetwork {
+    pub network: LargeNetwork,
+    /// A network file of one node, whose phase is that of the network, and whose sets are its initial values.
+    pub settings: NetFile,
+}
+
+/// The settings of a packed network that sets nothing.
+const NO_SETTINGS: &[u8] = b"nodes = 1\nlinks = []\n";
+
+/// The ending where what stands behind the rows of the packed network at a path is no settings.
+fn no_settings(alloc: Global, path: &str) -> Ending {
+    let name = name_at(path);
+    Ending::refused(format!(in alloc;
+        "network Settings\n{name}: behind the rows stands no network file of one node, without links, for the phase and the initial values; unison init --packed makes such a file"
+    ))
+}
+
+/// The settings that a text says which stands behind the rows of the packed network at a path.
+fn settings_of(alloc: Global, path: &str, text: &[u8]) -> Result<NetFile, Ending> {
+    match read_network(alloc, text) {
+        Ok(file) if file.network().nodes() == 1 => Ok(file),
+        Err(NetFault::Memory) => Err(Ending::Memory),
+        _ => Err(no_settings(alloc, path)),
+    }
+}
+
+/// The settings of the packed network of the bytes at a path.
+fn settings_in(alloc: Global, path: &str, bytes: &[u8]) -> Result<NetFile, Ending> {
+    match file_tail(bytes) {
+        Ok(tail) => settings_of(alloc, path, tail.unwrap_or(NO_SETTINGS)),
         Err(fault) => Err(no_packed(alloc, path, fault)),
     }
+}
+
+/// The packed network of the bytes at a path, whose rows are read, or are no network.
+pub fn packed_with(
+    alloc: Global,
+    path: &str,
+    bytes: &[u8],
+    rows: Result<LargeNetwork, LargeFault>,
+) -> Result<PackedNetwork, Ending> {
+    match rows {
+        Ok(network) => {
+            let settings = settings_in(alloc, path, bytes)?;
+            Ok(PackedNetwork { network, settings })
+        }
+        Err(fault) => Err(no_packed(alloc, path, fault)),
+    }
+}
+
+/// The packed network of the bytes at a path, read in one thread.
+pub fn packed_of(alloc: Global, path: &str, bytes: &[u8]) -> Result<PackedNetwork, Ending> {
+    packed_with(alloc, path, bytes, read_sequentially(alloc, bytes))
+}
+
+/// What a text describes that is a network file.
+pub fn file_of(alloc: Global, text: &[u8]) -> Result<NetFile, Ending> {
+    match read_network(alloc, text) {
+        Ok(file) => Ok(file),
+        Err(NetFault::Memory) => Err(Ending::Memory),
+        Err(fault) => Err(Ending::Network(fault)),
+    }
+}
+
+/// The text of the network file with the network of a text and the settings of a packed network.
+fn settled_text(alloc: Global, text: &[u8], settings: &NetFile) -> Result<Vec<u8>, Ending> {
+    let file = file_of(alloc, text)?;
+    let list = listed(alloc, file.network())?;
+    Ok(write_network(alloc, &list, settings.phase(), settings.sets())?)
+}
+
+/// The text of the network file that says the same as these bytes of a packed network.
+fn unpacked(alloc: Global, path: &str, bytes: &[u8]) -> Result<Vec<u8>, Ending> {
+    let PackedNetwork { network, settings } = packed_of(alloc, path, bytes)?;
+    let text = file_text(alloc, path, &network)?;
+    if settings.phase() == 0 && settings.sets().is_empty() {
+        return Ok(text);
+    }
+    settled_text(alloc, &text, &settings)
 }
 
 /// The text of the network file at a path; of a packed network there the one that says the same.
@@ -117,9 +193,5 @@ pub fn network_where(
 /// What a network file describes, or a packed network in its place.
 pub fn file_at(rt: &(impl Files + Input + AllocGlobal), path: &str) -> Result<NetFile, Ending> {
     let text = network_at(rt, path)?;
-    match read_network(rt.alloc(), &text) {
-        Ok(file) => Ok(file),
-        Err(NetFault::Memory) => Err(Ending::Memory),
-        Err(fault) => Err(Ending::Network(fault)),
-    }
+    file_of(rt.alloc(), &text)
 }

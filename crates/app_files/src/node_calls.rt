@@ -27,13 +27,13 @@ impl<'a> NodeCalls<'a> {
     }
 
     /// The node that a word calls, where it calls one.
-    fn node(&self, word: &str) -> Option<u32> {
+    pub fn node(&self, word: &str) -> Option<u32> {
         let node = self.number_of(word)?;
         if node < self.nodes { Some(node) } else { None }
     }
 
     /// What a word has to be so that it calls a node.
-    fn expected(&self, alloc: Global) -> Result<String, AllocError> {
+    pub fn expected(&self, alloc: Global) -> Result<String, AllocError> {
         let nodes = self.nodes;
         match self.names {
             Some(_) => String::from_str(

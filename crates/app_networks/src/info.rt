@@ -1,11 +1,10 @@
 //! `info NETWORK`: what one wants to know of a network before a run.
 
 use crate::info_request::InfoRequest;
-use crate::network_fault::no_network;
 use app_commands::{asked_by, large_lines, packed_in};
-use app_files::{Ending, bytes_at, is_packed, print_out};
+use app_files::{Ending, bytes_at, file_of, is_packed, print_out};
 use large_net::LargeNetwork;
-use link_net::{NetFile, read_network};
+use link_net::NetFile;
 use net_facts::{facts_of, facts_text};
 use net_text::{RowsFault, row_text};
 use std::alloc::{AllocError, Global};
@@ -29,10 +28,8 @@ fn packed_lines(alloc: Global, network: &LargeNetwork) -> Result<String, Ending>
 
 /// The lines about the network of a network file.
 fn text_lines(alloc: Global, text: &[u8]) -> Result<String, Ending> {
-    match read_network(alloc, text) {
-        Ok(file) => Ok(lines_of(alloc, &file)?),
-        Err(fault) => Err(no_network(fault)),
-    }
+    let file = file_of(alloc, text)?;
+    Ok(lines_of(alloc, &file)?)
 }
 
 /// The lines about the network of these bytes.
@@ -43,8 +40,8 @@ fn bytes_lines(
     bytes: &[u8],
 ) -> Result<String, Ending> {
     if is_packed(bytes) {
-        let network = packed_in(rt, threads, path, bytes)?;
-        return packed_lines(rt.alloc(), &network);
+        let packed = packed_in(rt, threads, path, bytes)?;
+        return packed_lines(rt.alloc(), &packed.network);
     }
     text_lines(rt.alloc(), bytes)
 }

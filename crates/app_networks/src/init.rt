@@ -2,14 +2,15 @@
 
 use crate::init_cells::put_cells;
 use crate::init_request::{InitRequest, RangeWord};
-use app_commands::{SetWord, amounts_of, asked_by, names_at};
+use app_commands::{SetWord, amounts_of, asked_by, check_output, names_at};
 use app_files::{
-    Ending, NodeCalls, drawn_parts, file_at, list_path, listed_nodes, next_draw, path_in,
-    print_out, read_once,
+    Ending, NodeCalls, PackedNetwork, bytes_at, drawn_parts, file_at, file_of, is_packed,
+    list_path, listed_nodes, next_draw, packed_of, path_in, print_out, read_once,
 };
 use app_table::number;
-use link_net::{MOST_NODES, Name, NetFile};
-use net_initial::{Chosen, OpenFault, Opening, Values, drawn_values, opened_text};
+use large_net::{LargeNetwork, large_bytes, tailed_bytes};
+use link_net::{Name, NetFile};
+use net_initial::{Chosen, OpenFault, Opening, Values, drawn_values, opened_settings, opened_text};
 use net_names::NodeNames;
 use std::alloc::{AllocError, Global};
 
@@ -69,7 +70,7 @@ fn no_node(alloc: Global, word: &SetWord, kind: &str) -> Ending {
 fn node_in(names: &Option<NodeNames>, word: &str) -> Option<u32> {
     match names {
         Some(names) => names.number_of(word),
-        None => number(word, 0, MOST_NODES - 1),
+        None => number(word, 0, u32::MAX - 1),
     }
 }
 
@@ -324,17 +325,78 @@ fn opened_for(rt: &HostRuntime, asked: &InitRequest, file: &NetFile) -> Result<V
     opened_by(rt.alloc(), asked, file, &openings)
 }
 
+/// The packed network of these bytes, or the network of a network file with what that sets.
+fn network_of(alloc: Global, path: &str, bytes: &[u8]) -> Result<PackedNetwork, Ending> {
+    if is_packed(bytes) {
+        return packed_of(alloc, path, bytes);
+    }
+    let settings = file_of(alloc, bytes)?;
+    let network = LargeNetwork::of_network(alloc, settings.network())?;
+    Ok(PackedNetwork { network, settings })
+}
+
+/// The packed network at a path, or that of the network file there.
+fn network_in(rt: &HostRuntime, path: &str) -> Result<PackedNetwork, Ending> {
+    let bytes = bytes_at(rt, path)?;
+    network_of(rt.alloc(), path, &bytes)
+}
+
+/// What a packed network with these openings says beside its rows, over the values of the network but for those of the fields
+/// that are cleared.
+fn settings_with(
+    alloc: Global,
+    nodes: u32,
+    settings: &NetFile,
+    asked: &InitRequest,
+    openings: &[Opening],
+) -> Result<Option<Vec<u8>>, Ending> {
+    let cleared = cleared_by(alloc, asked)?;
+    match opened_settings(alloc, nodes, settings, &cleared, openings, asked.phase) {
+        Ok(text) => Ok(text),
+        Err(fault) => Err(no_opening(alloc, fault)),
+    }
+}
+
+/// The packed network with the openings that the words ask for.
+fn packed_for(rt: &HostRuntime, asked: &InitRequest) -> Result<Vec<u8>, Ending> {
+    let PackedNetwork { network, settings } = network_in(rt, asked.network.as_str())?;
+    let openings = openings_for(rt, asked, network.nodes())?;
+    let settings = settings_with(rt.alloc(), network.nodes(), &settings, asked, &openings)?;
+    packed_bytes(rt.alloc(), &network, &settings)
+}
+
+/// The packed network of these rows, with what stands behind them.
+fn packed_bytes(
+    alloc: Global,
+    network: &LargeNetwork,
+    settings: &Option<Vec<u8>>,
+) -> Result<Vec<u8>, Ending> {
+    match settings {
+        Some(text) => Ok(tailed_bytes(alloc, network, text)?),
+        None => Ok(large_bytes(alloc, network)?),
+    }
+}
+
 /// The network file that the words ask for.
 fn text_for(rt: &HostRuntime, asked: &InitRequest) -> Result<Vec<u8>, Ending> {
     let file = file_at(rt, asked.network.as_str())?;
     opened_for(rt, asked, &file)
 }
 
+/// The network that the words ask for, as a network file or packed.
+fn bytes_for(rt: &HostRuntime, asked: &InitRequest) -> Result<Vec<u8>, Ending> {
+    if asked.packed {
+        check_output(rt)?;
+        return packed_for(rt, asked);
+    }
+    text_for(rt, asked)
+}
+
 /// Prints the network that is asked for. The status with which the program ends.
 fn put_network(rt: &HostRuntime, asked: &InitRequest) -> Result<u8, Ending> {
     check_paths(rt.alloc(), asked)?;
-    let text = text_for(rt, asked)?;
-    print_out(rt, &text)
+    let bytes = bytes_for(rt, asked)?;
+    print_out(rt, &bytes)
 }
 
 /// Prints the network with other initial values. The status with which the program ends.

@@ -2,9 +2,9 @@
 ghost use Rattle.std.specs.Prelude.{◌≤◌, IfOk, IfSome};
 
 use app_commands::{
-    FILE_OPTION, NAMES, NAMES_ARGUMENT, NETWORK, NETWORK_ARGUMENT, OVERLAP, QUIET, QUIET_ARGUMENT,
-    REPEATED, RandomWord, SEED, SET, SET_RANDOM, SET_RANDOM_ARGUMENT, SetWord, WIDTH, overlap_in,
-    random_in, sets_in,
+    AS_PACKED, AS_PACKED_ARGUMENT, FILE_OPTION, NAMES, NAMES_ARGUMENT, NETWORK, NETWORK_ARGUMENT,
+    OVERLAP, QUIET, QUIET_ARGUMENT, REPEATED, RandomWord, SEED, SET, SET_RANDOM,
+    SET_RANDOM_ARGUMENT, SetWord, WIDTH, overlap_in, random_in, sets_in,
 };
 use app_table::{Argument, Choice, Command, Kind, OPTION, Reading, Value, WordsFault, number};
 use link_net::MOST_NODES;
@@ -95,10 +95,10 @@ static INIT: Command = Command {
     aliases: &["open"],
     called: "unison init",
     about: "Give a network other initial values, by numbers, names, at random, or by patterns of cells",
-    notes: "Prints the network with other initial values; where several give one to the same field and node, the last one counts; --set counts over --cells, that over --set-random, and that over --random.\nAn example: unison init examples/path.toml --set 'dist=*:9' --set dist=0:0 > start.toml\nAnother: unison init examples/path.toml --set state=0..1:2 --set-random state=1:33.3% --seed 7 > start.toml\n",
+    notes: "Prints the network with other initial values, as a network file, or with --packed as a packed network of any size; where several give one to the same field and node, the last one counts; --set counts over --cells, that over --set-random, and that over --random.\nAn example: unison init examples/path.toml --set 'dist=*:9' --set dist=0:0 > start.toml\nAnother: unison init examples/path.toml --set state=0..1:2 --set-random state=1:33.3% --seed 7 > start.toml\nAnother: unison init road.net --set-random state=1:100 --seed 7 --packed > start.net\n",
     arguments: &[
         NETWORK, SET, SET_RANDOM, OVERLAP, RANDOM, DRAWS_SEED, CELLS, GRID_WIDTH, CLEAR, NAMES,
-        PHASE, QUIET,
+        PHASE, AS_PACKED, QUIET,
     ],
     subcommands: &[],
 };
@@ -151,6 +151,8 @@ pub struct InitRequest {
     pub seed: u32,
     /// The phase in which all nodes open; where there is none, that of the file.
     pub phase: Option<u8>,
+    /// Whether a packed network is written in the place of a network file.
+    pub packed: bool,
     /// Whether notes are left out.
     pub quiet: bool,
 }
@@ -303,6 +305,7 @@ fn request_in(reading: &mut Reading) -> InitRequest
         width,
         seed,
         phase,
+        packed: reading.has(&AS_PACKED_ARGUMENT),
         quiet: reading.has(&QUIET_ARGUMENT),
     }
 }

@@ -14,7 +14,6 @@ mod init;
 mod init_cells;
 mod init_request;
 mod json_refusals;
-mod network_fault;
 mod pack;
 mod pack_refusals;
 mod pack_request;

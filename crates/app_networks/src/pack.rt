@@ -1,15 +1,14 @@
 //! `pack`: a network of any size as a binary file.
 
-use crate::network_fault::no_network;
 use crate::pack_refusals::{matrix_refusal, names_refusal, refusal};
 use crate::pack_request::PackRequest;
 use app_commands::check_output;
-use app_files::{Ending, bytes_at, file_at, name_at, print_out, put_note, write_file};
+use app_files::{Ending, bytes_at, file_at, file_of, name_at, print_out, put_note, write_file};
 use app_table::Draft;
 use import_network::{MatrixOptions, NamedNetwork, pack_matrix, pack_names};
 use large_net::{LargeNetwork, large_bytes};
 use large_pack::{PackOptions, Packed, pack_edges};
-use link_net::{NetFile, read_network};
+use link_net::NetFile;
 use net_names::list_text;
 use net_random::{LargeRandom, LargeRandomFault, large_random};
 use net_shapes::{LargeShape, LargeShapeFault, large_shape};
@@ -114,10 +113,8 @@ fn file_bytes(alloc: Global, file: &NetFile) -> Result<Vec<u8>, Ending> {
 
 /// The binary file of the network of a network file with this text.
 pub(crate) fn text_bytes(alloc: Global, text: &[u8]) -> Result<Vec<u8>, Ending> {
-    match read_network(alloc, text) {
-        Ok(file) => file_bytes(alloc, &file),
-        Err(fault) => Err(no_network(fault)),
-    }
+    let file = file_of(alloc, text)?;
+    file_bytes(alloc, &file)
 }
 
 /// The binary file of the network file at a path.

@@ -7,7 +7,7 @@ use crate::colours::{COLOURS, colours_in};
 use app_commands::{
     CONSTANT, EVERY, FIELD, FIELD_ARGUMENT, FILE_OPTION, FLAG, FROM, GridWidth, NAMES,
     NAMES_ARGUMENT, NETWORK, OVERLAP, PROGRAM, PlanPaths, ROUND, ROUNDS, RunTexts, SEED, SET,
-    SET_FILE, SET_RANDOM, grid_in, span_in, with_lone,
+    SET_FILE, SET_NAMES, SET_RANDOM, grid_in, span_in, with_lone,
 };
 use app_table::{Argument, Command, Kind, OPTION, Reading, Value, WordsFault};
 use run_picture::ValueColour;
@@ -99,7 +99,7 @@ static IMAGE: Command = Command {
     notes: "Prints an SVG picture: nodes across and rounds down, with --grid the nodes of one round as cells, with --links the network of one round, with --animate too that of each round in turn, or with --counts a curve for each state of the field, and each value that occurs, of how many nodes have it. Where more than 64 values occur, the curves are refused; count prints the numbers. With --frames FOLDER the picture of each round goes into a file of its own, all in the same colours, and one line tells which were written.\nAn example: unison image examples/rule_110.rules examples/row.toml --rounds 0..30 > run.svg\nAnother one: unison image examples/life.rules examples/glider.toml --rounds 8..8 --grid 8 > frame.svg\nA third one: unison image examples/distance.rules examples/karate.toml --rounds 0..5 --counts > curves.svg\nOne that moves: unison image examples/life.rules examples/glider.toml --rounds 0..31 --grid 8 --animate --colours 1:teal > glider.svg\nA network that moves: unison image examples/distance.rules examples/karate.toml --rounds 0..5 --links --animate --frame-time 500 > karate.svg\nA file for each round: unison image examples/life.rules examples/glider.toml --rounds 0..31 --grid 8 --frames glider\n",
     arguments: &[
         PROGRAM, NETWORK, ROUNDS, EVERY, FIELD, COUNTS, GRID, LINKS, ANIMATE, SHOWN_FOR, FRAMES,
-        COLOURS, FROM, SET, SET_FILE, SET_RANDOM, OVERLAP, SEED, CONSTANT,
+        COLOURS, FROM, SET, SET_FILE, SET_NAMES, SET_RANDOM, OVERLAP, SEED, CONSTANT,
     ],
     subcommands: &[],
 };

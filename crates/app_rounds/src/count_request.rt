@@ -4,8 +4,8 @@ ghost use Rattle.app_commands.specs.Requests.{AreThreadsWithin, HasRuns};
 
 use app_commands::{
     EVERY, FIELD, FIELD_ARGUMENT, FLAG, FROM, NETWORK, OVERLAP, PROGRAM, PlanPaths, QUIET,
-    QUIET_ARGUMENT, ROUNDS, RunConstants, RunTexts, SEED, SEQUENTIAL, SET, SET_FILE, SET_RANDOM,
-    THREADS, VARIED, Varied, run_constants_in, span_in,
+    QUIET_ARGUMENT, ROUNDS, RunConstants, RunTexts, SEED, SEQUENTIAL, SET, SET_FILE, SET_NAMES,
+    SET_RANDOM, THREADS, VARIED, Varied, run_constants_in, span_in,
 };
 use app_table::{Argument, Choice, Command, Kind, OPTION, Reading, Value, WordsFault, number};
 use run_counts::{CountFormat, FigureKind, Holders};
@@ -99,7 +99,7 @@ static COUNT: Command = Command {
     notes: "Prints, for the rounds FIRST, FIRST + K, FIRST + 2 K and so on, up to LAST, how many nodes have each value of a field: a column for each state of the field, and for each value that occurs, or lines of round, value and nodes where there are more than 64.\nAn example: unison count examples/life.rules examples/glider.toml --rounds 0..4\nAnother one: unison count examples/distance.rules examples/path.toml --rounds 0..9 --until none:dist=4294967295\nThree runs of a model, with one of its constants at three values: unison count examples/models/pagerank.model examples/cookbook/pagerank.toml --rounds 100..100 --field rank --most rank --const passed_on=80,85,90\n",
     arguments: &[
         PROGRAM, NETWORK, ROUNDS, EVERY, COUNTED, UNTIL, SUM, LEAST, MOST, FORMAT, MEAN, FROM, SET,
-        SET_FILE, SET_RANDOM, OVERLAP, SEED, THREADS, SEQUENTIAL, VARIED, QUIET,
+        SET_FILE, SET_NAMES, SET_RANDOM, OVERLAP, SEED, THREADS, SEQUENTIAL, VARIED, QUIET,
     ],
     subcommands: &[],
 };

@@ -18,7 +18,7 @@ fn table_told(fault: TableFault) -> Told {
         TableFault::TooManyNodes { line } => (
             Some(line),
             "TooManyNodes",
-            "a report has at most 65536 nodes",
+            "a report has at most 4294967295 nodes",
         ),
         TableFault::Memory => (None, "Memory", ""),
     }

@@ -5,7 +5,7 @@ ghost use Rattle.rounds_plan.specs.Configs.{most_rounds};
 
 use app_commands::{
     CONSTANT, FLAG, FROM, NAMES, NAMES_ARGUMENT, NETWORK, OVERLAP, PROGRAM, ROUND, RunTexts, SEED,
-    SET, SET_FILE, SET_RANDOM,
+    SET, SET_FILE, SET_NAMES, SET_RANDOM,
 };
 use app_table::{Argument, Choice, Command, Kind, OPTION, Reading, Value, WordsFault};
 use std::alloc::Global;
@@ -59,8 +59,8 @@ static CUTS: Command = Command {
     about: "Tell where values were cut at 4294967295",
     notes: "Prints a line for each `+`, `*` and `total` of the program whose value was cut in a round up to T: its place, the first round and node, and how often. An occasion is a node in a round.\nAn example: unison cuts examples/distance.rules examples/path.toml --rounds 2\n",
     arguments: &[
-        PROGRAM, NETWORK, LAST, BELOW, FORMAT, NAMES, FROM, SET, SET_FILE, SET_RANDOM, OVERLAP,
-        SEED, CONSTANT,
+        PROGRAM, NETWORK, LAST, BELOW, FORMAT, NAMES, FROM, SET, SET_FILE, SET_NAMES, SET_RANDOM,
+        OVERLAP, SEED, CONSTANT,
     ],
     subcommands: &[],
 };

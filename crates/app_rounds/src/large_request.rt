@@ -11,7 +11,7 @@ use crate::settle_request::{
 };
 use app_commands::{
     CONSTANT, EVERY, FILE, FROM, NETWORK_ARGUMENT, OVERLAP, PROGRAM, ROUNDS, RunTexts, SEED,
-    SEQUENTIAL, SET, SET_FILE, SET_RANDOM, THREADS, span_in,
+    SEQUENTIAL, SET, SET_FILE, SET_NAMES, SET_RANDOM, THREADS, span_in,
 };
 use app_table::{Argument, Choice, Command, OPTION, Reading, Subcommand, Value, WordsFault};
 use run_watch::Span;
@@ -83,8 +83,8 @@ const WAYS: [Subcommand; 5] = [
         about: "Report the states after a round, as unison lockstep does",
         notes: "",
         arguments: &[
-            PROGRAM, PACKED, LAST, FROM, SET, SET_FILE, SET_RANDOM, OVERLAP, SEED, COUNT, FORMAT,
-            ONE_FIELD, THREADS, SEQUENTIAL, CONSTANT,
+            PROGRAM, PACKED, LAST, FROM, SET, SET_FILE, SET_NAMES, SET_RANDOM, OVERLAP, SEED,
+            COUNT, FORMAT, ONE_FIELD, THREADS, SEQUENTIAL, CONSTANT,
         ],
     },
     Subcommand {
@@ -99,6 +99,7 @@ const WAYS: [Subcommand; 5] = [
             FROM,
             SET,
             SET_FILE,
+            SET_NAMES,
             SET_RANDOM,
             OVERLAP,
             SEED,
@@ -115,8 +116,8 @@ const WAYS: [Subcommand; 5] = [
         about: "Tell from which round on nothing changes, or all states come again, as unison settle does",
         notes: "Prints `settles R`, `repeats R P` or `open T`, as unison settle --help says.\n",
         arguments: &[
-            PROGRAM, PACKED, LIMIT, REPORT, FROM, SET, SET_FILE, SET_RANDOM, OVERLAP, SEED,
-            THREADS, SEQUENTIAL, CONSTANT,
+            PROGRAM, PACKED, LIMIT, REPORT, FROM, SET, SET_FILE, SET_NAMES, SET_RANDOM, OVERLAP,
+            SEED, THREADS, SEQUENTIAL, CONSTANT,
         ],
     },
 ];

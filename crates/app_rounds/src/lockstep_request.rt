@@ -5,7 +5,7 @@ ghost use Rattle.rounds_plan.specs.Configs.{most_rounds};
 
 use app_commands::{
     CONSTANT, FROM, NETWORK, OVERLAP, PROGRAM, QUIET, QUIET_ARGUMENT, ROUND, RunTexts, SEED,
-    SEQUENTIAL, SET, SET_FILE, SET_RANDOM, THREADS,
+    SEQUENTIAL, SET, SET_FILE, SET_NAMES, SET_RANDOM, THREADS,
 };
 use app_table::{Argument, Choice, Command, Kind, OPTION, Reading, Value, WordsFault};
 use std::alloc::Global;
@@ -65,8 +65,8 @@ static LOCKSTEP: Command = Command {
     about: "Run a program in lockstep on a network and print the report of a round",
     notes: "An example: unison lockstep examples/distance.rules examples/path.toml --rounds 2\n",
     arguments: &[
-        PROGRAM, NETWORK, LAST, FROM, SET, SET_FILE, SET_RANDOM, OVERLAP, SEED, FORMAT, ONE_FIELD,
-        THREADS, SEQUENTIAL, CONSTANT, QUIET,
+        PROGRAM, NETWORK, LAST, FROM, SET, SET_FILE, SET_NAMES, SET_RANDOM, OVERLAP, SEED, FORMAT,
+        ONE_FIELD, THREADS, SEQUENTIAL, CONSTANT, QUIET,
     ],
     subcommands: &[],
 };

@@ -5,7 +5,7 @@ ghost use Rattle.rounds_plan.specs.Configs.{most_rounds};
 
 use app_commands::{
     CONSTANT, FLAG, FROM, NETWORK, OVERLAP, PROGRAM, QUIET, QUIET_ARGUMENT, ROUND, RunTexts, SEED,
-    SEQUENTIAL, SET, SET_FILE, SET_RANDOM, THREADS,
+    SEQUENTIAL, SET, SET_FILE, SET_NAMES, SET_RANDOM, THREADS,
 };
 use app_table::{Argument, Command, OPTION, Reading, WordsFault};
 use std::alloc::Global;
@@ -41,8 +41,8 @@ static SETTLE: Command = Command {
     about: "Tell from which round on nothing changes, or all states come again",
     notes: "Prints `settles R` where nothing changes after round R, the first such one; `repeats R P` where from round R on all states come again every P rounds, both the least; `open T` where neither is so up to round T.\nAn example: unison settle examples/distance.rules examples/path.toml --report\n",
     arguments: &[
-        PROGRAM, NETWORK, LIMIT, REPORT, FROM, SET, SET_FILE, SET_RANDOM, OVERLAP, SEED, THREADS,
-        SEQUENTIAL, CONSTANT, QUIET,
+        PROGRAM, NETWORK, LIMIT, REPORT, FROM, SET, SET_FILE, SET_NAMES, SET_RANDOM, OVERLAP, SEED,
+        THREADS, SEQUENTIAL, CONSTANT, QUIET,
     ],
     subcommands: &[],
 };

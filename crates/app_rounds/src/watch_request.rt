@@ -4,8 +4,8 @@ ghost use Rattle.app_commands.specs.Requests.{AreThreadsWithin};
 
 use app_commands::{
     CONSTANT, EVERY, FLAG, FROM, NAMES, NAMES_ARGUMENT, NETWORK, ONLY, OVERLAP, PROGRAM, QUIET,
-    QUIET_ARGUMENT, ROUNDS, RunTexts, SEED, SEQUENTIAL, SET, SET_FILE, SET_RANDOM, THREADS,
-    only_in, span_in,
+    QUIET_ARGUMENT, ROUNDS, RunTexts, SEED, SEQUENTIAL, SET, SET_FILE, SET_NAMES, SET_RANDOM,
+    THREADS, only_in, span_in,
 };
 use app_table::{Argument, Choice, Command, OPTION, Reading, Value, WordsFault};
 use run_watch::{Format, Span};
@@ -68,6 +68,7 @@ static WATCH: Command = Command {
         FROM,
         SET,
         SET_FILE,
+        SET_NAMES,
         SET_RANDOM,
         OVERLAP,
         SEED,
