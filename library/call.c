@@ -264,6 +264,7 @@ static int read_lists(const char *path, struct text packed, struct lists *lists)
     uint64_t header[4] = {0};
     if (packed.len < sizeof header || memcmp(packed.bytes, "UNISONW1", 8) != 0) return wrong(path, "no packed network: `unison pack` makes one");
     memcpy(header, packed.bytes, sizeof header);
+    if (header[3] > 1) return wrong(path, "the packed network has settings, which are not read here: `unison init --packed --phase 0 --clear FIELD` writes one without");
     size_t nodes = header[1], ends = header[2], weights = header[3] ? ends : 0;
     if (nodes > packed.len / 8 || ends > packed.len / 4 || packed.len != sizeof header + 8 * (nodes + 1) + 4 * (ends + weights))
         return wrong(path, "the packed network has another length than its header says");

@@ -50,6 +50,11 @@ def sums_after(rounds):
     return states
 
 
+def with_settings(file, text):
+    """A packed file with settings behind its rows."""
+    return file[:24] + bytes([file[24] | 2]) + file[25:] + text.encode()
+
+
 def test_cluster_random_runs_beside_the_interpreter():
     wanted("tomllib")
     done = mpirun(4, WORKER, "random", "--cases", 12, "--seed", 3)
@@ -74,7 +79,11 @@ def test_cluster_command():
     counted += f"3,{unison.NONE},{sum(value > 3 for value in far)}\n"
     sums = "round,s\n" + "".join(f"{round},{sum(sums_after(round))}\n" for round in range(1, 6))
     (folder / "striped.txt").write_text("".join(f"{node % 3}\n" for node in range(len(far))))
+    settled = "".join(f"[{node}, {value}], " for node, value in ((0, 0), (40, 7)))
+    (folder / "set.net").write_bytes(with_settings(torus()[1], f"nodes = 1\nlinks = []\nphase = 1\nset.dist = [{settled}]\n"))
     calls = [
+        (["distance.rules", "set.net", "--rounds", "100", "--set", f"dist=40:{unison.NONE}"], f"settles {max(far)}\n"),
+        (["distance.rules", "set.net", "--rounds", "0", "--count", "dist"], f"round,value,nodes\n0,0,1\n0,7,1\n0,{unison.NONE},{len(far) - 2}\n"),
         ([*base, "100"], f"settles {max(far)}\n"),
         ([*base, "3"], "round 3\n"),
         ([*base, "3", "--count", "dist"], counted),
@@ -93,6 +102,8 @@ def test_cluster_refusals():
     folder = folder_with(distance=DISTANCE, bad="field s = 0; next s = (s + ;")
     (folder / "short.net").write_bytes(torus()[1][:100])
     (folder / "lines.txt").write_text("0\n1\n2\n")
+    for name, text in (("none.net", "nodes = 2\nlinks = []\n"), ("other.net", "nodes = 1\nlinks = []\nset.t = []\n"), ("far.net", "nodes = 1\nlinks = []\nset.dist = [[72, 0]]\n")):
+        (folder / name).write_bytes(with_settings(torus()[1], text))
     (folder / "parts.txt").write_text("0\n" * 5 + "3\n" + "1\n" * 66)
     base = ["distance.rules", "torus.net", "--rounds", "3"]
     expected = [
@@ -114,6 +125,9 @@ def test_cluster_refusals():
         (["missing.rules", *base[1:]], 1, "file", "missing.rules: No such file or directory"),
         (["distance.rules", "missing.net", *base[2:]], 1, "file", "missing.net: No such file or directory"),
         (["distance.rules", "short.net", *base[2:]], 3, "network Length", "short.net: the file has 100 bytes"),
+        (["distance.rules", "none.net", *base[2:]], 3, "network Settings", "it has 2 nodes"),
+        (["distance.rules", "other.net", *base[2:]], 3, "plan UnknownField", "other.net: set.t: the program has no such field; its fields are dist"),
+        (["distance.rules", "far.net", *base[2:]], 3, "plan BadNode", "set.dist: [72, 0], and there are 72 nodes"),
         ([*base, "--parts", "lines.txt"], 3, "parts Count", "lines.txt: found 3 lines, expected 72"),
         ([*base, "--parts", "parts.txt"], 3, "parts BadLine 6", "parts.txt:6: found `3`, expected a part from 0 to 2"),
         ([*base, "--resume", "none"], 1, "checkpoint Missing", "none: there is no complete checkpoint"),
@@ -170,7 +184,7 @@ def test_cluster_files_are_refused_by_their_first_fault():
         (b"", "network Magic", "it begins with b''"),
         (b"UNISONW2" + whole[8:], "network Magic", "UNISONW2"),
         (whole[:31], "network Header", "32 bytes"),
-        (with_number(24, "<Q", 2), "network Header", "0 or 1"),
+        (with_number(24, "<Q", 4), "network Header", "0 to 3"),
         (with_number(8, "<Q", 0), "network NodeCount", "found 0 nodes"),
         (with_number(8, "<Q", 2**32), "network NodeCount", "found 4294967296 nodes"),
         (whole + b"\0", "network Length", f"has {len(whole) + 1} bytes, and its header asks for {len(whole)}"),

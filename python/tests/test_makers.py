@@ -225,11 +225,20 @@ def test_packed_files():
         assert type(net) is unison.LargeNetwork and net.neighbours("bob") == ["ann", "cid"] and net.weights is None
         weighted = unison.Network.from_edges([0, 1], [1, 2], [7, 9], set={"s": 1})
         again = Network.from_file(weighted.save(file))
-        assert list(again.weights) == [7, 7, 9, 9] and again.neighbours(1) == [0, 2]
-        whole = file.read_bytes()
+        assert list(again.weights) == [7, 7, 9, 9] and again.neighbours(1) == [0, 2] and again.set == {"s": {0: 1, 1: 1, 2: 1}}
+        file.write_bytes(_programs.run(["init", "-", "--set=t=2:5", "--phase=1", "--packed"], file.read_bytes()))
+        told = Network.from_file(file)
+        assert told.set == {"s": {0: 1, 1: 1, 2: 1}, "t": {2: 5}} and told.phase == 1 and told.text.startswith("links = [\n    [0, 1, 7],")
+        program = unison.Program("field s = 0; field t = 3; next s = s; next t = t;")
+        assert unison.lockstep(program, told, 0).by_name("t") == {0: 3, 1: 3, 2: 5}
+        whole = weighted.with_set({}).save(file).read_bytes()
         for place, wrong, name in [
             (8, whole[:20], "Header"),
-            (24, b"\2", "Header"),
+            (24, b"\4", "Header"),
+            (24, b"\2", "Settings"),
+            (0, whole[:24] + b"\3" + whole[25:] + b"nodes = 2\nlinks = []\n", "Settings"),
+            (0, whole[:24] + b"\3" + whole[25:] + b"nodes = 1\nlinks = []\nset.s = [[3, 1]]\n", "BadNode"),
+            (0, whole[:24] + b"\3" + whole[25:] + b"nodes = 1\nlinks = []\nset.s = [[0, 1], [0, 2]]\n", "SetTwice"),
             (8, bytes(8), "NodeCount"),
             (0, whole + b"x", "Length"),
             (0, whole[:-1], "Length"),
@@ -237,7 +246,7 @@ def test_packed_files():
             (64, b"\3", "Neighbour"),
         ]:
             file.write_bytes(wrong if len(wrong) > 9 else whole[:place] + wrong + whole[place + len(wrong) :])
-            error = raised(unison.NetworkError, lambda: Network.from_file(file))
+            error = raised(unison.UnisonError, lambda: Network.from_file(file))
             assert error.name == name, (name, error)
         text = unison.Network.path(3).save(Path(folder, "x.toml"))
         assert Network.from_file(text).text == unison.Network.path(3).text

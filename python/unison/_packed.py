@@ -1,12 +1,13 @@
 """Packed network files (docs/formats.md, Binary network file): those that commands write are read, and a network that is kept as arrays is
-written, with its initial values in words and files beside it, since it has none."""
+written, with its initial values and its phase behind the rows, or with them in words and files beside it."""
 
 from __future__ import annotations
 
 import sys
 from array import array
-from typing import Any, Iterable, Mapping, Optional, Tuple
+from typing import Any, Dict, Iterable, Mapping, NamedTuple, Optional
 
+from . import _document, faults
 from .faults import NO_NUMBER, NetworkError
 from ._arrays import LONG, WORD
 from .large import LargeNetwork
@@ -15,7 +16,29 @@ from .results import numpy
 MAGIC = b"UNISONW1"
 HEAD = 32  # bytes before the offsets
 MOST_NODES = 4294967295
+MOST = 4294967295  # the greatest value
+WEIGHTED, SET = 1, 2  # flags: weights follow, and behind the rows a network file of one node, with the phase and the initial values
 CODES = {WORD: "I", LONG: "Q"}
+
+
+class Head(NamedTuple):
+    """What the first 32 bytes say."""
+
+    nodes: int
+    ends: int
+    flags: int
+
+    @property
+    def length(self) -> int:
+        """How many bytes there are up to the end of the rows."""
+        return HEAD + LONG * (self.nodes + 1) + WORD * self.ends * (2 if self.flags & WEIGHTED else 1)
+
+
+class Settings(NamedTuple):
+    """What a network sets: its phase, and the initial values by fields and nodes."""
+
+    phase: int
+    values: Dict[str, Dict[int, int]]
 
 
 def part_of(packed: bytes, place: int, count: int, size: int) -> Any:
@@ -31,28 +54,67 @@ def part_of(packed: bytes, place: int, count: int, size: int) -> Any:
 
 def read(packed: bytes, set: Optional[Mapping[str, Any]] = None, names: Optional[Iterable[Any]] = None) -> LargeNetwork:
     """The network of a file's bytes. Raises NetworkError where they are none."""
-    nodes, ends, flags = head_of(packed)
+    head = head_of(packed)
+    nodes, ends, flags = head
     offsets = part_of(packed, HEAD, nodes + 1, LONG)
     place = HEAD + LONG * (nodes + 1)
-    weights = part_of(packed, place + WORD * ends, ends, WORD) if flags else None
-    return LargeNetwork(offsets, part_of(packed, place, ends, WORD), weights, set=set, names=names)
+    weights = part_of(packed, place + WORD * ends, ends, WORD) if flags & WEIGHTED else None
+    network = LargeNetwork(offsets, part_of(packed, place, ends, WORD), weights, set=set, names=names)
+    if not flags & SET:
+        return network
+    settings = settings_in(packed[head.length :], nodes)
+    return network._settled(settings.phase, {**settings.values, **network._set})
 
 
-def head_of(packed: bytes) -> Tuple[int, int, int]:
-    """How many nodes there are, how many neighbours they have together, and whether weights follow: the file is as long as that asks for."""
+def settings_in(text: bytes, nodes: int) -> Settings:
+    """The settings of a network of so many nodes, which stand behind its rows. Raises NetworkError where the text is no network file of one node,
+    and PlanError where a number is no node or no value, or a node has two values."""
+    from .network import accept
+
+    try:
+        accept(text.decode("utf-8"), {})
+    except faults.PlanError:
+        pass  # it is a network file, with initial values
+    except (UnicodeDecodeError, NetworkError) as error:
+        raise no_settings(str(error)) from None
+    document = _document.read(text.decode("utf-8").removeprefix("\ufeff"))
+    if document.nodes != 1:
+        raise no_settings(f"it has {document.nodes} nodes")
+    for field, pairs in document.sets.items():
+        check_pairs(field, pairs, nodes)
+    return Settings(document.phase, {field: dict(pairs) for field, pairs in document.sets.items()})
+
+
+def no_settings(why: str) -> NetworkError:
+    """The fault of a file behind whose rows something else stands."""
+    return refused("Settings", f"behind the rows a network file of one node is wanted, for the phase and the initial values: {why}")
+
+
+def check_pairs(field: str, pairs: Any, nodes: int) -> None:
+    """Raises the first fault of the initial values of a field."""
+    seen: Dict[int, int] = {}
+    for node, value in pairs:
+        name = "BadNode" if not 0 <= node < nodes else "BadValue" if not 0 <= value <= MOST else "SetTwice" if node in seen else None
+        if name is not None:
+            raise faults.error_of(faults.NUMBERS["plan", name], f"set.{field}: [{node}, {value}], and there are {nodes} nodes (plan {name})")
+        seen[node] = value
+
+
+def head_of(packed: bytes) -> Head:
+    """How many nodes there are, how many neighbours they have together, and what follows: the file is as long as that asks for."""
     if packed[:8] != MAGIC:
         raise refused("Magic", f"a binary network file begins with {MAGIC!r}, and this one with {packed[:8]!r}")
     if len(packed) < HEAD:
         raise refused("Header", f"a binary network file has {HEAD} bytes or more, and this one {len(packed)}")
-    nodes, ends, flags = (int(word) for word in part_of(packed, 8, 3, LONG))
-    if flags not in (0, 1):
-        raise refused("Header", f"the flags are 0 or 1, and here {flags}")
+    head = Head(*(int(word) for word in part_of(packed, 8, 3, LONG)))
+    nodes, ends, flags = head
+    if flags > WEIGHTED | SET:
+        raise refused("Header", f"the flags are 0 to 3, and here {flags}")
     if not 1 <= nodes <= MOST_NODES:
         raise refused("NodeCount", f"there are 1 to {MOST_NODES} nodes, and here {nodes}")
-    length = HEAD + LONG * (nodes + 1) + WORD * ends * (1 + flags)
-    if len(packed) != length:
-        raise refused("Length", f"a file of {nodes} nodes and {ends} neighbours has {length} bytes, and this one {len(packed)}")
-    return nodes, ends, flags
+    if len(packed) < head.length or len(packed) > head.length and not flags & SET:
+        raise refused("Length", f"a file of {nodes} nodes and {ends} neighbours has {head.length} bytes, and this one {len(packed)}")
+    return head
 
 
 def refused(name: str, why: str) -> NetworkError:
@@ -70,14 +132,22 @@ def bytes_of(values: Any, size: int) -> bytes:
     return words.tobytes()
 
 
-def write(network: LargeNetwork) -> bytes:
-    """The file of a network's links."""
+def settings_text(network: LargeNetwork) -> bytes:
+    """What a network sets, as it stands behind the rows: nothing in phase 0 without initial values."""
+    sets = {field: sorted(values.items()) for field, values in network.set.items()}
+    if not sets and not network.phase:
+        return b""
+    return _document.write(_document.Document(1, [], network.phase, sets)).encode("utf-8")
+
+
+def write(network: LargeNetwork, settings: bytes = b"") -> bytes:
+    """The file of a network's links, and behind them its settings, where they are not left out."""
     weighted = network.ends > 0 and network.weights is not None
-    head = [network.nodes, network.ends, int(weighted)]
+    head = [network.nodes, network.ends, (WEIGHTED if weighted else 0) | (SET if settings else 0)]
     parts = [MAGIC, bytes_of(head, LONG), bytes_of(network.indptr, LONG), bytes_of(network.indices, WORD)]
     if weighted:
         parts.append(bytes_of(network.weights, WORD))
-    return b"".join(parts)
+    return b"".join([*parts, settings])
 
 
 def column(values: Any) -> bytes:

@@ -40,6 +40,7 @@ class LargeNetwork(Network):
     _neighbours_held: Numbers
     _weights_held: Numbers
     _set: Dict[str, Any]
+    _phase: int
     _said: Optional[Network]  # by a network file, where a call has needed it
 
     def __new__(
@@ -63,6 +64,7 @@ class LargeNetwork(Network):
         if called is not None and len(called) != network.nodes:
             raise ValueError(f"Network: names has {len(called)} names: one for each of the {network.nodes} nodes is wanted")
         network._set = network._values_of("Network", set)
+        network._phase = 0
         network._said = None
         return network
 
@@ -117,6 +119,12 @@ class LargeNetwork(Network):
         other.__dict__.update(self.__dict__, _set=values, _said=None)
         return other
 
+    def _settled(self, phase: int, values: Dict[str, Any]) -> LargeNetwork:
+        """The same nodes and links with this phase and these initial values."""
+        other = self._with_values(values)
+        other._phase = phase
+        return other
+
     def _file(self, call: str) -> Network:
         if self._said is None:
             self._said = file_of(self, call)
@@ -134,6 +142,12 @@ class LargeNetwork(Network):
         return _packed.write(self)
 
     @property
+    def _saved(self) -> bytes:
+        from . import _packed
+
+        return _packed.write(self, _packed.settings_text(self))
+
+    @property
     def nodes(self) -> int:
         """How many nodes there are."""
         return self._offsets.count - 1
@@ -149,8 +163,8 @@ class LargeNetwork(Network):
 
     @property
     def phase(self) -> int:
-        """The initial phase of the nodes' registers: 0."""
-        return 0
+        """The initial phase of the nodes' registers, 0, 1 or 2."""
+        return self._phase
 
     @property
     def set(self) -> Dict[str, Dict[int, int]]:
@@ -235,14 +249,13 @@ def file_of(network: LargeNetwork, call: str) -> Network:
     """The network file's network with the same links, names and initial values, as the proved program writes it. Raises NetworkError where a
     network file cannot say it."""
     try:
-        text = _programs.run(["init", FILE], files={FILE: network._bytes})
+        text = _programs.run(["init", FILE], files={FILE: network._saved})
     except faults.NetworkError as error:
         found = TAKES.search(error.diagnosis)
         if found is None:
             raise
         raise no_file(call, network, error.name, found[1], ANY) from None
-    links = Network.from_text(text, network._names)
-    return links._with_sets({field: sorted(values.items()) for field, values in network.set.items()})
+    return Network.from_text(text, network._names)
 
 
 def no_file(call: str, network: LargeNetwork, name: str, wanted: str, others: str) -> faults.NetworkError:

@@ -203,9 +203,9 @@ class Network(Makers):
 
     def save(self, path: Union[str, os.PathLike[str]]) -> Path:
         """Writes the network file, `text`, and answers its path. It has numbers, and no names. A network that is kept as arrays is written as a
-        packed network file, which has no initial values either; `from_file` reads both."""
+        packed network file; `from_file` reads both."""
         file = Path(_checks.path("Network.save", "path", path))
-        file.write_bytes(self._bytes)
+        file.write_bytes(self._saved)
         return file
 
     @classmethod
@@ -317,6 +317,11 @@ class Network(Makers):
     def _bytes(self) -> bytes:
         """The file of the network, as programs read it."""
         return self._text.encode("utf-8", "surrogateescape")
+
+    @property
+    def _saved(self) -> bytes:
+        """The file of the network, with its initial values."""
+        return self._bytes
 
     @property
     def nodes(self) -> int:

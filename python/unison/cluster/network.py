@@ -18,6 +18,7 @@ class PackedFile:
     - `offsets`: (nodes + 1,) uint64: where each node's neighbours begin
     - `neighbours`: (ends,) uint32
     - `weights`: (ends,) uint32, or None where each weight is 1
+    - `settings`: the text with the initial values, or None where the network has none
 
     Its header and length are looked at here; its lists by `check_offsets`, and by who reads rows.
     """
@@ -28,19 +29,21 @@ class PackedFile:
             head = file.read(HEADER)
         if head[:8] != MAGIC:
             raise self._refusal("Magic", f"it begins with {head[:8]!r}, expected {MAGIC!r}; unison pack makes such a file")
-        if len(head) < HEADER or struct.unpack_from("<Q", head, 24)[0] > 1:
-            raise self._refusal("Header", "expected 32 bytes, the last eight of them the number 0 or 1; unison pack makes such a file")
-        self.nodes, self.ends, weighted = struct.unpack_from("<3Q", head, 8)
+        if len(head) < HEADER or struct.unpack_from("<Q", head, 24)[0] > 3:
+            raise self._refusal("Header", "expected 32 bytes, the last eight of them a number from 0 to 3; unison pack makes such a file")
+        self.nodes, self.ends, flags = struct.unpack_from("<3Q", head, 8)
+        weighted = flags & 1
         if not 1 <= self.nodes <= 4294967295:
             raise self._refusal("NodeCount", f"found {self.nodes} nodes, expected 1 to 4294967295")
         first = HEADER + 8 * (self.nodes + 1)
         asked = first + 4 * self.ends * (1 + weighted)
-        if size != asked:
+        if size < asked or size > asked and flags < 2:
             raise self._refusal("Length", f"the file has {size} bytes, and its header asks for {asked}; unison pack makes such a file")
         raw = np.memmap(path, dtype=np.uint8, mode="r").view(np.ndarray)
         self.offsets: Array = raw[HEADER:first].view("<u8")
         self.neighbours: Array = raw[first : first + 4 * self.ends].view("<u4")
-        self.weights: Optional[Array] = raw[first + 4 * self.ends :].view("<u4") if weighted else None
+        self.weights: Optional[Array] = raw[first + 4 * self.ends : asked].view("<u4") if weighted else None
+        self.settings: Optional[bytes] = raw[asked:].tobytes() if flags > 1 else None
 
     def _refusal(self, name: str, told: str) -> Refusal:
         return Refusal(f"network {name}", f"{self.path}: {told}")

@@ -82,12 +82,12 @@ def run(
 
         comm = MPI.COMM_WORLD
 
-    def look() -> Tuple[Program, PackedFile, Asked, Any, List[initial.Setting]]:
+    def look() -> Tuple[Program, PackedFile, Asked, Any, Tuple[List[initial.Column], List[initial.Setting]]]:
         text, file = Program.from_file(program), PackedFile(network)
         for option, wanted in {**shown, "--sum": sums}.items():
             for field in wanted:
                 initial.column_of(option, field, text.fields)
-        settings = [initial.setting_of(word, text.fields, file.nodes) for word in set]
+        settings = initial.columns_in(file, text.fields), [initial.setting_of(word, text.fields, file.nodes) for word in set]
         end = None if until is None else initial.until_of(until, text.fields)
         asked = Asked(initial.number("--rounds", rounds, 0), end, tuple(map(text.fields.index, sums)))
         file.check_offsets(comm.Get_rank(), comm.Get_size())
@@ -102,7 +102,7 @@ def run(
     part = build(comm, file, by)
     head = checkpoints.head_of(comm, text.canonical, text.fields, part) if checkpoint or resume else {}
     if resume is None:
-        start, words = 0, initial.initial_words(part.numbers, text.initial_values, settings)
+        start, words = 0, initial.initial_words(part.numbers, text.initial_values, *settings)
     else:
         start, words = checkpoints.last_words(comm, resume, head, rounds)
     is_same = resume is not None and checkpoint is not None and os.path.realpath(resume) == os.path.realpath(checkpoint)
