@@ -126,7 +126,7 @@ def test_cluster_refusals():
         (["distance.rules", "missing.net", *base[2:]], 1, "file", "missing.net: No such file or directory"),
         (["distance.rules", "short.net", *base[2:]], 3, "network Length", "short.net: the file has 100 bytes"),
         (["distance.rules", "none.net", *base[2:]], 3, "network Settings", "it has 2 nodes"),
-        (["distance.rules", "other.net", *base[2:]], 3, "plan UnknownField", "other.net: set.t: the program has no such field; its fields are dist"),
+        (["distance.rules", "other.net", *base[2:]], 3, "plan UnknownField", "set.t: the program has no such field; its fields are dist"),
         (["distance.rules", "far.net", *base[2:]], 3, "plan BadNode", "set.dist: [72, 0], and there are 72 nodes"),
         ([*base, "--parts", "lines.txt"], 3, "parts Count", "lines.txt: found 3 lines, expected 72"),
         ([*base, "--parts", "parts.txt"], 3, "parts BadLine 6", "parts.txt:6: found `3`, expected a part from 0 to 2"),

@@ -246,7 +246,8 @@ def test_packed_files():
             (64, b"\3", "Neighbour"),
         ]:
             file.write_bytes(wrong if len(wrong) > 9 else whole[:place] + wrong + whole[place + len(wrong) :])
-            error = raised(unison.UnisonError, lambda: Network.from_file(file))
+            kind = unison.PlanError if name in ("BadNode", "SetTwice") else unison.NetworkError
+            error = raised(kind, lambda: Network.from_file(file))
             assert error.name == name, (name, error)
         text = unison.Network.path(3).save(Path(folder, "x.toml"))
         assert Network.from_file(text).text == unison.Network.path(3).text

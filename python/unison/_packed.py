@@ -5,7 +5,7 @@ from __future__ import annotations
 
 import sys
 from array import array
-from typing import Any, Dict, Iterable, Mapping, NamedTuple, Optional
+from typing import Any, Dict, Iterable, List, Mapping, NamedTuple, Optional, Sequence, Tuple
 
 from . import _document, faults
 from .faults import NO_NUMBER, NetworkError
@@ -39,6 +39,20 @@ class Settings(NamedTuple):
 
     phase: int
     values: Dict[str, Dict[int, int]]
+
+
+class Columns(NamedTuple):
+    """Initial values as arrays of numpy: the place of each column, the nodes that have a value in it, by rising number, and these values."""
+
+    columns: List[Tuple[int, Any, Any]]
+
+    def put(self, words: Any, numbers: Any) -> None:
+        """Puts the values into the states of those of these nodes that have one: (nodes, fields) uint32."""
+        for place, nodes, values in self.columns:
+            if nodes.size:
+                at = numpy.minimum(numpy.searchsorted(nodes, numbers), nodes.size - 1)
+                has = nodes[at] == numbers
+                words[has, place] = values[at[has]]
 
 
 def part_of(packed: bytes, place: int, count: int, size: int) -> Any:
@@ -83,6 +97,22 @@ def settings_in(text: bytes, nodes: int) -> Settings:
     for field, pairs in document.sets.items():
         check_pairs(field, pairs, nodes)
     return Settings(document.phase, {field: dict(pairs) for field, pairs in document.sets.items()})
+
+
+def columns_in(text: Optional[bytes], nodes: int, fields: Sequence[str]) -> Columns:
+    """The initial values that stand behind the rows of a network of so many nodes, where something does, by the columns of a program's fields.
+    Raises as `settings_in`, and PlanError for another field."""
+    values = {} if text is None else settings_in(text, nodes).values
+    for field in values:
+        if field not in fields:
+            raise faults.error_of(faults.NUMBERS["plan", "UnknownField"], f"set.{field}: the program has no such field; its fields are {', '.join(fields) or 'none'}")
+    return Columns([column_in(fields.index(field), pairs) for field, pairs in values.items()])
+
+
+def column_in(place: int, pairs: Mapping[int, int]) -> Tuple[int, Any, Any]:
+    """The values of the column at a place."""
+    rising = sorted(pairs.items())
+    return place, numpy.array([node for node, _ in rising], dtype="int64"), numpy.array([value for _, value in rising], dtype="uint32")
 
 
 def no_settings(why: str) -> NetworkError:

@@ -32,18 +32,15 @@ class PackedFile:
         if len(head) < HEADER or struct.unpack_from("<Q", head, 24)[0] > 3:
             raise self._refusal("Header", "expected 32 bytes, the last eight of them a number from 0 to 3; unison pack makes such a file")
         self.nodes, self.ends, flags = struct.unpack_from("<3Q", head, 8)
-        weighted = flags & 1
         if not 1 <= self.nodes <= 4294967295:
             raise self._refusal("NodeCount", f"found {self.nodes} nodes, expected 1 to 4294967295")
-        first = HEADER + 8 * (self.nodes + 1)
-        asked = first + 4 * self.ends * (1 + weighted)
+        asked = (first := HEADER + 8 * (self.nodes + 1)) + 4 * self.ends * (1 + flags % 2)
         if size < asked or size > asked and flags < 2:
             raise self._refusal("Length", f"the file has {size} bytes, and its header asks for {asked}; unison pack makes such a file")
         raw = np.memmap(path, dtype=np.uint8, mode="r").view(np.ndarray)
         self.offsets: Array = raw[HEADER:first].view("<u8")
         self.neighbours: Array = raw[first : first + 4 * self.ends].view("<u4")
-        self.weights: Optional[Array] = raw[first + 4 * self.ends : asked].view("<u4") if weighted else None
-        self.settings: Optional[bytes] = raw[asked:].tobytes() if flags > 1 else None
+        self.weights, self.settings = raw[first + 4 * self.ends : asked].view("<u4") if flags % 2 else None, raw[asked:].tobytes() if flags > 1 else None
 
     def _refusal(self, name: str, told: str) -> Refusal:
         return Refusal(f"network {name}", f"{self.path}: {told}")

@@ -7,6 +7,7 @@ from typing import Any, Dict, List, Mapping, Optional, Sequence, Tuple
 
 import numpy as np
 
+from .. import _packed
 from ..program import Program
 from . import checkpoints, initial, parts
 from .faults import Refusal, agreed, usage
@@ -82,12 +83,12 @@ def run(
 
         comm = MPI.COMM_WORLD
 
-    def look() -> Tuple[Program, PackedFile, Asked, Any, Tuple[List[initial.Column], List[initial.Setting]]]:
+    def look() -> Tuple[Program, PackedFile, Asked, Any, Any]:
         text, file = Program.from_file(program), PackedFile(network)
         for option, wanted in {**shown, "--sum": sums}.items():
             for field in wanted:
                 initial.column_of(option, field, text.fields)
-        settings = initial.columns_in(file, text.fields), [initial.setting_of(word, text.fields, file.nodes) for word in set]
+        settings = _packed.columns_in(file.settings, file.nodes, text.fields), [initial.setting_of(word, text.fields, file.nodes) for word in set]
         end = None if until is None else initial.until_of(until, text.fields)
         asked = Asked(initial.number("--rounds", rounds, 0), end, tuple(map(text.fields.index, sums)))
         file.check_offsets(comm.Get_rank(), comm.Get_size())
