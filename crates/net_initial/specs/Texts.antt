@@ -68,7 +68,7 @@ pub record IsOpened (d : Description) (cleared : List (List ℕ)) (openings : Li
 -- what a packed network says beside its rows: nothing in phase 0 where it sets nothing, and else a network file of one node, without links, with its phase and its sets
 abbrev pub AreSettings : ℕ → List FieldSet → Option (List ℕ) → Type 0
 AreSettings phase sets None = (phase ≡ 0) × (sets ≡ [])
-AreSettings phase sets (Some text) = reading_of text ≡ Ok (record { network = network_of 1 []; phase = phase; sets = sets })
+AreSettings phase sets (Some text) = (phase ≡ 0 → sets ≡ [] → ⊥) × (reading_of text ≡ Ok (record { network = network_of 1 []; phase = phase; sets = sets }))
 
 -- these are the settings of n nodes: the phase that is asked for or else the file's, and the sets of the file that are not cleared, opened
 pub record AreSettingsOpened (n : ℕ) (d : Description) (cleared : List (List ℕ)) (openings : List Opening) (phase : Option ℕ) (text : Option (List ℕ)) : Type 0 where
