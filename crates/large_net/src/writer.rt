@@ -106,6 +106,7 @@ pub fn tailed_bytes(
 ) -> Result<Vec<u8>, AllocError>
     ensures reads_back { IfOk result (λ v. large_of v.items ≡ Ok network.now) }
     ensures tail { IfOk result (λ v. tail_of v.items ≡ Ok (Some tail.now)) }
+    ensures short { IfOk result (λ v. length v.items ≡ length_for (length network.now) (sum_by length network.now) (is_weighted network.now) + length tail.now) }
 {
     let lists = network.lists();
     spell(
