@@ -7,6 +7,7 @@
 
 #define FAR 4294967295u
 #define TEXT(text) (const uint8_t *)(text), strlen(text)
+#define NO_VALUES (const uint32_t[]){0}, 0
 
 /* The path 0 - 1 - 2, with node 0 as the source. */
 static const char path[] = "nodes = 3\nlinks = [[0, 1], [1, 2]]\n[set]\ndist = [[0, 0]]\n";
@@ -40,6 +41,94 @@ static void spelling(void) {
     is("check", unison_check(TEXT(distance), (uint8_t *)text, 80, &len) == 0 && len == 68);
     is("check, the text and what stands behind it",
        memcmp(text, "field dist = 4294967295;\nnext dist = (dist min least (n.dist + 1));\n............", 80) == 0);
+}
+
+/* The program of the model, of 49 bytes, with the lines on which its field and its next value stand. */
+static const char stepping[] = "const step = 2;\nfield s = step;\nnext s = s + step;\n";
+
+static void expansion(void) {
+    const char crossed[] = "const a = 1;\nconst b = a;\nfield s = a;\nnext s = b;\n";
+    char text[80];
+    size_t len = 9;
+    memset(text, '.', 80);
+    is("expand, too little room", unison_expand(TEXT(stepping), TEXT(""), NO_VALUES, (uint8_t *)text, 48, &len) == 2 && len == 49);
+    is("expand, too little room: nothing is written", strspn(text, ".") >= 80);
+    is("expand", unison_expand(TEXT(stepping), TEXT(""), NO_VALUES, (uint8_t *)text, 49, &len) == 0 && len == 49);
+    is("expand, the text and what stands behind it",
+       memcmp(text, "# line 2\nfield s = 2;\n# line 3\nnext s = (s + 2);\n...............................", 80) == 0);
+    is("expand, a constant that is set", unison_expand(TEXT(stepping), TEXT("step\n"), (uint32_t[]){10}, 1, (uint8_t *)text, 80, &len) == 0 && len == 51);
+    is("expand, with its value", memcmp(text, "# line 2\nfield s = 10;\n# line 3\nnext s = (s + 10);\n.", 52) == 0);
+    is("expand, two constants", unison_expand(TEXT(crossed), TEXT("b\na\n"), (uint32_t[]){7, 8}, 2, (uint8_t *)text, 80, &len) == 0 && len == 43);
+    is("expand, each with its value", memcmp(text, "# line 3\nfield s = 8;\n# line 4\nnext s = 7;\n", 43) == 0);
+    is("expand, one of two", unison_expand(TEXT(crossed), TEXT("a\n"), (uint32_t[]){FAR}, 1, (uint8_t *)text, 80, &len) == 0 && len == 61);
+    is("expand, and what is made of it", memcmp(text, "# line 3\nfield s = 4294967295;\n# line 4\nnext s = 4294967295;\n", 61) == 0);
+    is("expand, a name twice", unison_expand(TEXT(stepping), TEXT("step\nstep\n"), (uint32_t[]){3, 5}, 2, (uint8_t *)text, 80, &len) == 0 && text[19] == '3');
+    is("expand, the seed alone", unison_expand(TEXT(stepping), TEXT("seed\n"), (uint32_t[]){3}, 1, (uint8_t *)text, 80, &len) == 0 && len == 49 && text[19] == '2');
+    is("expand, no items", unison_expand(TEXT("# nothing\n"), TEXT(""), NO_VALUES, (uint8_t *)text, 0, &len) == 0 && len == 0);
+}
+
+/* The answer to a model with these names and so many values, with ample room; nothing is written or set. */
+static void refuses(const char *what, const char *model, const char *names, size_t values, uint32_t wanted) {
+    static const uint32_t listed[3];
+    char text[200];
+    size_t len = 9;
+    memset(text, '.', 200);
+    uint32_t answer = unison_expand(TEXT(model), TEXT(names), listed, values, (uint8_t *)text, 200, &len);
+    is(what, answer == wanted && len == 9 && strspn(text, ".") >= 200);
+}
+
+/* So many times the same, one behind the other, between a beginning and an end. */
+static const char *repeated(const char *begin, const char *part, size_t times, const char *end) {
+    static char made[70000];
+    char *at = made + sprintf(made, "%s", begin);
+    while (times--) at += sprintf(at, "%s", part);
+    sprintf(at, "%s", end);
+    return made;
+}
+
+static void refused_constants(void) {
+    refuses("expand, a name that the model does not have", stepping, "stop\n", 1, 169);
+    refuses("expand, an empty name", stepping, "\n", 1, 169);
+    refuses("expand, the name of a field", stepping, "s\n", 1, 169);
+    refuses("expand, a name with CR behind it", stepping, "step\r\n", 1, 169);
+    refuses("expand, names that are no UTF-8", stepping, "step\n\377\n", 2, 192);
+    refuses("expand, a name without LF", stepping, "step", 1, 193);
+    refuses("expand, a second name without LF", stepping, "step\nseed", 2, 193);
+    refuses("expand, a value too many", stepping, "step\n", 2, 194);
+    refuses("expand, a value too few", stepping, "step\nseed\n", 1, 194);
+    refuses("expand, a value without a name", stepping, "", 1, 194);
+    refuses("expand, names before what is wrong with the model", "field", "step", 1, 193);
+    refuses("expand, values before what is wrong with the model", "field", "step\n", 0, 194);
+    refuses("expand, a name before what is wrong with an item", "field s = x;", "step\n", 1, 169);
+    refuses("expand, a model that is too long before names", repeated("field", " ", 65536, ""), "step", 0, 160);
+}
+
+/* One model for each number that a model is refused by (docs/models.md). */
+static void refused_models(void) {
+    refuses("expand, more than 65,536 parts",
+            "field s = 0; next s = p; let a = s + s; let b = a + a; let c = b + b; let d = c + c; let e = d + d; let f = e + e; let g = f + f; let h = g + g;"
+            "let i = h + h; let j = i + i; let k = j + j; let l = k + k; let m = l + l; let o = m + m; let p = o + o + o;", "", 0, 160);
+    refuses("expand, no token", "field s = !0;", "", 0, 161);
+    refuses("expand, a model that breaks off", "field", "", 0, 162);
+    refuses("expand, nine fields", "field a = 0; field b = 0; field c = 0; field d = 0; field e = 0; field f = 0; field g = 0; field h = 0; field i = 0;", "", 0, 163);
+    refuses("expand, 257 states", repeated("states many { x", ", x", 256, " }"), "", 0, 164);
+    refuses("expand, two constants of a name", "const a = 1; const a = 2;", "", 0, 165);
+    refuses("expand, two next values", "field s = 0; next s = 1; next s = 2;", "", 0, 166);
+    refuses("expand, the next value of no field", "field s = 0; next t = 1;", "", 0, 167);
+    refuses("expand, states that are not there", "field s: light = 0;", "", 0, 168);
+    refuses("expand, a name that nothing has", "field s = 0; next s = t;", "", 0, 170);
+    refuses("expand, a constant of a neighbour", "const a = 1; field s = 0; next s = total(n.a);", "", 0, 171);
+    refuses("expand, a let without its argument", "let f(x) = x; field s = 0; next s = f;", "", 0, 172);
+    refuses("expand, a difference of one", "field s = 0; next s = difference(s);", "", 0, 173);
+    refuses("expand, a neighbour outside", "field s = 0; next s = n.s;", "", 0, 174);
+    refuses("expand, an aggregate in an aggregate", "field s = 0; next s = total(total(n.s));", "", 0, 175);
+    refuses("expand, a degree of a neighbour", "field s = 0; let d = degree; next s = total(n.d);", "", 0, 176);
+    refuses("expand, constants by each other", "const a = b; const b = a;", "", 0, 177);
+    refuses("expand, an initial value by the node", "field s = id;", "", 0, 178);
+    refuses("expand, a constant below 0", "const a = 1 - 2;", "", 0, 179);
+    refuses("expand, none of the states", "states light { dark, bright } field s: light = 2;", "", 0, 180);
+    refuses("expand, an expression that is too deep", repeated("field s = 0; next s = ", "1 + ", 70, "s;"), "", 0, 181);
+    refuses("expand, 17 aggregates", repeated("field s = 0; next s = ", "total(n.s) + ", 16, "total(n.s);"), "", 0, 182);
 }
 
 static void rounds(void) {
@@ -379,6 +468,9 @@ static void part_faults(void) {
 
 int main(void) {
     spelling();
+    expansion();
+    refused_constants();
+    refused_models();
     rounds();
     rounds_from_a_report();
     watched();

@@ -1,6 +1,7 @@
 /* Shows each call, on files: what it asks for, and how the answer is printed.
  *
  *     call check PROGRAM                          the canonical spelling
+ *     call expand MODEL [NAME=VALUE..]            the program that the model is expanded to, where these constants have these values
  *     call lockstep PROGRAM NETWORK ROUND [FROM]  a line for each node: its number and its words
  *     call watch PROGRAM NETWORK ROUND..          the same for each round, behind a line with its number
  *     call settle PROGRAM NETWORK LIMIT           settles ROUND, repeats ROUND PERIOD, or open LIMIT
@@ -91,6 +92,41 @@ static int show_check(const char *path) {
     fwrite(spelling, 1, len, stdout);
     free(spelling);
     free(program.bytes);
+    return 0;
+}
+
+/* The names of `NAME=VALUE`, an LF behind each, and their values. */
+static struct text names_and_values(char **words, size_t count, uint32_t *values) {
+    size_t room = 0;
+    for (size_t i = 0; i < count; i++) room += strlen(words[i]) + 1;
+    struct text names = {room_for(room, 1), 0};
+    for (size_t i = 0; i < count; i++) {
+        size_t name = strcspn(words[i], "=");
+        memcpy(names.bytes + names.len, words[i], name);
+        names.bytes[names.len + name] = '\n';
+        names.len += name + 1;
+        values[i] = words[i][name] ? number(words[i] + name + 1) : 0;
+    }
+    return names;
+}
+
+static int show_expand(char **words, size_t count) {
+    uint32_t *values = room_for(count, sizeof *values);
+    struct text model = read_file(words[0]), names = names_and_values(words + 1, count, values);
+    size_t len = 0;
+    uint8_t *program = room_for(0, 1);
+    uint32_t answer = unison_expand(model.bytes, model.len, names.bytes, names.len, values, count, program, 0, &len);
+    if (answer == UNISON_ROOM) {
+        free(program);
+        program = room_for(len, 1);
+        answer = unison_expand(model.bytes, model.len, names.bytes, names.len, values, count, program, len, &len);
+    }
+    if (answer) return fault(answer);
+    fwrite(program, 1, len, stdout);
+    free(program);
+    free(names.bytes);
+    free(model.bytes);
+    free(values);
     return 0;
 }
 
@@ -370,6 +406,7 @@ static int show_large_counts(char **words, size_t count) {
 int main(int count, char **words) {
     const char *call = count > 2 ? words[1] : "";
     if (strcmp(call, "check") == 0 && count == 3) return show_check(words[2]);
+    if (strcmp(call, "expand") == 0) return show_expand(words + 2, (size_t)count - 3);
     if (strcmp(call, "lockstep") == 0 && (count == 5 || count == 6)) return show_lockstep(words + 2);
     if (strcmp(call, "watch") == 0 && count >= 4) return show_watch(words + 2, (size_t)count - 4);
     if (strcmp(call, "settle") == 0 && count == 5) return show_settle(words + 2);
@@ -378,6 +415,6 @@ int main(int count, char **words) {
     if (strcmp(call, "large_watch") == 0 && count >= 4) return show_large_watch(words + 2, (size_t)count - 4);
     if (strcmp(call, "large_counts") == 0 && count >= 6) return show_large_counts(words + 2, (size_t)count - 6);
     if (strcmp(call, "why") == 0 && count >= 4) return show_why(words + 2, (size_t)count - 2);
-    fputs("call: check, lockstep, watch, settle, replay, large, large_watch, large_counts or why, and its files and numbers (call.c tells them)\n", stderr);
+    fputs("call: check, expand, lockstep, watch, settle, replay, large, large_watch, large_counts or why, and its files and numbers (call.c tells them)\n", stderr);
     return 2;
 }

@@ -2,7 +2,7 @@
  *
  *     hammer SEED CALLS FILE..
  *
- * The files are programs (.rules) and networks (.toml). After each call it looks at the answer, which has to be 0 or a number of
+ * The files are programs (.rules), models (.model) and networks (.toml). After each call it looks at the answer, which has to be 0 or a number of
  * enum unison_fault; at the bytes before and behind each memory that was given, which have to be as they were; at what a call that
  * was not done may not write; at what stands behind what a call that was done wrote; and whether the fault that unison_why tells
  * is the answer of the job itself. At the end it prints how often each answer came, and how much memory the process has after a
@@ -35,8 +35,8 @@ struct text {
     size_t len;
 };
 
-static struct text programs[MOST_TEXTS], networks[MOST_TEXTS];
-static size_t program_count, network_count;
+static struct text programs[MOST_TEXTS], models[MOST_TEXTS], networks[MOST_TEXTS];
+static size_t program_count, model_count, network_count;
 static uint64_t seen[256];
 static unsigned long long call_number;
 
@@ -115,7 +115,13 @@ static void check_answer(uint32_t answer, const char *call) {
         UNISON_RUN_ROUNDS_BELOW_START, UNISON_SCHEDULE_BAD_LINE, UNISON_SCHEDULE_TOO_MANY_STEPS, UNISON_RUN_STOP_TOO_LARGE,
         UNISON_RUN_STOP_BELOW_START, UNISON_REPORT_BAD_LINE, UNISON_REPORT_TOO_MANY_ROUNDS, UNISON_PROGRAM_READS_ROUND,
         UNISON_LIMIT_TOO_LARGE, UNISON_LIMIT_BELOW_START, UNISON_LISTS_NODE_COUNT, UNISON_LISTS_OFFSETS, UNISON_LISTS_NEIGHBOUR,
-        UNISON_LISTS_WEIGHT_COUNT, UNISON_LISTS_WORD_COUNT, UNISON_LISTS_NUMBER_COUNT, UNISON_LISTS_ROOM_COUNT, UNISON_LISTS_NO_FIELD, UNISON_LISTS_TOO_MANY_VALUES};
+        UNISON_LISTS_WEIGHT_COUNT, UNISON_LISTS_WORD_COUNT, UNISON_LISTS_NUMBER_COUNT, UNISON_LISTS_ROOM_COUNT, UNISON_LISTS_NO_FIELD, UNISON_LISTS_TOO_MANY_VALUES,
+        UNISON_MODEL_TOO_LONG, UNISON_MODEL_LEX, UNISON_MODEL_SYNTAX, UNISON_MODEL_TOO_MANY_FIELDS, UNISON_MODEL_TOO_MANY_STATES,
+        UNISON_MODEL_NAME_TWICE, UNISON_MODEL_NEXT_TWICE, UNISON_MODEL_NO_FIELD, UNISON_MODEL_UNKNOWN_STATES, UNISON_MODEL_UNKNOWN_GIVEN,
+        UNISON_MODEL_UNKNOWN_NAME, UNISON_MODEL_UNKNOWN_NEAR, UNISON_MODEL_WRONG_COUNT, UNISON_MODEL_WRONG_ARGUMENTS,
+        UNISON_MODEL_NEIGHBOUR_OUTSIDE, UNISON_MODEL_NESTED_AGGREGATE, UNISON_MODEL_NOT_SEEN, UNISON_MODEL_RING, UNISON_MODEL_NOT_CONSTANT,
+        UNISON_MODEL_OUT_OF_RANGE, UNISON_MODEL_NO_STATE, UNISON_MODEL_TOO_DEEP, UNISON_MODEL_TOO_MANY_AGGREGATES,
+        UNISON_CONSTANTS_NOT_UTF8, UNISON_CONSTANTS_UNENDED, UNISON_CONSTANTS_VALUE_COUNT};
     for (size_t i = 0; i < sizeof named; i++) {
         if (answer == named[i]) {
             seen[answer]++;
@@ -262,6 +268,59 @@ static void hit_check(void) {
     if (answer == UNISON_ROOM && len <= text.len) fail("had room", "check");
     check_memory(text, answer ? 0 : len, "check");
     drop_texts(&texts, "check");
+}
+
+enum { MOST_NAMES = 6 };
+
+/* Names for constants, an LF behind each: some of those that stand behind `const` in the model, the seed and others; and how many there are. */
+static struct text names_in(struct text model, size_t *count) {
+    struct text made = {malloc(MOST_BYTES), 0};
+    if (!made.bytes) exit(2);
+    *count = 0;
+    for (size_t at = 0; at + 6 < model.len && *count < MOST_NAMES - 1; at++) {
+        if (memcmp(model.bytes + at, "const ", 6) != 0 || chance(3)) continue;
+        size_t len = 0;
+        while (at + 6 + len < model.len && len < 64 && !strchr(" =;\n", model.bytes[at + 6 + len])) len++;
+        memcpy(made.bytes + made.len, model.bytes + at + 6, len);
+        made.len += len;
+        made.bytes[made.len++] = '\n';
+        ++*count;
+    }
+    if (chance(4)) made.len += (size_t)sprintf((char *)made.bytes + made.len, "%s\n", chance(4) ? "none" : "seed"), ++*count;
+    return made;
+}
+
+/* With the room that the program has, the same text is written again; and it is a program. */
+static void expand_again(struct guarded model, struct guarded names, const uint32_t *values, size_t count, const uint8_t *found, size_t len) {
+    struct guarded text = guarded(len), none = guarded(0);
+    size_t again = UNSET, spelled = UNSET;
+    if (unison_expand(inside(model), model.len, inside(names), names.len, values, count, inside(text), len, &again) || again != len)
+        fail("refused the room that it asked for", "expand");
+    if (found && memcmp(found, inside(text), len) != 0) fail("another text than before", "expand");
+    uint32_t answer = unison_check(inside(text), len, inside(none), 0, &spelled);
+    if (answer && answer != UNISON_ROOM) fail("a text that is no program", "expand");
+    check_memory(none, 0, "expand");
+    check_memory(text, len, "expand");
+}
+
+static void hit_expand(void) {
+    size_t count, len = UNSET;
+    struct text model = damaged(models[below(model_count)], !chance(3)), whole = names_in(model, &count), names = damaged(whole, !chance(6));
+    struct guarded model_memory = copied(model), names_memory = copied(names), text = guarded(some_room(2048));
+    uint32_t values[MOST_NAMES + 1];
+    for (size_t place = 0; place <= MOST_NAMES; place++) values[place] = chance(6) ? (uint32_t)draw() : (uint32_t)below(300);
+    if (chance(20)) count = below(MOST_NAMES + 1);
+    uint32_t answer = unison_expand(inside(model_memory), model.len, inside(names_memory), names.len, values, count, inside(text), text.len, &len);
+    check_answer(answer, "expand");
+    check_size(answer, len, "expand");
+    if (answer == UNISON_ROOM && len <= text.len) fail("had room", "expand");
+    if (!answer || answer == UNISON_ROOM) expand_again(model_memory, names_memory, values, count, answer ? NULL : inside(text), len);
+    check_memory(text, answer ? 0 : len, "expand");
+    check_text(model_memory, model, "expand");
+    check_text(names_memory, names, "expand");
+    free(model.bytes);
+    free(whole.bytes);
+    free(names.bytes);
 }
 
 static void hit_lockstep(void) {
@@ -565,7 +624,7 @@ static unsigned long resident(void) {
 }
 
 int main(int count, char **words) {
-    static void (*const hits[])(void) = {hit_check, hit_lockstep, hit_watch, hit_settle, hit_replay, hit_why, hit_large, hit_large_watch, hit_large_counts, hit_part};
+    static void (*const hits[])(void) = {hit_check, hit_expand, hit_lockstep, hit_watch, hit_settle, hit_replay, hit_why, hit_large, hit_large_watch, hit_large_counts, hit_part};
     if (count < 5) {
         fputs("hammer: SEED CALLS FILE..\n", stderr);
         return 2;
@@ -575,9 +634,10 @@ int main(int count, char **words) {
     for (int i = 3; i < count; i++) {
         const char *ending = strrchr(words[i], '.');
         if (ending && strcmp(ending, ".rules") == 0 && program_count < MOST_TEXTS) programs[program_count++] = read_file(words[i]);
+        if (ending && strcmp(ending, ".model") == 0 && model_count < MOST_TEXTS) models[model_count++] = read_file(words[i]);
         if (ending && strcmp(ending, ".toml") == 0 && network_count < MOST_TEXTS) networks[network_count++] = read_file(words[i]);
     }
-    if (!program_count || !network_count) return 2;
+    if (!program_count || !model_count || !network_count) return 2;
     unsigned long warm = 0;
     for (call_number = 1; call_number <= calls; call_number++) {
         hits[below(sizeof hits / sizeof *hits)]();

@@ -54,8 +54,14 @@ struct room {
 #define SCHEDULE BYTES("read 1 0\nread 1 1\nwrite 1\n")
 #define BROKEN BYTES("field dist = 4294967295;\nnext dist = (dist min least (n.dist + 1;\n")
 #define FAR UINT32_C(4294967295)
+#define MODEL BYTES("const a = 1;\nconst b = 2;\nfield s = a;\nlet around = total(n.s) + b;\nnext s = around;\n")
 
 static uint32_t check(struct room *it) { return unison_check(PROGRAM, it->text, sizeof it->text, &it->text_len); }
+
+static uint32_t expand(struct room *it) {
+    static const uint32_t values[] = {5, 7};
+    return unison_expand(MODEL, BYTES("b\na\n"), values, 2, it->text, sizeof it->text, &it->text_len);
+}
 
 static uint32_t lockstep(struct room *it) { return unison_lockstep(PROGRAM, NETWORK, FROM, 6, it->words, 8, &it->nodes, &it->fields); }
 
@@ -120,6 +126,7 @@ static int is_right(const char *name, const struct room *it) {
     if (!strcmp(name, "large_counts")) return it->fields == 1 && has_numbers(it->words, counted, 7);
     if (!strcmp(name, "large")) return it->fields == 1 && has_numbers(it->words, summed, 4);
     if (!strcmp(name, "check")) return has_text(it, "field dist = 4294967295;\nnext dist = (dist min least (n.dist + 1));\n");
+    if (!strcmp(name, "expand")) return has_text(it, "# line 3\nfield s = 7;\n# line 5\nnext s = (total n.s + 5);\n");
     if (!strcmp(name, "lockstep")) return has_shape && has_numbers(it->words, from_report, 3);
     if (!strcmp(name, "watch")) return has_shape && has_numbers(it->words, watched, 6);
     if (!strcmp(name, "settle")) return it->manner == UNISON_SETTLES && it->round == 2 && it->period == 0;
@@ -151,7 +158,7 @@ int main(void) {
     static const struct {
         const char *name;
         uint32_t (*call)(struct room *);
-    } calls[] = {{"check", check}, {"lockstep", lockstep}, {"watch", watch}, {"settle", settle}, {"replay", replay}, {"why", why}, {"large", large}, {"large_watch", large_watch}, {"large_counts", large_counts}, {"part", part}};
+    } calls[] = {{"check", check}, {"expand", expand}, {"lockstep", lockstep}, {"watch", watch}, {"settle", settle}, {"replay", replay}, {"why", why}, {"large", large}, {"large_watch", large_watch}, {"large_counts", large_counts}, {"part", part}};
     for (size_t at = 0; at < sizeof calls / sizeof *calls; ++at) {
         unsigned long number = 0, told = 0;
         do {

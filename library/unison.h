@@ -4,13 +4,13 @@
  * A call answers 0 where it was done, else the number of the first fault on the way (enum unison_fault). What each call
  * writes, and that nothing else is written, is proved: docs/library.md has the clauses in plain words.
  *
- * What a text is stands in docs/language.md (programs) and docs/formats.md (networks, reports, schedules). A text is so many
- * bytes; no byte needs to end it.
+ * What a text is stands in docs/language.md (programs), docs/models.md (models) and docs/formats.md (networks, reports,
+ * schedules). A text is so many bytes; no byte needs to end it.
  *
  * What a caller owes, and nothing checks:
- *   - no pointer is null, also where the length behind it is 0;
- *   - each pointer to read from has so many bytes (of uint32_t and uint64_t: so many numbers) as the length behind it says, each
- *     pointer to write to so many as the room or length behind it says, and a pointer without a length one value;
+ *   - no pointer is null, also where the length after it is 0;
+ *   - each pointer to read from has so many bytes (of uint32_t and uint64_t: so many numbers) as the length after it says, each
+ *     pointer to write to so many as the room or length after it says, and a pointer without a length one value;
  *   - nothing that is written overlaps anything else that is given to the call;
  *   - while a call runs no other thread writes what is given to it, or reads what the call writes;
  *   - no call is made from a signal handler, or in the forked child of a process with threads;
@@ -25,7 +25,7 @@
 extern "C" {
 #endif
 
-/* Why a call was not done: the first fault on the way from the texts to the answer. The names behind UNISON_ are those of the
+/* Why a call was not done: the first fault on the way from the texts to the answer. The names after UNISON_ are those of the
  * fault lines in docs/formats.md, part and name. */
 enum unison_fault {
     /* Made from library/faults.toml by library/faults: */
@@ -87,7 +87,35 @@ enum unison_fault {
     UNISON_LISTS_NUMBER_COUNT = 150,        /* unison_part_round alone, to 151 */
     UNISON_LISTS_ROOM_COUNT = 151,
     UNISON_LISTS_NO_FIELD = 152,            /* unison_large_counts alone, which sets *fields, to 153 */
-    UNISON_LISTS_TOO_MANY_VALUES = 153
+    UNISON_LISTS_TOO_MANY_VALUES = 153,
+
+    UNISON_MODEL_TOO_LONG = 160,            /* unison_expand alone, to 194 */
+    UNISON_MODEL_LEX = 161,
+    UNISON_MODEL_SYNTAX = 162,
+    UNISON_MODEL_TOO_MANY_FIELDS = 163,
+    UNISON_MODEL_TOO_MANY_STATES = 164,
+    UNISON_MODEL_NAME_TWICE = 165,
+    UNISON_MODEL_NEXT_TWICE = 166,
+    UNISON_MODEL_NO_FIELD = 167,
+    UNISON_MODEL_UNKNOWN_STATES = 168,
+    UNISON_MODEL_UNKNOWN_GIVEN = 169,
+    UNISON_MODEL_UNKNOWN_NAME = 170,
+    UNISON_MODEL_UNKNOWN_NEAR = 171,
+    UNISON_MODEL_WRONG_COUNT = 172,
+    UNISON_MODEL_WRONG_ARGUMENTS = 173,
+    UNISON_MODEL_NEIGHBOUR_OUTSIDE = 174,
+    UNISON_MODEL_NESTED_AGGREGATE = 175,
+    UNISON_MODEL_NOT_SEEN = 176,
+    UNISON_MODEL_RING = 177,
+    UNISON_MODEL_NOT_CONSTANT = 178,
+    UNISON_MODEL_OUT_OF_RANGE = 179,
+    UNISON_MODEL_NO_STATE = 180,
+    UNISON_MODEL_TOO_DEEP = 181,
+    UNISON_MODEL_TOO_MANY_AGGREGATES = 182,
+
+    UNISON_CONSTANTS_NOT_UTF8 = 192,
+    UNISON_CONSTANTS_UNENDED = 193,
+    UNISON_CONSTANTS_VALUE_COUNT = 194
     /* (end of what is made) */
 };
 
@@ -109,6 +137,16 @@ enum unison_job {
  * is 0 or UNISON_ROOM. */
 uint32_t unison_check(const uint8_t *program, size_t program_len, uint8_t *text, size_t text_room, size_t *text_len);
 
+/* The program that a model is expanded to, which all other calls take as a program, at the front of text, as `unison expand` prints
+ * it; *text_len is how many bytes it has, up to 65,536, which is set where the answer is 0 or UNISON_ROOM. names has the names of
+ * the constants that are set, an LF after each, also after the last, and values their values in the same order; of a name that
+ * stands there twice the first value counts. With names_len and values_len 0 the model's constants are as it says. The first fault
+ * is UNISON_MODEL_TOO_LONG where the model has more than 65,536 bytes; else that of names and values, UNISON_CONSTANTS_NOT_UTF8,
+ * UNISON_CONSTANTS_UNENDED or UNISON_CONSTANTS_VALUE_COUNT; else that of the model, UNISON_MODEL_UNKNOWN_GIVEN where it has no
+ * constant of a name; else UNISON_ROOM. Where a fault of the model lies, and what to do, `unison expand` tells. */
+uint32_t unison_expand(const uint8_t *model, size_t model_len, const uint8_t *names, size_t names_len, const uint32_t *values,
+                       size_t values_len, uint8_t *text, size_t text_room, size_t *text_len);
+
 /* The words of all fields of all nodes after a round, node by node, at the front of words: *nodes times *fields of them, the
  * word of field k of node u at u * *fields + k. *nodes and *fields are set where the answer is 0 or UNISON_ROOM; where there is
  * too little room no round is computed, so a first call with words_room 0 asks for the sizes.
@@ -118,7 +156,7 @@ uint32_t unison_lockstep(const uint8_t *program, size_t program_len, const uint8
                          const uint8_t *from, size_t from_len, uint32_t round, uint32_t *words, size_t words_room,
                          uint32_t *nodes, uint32_t *fields);
 
-/* The words of each of these rounds, one round behind the other, at the front of words: rounds_len times *nodes times *fields
+/* The words of each of these rounds, one round after the other, at the front of words: rounds_len times *nodes times *fields
  * of them, all in one pass over the rounds. Each round of the list is above the one before it. All else is as with
  * unison_lockstep; with rounds_len 0 no words are written, and *nodes and *fields are set. */
 uint32_t unison_watch(const uint8_t *program, size_t program_len, const uint8_t *network, size_t network_len,
@@ -178,7 +216,7 @@ uint32_t unison_large_rounds(const uint8_t *program, size_t program_len, const u
                              const uint32_t *neighbours, size_t neighbours_len, const uint32_t *weights, size_t weights_len,
                              uint32_t start, uint32_t round, uint32_t *words, size_t words_len, uint32_t *fields);
 
-/* The words after each of these rounds, one round behind the other, at the front of words: rounds_len times from_len of them, all
+/* The words after each of these rounds, one round after the other, at the front of words: rounds_len times from_len of them, all
  * in one pass over the rounds. from has the words of all nodes after an earlier round, start, as unison_large_rounds lays them out;
  * each round of the list is above the one before it, and the first may be the start. from_len is the number of nodes times that
  * of fields; where it is not, the answer is UNISON_LISTS_WORD_COUNT, and where words_room is too little for the words of all rounds
@@ -191,11 +229,11 @@ uint32_t unison_large_watch(const uint8_t *program, size_t program_len, const ui
                             uint32_t start, const uint32_t *from, size_t from_len, const uint32_t *rounds, size_t rounds_len,
                             uint32_t *words, size_t words_room, uint32_t *fields);
 
-/* How many nodes have each of some values in a field after each of these rounds, at the front of counts, one round behind the
+/* How many nodes have each of some values in a field after each of these rounds, at the front of counts, one round after the
  * other: values_len numbers in the order of the values, and last how many nodes have none of them; so rounds_len times
  * values_len + 1 of them, all in one pass over the rounds, of which no words are laid out. field counts from 0 in order of
  * declaration; there are 256 values at most, and a value may stand there twice. The program, the lists, start, from and rounds are
- * as with unison_large_watch, and so are the faults and their order: behind that of from_len come UNISON_LISTS_NO_FIELD where the
+ * as with unison_large_watch, and so are the faults and their order: after that of from_len come UNISON_LISTS_NO_FIELD where the
  * program lacks the field, UNISON_LISTS_TOO_MANY_VALUES, and UNISON_ROOM where counts_room is too little for the counts of all
  * rounds. *fields is set with these, with UNISON_LISTS_WORD_COUNT, and where the answer is 0; no round is computed unless it is 0.
  * With rounds_len 0 no counts are written. While the call runs it has what unison_large_rounds has, the counts of all rounds once
@@ -207,9 +245,9 @@ uint32_t unison_large_counts(const uint8_t *program, size_t program_len, const u
                              uint32_t *fields);
 
 /* The words of a part's own nodes after the step from a round, for engines that split a network and keep the states themselves:
- * the part has its own nodes and, behind them, those that are only neighbours of them. ids has the number of each of these nodes
+ * the part has its own nodes and, after them, those that are only neighbours of them. ids has the number of each of these nodes
  * in the whole network, which is what the program sees as id; the lists have the neighbours of each by their places in the part,
- * and what neighbours the nodes behind have plays no part. from has the words of all nodes of the part before the round, node by
+ * and what neighbours the nodes after have plays no part. from has the words of all nodes of the part before the round, node by
  * node; to takes those of the own nodes after it, and to_len, their number times that of fields, says how many these are.
  * *changed is how many of them have another state then; it is set where the answer is 0 alone. round is the number of the round
  * that from has, counted from round 0, which is what the program sees as round. Where each own node has all its neighbours and

@@ -149,21 +149,21 @@ _unison() {
     options=""
     ;;
   import:edges | take:edges)
-    options="--scale --drop-loops --parallel --names --header --numbers --columns --delimiter --packed"
-    [ "$previous" = --parallel ] && words="min max first"
+    options="--scale --drop-loops --keep-loops --parallel --names --header --numbers --columns --delimiter --directed --reverse --packed"
+    [ "$previous" = --parallel ] && words="min max first keep"
     [ "$previous" = --delimiter ] && words="comma tab any"
     ;;
   import:matrix-market | take:matrix-market)
-    options="--scale --drop-loops --parallel --undirected --packed"
-    [ "$previous" = --parallel ] && words="min max first"
+    options="--scale --drop-loops --keep-loops --parallel --undirected --directed --reverse --packed"
+    [ "$previous" = --parallel ] && words="min max first keep"
     ;;
   import:dot | take:dot)
-    options="--scale --drop-loops --parallel --names --undirected --packed"
-    [ "$previous" = --parallel ] && words="min max first"
+    options="--scale --drop-loops --keep-loops --parallel --names --undirected --packed"
+    [ "$previous" = --parallel ] && words="min max first keep"
     ;;
   import:json | take:json)
-    options="--scale --drop-loops --parallel --names --undirected --packed"
-    [ "$previous" = --parallel ] && words="min max first"
+    options="--scale --drop-loops --keep-loops --parallel --names --undirected --packed"
+    [ "$previous" = --parallel ] && words="min max first keep"
     ;;
   import:* | take:*)
     words="edges matrix-market dot json"

@@ -5,10 +5,10 @@ import random
 import subprocess
 import sys
 
-from support import DISTANCE, PYTHON, SWAP
+from support import DISTANCE, EXAMPLES, PYTHON, SWAP
 
 import unison
-from unison import _by_programs, _calls, _packed
+from unison import _by_programs, _calls, _packed, model
 
 PAIR = b"nodes = 2\nlinks = [[0, 1]]\n[set]\ns = [[0, 5], [1, 7]]\n"
 
@@ -87,6 +87,45 @@ def test_programs_answer_what_the_library_answers():
         lambda it: it.why(_calls.LOCKSTEP, texts, 5),
     ):
         assert ask(programs) == ask(chosen)
+
+
+def outcome(call):
+    """What a call answers, or all that its exception tells."""
+    try:
+        return call()
+    except (unison.UnisonError, UnicodeError) as error:
+        return type(error), str(error), getattr(error, "number", None), getattr(error, "place", None)
+
+
+def expansions():
+    """Models, whole and refused, with constants that are set, whole and refused."""
+    for path in sorted((EXAMPLES / "models").glob("*.model")):
+        text = path.read_bytes()
+        names = model.CONSTANT.findall(text.decode())
+        yield text, {}
+        yield text, {"seed": 4294967295}
+        yield text, {name: place + 1 for place, name in enumerate(names)}
+        yield text, {name: place + 1 for place, name in reversed([*enumerate(names)])}
+        yield text, {**dict.fromkeys(names, 7), "none_such": 1}
+        yield text[: len(text) // 2], {}
+    steps = b"const step = 2;\nfield s = step;\nnext s = s + step;\n"
+    for name in ("s", "", "step\r", "step\nseed", "\n", "ste", "schritt\xfc", "\udcff", "a=b", "-h"):
+        yield steps, {name: 3}
+        yield steps, {"step": 5, name: 3}
+    yield b"#" * 65536, {}
+    yield b"#" * 65537, {}
+    yield b"#" * 65537, {"none_such": 1}
+    yield b"\xff", {}
+    yield b"field s = 0; # \xff\0", {}
+    yield "".join(f"field f{place} = 0;\n" for place in range(9)).encode(), {}
+
+
+def test_models_are_expanded_alike():
+    """The text of the program, or all that is told of the fault."""
+    programs, chosen = _by_programs.Programs(), _calls.backend()
+    for text, constants in expansions():
+        found, wanted = (outcome(lambda: it.expand(text, constants, "a b.model")) for it in (chosen, programs))
+        assert found == wanted, (text, constants)
 
 
 def test_lists_by_programs_are_texts_by_programs():

@@ -31,6 +31,10 @@ def program(text):
     return lambda: unison.Program(text)
 
 
+def model(text, **constants):
+    return lambda: unison.Model(text, constants)
+
+
 def network(text):
     return lambda: unison.Network.from_text(text)
 
@@ -93,6 +97,29 @@ CASES = [
     (145, lambda: unison.Network.from_arrays([0, 2, 1], [0]), None, "indptr[2]: lists Offsets: found 1, expected 2 or more"),
     (147, lambda: unison.Network.from_arrays([0, 1], [1]), None, "indices[0]: lists Neighbour: found 1, expected a node"),
     (148, lambda: unison.Network.from_arrays([0, 2], [0, 0], [7]), None, "weights: lists WeightCount: found 1, expected one for each of the 2"),
+    (160, model("#" * 65537), None, "model TooLong\ntext.model: a model has 65536 bytes at most"),
+    (161, model("field s = 0;\nnext s = !s;"), (2, 10), "model Lex\ntext.model:2:10: found `!`, with which nothing begins\n"),
+    (162, model("field s = 0;\nnext s := 1;"), (2, 8), "model Syntax\ntext.model:2:8: expected `=`, found `:`\n"),
+    (163, model(EIGHT + "field late = 0;"), (1, 119), "model TooManyFields\n"),
+    (164, model(f"states many {{ {', '.join(f's{place}' for place in range(257))} }}"), None, "model TooManyStates\n"),
+    (165, model("const a = 1;\nconst a = 2;"), (2, 7), "model NameTwice\n"),
+    (166, model("field s = 0;\nnext s = 1;\nnext s = 2;"), (3, 6), "model NextTwice\n"),
+    (167, model("field s = 0;\nnext t = 1;"), (2, 6), "model NoField\n"),
+    (168, model("field s: light = 0;"), (1, 10), "model UnknownStates\n"),
+    (169, model("field s = 0;", x=1), None, "model UnknownGiven\ntext.model: --const: the model has no constant `x`"),
+    (170, model("field s = 0;\nnext s = what;"), (2, 10), "model UnknownName\ntext.model:2:10: nothing is called `what`\n"),
+    (171, model("field s = 0;\nnext s = total(n.t);"), (2, 16), "model UnknownNear\ntext.model:2:16: no field and no let is called `t`\n"),
+    (172, model("field s = 0;\nlet f(x) = x;\nnext s = f;"), (3, 10), "model WrongCount\n"),
+    (173, model("field s = 0;\nnext s = difference(s);"), (2, 10), "model WrongArguments\n"),
+    (174, model("field s = 0;\nnext s = n.s + 1;"), (2, 10), "model NeighbourOutside\n"),
+    (175, model("field s = 0;\nnext s = total(count(n.s));"), (2, 16), "model NestedAggregate\n"),
+    (176, model("field s = 0;\nlet d = degree;\nnext s = total(n.d);"), (3, 16), "model NotSeen\n"),
+    (177, model("field s = 0;\nlet a = a + 1;"), (2, 9), "model Ring\n"),
+    (178, model("const a = 1 == 1;"), (1, 7), "model NotConstant\n"),
+    (179, model("const a = 1 - 2;"), (1, 7), "model OutOfRange\n"),
+    (180, model("states cell { dead, alive }\nfield s: cell = 2;"), (2, 7), "model NoState\n"),
+    (181, model("field s = 0;\nnext s = " + "1 + " * 70 + "s;"), (2, 6), "model TooDeep\n"),
+    (182, model("field s = 0;\nnext s = " + "total(n.s) + " * 16 + "total(n.s);"), (2, 6), "model TooManyAggregates\n"),
 ]  # fmt: skip
 
 
@@ -112,8 +139,9 @@ def test_each_fault_has_its_number_name_and_place():
 
 def test_each_number_is_met():
     """All but Memory and Room, which are other things to Python, the three that no call of the package can have, those of parts, which it
-    does not call, and that of a node with more than 4,294,967,295 neighbours, which would take 16 GiB."""
-    assert {number for number, *_ in CASES} | {3, 5, 146, 149, 150, 151, 152, 153} == set(faults.FAULTS)
+    does not call, that of a node with more than 4,294,967,295 neighbours, which would take 16 GiB, and those of names and values that do not
+    go together, of which the program that expands models tells."""
+    assert {number for number, *_ in CASES} | {3, 5, 146, 149, 150, 151, 152, 153, 192, 193, 194} == set(faults.FAULTS)
 
 
 def test_the_numbers_are_those_of_the_header():

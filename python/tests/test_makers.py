@@ -142,7 +142,7 @@ def test_what_cannot_be_made_is_told():
     ]:
         error = raised(unison.UsageError, make)
         assert str(error) == told and (error.part, error.name) == ("usage", "Usage")
-    for make in (lambda: Network.ring(2), lambda: Network.star(5000), lambda: Network.regular(5, 3, 1), lambda: Network.tree(5, 0), lambda: Network.hypercube(16)):
+    for make in (lambda: Network.ring(2), lambda: Network.star(0), lambda: Network.regular(5, 3, 1), lambda: Network.tree(5, 0), lambda: Network.hypercube(32)):
         assert str(raised(unison.UsageError, make)).startswith("Network.")
 
 
@@ -152,6 +152,10 @@ def test_networks_beyond_the_limits_are_large():
     assert ring.neighbours(0) == [1, 69_999] and ring.neighbours(69_999) == [0, 69_998] and ring.weights is None
     grid = Network.grid(300, 220)
     assert type(grid) is unison.LargeNetwork and sorted(grid.neighbours(301)) == [1, 300, 302, 601]
+    star = Network.star(5_000)
+    assert type(star) is unison.LargeNetwork and star.neighbours(0) == list(range(1, 5_000)) and star.neighbours(4_999) == [0]
+    cube = Network.hypercube(16)
+    assert type(cube) is unison.LargeNetwork and cube.neighbours(5) == sorted(5 ^ 2**digit for digit in range(16))
 
 
 def words_of(make):
@@ -174,7 +178,7 @@ def words_of(make):
 
 
 def test_which_networks_are_beyond_the_limits():
-    """More than 65,536 nodes or 262,144 links, of the kinds that have any size: without weights, and no grid with diagonals."""
+    """More than 65,536 nodes, 262,144 links or 4,096 neighbours of a node, without weights; not of the two kinds that have the size of a file."""
     for make, words in [
         (lambda: Network.ring(65_536), "generate ring 65536"),
         (lambda: Network.ring(65_537), "generate ring 65537 --packed"),
@@ -182,7 +186,26 @@ def test_which_networks_are_beyond_the_limits():
         (lambda: Network.torus(256, 256, diagonals=True), "generate torus 256 256 --diagonals"),
         (lambda: Network.torus(256, 257, True), "generate torus 256 257 --diagonals --packed"),
         (lambda: Network.grid(256, 257), "generate grid 256 257 --packed"),
-        (lambda: Network.grid(256, 257, True), "generate grid 256 257 --diagonals"),
+        (lambda: Network.grid(256, 256, True), "generate grid 256 256 --diagonals"),
+        (lambda: Network.grid(256, 257, True), "generate grid 256 257 --diagonals --packed"),
+        (lambda: Network.hex(256, 256), "generate hex 256 256"),
+        (lambda: Network.hex(256, 257), "generate hex 256 257 --packed"),
+        (lambda: Network.star(4_097), "generate star 4097"),
+        (lambda: Network.star(4_098), "generate star 4098 --packed"),
+        (lambda: Network.star(4_098, weights=(1, 2), seed=1), "generate star 4098 --seed=1 --weights=1..2"),
+        (lambda: Network.complete(724), "generate complete 724"),
+        (lambda: Network.complete(725), "generate complete 725 --packed"),
+        (lambda: Network.bipartite(512, 512), "generate bipartite 512 512"),
+        (lambda: Network.bipartite(512, 513), "generate bipartite 512 513 --packed"),
+        (lambda: Network.bipartite(1, 4_096), "generate bipartite 1 4096"),
+        (lambda: Network.bipartite(4_097, 1), "generate bipartite 4097 1 --packed"),
+        (lambda: Network.tree(65_537, 2), "generate tree 65537 --arity=2 --packed"),
+        (lambda: Network.tree(5_000, 4_096), "generate tree 5000 --arity=4096"),
+        (lambda: Network.tree(5_000, 4_097), "generate tree 5000 --arity=4097 --packed"),
+        (lambda: Network.hypercube(15), "generate hypercube 15"),
+        (lambda: Network.hypercube(16), "generate hypercube 16 --packed"),
+        (lambda: Network.random_tree(65_536, 1), "generate random-tree 65536 --seed=1"),
+        (lambda: Network.random_tree(65_537, 1), "generate random-tree 65537 --seed=1 --packed"),
         (lambda: Network.random(1000, 262_144, 1), "generate random 1000 --links=262144 --seed=1"),
         (lambda: Network.random(1000, 262_145, 1), "generate random 1000 --links=262145 --seed=1 --packed"),
         (lambda: Network.small_world(1024, 256, 0, 1), "generate small-world 1024 --near=256 --rewire=0.000000% --seed=1"),
@@ -200,8 +223,16 @@ def test_large_makers_make_the_same_networks():
     for words, small in [
         (["ring", "9"], Network.ring(9)),
         (["torus", "5", "4", "--diagonals"], Network.torus(5, 4, diagonals=True)),
+        (["grid", "5", "4", "--diagonals"], Network.grid(5, 4, diagonals=True)),
+        (["hex", "5", "4"], Network.hex(5, 4)),
+        (["star", "6"], Network.star(6)),
+        (["complete", "6"], Network.complete(6)),
+        (["bipartite", "3", "4"], Network.bipartite(3, 4)),
+        (["tree", "20", "--arity", "3"], Network.tree(20, 3)),
+        (["hypercube", "4"], Network.hypercube(4)),
         (["random", "30", "--links", "50", "--seed", "7"], Network.random(30, 50, 7)),
         (["preferential", "30", "--links-each", "3", "--seed", "7"], Network.preferential(30, 3, 7)),
+        (["random-tree", "30", "--seed", "7"], Network.random_tree(30, 7)),
         (["small-world", "30", "--near", "2", "--rewire", "50%", "--seed", "7"], Network.small_world(30, 2, 50, 7)),
     ]:
         large = _packed.read(_programs.run(["generate", *words, "--packed"]))

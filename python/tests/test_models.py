@@ -6,6 +6,7 @@ from collections import Counter
 from support import EXAMPLES, library_alone, network, raised
 
 import unison
+from unison import _library, _programs
 
 library_alone("many calls")
 
@@ -73,6 +74,35 @@ def test_constants_that_are_given_values():
     )
 
 
+def test_no_process_is_started_for_a_model():
+    """Where the library is there: neither where it is made, nor where its constants are told; only why it is refused a program tells."""
+
+    def stop(*_, **__):
+        raise AssertionError("a process is started")
+
+    before, _programs.called = _programs.called, stop
+    try:
+        model = unison.Model(LIGHTS)
+        assert model.with_constants(wanted=5).initial_values["n0"] == 16
+        assert model.constants == {"wanted": 2, "half": 32768, "more": 7, "seed": 0}
+        assert unison.Model.from_file(MODELS / "epidemic.model").fields == ("state",)
+        raised(AssertionError, lambda: unison.Model("field"))
+    finally:
+        _programs.called = before
+
+
+def test_an_older_library_has_programs_expand_models():
+    """One without the call that expands models, which came later than all others."""
+    before, wanted = _library.has, unison.Model(LIGHTS, {"wanted": 5})
+    _library.has = lambda name: False
+    try:
+        model = unison.Model(LIGHTS, {"wanted": 5})
+        assert model.text == wanted.text and model.constants == wanted.constants
+        assert raised(unison.ModelError, lambda: unison.Model("field")).name == "Syntax"
+    finally:
+        _library.has = before
+
+
 def test_more_constants_than_a_program_has_fields():
     text = "".join(f"const c{place} = {place * place};\n" for place in range(20)) + "field probe = c3; const seed = 5;"
     model = unison.Model(text)
@@ -94,7 +124,7 @@ def test_mistakes_are_told_by_the_name_of_the_file():
         path = Path(folder, "wrong one.model")
         path.write_text("field s = 0;\nnext s = if 2 * vote > degree then 1 else s;\nlet votes = count(n.s);\n")
         error = raised(unison.ModelError, lambda: unison.Model.from_file(path))
-    assert (error.part, error.name, error.place, error.number) == ("model", "UnknownName", (2, 17), 0)
+    assert (error.part, error.name, error.place, error.number) == ("model", "UnknownName", (2, 17), 170)
     assert isinstance(error, unison.ProgramError)
     assert str(error) == (
         "model UnknownName\nwrong one.model:2:17: nothing is called `vote`\n"

@@ -168,7 +168,7 @@ def test_the_viewer_of_pages_is_named():
 
 #: What a program prints on standard error and its status: what is raised, with its part, name, number and place, and the message.
 FAULTS = [
-    ("fault: model UnknownName\\nx.model:2:17: nothing is called `vote`\\n", 3, unison.ModelError, ("model", "UnknownName", 0, (2, 17)), "model UnknownName\nx.model:2:17: nothing is called `vote`"),
+    ("fault: model UnknownName\\nx.model:2:17: nothing is called `vote`\\n", 3, unison.ModelError, ("model", "UnknownName", 170, (2, 17)), "model UnknownName\nx.model:2:17: nothing is called `vote`"),
     ("fault: usage\\na torus has 3 rows\\n", 2, unison.UsageError, ("usage", "Usage", 0, None), "a torus has 3 rows"),
     ("fault: report BadLine 4\\n", 3, unison.ReportError, ("report", "BadLine", 112, None), "report BadLine 4"),
     ("fault: image TooManyCells\\nat most\\n", 3, unison.PictureError, ("image", "TooManyCells", 0, None), "image TooManyCells\nat most"),
@@ -234,7 +234,8 @@ def test_a_call_without_programs_says_what_to_do():
     network = unison.Network(2, [(0, 1)])
     with tempfile.TemporaryDirectory() as folder, named(folder):
         for call in (
-            lambda: unison.Model("field s = 0;"),
+            lambda: unison.Model("field s = 0;").states,
+            lambda: unison.Model("field"),
             lambda: unison.Network.ring(5),
             lambda: unison.count(unison.Program("field s = 0;"), network, 1),
         ):

@@ -4,14 +4,16 @@ from __future__ import annotations
 
 import ctypes
 from array import array
-from typing import TYPE_CHECKING, Any, Callable, List, Sequence, Tuple
+from typing import TYPE_CHECKING, Any, Callable, List, Mapping, Sequence, Tuple
 
-from . import _library, faults
+from . import _by_programs, _library, faults
 from ._calls import Refused, Replay, Start, Table, Texts, Told, cut, room_for
 
 if TYPE_CHECKING:
     from .large import LargeNetwork
     from .program import Program
+
+MOST_BYTES = 65536  # of the text of a program
 
 
 def plan(texts: Texts) -> Tuple[Any, ...]:
@@ -50,6 +52,14 @@ def text_of(call: Callable[[Any, int, Any], int], room: int) -> Tuple[int, bytes
         room = max(length.value, 2 * room)
 
 
+def expanded(model: bytes, constants: Mapping[str, int]) -> Tuple[int, bytes]:
+    """The answer of the call that expands a model, and the text of the program."""
+    names = "".join(f"{name}\n" for name in constants).encode("utf-8", "surrogateescape")
+    values, count = listed([*constants.values()])
+    given = (model, len(model), names, len(names), address(values), count)
+    return text_of(lambda *room: _library.load().unison_expand(*given, *room), MOST_BYTES)
+
+
 def table_of(call: Callable[[Any, int, Any, Any], int], rounds: int, room: int) -> Table:
     """The words of so many rounds that a call writes. It is made again where they need more room."""
     nodes, fields = ctypes.c_uint32(0), ctypes.c_uint32(0)
@@ -73,6 +83,15 @@ class Library:
         answer, text = text_of(lambda *room: call(program, len(program), *room), 2 * len(program) + 64)
         accept(answer)
         return text
+
+    def expand(self, model: bytes, constants: Mapping[str, int], called: str) -> bytes:
+        if _library.has(_library.EXPAND):
+            answer, program = expanded(model, constants)
+            if answer == 0:
+                return program
+            if answer == faults.MEMORY:
+                raise Refused(answer)
+        return _by_programs.expand(model, constants, called)
 
     def sizes(self, texts: Texts) -> Tuple[int, int]:
         nodes, fields, none = ctypes.c_uint32(0), ctypes.c_uint32(0), room_for(0)

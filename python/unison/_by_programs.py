@@ -49,6 +49,12 @@ def on_plan(command: str, texts: Texts, *words: str) -> bytes:
     return run([command, PROGRAM, NETWORK, *words, *from_], files_of(texts, PROGRAM, NETWORK))
 
 
+def expand(model: bytes, constants: Mapping[str, int], called: str) -> bytes:
+    """The program that a model in a file that is called so is expanded to; what is refused is raised with what is told of it."""
+    words = [f"--const={name}={value}" for name, value in constants.items()]
+    return _programs.run(["expand", *words, "--", called], files={called: model})
+
+
 def values_of(cells: Sequence[str]) -> List[int]:
     """The values of `FIELD=VALUE`."""
     return [int(cell.partition("=")[2]) for cell in cells]
@@ -163,6 +169,9 @@ class Programs:
 
     def check(self, program: bytes) -> bytes:
         return run(["check", PROGRAM], {PROGRAM: program})
+
+    def expand(self, model: bytes, constants: Mapping[str, int], called: str) -> bytes:
+        return expand(model, constants, called)
 
     def sizes(self, texts: Texts) -> Tuple[int, int]:
         _, nodes, fields = self.lockstep(texts, 0, 0)

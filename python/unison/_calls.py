@@ -6,7 +6,7 @@ from __future__ import annotations
 import os
 from array import array
 from functools import lru_cache
-from typing import TYPE_CHECKING, Callable, List, NamedTuple, Protocol, Sequence, Tuple, TypeVar
+from typing import TYPE_CHECKING, Callable, List, Mapping, NamedTuple, Protocol, Sequence, Tuple, TypeVar
 
 from . import _library, _programs, faults
 
@@ -81,6 +81,10 @@ class Backend(Protocol):
 
     def check(self, program: bytes) -> bytes:
         """The canonical spelling of a program."""
+
+    def expand(self, model: bytes, constants: Mapping[str, int], called: str) -> bytes:
+        """The text of the program that a model is expanded to, where constants have these values. Why there is none the program `expand`
+        tells, by the name of the model's file; what it tells is raised."""
 
     def sizes(self, texts: Texts) -> Tuple[int, int]:
         """How many nodes and fields a program on a network has; no round is computed."""
@@ -164,6 +168,14 @@ def answer_of(call: Callable[[Backend], Answer], job: int, texts: Texts, asked: 
 def check(program: bytes) -> bytes:
     """The canonical spelling of a program."""
     return answer_of(lambda it: it.check(program), CHECK, Texts(program))
+
+
+def expand(model: bytes, constants: Mapping[str, int], called: str) -> bytes:
+    """The text of the program that a model, in a file that is called so, is expanded to."""
+    try:
+        return backend().expand(model, constants, called)
+    except Refused as refused:
+        raise faults.fault_of(refused.number) from None
 
 
 def sizes(texts: Texts) -> Tuple[int, int]:

@@ -21,6 +21,7 @@ LISTS = [POINTER, SIZE] * 3
 
 CALLS = {
     "unison_check": TEXT + [POINTER, SIZE, POINTER],
+    "unison_expand": TEXT * 2 + [POINTER, SIZE] * 2 + [POINTER],
     "unison_lockstep": PLAN + [U32] + WORDS,
     "unison_watch": PLAN + [POINTER, SIZE] + WORDS,
     "unison_settle": PLAN + [U32, POINTER, POINTER, POINTER],
@@ -32,6 +33,9 @@ CALLS = {
     "unison_large_counts": TEXT + LISTS + [U32] + [POINTER, SIZE] * 2 + [U32] + [POINTER, SIZE] * 2 + [POINTER],
     "unison_part_round": TEXT + [POINTER, SIZE] + LISTS + [U32] + [POINTER, SIZE] * 2 + [POINTER],
 }
+EXPAND = "unison_expand"
+#: Calls that an older library does not have.
+LATER = (EXPAND,)
 
 
 #: What is told where there is no library: how it comes here.
@@ -75,7 +79,14 @@ def load() -> ctypes.CDLL:
     """The library, with the types of its calls. Each call gives the interpreter's lock back while it runs."""
     library = ctypes.CDLL(str(find()))
     for name, types in CALLS.items():
+        if name in LATER and not hasattr(library, name):
+            continue
         call = getattr(library, name)
         call.argtypes = types
         call.restype = U32
     return library
+
+
+def has(name: str) -> bool:
+    """Whether the library has a call that an older one does not have."""
+    return hasattr(load(), name)

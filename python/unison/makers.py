@@ -14,7 +14,6 @@ if TYPE_CHECKING:
     Sets = Optional[Mapping[str, InitialValues]]
 
 MOST_NODES, MOST_LINKS, MOST_NEIGHBOURS = 65536, 262144, 4096  # of a network file
-PACKED = ("path", "ring", "grid", "torus", "random", "preferential", "small-world")  # of any size
 Weights = Optional[Tuple[int, int]]
 
 
@@ -26,7 +25,7 @@ class Recipe:
         self.sizes = [_checks.whole(self.call, name, value) for name, value in sizes.items()]
         self.words = [shape, *map(str, self.sizes)]
         self.links = 0  # how many, where they may be too many for a network file though its nodes are not
-        self.packs = shape in PACKED
+        self.neighbours = 0  # how many a node has at most, where they may be too many for a network file though its links are not
 
     def number(self, name: str, value: Any) -> int:
         """A whole number that an option has."""
@@ -73,9 +72,9 @@ class Recipe:
         self.words.append(f"--weights={low}..{high}")
 
     def is_large(self, nodes: int) -> bool:
-        """Whether the network is more than a network file has, and there is a maker of any size for it."""
-        beyond = nodes > MOST_NODES or self.links > MOST_LINKS
-        return beyond and self.packs and not any(word.startswith("--weights") for word in self.words)
+        """Whether the network is more than a network file has, and has no weights, with which none is made of any size."""
+        beyond = nodes > MOST_NODES or self.links > MOST_LINKS or self.neighbours > MOST_NEIGHBOURS
+        return beyond and not any(word.startswith("--weights") for word in self.words)
 
     def told(self, *options: str) -> bytes:
         """What the command prints."""
@@ -104,7 +103,7 @@ class Makers:
     Links have the weight 1; with `weights=(LOW, HIGH)` each link has one of these and those between them, drawn by `seed`, a whole number
     from 0 to 4294967295: the same seed gives the same network on every machine. Nodes are numbered from 0.
 
-    A path, ring, torus, grid without diagonals, random, preferential or small-world network whose weights are 1 may have any size; others have
+    Each may have any size that memory holds where its weights are 1, but `gnp` and `regular`: these, and those whose weights are drawn, have
     65,536 nodes, 262,144 links and 4,096 links of one node at most. Raises UsageError, with what is possible, for numbers of which no network
     can be made.
     """
@@ -130,39 +129,46 @@ class Makers:
 
     @classmethod
     def star(cls, n: int, *, weights: Weights = None, seed: Optional[int] = None, set: Sets = None) -> Network:
-        """Node 0 is linked with each other of `n` nodes, 4,097 at most."""
+        """Node 0 is linked with each other of `n` nodes."""
         recipe = Recipe("star", "star", {"n": n})
+        recipe.neighbours = recipe.sizes[0] - 1
         recipe.weights(weights, seed)
-        return recipe.made(cls, set)
+        return recipe.made_of_any_size(cls, set)
 
     @classmethod
     def complete(cls, n: int, *, weights: Weights = None, seed: Optional[int] = None, set: Sets = None) -> Network:
-        """Each of `n` nodes, 724 at most, is linked with each other one."""
+        """Each of `n` nodes is linked with each other one."""
         recipe = Recipe("complete", "complete", {"n": n})
+        recipe.links = recipe.sizes[0] * (recipe.sizes[0] - 1) // 2
         recipe.weights(weights, seed)
-        return recipe.made(cls, set)
+        return recipe.made_of_any_size(cls, set)
 
     @classmethod
     def bipartite(cls, a: int, b: int, *, weights: Weights = None, seed: Optional[int] = None, set: Sets = None) -> Network:
         """Each of the first `a` nodes is linked with each of the `b` others."""
         recipe = Recipe("bipartite", "bipartite", {"a": a, "b": b})
+        recipe.links, recipe.neighbours = recipe.sizes[0] * recipe.sizes[1], max(recipe.sizes)
         recipe.weights(weights, seed)
-        return recipe.made(cls, set)
+        return recipe.made_of_any_size(cls, set, sum(recipe.sizes))
 
     @classmethod
     def tree(cls, n: int, arity: int, *, weights: Weights = None, seed: Optional[int] = None, set: Sets = None) -> Network:
         """Each of `n` nodes has `arity` children, as far as there are nodes, numbered level by level: node 0 is the root."""
         recipe = Recipe("tree", "tree", {"n": n})
-        recipe.number("arity", arity)
+        children = recipe.number("arity", arity)
+        others = recipe.sizes[0] - 1
+        recipe.neighbours = max(min(children, others), 1 + min(children, max(others - children, 0)))
         recipe.weights(weights, seed)
-        return recipe.made(cls, set)
+        return recipe.made_of_any_size(cls, set)
 
     @classmethod
     def hypercube(cls, d: int, *, weights: Weights = None, seed: Optional[int] = None, set: Sets = None) -> Network:
-        """Two to the power of `d` nodes, 15 at most, of which those are linked whose numbers differ in one binary digit."""
+        """Two to the power of `d` nodes, 31 at most, of which those are linked whose numbers differ in one binary digit."""
         recipe = Recipe("hypercube", "hypercube", {"d": d})
+        nodes = 2 ** min(recipe.sizes[0], 32)
+        recipe.links = recipe.sizes[0] * nodes // 2
         recipe.weights(weights, seed)
-        return recipe.made(cls, set)
+        return recipe.made_of_any_size(cls, set, nodes)
 
     @classmethod
     def grid(
@@ -171,7 +177,7 @@ class Makers:
         """`w` nodes in each of `h` rows, row by row, each linked with those beside it, above it and below it; with `diagonals` with the
         four beside its corners, too."""
         recipe = Recipe("grid", "grid", {"w": w, "h": h})
-        recipe.packs = not recipe.diagonals(diagonals)
+        recipe.diagonals(diagonals)
         recipe.weights(weights, seed)
         return recipe.made_of_any_size(cls, set, recipe.sizes[0] * recipe.sizes[1])
 
@@ -196,7 +202,7 @@ class Makers:
         each."""
         recipe = Recipe("hex", "hex", {"w": w, "h": h})
         recipe.weights(weights, seed)
-        return recipe.made(cls, set)
+        return recipe.made_of_any_size(cls, set, recipe.sizes[0] * recipe.sizes[1])
 
     @classmethod
     def random(cls, n: int, links: int, seed: int, *, weights: Weights = None, set: Sets = None) -> Network:
@@ -220,7 +226,7 @@ class Makers:
         """Each of `n` nodes but node 0 is linked with one before it, all of which are equally likely."""
         recipe = Recipe("random_tree", "random-tree", {"n": n})
         recipe.drawn(weights, seed)
-        return recipe.made(cls, set)
+        return recipe.made_of_any_size(cls, set)
 
     @classmethod
     def preferential(cls, n: int, links_each: int, seed: int, *, weights: Weights = None, set: Sets = None) -> Network:

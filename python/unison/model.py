@@ -1,4 +1,4 @@
-"""Models: programs as people write them (docs/models.md), expanded by the proved program."""
+"""Models: programs as people write them (docs/models.md), expanded by the proved library."""
 
 from __future__ import annotations
 
@@ -9,7 +9,7 @@ from functools import cached_property
 from pathlib import Path
 from typing import Any, Dict, List, Mapping, Optional, Sequence, Tuple, Union
 
-from . import _checks, _programs
+from . import _calls, _checks, _programs
 from ._document import Document, write
 from .program import Program
 
@@ -24,7 +24,7 @@ SEED = "seed"  # the constant that every model has
 
 class Model(Program):
     """A model: a program with names for constants, states and parts, and operators without brackets. It is expanded to a program when it is
-    made, by the proved program, and stands wherever a `Program` may.
+    made, and stands wherever a `Program` may.
 
     - `text`: the model, as text or bytes (docs/models.md).
     - `constants`: values for constants of the model, whole numbers from 0 to 4294967295, in place of those that its text gives them.
@@ -51,7 +51,7 @@ class Model(Program):
     def _take(self, source: bytes, given: Dict[str, int], called: str) -> None:
         """Takes the program to which a model of this text, in a file that is called so, is expanded."""
         self._source, self._given, self._called = source, given, called
-        super().__init__(_programs.run(["expand", *self._words(), "--", called], files=self._files()))
+        super().__init__(_calls.expand(source, given, called))
 
     @classmethod
     def from_file(cls, path: Union[str, os.PathLike[str]], constants: Optional[Mapping[str, int]] = None) -> Model:
@@ -91,7 +91,7 @@ class Model(Program):
         bare = COMMENT.sub("", self.source)
         items = [found[0] for pattern in (CONSTANT, STATES) for found in pattern.finditer(bare)]
         names = [found[1] for found in CONSTANT.finditer(bare)]
-        values = values_of(items, names, self._words())
+        values = values_of(items, names, self._given)
         return {**values, **({} if SEED in values else {SEED: self._given.get(SEED, 0)})}
 
     @cached_property
@@ -127,8 +127,9 @@ def constants_of(call: str, given: Any) -> Dict[str, int]:
     return {name: _checks.whole(call, name, value) for name, value in given.items()}
 
 
-def values_of(items: Sequence[str], names: Sequence[str], words: Sequence[str]) -> Dict[str, int]:
-    """The values of constants, which the items of a model declare: each is the initial value of a field of a model of these items alone."""
+def values_of(items: Sequence[str], names: Sequence[str], given: Mapping[str, int]) -> Dict[str, int]:
+    """The values of constants, which the items of a model declare, where some are given: each is the initial value of a field of a model of
+    these items alone."""
     values: Dict[str, int] = {}
     probe = "probe"
     while any(probe in item for item in items):
@@ -136,7 +137,7 @@ def values_of(items: Sequence[str], names: Sequence[str], words: Sequence[str]) 
     for first in range(0, len(names), MOST_FIELDS):
         part = names[first : first + MOST_FIELDS]
         text = "\n".join([*items, *(f"field {probe}{place} = {name};" for place, name in enumerate(part))])
-        told = _programs.run(["expand", *words, "--", FILE], files={FILE: text.encode("utf-8")})
+        told = _calls.expand(text.encode("utf-8"), given, FILE)
         values.update(zip(part, Program(told).initial_values.values()))
     return values
 

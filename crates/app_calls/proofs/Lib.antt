@@ -12,3 +12,4 @@ mod RoundFaults
 mod StateWords
 mod Tallies
 mod Watches
+mod NameLines

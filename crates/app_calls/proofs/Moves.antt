@@ -15,14 +15,14 @@ use Rattle.rounds_plan.specs.Configs.{most_rounds}
 use Rattle.rounds_plan.specs.Lockstep.{lockstep, lockstep_config, lockstep_states, rounds_of}
 use Rattle.rounds_plan.specs.Plans.{PlanView}
 use Rattle.app_calls.specs.Lists.{given_weights}
-use Rattle.large_parts.specs.States.{node_words, state_of, states_of}
+use Rattle.rounds_walk.specs.part_rounds.States.{node_words, state_of, states_of}
 use Rattle.app_calls.specs.LargeAnswers.{HasSpan, IsNoSpan, words_plan}
 
 no_words : (n : ℕ) → list_any (λ w. not (eqb w 0)) (replicate n 0) ≡ false
 no_words zero = refl
 no_words (suc n) = no_words n
 
--- a state that is made of so many words has nothing behind them
+-- a state that is made of so many words has nothing after them
 plain_state : (fields : ℕ) (words : List ℕ) → length words ≤ fields → is_stray fields (state_of words) ≡ false
 plain_state fields words few =
     let zeros : List ℕ = replicate (8 - length words) 0 in

@@ -4,8 +4,8 @@ use Rattle.rule_check.specs.Value.{Rules}
 use Rattle.link_net.specs.Layout.{rows_of}
 use Rattle.link_net.specs.Neighbours.{Neighbours}
 use Rattle.large_net.proofs.Parts.{rows_count}
-use Rattle.large_parts.specs.Parts.{changed_count, own_nodes, part_fault_of, part_states}
-use Rattle.large_parts.specs.States.{states_of, words_in}
+use Rattle.rounds_walk.specs.part_rounds.Parts.{changed_count, own_nodes, part_fault_of, part_states}
+use Rattle.rounds_walk.specs.part_rounds.States.{states_of, words_in}
 use Rattle.app_calls.specs.Lists.{given_weights}
 use Rattle.app_calls.specs.PartAnswers.{IsPartRound}
 use Rattle.app_calls.proofs.Moves.{no_weights, some_weights}

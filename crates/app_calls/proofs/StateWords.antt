@@ -7,9 +7,9 @@ use Rattle.std.proofs.lemmas.List.{append-nil, drop-drop}
 use Rattle.std.proofs.lemmas.List.FromFn.{map-range_with_len_more}
 use Rattle.rule_check.specs.declared.state.State.{State}
 use Rattle.app_calls.specs.Words.{words_in}
-use Rattle.large_parts.specs.States.{node_words, state_of, states_of}
+use Rattle.rounds_walk.specs.part_rounds.States.{node_words, state_of, states_of}
 
--- what is left is the words of one node, and what is left behind them
+-- what is left is the words of one node, and what is left after them
 pub left_more : (n i fields left : ℕ) → i < n → left ≡ (n - i) * fields → left ≡ fields + (n - (i + 1)) * fields
 left_more n i fields left inside is =
     let more : n - i ≡ suc (n - (i + 1)) = omega arith in
@@ -17,7 +17,7 @@ left_more n i fields left inside is =
     let here : left ≡ suc (n - (i + 1)) * fields = is ∙ ap (λ k. k * fields) more in
     omega (arith, here, step)
 
--- the words behind those of a node
+-- the words after those of a node
 pub behind_node : (fields i : ℕ) (words : List ℕ) → drop fields (drop (i * fields) words) ≡ drop ((i + 1) * fields) words
 behind_node fields i words =
     let more : i + 1 ≡ suc i = omega arith in
@@ -39,7 +39,7 @@ words_more fields i states d inside =
     ∙ flat_map-append f (take i states) (get_or states i d ∷ [])
     ∙ ap (λ l. words_in fields (take i states) ++ l) (append-nil (f (get_or states i d)))
 
--- what stands in front of a place, and behind so many more, where the front has this length
+-- what stands in front of a place, and after so many more, where the front has this length
 pub put_more : (front back here : List ℕ) (first fields : ℕ) → length front ≡ first → take first (front ++ back) ++ here ++ drop (first + fields) (front ++ back) ≡ (front ++ here) ++ drop fields back
 put_more front back here first fields is =
     let before : take first (front ++ back) ≡ front = ap (λ k. take k (front ++ back)) (sym is) ∙ take-append_seam front back in

@@ -45,7 +45,7 @@ pub record HasRoundWords (p : PlanView) (round : ℕ) (old new : List ℕ) (node
   pub words : new ≡ with_front (words_of c) old
   pub shape : HasShape p nodes fields
 
--- the words of the rounds stand in front, one round behind the other; the plan has so many nodes and fields
+-- the words of the rounds stand in front, one round after the other; the plan has so many nodes and fields
 pub record HaveRoundWords (p : PlanView) (rounds old new : List ℕ) (nodes fields : ℕ) : Type 0 where
   pub there : list_fault p p.start rounds ≡ None
   pub words : new ≡ with_front (words_at p rounds) old

@@ -26,7 +26,7 @@ most_values = 256
 abbrev pub counts_at : PlanView → ℕ → List ℕ → List ℕ → List ℕ
 counts_at p field values rounds = flat_map (λ t. counts_in field values (lockstep_config p t).states) rounds
 
--- there is one word for each field of each node, the program has the field, and there are not too many values; and the counts of the rounds of the plan that opens with the words stand in front, one round behind the other
+-- there is one word for each field of each node, the program has the field, and there are not too many values; and the counts of the rounds of the plan that opens with the words stand in front, one round after the other
 pub record AreCounted (program : Rules) (rows : Neighbours) (start : ℕ) (from rounds : List ℕ) (field : ℕ) (values old new : List ℕ) (fields : ℕ) : Type 0 where
   pub there : list_fault (words_plan program rows from start) start rounds ≡ None
   pub count : length from ≡ length rows * length program.fields

@@ -19,7 +19,7 @@ use Rattle.app_calls.specs.Words.{words_of}
 use Rattle.app_calls.specs.declared.large.fault.LargeCallFault.{LargeCallFault}
 use Rattle.app_calls.specs.declared.large.fault.LargeCallFault.TheVariants.{Call, Lists, WordCount}
 use Rattle.app_calls.specs.Lists.{given_weights, lists_fault}
-use Rattle.large_parts.specs.States.{states_of}
+use Rattle.rounds_walk.specs.part_rounds.States.{states_of}
 
 -- the plan of a program on rows whose nodes have these states at this round
 abbrev pub given_plan : Rules → Neighbours → List State → ℕ → PlanView

@@ -11,3 +11,6 @@ pub mod LargeAnswers
 pub mod PartAnswers
 pub mod WatchAnswers
 pub mod CountAnswers
+pub mod Constants
+pub mod ModelAnswers
+pub mod ModelNumbers

@@ -3,8 +3,8 @@ use Rattle.std.specs.Prelude.{ℕ, ◌≡◌, Option, Some}
 use Rattle.app_calls.specs.Numbers.{number_of}
 use Rattle.large_net.specs.declared.fault.LargeFault.{LargeFault}
 use Rattle.large_net.specs.declared.fault.LargeFault.TheVariants as rows
-use Rattle.large_parts.specs.declared.fault.PartFault.{PartFault}
-use Rattle.large_parts.specs.declared.fault.PartFault.TheVariants as parts
+use Rattle.rounds_walk.specs.declared.part_rounds.fault.PartFault.{PartFault}
+use Rattle.rounds_walk.specs.declared.part_rounds.fault.PartFault.TheVariants as parts
 use Rattle.app_calls.specs.declared.large.fault.ListsFault.{ListsFault}
 use Rattle.app_calls.specs.declared.large.fault.ListsFault.TheVariants as lists
 use Rattle.app_calls.specs.declared.large.fault.LargeCallFault.{LargeCallFault}

@@ -6,8 +6,8 @@ use Rattle.rule_check.specs.Items.{rules_of}
 use Rattle.link_net.specs.Layout.{rows_of}
 use Rattle.link_net.specs.Neighbours.{Neighbours}
 use Rattle.large_net.specs.Large.{AreLaidOut}
-use Rattle.large_parts.specs.Parts.{changed_count, own_nodes, part_fault_of, part_states}
-use Rattle.large_parts.specs.States.{states_of, words_in}
+use Rattle.rounds_walk.specs.part_rounds.Parts.{changed_count, own_nodes, part_fault_of, part_states}
+use Rattle.rounds_walk.specs.part_rounds.States.{states_of, words_in}
 use Rattle.app_jobs.specs.Served.{IsAccepted, RefusesProgram}
 use Rattle.app_calls.specs.declared.fault.Fault.TheVariants as call
 use Rattle.app_calls.specs.declared.large.fault.LargeCallFault.{LargeCallFault}

@@ -17,7 +17,7 @@ use Rattle.app_calls.specs.declared.large.fault.LargeCallFault.TheVariants.{Call
 use Rattle.app_calls.specs.Lists.{given_weights, lists_fault}
 use Rattle.app_calls.specs.LargeAnswers.{given_plan, words_plan}
 
--- there is one word for each field of each node; and the words of the rounds of the plan that opens with them stand in front, one round behind the other
+-- there is one word for each field of each node; and the words of the rounds of the plan that opens with them stand in front, one round after the other
 pub record AreWatched (program : Rules) (rows : Neighbours) (start : ℕ) (from rounds old new : List ℕ) (nodes fields : ℕ) : Type 0 where
   pub count : length from ≡ length rows * length program.fields
   pub watched : HaveRoundWords (words_plan program rows from start) rounds old new nodes fields

@@ -4,6 +4,7 @@
 
 mod fault;
 mod large;
+mod models;
 mod plans;
 mod reasons;
 mod replays;
@@ -17,6 +18,7 @@ pub use large::{
     LargeCallFault, ListsFault, check_lists, write_large_counts, write_large_rounds,
     write_large_watch, write_part_round,
 };
+pub use models::{ConstantsFault, ModelCallFault, one_setting, write_expansion};
 pub use reasons::{Reason, reason_for, write_reason};
 pub use replays::write_replay;
 pub use rounds::{write_round, write_rounds};

@@ -1,9 +1,7 @@
 -- Which numbers requests may have.
-use Rattle.std.specs.Prelude.{◌≤◌, length, IfSome}
-use Rattle.run_counts.specs.Ensembles.{most_runs}
+use Rattle.std.specs.Prelude.{◌≤◌, IfSome}
 use Rattle.app_commands.specs.declared.arguments.GridWidth.{GridWidth}
 use Rattle.app_commands.specs.declared.arguments.GridWidth.TheVariants.{Given, Shown}
-use Rattle.app_commands.specs.declared.constants.Varied.{Varied}
 use Rattle.app_commands.specs.declared.start.RunTexts.{RunTexts}
 
 -- a grid whose width is given has as many nodes in a row as a network may have, one at least
@@ -14,7 +12,3 @@ IsWidthWithin Shown = Unit {0}
 -- rounds are shared among 1 to 1024 threads, where it is said among how many
 abbrev pub AreThreadsWithin : RunTexts → Type 0
 AreThreadsWithin texts = IfSome texts.threads (λ threads. (1 ≤ threads) × (threads ≤ 1024))
-
--- a constant has a value for each of as many runs as can be counted together, one at least
-abbrev pub HasRuns : Varied → Type 0
-HasRuns varied = (1 ≤ length varied.values.items) × (length varied.values.items ≤ most_runs)

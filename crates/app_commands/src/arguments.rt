@@ -195,7 +195,7 @@ pub fn grid_in(reading: &mut Reading, argument: &Argument) -> Option<GridWidth>
     Some(width_in(reading, word.as_str()))
 }
 
-/// The words of a command line in which an option that stands alone, with no value behind it, has an empty one.
+/// The words of a command line in which an option that stands alone, with no value after it, has an empty one.
 pub fn with_lone(alloc: Global, line: &[String], option: &str) -> Result<Vec<String>, AllocError> {
     let mut words = Vec::new(alloc);
     for (place, word) in line.iter().enumerate() {
@@ -207,7 +207,7 @@ pub fn with_lone(alloc: Global, line: &[String], option: &str) -> Result<Vec<Str
     Ok(words)
 }
 
-/// Whether a word stands behind the one at a place that may be a value.
+/// Whether a word stands after the one at a place that may be a value.
 fn has_value(line: &[String], place: usize) -> bool {
     match line.get(place.saturating_add(1)) {
         Some(next) => !next.as_str().starts_with('-'),
@@ -273,7 +273,7 @@ pub fn span_in(reading: &mut Reading) -> Option<Span> {
     span
 }
 
-/// Puts a part of a text behind the others.
+/// Puts a part of a text after the others.
 fn put_part(parts: &mut Vec<String>, reading: &mut Reading, part: &str) {
     let part = reading.copied(part);
     if parts.push(part).is_err() {

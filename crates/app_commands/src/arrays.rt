@@ -1,7 +1,7 @@
 //! Arrays in NumPy's files, read and written.
 
 use app_files::{Ending, bytes_at, name_at};
-use npy_arrays::{ArrayShape, NpyFault, WriteFault, npy_bytes, read_npy};
+use report_files::npy::{ArrayShape, NpyFault, WriteFault, npy_bytes, read_npy};
 use std::alloc::Global;
 
 /// The file of an array of this shape with these words.

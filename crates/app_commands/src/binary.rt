@@ -8,7 +8,7 @@ pub fn check_output(rt: &HostRuntime) -> Result<(), Ending> {
     if rt.stdout().is_terminal() {
         return Err(Ending::usage(String::from_str(
             rt.alloc(),
-            "the file is binary: put > and the name of a file behind the words",
+            "the file is binary: put > and the name of a file after the words",
         )));
     }
     Ok(())

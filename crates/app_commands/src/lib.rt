@@ -29,20 +29,21 @@ pub use arguments::{
 pub use arrays::array_of;
 pub use binary::check_output;
 pub use constants::{
-    CONSTANT, RunConstants, VARIED, Varied, constants_among, constants_in, run_constants_in,
+    CONSTANT, constants_among, constants_in, constants_of, given_twice, is_given, put_word,
+    several_parts,
 };
 pub use decimals::{Portion, billionths_of, percent_of, share_of};
 pub use endings::{asked_by, no_rounds, told_text};
 pub use labels::{labels_at, names_for};
 pub use names::{names_at, names_from};
-pub use notes::{put_colour_notes, put_note};
+pub use notes::put_note;
 pub use packed::packed_in;
 pub use packed_info::{large_lines, show_info};
 pub use percents::{no_share, whole_percents};
 pub use plan_texts::{
     NamedPlan, named_plan_at, noted_plan_at, plan_at, read_plan_once, shared_plan,
 };
-pub use progress::{RunsTelling, Telling};
+pub use progress::{Stopwatch, Telling, seconds_for};
 pub use run_plan::{
     Ground, RunNetwork, RunSource, file_run_at, ground_on, packed_source_at, program_in,
     read_run_once, run_network, source_at, threads_for,

@@ -1,4 +1,4 @@
-//! Shares in percents, with `%` behind them.
+//! Shares in percents, with `%` after them.
 ghost use Rattle.std.specs.Prelude.{◌≤◌, IfSome};
 
 use crate::decimals::share_of;
@@ -34,7 +34,7 @@ fn bare_share(
     let mut draft = Draft::new(alloc);
     draft.put("--");
     draft.put(option);
-    draft.put(": percents have % behind them, so that `");
+    draft.put(": percents have % after them, so that `");
     draft.put(found);
     draft.put("` is not taken for another share: write ");
     draft.put(found);

@@ -1,9 +1,7 @@
 //! How far long work is, told on standard error where that is a terminal.
 
-use run_counts::RunsProgress;
 use run_watch::{Progress, Span};
 use std::io::IsTerminal;
-use std::sync::atomic::{AtomicU64, Ordering};
 use std::time::Instant;
 
 /// How many lines of nodes are long work, so that rounds are told on a terminal while they are made.
@@ -18,13 +16,13 @@ fn now_of(rt: &HostRuntime) -> Option<Instant> {
 }
 
 /// How many seconds as much work may take as is left, where what is done took these.
-fn seconds_for(left: u64, done: u64, seconds: u64) -> Option<u64> {
+pub fn seconds_for(left: u64, done: u64, seconds: u64) -> Option<u64> {
     seconds.checked_mul(left)?.checked_div(done)
 }
 
 /// How long work takes that is told.
 #[derive(Drop)]
-struct Stopwatch<'a> {
+pub struct Stopwatch<'a> {
     rt: &'a HostRuntime,
     /// When the work began, where it is told.
     began: Option<Instant>,
@@ -32,7 +30,7 @@ struct Stopwatch<'a> {
 
 impl<'a> Stopwatch<'a> {
     /// One that runs from now on where the work is long and standard error is a terminal.
-    fn new(rt: &'a HostRuntime, is_long: bool) -> Stopwatch<'a> {
+    pub fn new(rt: &'a HostRuntime, is_long: bool) -> Stopwatch<'a> {
         let began = if is_long && rt.stderr().is_terminal() {
             now_of(rt)
         } else {
@@ -42,7 +40,7 @@ impl<'a> Stopwatch<'a> {
     }
 
     /// How many seconds the work has taken, where it is told.
-    fn seconds(&self) -> Option<u64> {
+    pub fn seconds(&self) -> Option<u64> {
         let began = self.began?;
         match began.elapsed(self.rt) {
             Ok(time) => Some(time.as_secs()),
@@ -108,7 +106,7 @@ impl<'a> Telling<'a> {
         }
     }
 
-    /// How many seconds the rounds behind this one may take, which is reached after so many.
+    /// How many seconds the rounds after this one may take, which is reached after so many.
     fn seconds_left(&self, round: u32, seconds: u64) -> Option<u64> {
         let left = self.last.saturating_sub(round) as u64;
         let done = round.saturating_sub(self.first) as u64;
@@ -140,58 +138,6 @@ impl<'a> Telling<'a> {
             let rt = self.watch.rt;
             let _ = eprintln!(rt; "");
             self.is_open = false;
-        }
-    }
-}
-
-/// Tells how many of several runs are made and how long the others may take: once a second at most, from the first second
-/// on, and at the end. Threads tell it side by side.
-#[derive(Drop)]
-pub struct RunsTelling<'a> {
-    watch: Stopwatch<'a>,
-    runs: u64,
-    made: AtomicU64,
-    /// After how many seconds was told last; 0 before anything is told.
-    told: AtomicU64,
-}
-
-impl RunsProgress for RunsTelling<'_> {
-    fn made(&self) {
-        let Some(seconds) = self.watch.seconds() else {
-            return;
-        };
-        let made = self.made.fetch_add(1, Ordering::SeqCst).saturating_add(1);
-        if self.told.swap(seconds, Ordering::SeqCst) < seconds {
-            self.tell(made, seconds);
-        }
-    }
-}
-
-impl<'a> RunsTelling<'a> {
-    /// What tells of so many runs.
-    pub fn new(rt: &'a HostRuntime, runs: usize) -> RunsTelling<'a> {
-        RunsTelling {
-            watch: Stopwatch::new(rt, true),
-            runs: runs as u64,
-            made: AtomicU64::new(0),
-            told: AtomicU64::new(0),
-        }
-    }
-
-    /// Tells of so many runs that are made after so many seconds.
-    fn tell(&self, made: u64, seconds: u64) {
-        let (rt, runs) = (self.watch.rt, self.runs);
-        if let Some(left) = seconds_for(runs.saturating_sub(made), made, seconds) {
-            let _ = eprint!(rt; "\r{made} of {runs} runs, some {left} s left   ");
-        }
-    }
-
-    /// Tells how many runs were made at last, where others were told before.
-    pub fn end(&self) {
-        if self.told.load(Ordering::SeqCst) > 0 {
-            let (rt, runs) = (self.watch.rt, self.runs);
-            let made = self.made.load(Ordering::SeqCst);
-            let _ = eprintln!(rt; "\r{made} of {runs} runs                    ");
         }
     }
 }

@@ -163,6 +163,16 @@ fn states_for(
     Ok(states)
 }
 
+/// Refuses values that a packed network sets and that are none of the program's, though a report has other states.
+fn check_settings(alloc: Global, program: &Program, packed: &PackedNetwork) -> Result<(), Ending> {
+    let sets = packed.settings.sets();
+    if sets.is_empty() {
+        return Ok(());
+    }
+    let _states = set_states(alloc, program, packed.network.nodes(), sets)?;
+    Ok(())
+}
+
 /// With what the nodes of a packed network begin: the states and the round of a report, where the words name one, and else
 /// their initial states at round 0.
 fn opening_for(
@@ -175,6 +185,7 @@ fn opening_for(
         let states = states_for(rt, program, packed, texts)?;
         return Ok(Opening { round: 0, states });
     };
+    check_settings(rt.alloc(), program, packed)?;
     let report = report_at(rt, path.as_str(), program, &packed.network)?;
     Ok(Opening {
         round: report.rounds(),

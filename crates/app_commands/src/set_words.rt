@@ -79,7 +79,7 @@ pub fn amounts_of(alloc: Global, words: &[RandomWord]) -> Result<Vec<Amount>, Al
 }
 
 /// The parts of a word of `--set`: what stands before the first `=`, what follows up to the last colon, and the number
-/// behind it.
+/// after it.
 fn set_parts(word: &str) -> Option<(&str, &str, u32)> {
     let (field, rest) = word.split_once('=')?;
     let (node, value) = rest.rsplit_once(':')?;
@@ -90,7 +90,7 @@ fn set_parts(word: &str) -> Option<(&str, &str, u32)> {
 /// Notes that a word of `--set` has not its parts.
 fn refuse_set(reading: &mut Reading, word: &str) {
     reading.refuse_as(format!(in reading.alloc();
-        "--set: expected FIELD=NODE:VALUE, with a whole number from 0 to 4294967295 behind the last colon, found `{word}`"
+        "--set: expected FIELD=NODE:VALUE, with a whole number from 0 to 4294967295 after the last colon, found `{word}`"
     ));
 }
 
@@ -102,7 +102,7 @@ fn set_word(reading: &mut Reading, word: &str) -> Option<SetWord> {
     Some(SetWord { field, node, value })
 }
 
-/// Puts a word behind the others.
+/// Puts a word after the others.
 fn put_set(sets: &mut Vec<SetWord>, reading: &mut Reading, word: &str) {
     match set_word(reading, word) {
         Some(set) => {
@@ -124,7 +124,7 @@ pub fn sets_in(reading: &mut Reading) -> Vec<SetWord> {
     sets
 }
 
-/// How many nodes a word asks for: a number, or a share of all nodes with `%` behind it.
+/// How many nodes a word asks for: a number, or a share of all nodes with `%` after it.
 fn amount_of(word: &str) -> Option<Amount> {
     if let Some(percents) = word.strip_suffix('%') {
         let share = share_of(percents)?;
@@ -146,7 +146,7 @@ fn random_parts(word: &str) -> Option<(&str, u32, Amount)> {
 /// Notes that a word of `--set-random` has not its parts.
 fn refuse_random(reading: &mut Reading, word: &str) {
     reading.refuse_as(format!(in reading.alloc();
-        "--set-random: expected FIELD=VALUE:COUNT, with a whole number from 0 to 4294967295 behind the first =, and behind the colon another one or a share from 0% to 100% with six decimals at most, found `{word}`"
+        "--set-random: expected FIELD=VALUE:COUNT, with a whole number from 0 to 4294967295 after the first =, and after the colon another one or a share from 0% to 100% with six decimals at most, found `{word}`"
     ));
 }
 
@@ -161,7 +161,7 @@ fn random_word(reading: &mut Reading, word: &str) -> Option<RandomWord> {
     })
 }
 
-/// Puts a word behind the others.
+/// Puts a word after the others.
 fn put_random(random: &mut Vec<RandomWord>, reading: &mut Reading, word: &str) {
     match random_word(reading, word) {
         Some(found) => {

@@ -113,7 +113,7 @@ fn file_word(reading: &mut Reading, word: &str) -> Option<FileWord> {
     Some(FileWord { field, path })
 }
 
-/// Puts a word behind the others.
+/// Puts a word after the others.
 fn put_file(files: &mut Vec<FileWord>, reading: &mut Reading, word: &str) {
     match file_word(reading, word) {
         Some(file) => {

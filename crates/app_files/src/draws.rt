@@ -51,7 +51,7 @@ fn no_draw(alloc: Global, nodes: u32, counts: &[u64], fault: DrawFault) -> Endin
     }
 }
 
-/// Puts lists behind others.
+/// Puts lists after others.
 fn put_parts(parts: &mut Vec<Vec<u32>>, drawn: Vec<Vec<u32>>) -> Result<(), AllocError> {
     for part in drawn {
         parts.push(part)?;

@@ -24,7 +24,7 @@ fn put_names(draft: &mut Draft, program: &Program) {
     }
 }
 
-/// What is told where a word behind an option names no field.
+/// What is told where a word after an option names no field.
 fn no_field(
     alloc: Global,
     program: &Program,
@@ -40,7 +40,7 @@ fn no_field(
     draft.end()
 }
 
-/// The place of the field that a word behind an option names.
+/// The place of the field that a word after an option names.
 pub fn field_place(
     alloc: Global,
     program: &Program,
@@ -53,7 +53,7 @@ pub fn field_place(
     }
 }
 
-/// Puts the place of the field of this name, which stands behind `--only`.
+/// Puts the place of the field of this name, which stands after `--only`.
 fn put_place(
     places: &mut Vec<u32>,
     alloc: Global,
@@ -65,7 +65,7 @@ fn put_place(
     Ok(())
 }
 
-/// The places of the fields of these names, which stand behind `--only`.
+/// The places of the fields of these names, which stand after `--only`.
 fn named_fields(alloc: Global, program: &Program, words: &[String]) -> Result<Vec<u32>, Ending> {
     let mut places = Vec::new(alloc);
     for word in words {
@@ -125,7 +125,7 @@ fn put_values(draft: &mut Draft, names: &[String]) {
     }
 }
 
-/// What is told where a word behind an option names no value of a field, whose values have these names.
+/// What is told where a word after an option names no value of a field, whose values have these names.
 fn no_value(
     alloc: Global,
     option: &str,
@@ -156,7 +156,7 @@ fn place_among(names: &[String], word: &str) -> Option<u32> {
     None
 }
 
-/// The value that a word behind an option names, of a field whose values have these names.
+/// The value that a word after an option names, of a field whose values have these names.
 pub fn value_named(
     alloc: Global,
     option: &str,

@@ -52,7 +52,7 @@ pub fn put_place(draft: &mut Draft, name: &str, line: Option<u64>) {
     }
 }
 
-/// Adds what was done to so many edges or weights, behind what was done to others: `merged 2 edges into an earlier one`.
+/// Adds what was done to so many edges or weights, after what was done to others: `merged 2 edges into an earlier one`.
 pub fn put_note(draft: &mut Draft, done: &str, count: u64, thing: &str, after: &str) {
     if count > 0 {
         draft.put(if draft.is_empty() { "" } else { ", " });

@@ -132,7 +132,7 @@ pub(crate) fn text_hint(
 pub(crate) enum Sought {
     /// Names of an expression, and words with which one may begin.
     Any,
-    /// What may stand behind `n.`.
+    /// What may stand after `n.`.
     Near,
     /// Fields.
     Field,

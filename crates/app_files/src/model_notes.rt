@@ -178,7 +178,7 @@ fn first_bracket(expr: &Expr) -> Option<u32> {
 }
 
 /// What is rarely meant by a `not` at a byte, before this part: that it goes over more than the bracket that stands right
-/// behind it.
+/// after it.
 fn not_slip(at: u32, part: &Expr) -> Option<Slip> {
     match part {
         Expr::Infix { left, .. } if first_bracket(left) == Some(at.saturating_add(3)) => Some(

@@ -59,7 +59,7 @@ pub(crate) fn front_word(bytes: &[u8]) -> &str {
     str::from_utf8(&bytes[..end.min(bytes.len())]).unwrap_or("")
 }
 
-/// The name at the front of these bytes, which may stand behind `n.`.
+/// The name at the front of these bytes, which may stand after `n.`.
 fn front_name(bytes: &[u8]) -> &str {
     match bytes {
         [b'n', b'.', rest @ ..] => front_word(rest),
@@ -77,7 +77,7 @@ fn front_character(bytes: &[u8]) -> Option<&str> {
     None
 }
 
-/// The number at the front of these bytes, which begin with a digit: with its point and what stands behind it, where it has
+/// The number at the front of these bytes, which begin with a digit: with its point and what stands after it, where it has
 /// them.
 fn front_number(bytes: &[u8]) -> &str {
     let end = bytes
@@ -169,13 +169,13 @@ fn text_refusal(alloc: Global, text: &[u8], fault: ModelFault) -> Result<ModelRe
     })
 }
 
-/// The name of a cause, what is wrong behind the name at its place or instead of it, and what to do.
+/// The name of a cause, what is wrong after the name at its place or instead of it, and what to do.
 #[derive(Clone, Copy)]
 struct CauseWords {
     kind: &'static str,
     /// What stands before the name that is at fault.
     before: &'static str,
-    /// What stands behind it; where this is empty, the name isn't told.
+    /// What stands after it; where this is empty, the name isn't told.
     behind: &'static str,
     hint: &'static str,
 }

@@ -96,15 +96,15 @@ pub struct PackedNetwork {
 /// The settings of a packed network that sets nothing.
 const NO_SETTINGS: &[u8] = b"nodes = 1\nlinks = []\n";
 
-/// The ending where what stands behind the rows of the packed network at a path is no settings.
+/// The ending where what stands after the rows of the packed network at a path is no settings.
 fn no_settings(alloc: Global, path: &str) -> Ending {
     let name = name_at(path);
     Ending::refused(format!(in alloc;
-        "network Settings\n{name}: behind the rows stands no network file of one node, without links, for the phase and the initial values; unison init --packed makes such a file"
+        "network Settings\n{name}: after the rows stands no network file of one node, without links, for the phase and the initial values; unison init --packed makes such a file"
     ))
 }
 
-/// The settings that a text says which stands behind the rows of the packed network at a path.
+/// The settings that a text says which stands after the rows of the packed network at a path.
 fn settings_of(alloc: Global, path: &str, text: &[u8]) -> Result<NetFile, Ending> {
     match read_network(alloc, text) {
         Ok(file) if file.network().nodes() == 1 => Ok(file),

@@ -115,7 +115,7 @@ fn node_on(
     }
 }
 
-/// Puts the node that a line of a list calls behind the others.
+/// Puts the node that a line of a list calls after the others.
 fn put_node(
     nodes: &mut Vec<u32>,
     alloc: Global,
@@ -154,7 +154,7 @@ fn nodes_at(
     Ok(Chosen::These(nodes))
 }
 
-/// The path behind `@`, where a word begins with it.
+/// The path after `@`, where a word begins with it.
 pub fn list_path(word: &str) -> Option<&str> {
     word.strip_prefix('@')
 }

@@ -2,9 +2,9 @@
 
 use crate::lines::{weight_told, words_told};
 use app_table::Draft;
-use import_edges::{EdgeFault, LineFault};
+use import_formats::edges::{EdgeFault, LineFault};
+use import_formats::matrix_market::{MatrixFault, MatrixLineFault};
 use import_lines::WordsFault;
-use import_matrix::{MatrixFault, MatrixLineFault};
 
 /// The line of a fault where it has one, the fault's name, and what is wrong and what to do.
 pub type Told = (Option<u64>, &'static str, &'static str);
@@ -64,7 +64,7 @@ fn header_told(fault: MatrixLineFault) -> (&'static str, &'static str) {
         ),
         MatrixLineFault::Directed => (
             "Directed",
-            "the edges of a general matrix have a direction (--undirected leaves it aside, and --parallel takes both directions as one)",
+            "the edges of a general matrix have a direction (--undirected leaves it aside, and --parallel takes both directions as one; --packed --directed keeps it)",
         ),
         _ => (
             "NoHeader",
@@ -102,7 +102,7 @@ fn entry_told(fault: MatrixLineFault) -> (&'static str, &'static str) {
         ),
         MatrixLineFault::Words(fault) => words_told(fault),
         MatrixLineFault::Value(fault) => weight_told(fault),
-        MatrixLineFault::NoValue => ("NoValue", "expected a value behind the row and the column"),
+        MatrixLineFault::NoValue => ("NoValue", "expected a value after the row and the column"),
         MatrixLineFault::ValueInPattern => (
             "ValueInPattern",
             "the entries of a pattern are a row and a column; found a value",
@@ -140,7 +140,7 @@ pub fn matrix_told(fault: MatrixFault, too_many: &'static str) -> Told {
         MatrixFault::NoSize => (
             None,
             "NoSize",
-            "expected a line with the numbers of rows, columns and entries behind the header",
+            "expected a line with the numbers of rows, columns and entries after the header",
         ),
         MatrixFault::TooManyEntries { line, .. } => (
             Some(line),

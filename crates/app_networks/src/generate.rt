@@ -9,7 +9,7 @@ use net_random::{
     LargeRandom, RandomFault, RandomNetwork, WeightFault, chance_list, chance_text, drawn,
     drawn_text, weighted_text,
 };
-use net_shapes::{LargeShape, Shape, ShapeFault, links_of, made_text};
+use net_shapes::{Shape, ShapeFault, large_refusal, links_of, made_text};
 use net_text::LinkList;
 use std::alloc::Global;
 
@@ -185,29 +185,11 @@ fn text_for(alloc: Global, asked: &GenerateRequest) -> Result<Vec<u8>, Ending> {
     }
 }
 
-/// The shape among those of any size, where it is one of them.
-fn large_shape_of(shape: &Shape) -> Option<LargeShape> {
-    match *shape {
-        Shape::Path { nodes } => Some(LargeShape::Path { nodes }),
-        Shape::Ring { nodes } => Some(LargeShape::Ring { nodes }),
-        Shape::Grid { width, height } => Some(LargeShape::Grid { width, height }),
-        Shape::Torus {
-            width,
-            height,
-            diagonals,
-        } => Some(LargeShape::Torus {
-            width,
-            height,
-            diagonals,
-        }),
-        _ => None,
-    }
-}
-
 /// The way to draw among those of any size, where it is one of them.
 fn large_random_of(random: &RandomNetwork) -> Option<LargeRandom> {
     match *random {
         RandomNetwork::Random { nodes, links } => Some(LargeRandom::Random { nodes, links }),
+        RandomNetwork::Tree { nodes } => Some(LargeRandom::Tree { nodes }),
         RandomNetwork::Preferential { nodes, each } => {
             Some(LargeRandom::Preferential { nodes, each })
         }
@@ -230,6 +212,7 @@ fn large_random_of(random: &RandomNetwork) -> Option<LargeRandom> {
 fn drawn_size(random: &RandomNetwork) -> Option<(u64, u64)> {
     match *random {
         RandomNetwork::Random { nodes, links } => Some((nodes as u64, links as u64)),
+        RandomNetwork::Tree { nodes } => Some((nodes as u64, (nodes as u64).saturating_sub(1))),
         RandomNetwork::Preferential { nodes, each } => {
             Some((nodes as u64, nodes as u64 * each as u64))
         }
@@ -240,27 +223,24 @@ fn drawn_size(random: &RandomNetwork) -> Option<(u64, u64)> {
     }
 }
 
-/// How many nodes and links a network has that may have any size where it is packed; of a shape the nodes alone.
-fn packed_size(topology: &Topology) -> Option<(u64, u64)> {
-    match topology {
-        Topology::Shape(Shape::Path { nodes } | Shape::Ring { nodes }) => Some((*nodes as u64, 0)),
-        Topology::Shape(Shape::Grid { width, height } | Shape::Torus { width, height, .. }) => {
-            Some((*width as u64 * *height as u64, 0))
-        }
-        Topology::RandomNetwork(random) => drawn_size(random),
-        _ => None,
-    }
-}
-
-/// Whether no network file has so many nodes or links as are asked for, and a packed network without weights has.
-fn fits_packed_alone(asked: &GenerateRequest) -> bool {
-    match packed_size(&asked.topology) {
+/// Whether a random network has more nodes or links than a network file, and a packed network has so many.
+fn is_drawn_packed_alone(random: &RandomNetwork) -> bool {
+    match drawn_size(random) {
         Some((nodes, links)) => {
             nodes <= MOST_PACKED_NODES
                 && links <= MOST_PACKED_LINKS
                 && (nodes > MOST_NODES as u64 || links > MOST_LINKS as u64)
         }
         None => false,
+    }
+}
+
+/// Whether a packed network without weights has what is asked for, where no network file has it.
+fn fits_packed_alone(asked: &GenerateRequest) -> bool {
+    match &asked.topology {
+        Topology::Shape(shape) => large_refusal(shape).is_none(),
+        Topology::RandomNetwork(random) => is_drawn_packed_alone(random),
+        Topology::Chance { .. } => false,
     }
 }
 
@@ -299,7 +279,7 @@ fn large_for(alloc: Global, asked: &GenerateRequest) -> Option<Result<Vec<u8>, E
         return None;
     }
     match &asked.topology {
-        Topology::Shape(shape) => Some(shape_bytes(alloc, large_shape_of(shape)?)),
+        Topology::Shape(shape) => Some(shape_bytes(alloc, shape)),
         Topology::RandomNetwork(random) => {
             Some(random_bytes(alloc, large_random_of(random)?, asked.seed))
         }

@@ -40,12 +40,12 @@ pub(crate) const RING_NODES: Argument = Argument {
 };
 
 const STAR_NODES: Argument = Argument {
-    help: "The number of nodes, 4097 at most",
+    help: "The number of nodes, 4097 at most; with --packed any",
     ..NODES
 };
 
 const COMPLETE_NODES: Argument = Argument {
-    help: "The number of nodes, 724 at most",
+    help: "The number of nodes, 724 at most; with --packed any",
     ..NODES
 };
 
@@ -72,7 +72,7 @@ static RIGHT_ARGUMENT: Argument = RIGHT;
 const DIMENSION: Argument = Argument {
     name: "D",
     value_name: "D",
-    help: "The number of digits, 15 at most",
+    help: "The number of digits, 15 at most; with --packed 31",
     ..SIZE
 };
 
@@ -326,7 +326,7 @@ static GENERATE: Command = Command {
     aliases: &["make"],
     called: "unison generate",
     about: "Make a network of a shape (path, ring, grid, torus, tree and more), or a random one",
-    notes: "Prints a network file, or with --packed a packed network; its nodes are numbered from 0, row by row in a grid. Paths, rings, grids, toruses, random, preferential and small-world may have any size where they are packed; the others are packed where a network file may have them.\nAn example: unison generate torus 16 16 --diagonals > torus.toml\nAnother one: unison generate random 100000 --links 300000 --seed 7 --packed > random.net\n",
+    notes: "Prints a network file, or with --packed a packed network; its nodes are numbered from 0, row by row in a grid. All may have any size where they are packed, but gnp, regular and what has weights, which are packed where a network file may have them.\nAn example: unison generate torus 16 16 --diagonals > torus.toml\nAnother one: unison generate random 100000 --links 300000 --seed 7 --packed > random.net\n",
     arguments: &[WEIGHTS, AS_PACKED],
     subcommands: &SHAPES,
 };
@@ -543,7 +543,7 @@ fn refuse_chance(reading: &mut Reading, found: &str) {
     ));
 }
 
-/// The billionths that a decimal from 0 to 1 writes, or a number of percents with `%` behind it.
+/// The billionths that a decimal from 0 to 1 writes, or a number of percents with `%` after it.
 fn chance_of(word: &str) -> Option<u32> {
     match word.strip_suffix('%') {
         Some(percents) => share_of(percents)?.checked_mul(10),

@@ -1,33 +1,35 @@
 //! `import FORMAT FILE`: a network from another format, as a network file or packed, and the names of its nodes.
 
 use crate::import_columns::{columns_for, looks_headed, names_headings};
-use crate::import_packed::{MadeNetwork, packed_beyond, takes_any_size};
+use crate::import_packed::{packed_beyond, packed_file, threaded_options};
 use crate::import_refusals::{is_too_large, refusal};
-use crate::import_request::{Delimiter, Format, ImportRequest};
+use crate::import_request::{Delimiter, Format, ImportRequest, file_mending};
 use crate::json_refusals::json_refusal;
-use crate::pack::text_bytes;
 use app_commands::{asked_by, check_output};
 use app_files::{Ending, bytes_at, name_at, put_note, write_file, write_out};
 use app_table::Draft;
-use import_edges::{Columns, Separator, TableReading};
-use import_json::JsonReading;
+use import_formats::edges::{Columns, Separator, TableReading};
+use import_formats::json::JsonReading;
+use import_formats::matrix_market::Direction;
 use import_lines::all_digits;
 use import_network::{
-    TakeFault, Taken, take_dot, take_edges, take_json, take_matrix, take_numbers, take_table,
-    take_table_numbers,
+    ImportFault, Imported, Making, network_from_dot, network_from_edges, network_from_json,
+    network_from_matrix, network_from_numbers, network_from_table, network_from_table_numbers,
 };
+use large_pack::PackOptions;
 use std::alloc::{AllocError, Global};
 use std::io;
 use std::thread::Threads;
 
 /// The network of a table of edges.
-fn take_rows(
+fn table_network(
     alloc: Global,
     text: &[u8],
     asked: &ImportRequest,
     separator: Separator,
     columns: Option<Columns>,
-) -> Result<Taken, TakeFault> {
+    making: Making,
+) -> Result<Imported, ImportFault> {
     let reading = TableReading {
         separator,
         header: asked.header || names_headings(asked),
@@ -35,69 +37,80 @@ fn take_rows(
         factor: asked.factor,
     };
     if asked.numbers {
-        take_table_numbers(alloc, text, &reading, asked.mending)
+        network_from_table_numbers(alloc, text, &reading, making)
     } else {
-        take_table(alloc, text, &reading, asked.mending)
+        network_from_table(alloc, text, &reading, making)
     }
 }
 
 /// The network of a list of edges, where places between commas may be empty or not.
-fn take_lines(
+fn list_network(
     alloc: Global,
     text: &[u8],
     asked: &ImportRequest,
     gaps: bool,
     columns: Option<Columns>,
-) -> Result<Taken, TakeFault> {
-    let reading = import_edges::Reading {
+    making: Making,
+) -> Result<Imported, ImportFault> {
+    let reading = import_formats::edges::Reading {
         header: asked.header || names_headings(asked),
         columns,
         gaps,
         factor: asked.factor,
     };
     if asked.numbers {
-        take_numbers(alloc, text, &reading, asked.mending)
+        network_from_numbers(alloc, text, &reading, making)
     } else {
-        take_edges(alloc, text, &reading, asked.mending)
+        network_from_edges(alloc, text, &reading, making)
     }
 }
 
 /// The network of lines of edges, of which these columns are meant.
-fn take_columns(
+fn edges_network(
     alloc: Global,
     text: &[u8],
     asked: &ImportRequest,
     columns: Option<Columns>,
-) -> Result<Taken, TakeFault> {
+    making: Making,
+) -> Result<Imported, ImportFault> {
     match asked.delimiter {
-        Delimiter::Sign(separator) => take_rows(alloc, text, asked, separator, columns),
-        Delimiter::Any => take_lines(alloc, text, asked, true, columns),
-        Delimiter::Unsaid => take_lines(alloc, text, asked, false, columns),
+        Delimiter::Sign(separator) => table_network(alloc, text, asked, separator, columns, making),
+        Delimiter::Any => list_network(alloc, text, asked, true, columns, making),
+        Delimiter::Unsaid => list_network(alloc, text, asked, false, columns, making),
+    }
+}
+
+/// What is done with the direction of a matrix's edges: it is kept where links are to lead one way.
+fn direction_in(asked: &ImportRequest) -> Direction {
+    match asked.making {
+        _ if asked.undirected => Direction::LeftAside,
+        Making::Packed(options) if options.is_directed => Direction::Kept,
+        _ => Direction::Refused,
     }
 }
 
 /// The network of a text, of whose lines these columns are meant where they say edges.
-fn take_text(
+fn network_in(
     alloc: Global,
     text: &[u8],
     asked: &ImportRequest,
     columns: Option<Columns>,
-) -> Result<Taken, TakeFault> {
+    making: Making,
+) -> Result<Imported, ImportFault> {
     let factor = asked.factor;
     let undirected = asked.undirected;
     match asked.format {
-        Format::Edges => take_columns(alloc, text, asked, columns),
+        Format::Edges => edges_network(alloc, text, asked, columns, making),
         Format::MatrixMarket => {
-            let reading = import_matrix::Reading { factor, undirected };
-            take_matrix(alloc, text, &reading, asked.mending)
+            network_from_matrix(alloc, text, direction_in(asked), factor, making)
         }
         Format::Dot => {
-            let reading = import_dot::Reading { factor, undirected };
-            take_dot(alloc, text, &reading, asked.mending)
+            let reading = import_formats::dot::Reading { factor, undirected };
+            network_from_dot(alloc, text, &reading, making)
         }
         Format::Json => {
             let reading = JsonReading { factor, undirected };
-            take_json(alloc, text, &reading, asked.mending)
+            network_from_json(alloc, text, &reading, making)
         }
     }
 }
@@ -144,14 +157,14 @@ fn guesses_edge(alloc: Global, asked: &ImportRequest, text: &[u8]) -> Result<boo
 
 /// What was made of a text, and what was guessed: that the first line is an edge, that weights stand in it.
 #[derive(Drop)]
-struct Imported {
-    made: MadeNetwork,
+struct Outcome {
+    made: Imported,
     guesses_edge: bool,
     guesses_weights: bool,
 }
 
 /// Writes the names into their file, where there is one.
-fn keep_names(rt: &HostRuntime, asked: &ImportRequest, made: &MadeNetwork) -> Result<(), Ending> {
+fn keep_names(rt: &HostRuntime, asked: &ImportRequest, made: &Imported) -> Result<(), Ending> {
     match &asked.names {
         Some(path) => write_file(rt, path.as_str(), made.names.as_slice()),
         None => Ok(()),
@@ -167,9 +180,9 @@ fn put_guess(draft: &mut Draft, was_guessed: bool, told: &str) {
 }
 
 /// How many edges were dropped or merged, and how many weights rounded; and what was guessed. Nothing where nothing was.
-fn notes_text(alloc: Global, imported: &Imported) -> Result<String, AllocError> {
+fn notes_text(alloc: Global, outcome: &Outcome) -> Result<String, AllocError> {
     let mut draft = Draft::new(alloc);
-    let made = &imported.made;
+    let made = &outcome.made;
     put_note(
         &mut draft,
         "dropped",
@@ -187,12 +200,12 @@ fn notes_text(alloc: Global, imported: &Imported) -> Result<String, AllocError> 
     put_note(&mut draft, "rounded", made.rounded, "weight", "");
     put_guess(
         &mut draft,
-        imported.guesses_edge,
+        outcome.guesses_edge,
         "the first line looks like headings, and was taken for an edge (--header passes over it)",
     );
     put_guess(
         &mut draft,
-        imported.guesses_weights,
+        outcome.guesses_weights,
         "of three numbers in a line the third was taken for a weight (--columns FROM,TO[,WEIGHT] says which are meant)",
     );
     draft.end()
@@ -206,16 +219,12 @@ fn tell_notes(rt: &HostRuntime, notes: &str) -> io::Result<()> {
     Ok(())
 }
 
-/// What is told beside where a text is too large for a network file: the way to a packed network, where there is one.
-fn way_of(asked: &ImportRequest) -> &'static str {
-    if takes_any_size(asked) {
-        return "; with --packed any number of nodes and links is taken";
-    }
-    match asked.format {
-        Format::Edges => {
-            "; --packed takes any number, but not with --columns, and of words that blanks, tabs or commas part (--delimiter any)"
-        }
-        _ => "",
+/// What is told beside where a text is too large for a network file: the way to a packed network.
+fn way_of(asked: &ImportRequest, fault: ImportFault) -> &'static str {
+    if is_too_large(fault) && !asked.is_packed() {
+        "; with --packed any number of nodes and links is taken"
+    } else {
+        ""
     }
 }
 
@@ -224,64 +233,38 @@ fn refusal_text(
     alloc: Global,
     asked: &ImportRequest,
     text: &[u8],
-    fault: TakeFault,
+    fault: ImportFault,
 ) -> Result<String, AllocError> {
     let name = name_at(asked.path.as_str());
-    let way = if is_too_large(fault) {
-        way_of(asked)
-    } else {
-        ""
-    };
+    let is_packed = asked.is_packed();
+    let way = way_of(asked, fault);
     match asked.format {
-        Format::Json => json_refusal(alloc, name, text, fault),
-        _ => refusal(alloc, asked.format, name, fault, way),
+        Format::Json => json_refusal(alloc, name, text, is_packed, fault, way),
+        _ => refusal(alloc, asked.format, name, is_packed, fault, way),
     }
 }
 
 /// The ending where a text has no network.
-fn no_network(alloc: Global, asked: &ImportRequest, text: &[u8], fault: TakeFault) -> Ending {
+fn no_network(alloc: Global, asked: &ImportRequest, text: &[u8], fault: ImportFault) -> Ending {
     Ending::refused(refusal_text(alloc, asked, text, fault))
 }
 
-/// A network file as it is printed, or where that is asked the packed network of it.
-fn printed(alloc: Global, asked: &ImportRequest, file: Vec<u8>) -> Result<Vec<u8>, Ending> {
-    if asked.packed {
-        return text_bytes(alloc, &file);
-    }
-    Ok(file)
-}
-
-/// What is made of a network file that was taken from a text.
-fn made_of(alloc: Global, asked: &ImportRequest, taken: Taken) -> Result<MadeNetwork, Ending> {
-    let Taken {
-        network,
-        names,
-        dropped,
-        merged,
-        rounded,
-    } = taken;
-    let bytes = printed(alloc, asked, network)?;
-    Ok(MadeNetwork {
-        bytes,
-        names,
-        dropped: dropped as u64,
-        merged: merged as u64,
-        rounded: rounded as u64,
-    })
-}
-
-/// What is made of a text that has no network file: a packed network where that is asked and only the size is in the way.
-fn made_without_file(
+/// The packed network of a list of edges between numbers that threads read: where a network file has it, by way of that, and
+/// else by the lines once more.
+fn threaded(
     rt: &HostRuntime,
     threads: &(impl Threads + Sync),
     asked: &ImportRequest,
     text: &[u8],
-    fault: TakeFault,
-) -> Result<MadeNetwork, Ending> {
-    if asked.packed && takes_any_size(asked) && is_too_large(fault) {
-        return packed_beyond(rt.alloc(), threads, asked, text);
+    options: &PackOptions,
+) -> Result<Imported, Ending> {
+    let alloc = rt.alloc();
+    let making = Making::File(file_mending(options));
+    match network_in(alloc, text, asked, None, making) {
+        Ok(imported) => packed_file(alloc, imported),
+        Err(fault) if is_too_large(fault) => packed_beyond(alloc, threads, asked, text, options),
+        Err(fault) => Err(no_network(alloc, asked, text, fault)),
     }
-    Err(no_network(rt.alloc(), asked, text, fault))
 }
 
 /// The network of this text, or what is told where it has none.
@@ -290,11 +273,14 @@ fn made_from(
     threads: &(impl Threads + Sync),
     asked: &ImportRequest,
     text: &[u8],
-) -> Result<MadeNetwork, Ending> {
+) -> Result<Imported, Ending> {
+    if let Some(options) = threaded_options(asked) {
+        return threaded(rt, threads, asked, text, &options);
+    }
     let columns = columns_for(rt.alloc(), asked, text)?;
-    match take_text(rt.alloc(), text, asked, columns) {
-        Ok(taken) => made_of(rt.alloc(), asked, taken),
-        Err(fault) => made_without_file(rt, threads, asked, text, fault),
+    match network_in(rt.alloc(), text, asked, columns, asked.making) {
+        Ok(imported) => Ok(imported),
+        Err(fault) => Err(no_network(rt.alloc(), asked, text, fault)),
     }
 }
 
@@ -304,10 +290,10 @@ fn import_from(
     threads: &(impl Threads + Sync),
     asked: &ImportRequest,
     text: &[u8],
-) -> Result<Imported, Ending> {
+) -> Result<Outcome, Ending> {
     let made = made_from(rt, threads, asked, text)?;
     let guesses_edge = guesses_edge(rt.alloc(), asked, text)?;
-    Ok(Imported {
+    Ok(Outcome {
         made,
         guesses_edge,
         guesses_weights: guesses_weights(asked, text),
@@ -319,22 +305,22 @@ fn import_for(
     rt: &HostRuntime,
     threads: &(impl Threads + Sync),
     asked: &ImportRequest,
-) -> Result<Imported, Ending> {
+) -> Result<Outcome, Ending> {
     let text = bytes_at(rt, asked.path.as_str())?;
     import_from(rt, threads, asked, &text)
 }
 
 /// Writes the names of the nodes, and prints the network.
-fn put_texts(rt: &HostRuntime, asked: &ImportRequest, made: &MadeNetwork) -> Result<(), Ending> {
+fn put_texts(rt: &HostRuntime, asked: &ImportRequest, made: &Imported) -> Result<(), Ending> {
     keep_names(rt, asked, made)?;
-    write_out(rt, made.bytes.as_slice())
+    write_out(rt, made.network.as_slice())
 }
 
 /// Writes the names of the nodes, prints the network, and tells these notes. The status with which the program ends.
 fn put_noted(
     rt: &HostRuntime,
     asked: &ImportRequest,
-    made: &MadeNetwork,
+    made: &Imported,
     notes: &str,
 ) -> Result<u8, Ending> {
     put_texts(rt, asked, made)?;
@@ -344,14 +330,14 @@ fn put_noted(
 
 /// Writes the names of the nodes, prints the network, and tells what was done to make it. The status with which the program
 /// ends.
-fn put_import(rt: &HostRuntime, asked: &ImportRequest, imported: &Imported) -> Result<u8, Ending> {
-    let notes = notes_text(rt.alloc(), imported)?;
-    put_noted(rt, asked, &imported.made, notes.as_str())
+fn put_import(rt: &HostRuntime, asked: &ImportRequest, outcome: &Outcome) -> Result<u8, Ending> {
+    let notes = notes_text(rt.alloc(), outcome)?;
+    put_noted(rt, asked, &outcome.made, notes.as_str())
 }
 
 /// Refuses a terminal as standard output, where a packed network is asked for.
 fn check_packed(rt: &HostRuntime, asked: &ImportRequest) -> Result<(), Ending> {
-    if asked.packed {
+    if asked.is_packed() {
         return check_output(rt);
     }
     Ok(())
@@ -364,8 +350,8 @@ fn import(
     asked: &ImportRequest,
 ) -> Result<u8, Ending> {
     check_packed(rt, asked)?;
-    let imported = import_for(rt, threads, asked)?;
-    put_import(rt, asked, &imported)
+    let outcome = import_for(rt, threads, asked)?;
+    put_import(rt, asked, &outcome)
 }
 
 /// Prints the network of a text in another format, and writes the names of its nodes before. The status with which the

@@ -4,7 +4,7 @@ use crate::import_request::{ColumnWord, ColumnWords, Delimiter, ImportRequest};
 use app_files::{Ending, name_at, put_place};
 use app_table::Draft;
 use csv::ByteRecord;
-use import_edges::{Columns, Separator, TableReading, edge_lines, read_rows};
+use import_formats::edges::{Columns, Separator, TableReading, edge_lines, read_rows};
 use std::alloc::{AllocError, Global};
 use std::str;
 
@@ -38,7 +38,7 @@ pub(crate) fn names_headings(asked: &ImportRequest) -> bool {
     }
 }
 
-/// Puts a heading behind the others; one that is no text is empty.
+/// Puts a heading after the others; one that is no text is empty.
 fn put_heading(names: &mut Vec<String>, alloc: Global, heading: &[u8]) -> Result<(), AllocError> {
     let text = str::from_utf8(heading).unwrap_or("");
     names.push(String::from_str(alloc, text)?)?;

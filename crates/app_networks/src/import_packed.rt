@@ -1,93 +1,54 @@
-//! `import FORMAT FILE --packed`: networks of more nodes or links than a network file may have.
+//! Long lists of edges between numbers, which threads read into packed networks.
 
 use crate::import_refusals::refusal;
 use crate::import_request::{Delimiter, Format, ImportRequest};
+use crate::pack::text_bytes;
 use crate::pack_refusals;
 use app_files::{Ending, name_at};
-use import_links::{Kept, Mending, NumberFault, ParallelLinks, SelfLoops, SettleFault};
-use import_network::{
-    MatrixOptions, MatrixPackFault, NamedNetwork, NamesPackFault, TakeFault, pack_matrix,
-    pack_names,
-};
+use import_links::{NumberFault, SettleFault};
+use import_network::{ImportFault, Imported, Making};
 use large_net::large_bytes;
-use large_pack::{LineFault, NodeFault, PackFault, PackOptions, Packed, Parallel, pack_edges};
-use net_names::{NameList, list_text};
+use large_pack::{
+    LineFault, NodeFault, PackFault, PackOptions, Packed, Parallel, SelfLoops, pack_edges,
+};
 use std::alloc::{AllocError, Global};
 use std::thread::Threads;
 
-/// The network of a text as it is printed, the file of the names of its nodes, and what was done to make it.
-#[derive(Drop)]
-pub(crate) struct MadeNetwork {
-    /// A network file, or a packed network.
-    pub(crate) bytes: Vec<u8>,
-    /// The file of the names of the nodes; nothing where they have none, or none are asked for.
-    pub(crate) names: Vec<u8>,
-    /// How many edges of a node with itself were dropped.
-    pub(crate) dropped: u64,
-    /// How many edges were merged into others.
-    pub(crate) merged: u64,
-    /// How many weights were rounded; 0 where that is not counted.
-    pub(crate) rounded: u64,
+/// Whether all words of the lines of a text are meant, which blanks, tabs or commas part, and are numbers.
+fn is_plain(asked: &ImportRequest) -> bool {
+    matches!(asked.format, Format::Edges)
+        && asked.numbers
+        && asked.columns.is_none()
+        && !matches!(asked.delimiter, Delimiter::Sign(_))
 }
 
-/// Whether a text is packed that has more nodes or links than a network file: a matrix, or a list of edges whose words
-/// blanks, tabs or commas part, all of which are meant.
-pub(crate) fn takes_any_size(asked: &ImportRequest) -> bool {
-    match asked.format {
-        Format::Edges => {
-            asked.columns.is_none() && !matches!(asked.delimiter, Delimiter::Sign(_))
-        }
-        Format::MatrixMarket => true,
-        Format::Dot | Format::Json => false,
+/// Whether a network file says the same as a packed network by these options, where it can.
+fn has_file(options: &PackOptions) -> bool {
+    !options.is_directed
+        && options.self_loops != SelfLoops::Keep
+        && options.parallel != Parallel::Keep
+}
+
+/// How a text is packed that threads read: a list of edges between numbers.
+pub(crate) fn threaded_options(asked: &ImportRequest) -> Option<PackOptions> {
+    match asked.making {
+        Making::Packed(options) if is_plain(asked) && has_file(&options) => Some(options),
+        _ => None,
     }
 }
 
-/// What is done with edges of a node with itself.
-fn self_loops_of(mending: &Mending) -> large_pack::SelfLoops {
-    match mending.self_loops {
-        SelfLoops::Refused => large_pack::SelfLoops::Refuse,
-        SelfLoops::Dropped => large_pack::SelfLoops::Drop,
-    }
-}
-
-/// What is done with edges between the same two nodes.
-fn parallel_of(mending: &Mending) -> Parallel {
-    match mending.parallel {
-        ParallelLinks::Refused => Parallel::Refuse,
-        ParallelLinks::Merged(Kept::Least) => Parallel::Least,
-        ParallelLinks::Merged(Kept::Most) => Parallel::Greatest,
-        ParallelLinks::Merged(Kept::First) => Parallel::First,
-    }
-}
-
-/// How a list of edges is packed.
-fn edge_options(asked: &ImportRequest) -> PackOptions {
-    PackOptions {
-        nodes: None,
-        is_directed: false,
-        reverse: false,
-        factor: asked.factor,
-        header: asked.header,
-        self_loops: self_loops_of(&asked.mending),
-        parallel: parallel_of(&asked.mending),
-    }
-}
-
-/// How a matrix is packed.
-fn matrix_options(asked: &ImportRequest) -> MatrixOptions {
-    MatrixOptions {
-        undirected: asked.undirected,
-        factor: asked.factor,
-        self_loops: self_loops_of(&asked.mending),
-        parallel: parallel_of(&asked.mending),
-    }
+/// What is made of a network file, as the packed network of it.
+pub(crate) fn packed_file(alloc: Global, imported: Imported) -> Result<Imported, Ending> {
+    let mut imported = imported;
+    imported.network = text_bytes(alloc, &imported.network)?;
+    Ok(imported)
 }
 
 /// The same fault of the edges of a network file, where these have it.
-fn file_fault(fault: PackFault) -> Option<TakeFault> {
+fn file_fault(fault: PackFault) -> Option<ImportFault> {
     match fault {
-        PackFault::SelfLoop { line } => Some(TakeFault::Settle(SettleFault::SelfLoop { line })),
-        PackFault::ParallelEdge { line, earlier } => Some(TakeFault::Settle(
+        PackFault::SelfLoop { line } => Some(ImportFault::Settle(SettleFault::SelfLoop { line })),
+        PackFault::ParallelEdge { line, earlier } => Some(ImportFault::Settle(
             SettleFault::ParallelEdge {
                 line,
                 first: earlier,
@@ -99,7 +60,14 @@ fn file_fault(fault: PackFault) -> Option<TakeFault> {
                 fault: NodeFault::BadNode,
                 ..
             },
-        } => Some(TakeFault::Numbers(NumberFault::NoNumber { line })),
+        } => Some(ImportFault::Numbers(NumberFault::NoNumber { line })),
+        PackFault::BadLine {
+            line,
+            fault: LineFault::Node {
+                fault: NodeFault::NodeTooLarge,
+                ..
+            },
+        } => Some(ImportFault::Numbers(NumberFault::NumberTooLarge { line })),
         _ => None,
     }
 }
@@ -112,115 +80,34 @@ fn edges_refusal(
 ) -> Result<String, AllocError> {
     let name = name_at(asked.path.as_str());
     match file_fault(fault) {
-        Some(fault) => refusal(alloc, asked.format, name, fault, ""),
+        Some(fault) => refusal(alloc, asked.format, name, true, fault, ""),
         None => pack_refusals::refusal(alloc, name, fault),
     }
 }
 
-/// What is told where edges between names are not packed.
-fn names_refusal(
-    alloc: Global,
-    asked: &ImportRequest,
-    fault: NamesPackFault,
-) -> Result<String, AllocError> {
-    match fault {
-        NamesPackFault::Edges(fault) => edges_refusal(alloc, asked, fault),
-        fault => pack_refusals::names_refusal(alloc, name_at(asked.path.as_str()), fault),
-    }
-}
-
-/// What is told where a matrix is not packed.
-fn matrix_refusal(
-    alloc: Global,
-    asked: &ImportRequest,
-    fault: MatrixPackFault,
-) -> Result<String, AllocError> {
-    let name = name_at(asked.path.as_str());
-    if let MatrixPackFault::Edges(fault) = fault {
-        if let Some(fault) = file_fault(fault) {
-            return refusal(alloc, asked.format, name, fault, "");
-        }
-    }
-    pack_refusals::matrix_refusal(alloc, name, fault)
-}
-
-/// What is made of a packed network whose nodes have these names.
-fn made_of(alloc: Global, packed: &Packed, names: Vec<u8>) -> Result<MadeNetwork, Ending> {
-    let bytes = large_bytes(alloc, &packed.network)?;
-    Ok(MadeNetwork {
-        bytes,
-        names,
+/// What is made of a packed network.
+fn made_of(alloc: Global, packed: &Packed) -> Result<Imported, Ending> {
+    let network = large_bytes(alloc, &packed.network)?;
+    Ok(Imported {
+        network,
+        names: Vec::new(alloc),
         dropped: packed.dropped_loops,
         merged: packed.merged,
         rounded: 0,
     })
 }
 
-/// The file of these names, where one is asked for.
-fn names_file(
-    alloc: Global,
-    asked: &ImportRequest,
-    names: &NameList,
-) -> Result<Vec<u8>, AllocError> {
-    if asked.names.is_some() {
-        return list_text(alloc, names);
-    }
-    Ok(Vec::new(alloc))
-}
-
-/// What is made of a packed network of named nodes.
-fn named_of(
-    alloc: Global,
-    asked: &ImportRequest,
-    named: &NamedNetwork,
-) -> Result<MadeNetwork, Ending> {
-    let names = names_file(alloc, asked, &named.names)?;
-    made_of(alloc, &named.packed, names)
-}
-
-/// The packed network of a list of edges between the numbers of nodes.
-fn numbers_beyond(
-    alloc: Global,
-    threads: &(impl Threads + Sync),
-    asked: &ImportRequest,
-    text: &[u8],
-) -> Result<MadeNetwork, Ending> {
-    match pack_edges(threads, alloc, text, &edge_options(asked)) {
-        Ok(packed) => made_of(alloc, &packed, Vec::new(alloc)),
-        Err(fault) => Err(Ending::refused(edges_refusal(alloc, asked, fault))),
-    }
-}
-
-/// The packed network of a list of edges between the names of nodes.
-fn names_beyond(alloc: Global, asked: &ImportRequest, text: &[u8]) -> Result<MadeNetwork, Ending> {
-    match pack_names(alloc, text, &edge_options(asked)) {
-        Ok(named) => named_of(alloc, asked, &named),
-        Err(fault) => Err(Ending::refused(names_refusal(alloc, asked, fault))),
-    }
-}
-
-/// The packed network of a matrix.
-fn matrix_beyond(alloc: Global, asked: &ImportRequest, text: &[u8]) -> Result<MadeNetwork, Ending> {
-    match pack_matrix(alloc, text, &matrix_options(asked)) {
-        Ok(packed) => made_of(alloc, &packed, Vec::new(alloc)),
-        Err(fault) => Err(Ending::refused(matrix_refusal(alloc, asked, fault))),
-    }
-}
-
-/// The packed network of a text that is too large for a network file, and is packed whatever its size (`takes_any_size`).
-/// A list of edges is one whose lines were read for a network file before, so that none has an empty place or headings; a
-/// matrix is one whose direction was refused before, where that is not left aside.
+/// The packed network of a list of edges that is too large for a network file. Its lines were read for one before, so that
+/// none has an empty place or headings.
 pub(crate) fn packed_beyond(
     alloc: Global,
     threads: &(impl Threads + Sync),
     asked: &ImportRequest,
     text: &[u8],
-) -> Result<MadeNetwork, Ending> {
-    if matches!(asked.format, Format::MatrixMarket) {
-        return matrix_beyond(alloc, asked, text);
+    options: &PackOptions,
+) -> Result<Imported, Ending> {
+    match pack_edges(threads, alloc, text, options) {
+        Ok(packed) => made_of(alloc, &packed),
+        Err(fault) => Err(Ending::refused(edges_refusal(alloc, asked, fault))),
     }
-    if asked.numbers {
-        return numbers_beyond(alloc, threads, asked, text);
-    }
-    names_beyond(alloc, asked, text)
 }

@@ -7,12 +7,14 @@ use app_files::{
     weight_told, words_told,
 };
 use app_table::Draft;
-use import_dot::{DotFault, DotLineFault, TokenKind};
-use import_edges::{EdgeFault, LineFault, RowFault, TableFault};
+use import_formats::dot::{DotFault, DotLineFault, TokenKind};
+use import_formats::edges::{EdgeFault, LineFault, RowFault, TableFault};
+use import_formats::json::{JsonFault, NodeFault};
+use import_formats::matrix_market::{MatrixFault, MatrixLineFault};
 use import_lines::{WeightFault, WordsFault};
 use import_links::{JoinFault, NumberFault, SettleFault};
-use import_matrix::{MatrixFault, MatrixLineFault};
-use import_network::TakeFault;
+use import_network::ImportFault;
+use large_pack::PackFault;
 use link_net::NetFault;
 use std::alloc::{AllocError, Global};
 
@@ -128,11 +130,11 @@ fn statements_told(fault: DotLineFault) -> (&'static str, &'static str) {
         DotLineFault::TooDeep => ("TooDeep", "subgraphs stand in one another 64 deep at most"),
         DotLineFault::NoValue => (
             "NoValue",
-            "expected `=` and a value behind an attribute's name",
+            "expected `=` and a value after an attribute's name",
         ),
         DotLineFault::DefaultWeight => (
             "DefaultWeight",
-            "a weight for all edges is not taken: write it behind each edge",
+            "a weight for all edges is not taken: write it after each edge",
         ),
         DotLineFault::Syntax { .. } => ("Syntax", "this may not stand here: found "),
         DotLineFault::Weight(fault) => weight_told(fault),
@@ -148,8 +150,13 @@ fn dot_told(fault: DotFault) -> Told {
     }
 }
 
+/// The words for a packed network, or those for a network file.
+pub(crate) fn by_form(is_packed: bool, file: &'static str, packed: &'static str) -> &'static str {
+    if is_packed { packed } else { file }
+}
+
 /// What is wrong with the names of nodes.
-fn join_told(fault: JoinFault) -> Told {
+fn join_told(is_packed: bool, fault: JoinFault) -> Told {
     match fault {
         JoinFault::BadName { line } => (
             Some(line),
@@ -159,14 +166,18 @@ fn join_told(fault: JoinFault) -> Told {
         JoinFault::TooManyNodes { line } => (
             Some(line),
             "TooManyNodes",
-            "with this name there are more than 65536 nodes",
+            by_form(
+                is_packed,
+                "with this name there are more than 65536 nodes",
+                "with this name there are more than 4294967295 nodes",
+            ),
         ),
         JoinFault::Memory => (None, "Memory", ""),
     }
 }
 
 /// What is wrong with names that are to be numbers.
-fn numbers_told(fault: NumberFault) -> Told {
+fn numbers_told(is_packed: bool, fault: NumberFault) -> Told {
     match fault {
         NumberFault::NoNumber { line } => (
             Some(line),
@@ -176,7 +187,11 @@ fn numbers_told(fault: NumberFault) -> Told {
         NumberFault::NumberTooLarge { line } => (
             Some(line),
             "NumberTooLarge",
-            "the number of a node is 65535 at most",
+            by_form(
+                is_packed,
+                "the number of a node is 65535 at most",
+                "the number of a node is 4294967294 at most",
+            ),
         ),
         NumberFault::Memory => (None, "Memory", ""),
     }
@@ -214,18 +229,40 @@ fn settle_told(fault: SettleFault) -> Told {
     }
 }
 
-/// What is wrong with a text.
-pub(crate) fn told_of(fault: TakeFault) -> Told {
+/// What is wrong with the edges of a packed network.
+fn packing_told(fault: PackFault) -> Told {
     match fault {
-        TakeFault::Edges(fault) => list_told(fault),
-        TakeFault::Table(fault) => table_told(fault),
-        TakeFault::Matrix(fault) => matrix_told(fault, "a network has 65536 nodes at most"),
-        TakeFault::Dot(fault) => dot_told(fault),
-        TakeFault::Json(fault) => json_told(fault),
-        TakeFault::Join(fault) => join_told(fault),
-        TakeFault::Numbers(fault) => numbers_told(fault),
-        TakeFault::Settle(fault) => settle_told(fault),
-        TakeFault::Memory => (None, "Memory", ""),
+        PackFault::NoNode => (None, "NoNodes", "there are no nodes"),
+        PackFault::TooManyEdges => (
+            None,
+            "TooManyLinks",
+            "the nodes would have more than 4294967295 neighbours together",
+        ),
+        PackFault::Memory => (None, "Memory", ""),
+        _ => (None, "BadLink", "a link is none of the network"),
+    }
+}
+
+/// What is wrong with a text that is to have a network of this form.
+pub(crate) fn told_of(is_packed: bool, fault: ImportFault) -> Told {
+    match fault {
+        ImportFault::Edges(fault) => list_told(fault),
+        ImportFault::Table(fault) => table_told(fault),
+        ImportFault::Matrix(fault) => matrix_told(
+            fault,
+            by_form(
+                is_packed,
+                "a network has 65536 nodes at most",
+                "a network has 4294967295 nodes at most",
+            ),
+        ),
+        ImportFault::Dot(fault) => dot_told(fault),
+        ImportFault::Json(fault) => json_told(is_packed, fault),
+        ImportFault::Join(fault) => join_told(is_packed, fault),
+        ImportFault::Numbers(fault) => numbers_told(is_packed, fault),
+        ImportFault::Settle(fault) => settle_told(fault),
+        ImportFault::Packing(fault) => packing_told(fault),
+        ImportFault::Memory => (None, "Memory", ""),
     }
 }
 
@@ -256,14 +293,14 @@ fn token_text(kind: TokenKind) -> &'static str {
 }
 
 /// Adds what is told beside: the earlier edge of two, how many entries there are, and what was found.
-fn put_detail(draft: &mut Draft, fault: TakeFault) {
+fn put_detail(draft: &mut Draft, fault: ImportFault) {
     match fault {
-        TakeFault::Settle(SettleFault::ParallelEdge { first, .. }) => {
+        ImportFault::Settle(SettleFault::ParallelEdge { first, .. }) => {
             draft.put("; it stands on line ");
             draft.put_count(first);
         }
-        TakeFault::Matrix(fault) => put_matrix_detail(draft, fault),
-        TakeFault::Dot(
+        ImportFault::Matrix(fault) => put_matrix_detail(draft, fault),
+        ImportFault::Dot(
             DotFault::BadLine {
                 fault: DotLineFault::Syntax { found },
                 ..
@@ -274,14 +311,22 @@ fn put_detail(draft: &mut Draft, fault: TakeFault) {
 }
 
 /// Whether a text says more than a network file may have.
-pub(crate) fn is_too_large(fault: TakeFault) -> bool {
+pub(crate) fn is_too_large(fault: ImportFault) -> bool {
     match fault {
-        TakeFault::Join(JoinFault::TooManyNodes { .. })
-        | TakeFault::Numbers(NumberFault::NumberTooLarge { .. })
-        | TakeFault::Settle(SettleFault::Net(NetFault::TooManyLinks | NetFault::TooManyNeighbours))
-        | TakeFault::Matrix(
+        ImportFault::Join(JoinFault::TooManyNodes { .. })
+        | ImportFault::Numbers(NumberFault::NumberTooLarge { .. })
+        | ImportFault::Settle(
+            SettleFault::Net(NetFault::TooManyLinks | NetFault::TooManyNeighbours),
+        )
+        | ImportFault::Matrix(
             MatrixFault::BadLine {
                 fault: MatrixLineFault::TooManyNodes,
+                ..
+            },
+        )
+        | ImportFault::Json(
+            JsonFault::BadNode {
+                fault: NodeFault::TooManyNodes,
                 ..
             },
         ) => true,
@@ -289,15 +334,16 @@ pub(crate) fn is_too_large(fault: TakeFault) -> bool {
     }
 }
 
-/// What is told where a text of this format has no network, and behind it the way to one, where there is a way.
+/// What is told where a text of this format has no network, and after it the way to one, where there is a way.
 pub(crate) fn refusal(
     alloc: Global,
     format: Format,
     name: &str,
-    fault: TakeFault,
+    is_packed: bool,
+    fault: ImportFault,
     way: &str,
 ) -> Result<String, AllocError> {
-    let (line, kind, why) = told_of(fault);
+    let (line, kind, why) = told_of(is_packed, fault);
     if kind == "Memory" {
         return Err(AllocError);
     }

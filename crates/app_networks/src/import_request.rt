@@ -5,8 +5,10 @@ use app_commands::{AS_PACKED, AS_PACKED_ARGUMENT, FILE, FILE_OPTION, FLAG};
 use app_table::{
     Argument, Choice, Command, OPTION, Reading, Subcommand, Value, WordsFault, number,
 };
-use import_edges::Separator;
+use import_formats::edges::Separator;
 use import_links::{Kept, Mending, ParallelLinks, SelfLoops};
+use import_network::Making;
+use large_pack::{PackOptions, Parallel};
 use std::alloc::Global;
 
 /// The greatest number of a column: a line has 65,536 bytes at most.
@@ -44,6 +46,46 @@ pub(crate) const DROP_LOOPS: Argument = Argument {
 /// `DROP_LOOPS`, as it is read.
 static DROP_LOOPS_ARGUMENT: Argument = DROP_LOOPS;
 
+pub(crate) const KEEP_LOOPS: Argument = Argument {
+    name: "keep-loops",
+    help: "Keep edges of a node with itself, which are refused else: the node is a neighbour of itself",
+    ..FLAG
+};
+
+/// `KEEP_LOOPS` of a network that may be a network file, which has no such links.
+const KEPT_LOOPS: Argument = Argument {
+    needs: Some("packed"),
+    ..KEEP_LOOPS
+};
+
+/// `KEPT_LOOPS`, as it is read.
+static KEPT_LOOPS_ARGUMENT: Argument = KEPT_LOOPS;
+
+pub(crate) const DIRECTED: Argument = Argument {
+    name: "directed",
+    help: "An edge a b gives a the neighbour b alone, so that a reads b; else it gives b the neighbour a, too",
+    ..FLAG
+};
+
+/// `DIRECTED` of a network that may be a network file, whose links have no direction.
+const ONE_WAY: Argument = Argument {
+    needs: Some("packed"),
+    ..DIRECTED
+};
+
+/// `ONE_WAY`, as it is read.
+static ONE_WAY_ARGUMENT: Argument = ONE_WAY;
+
+pub(crate) const REVERSE: Argument = Argument {
+    name: "reverse",
+    help: "Turn each edge round: an edge a b gives b the neighbour a, so that b reads a",
+    needs: Some("directed"),
+    ..FLAG
+};
+
+/// `REVERSE`, as it is read.
+static REVERSE_ARGUMENT: Argument = REVERSE;
+
 const PARALLEL: Argument = Argument {
     name: "parallel",
     aliases: &["merge-doubles"],
@@ -60,9 +102,13 @@ const PARALLEL: Argument = Argument {
             name: "first",
             aliases: &[],
         },
+        Choice {
+            name: "keep",
+            aliases: &[],
+        },
     ]),
     value_name: "WEIGHT",
-    help: "Take edges between the same two nodes, which are refused else, as one with the least, the greatest or the first weight: min, max or first",
+    help: "Take edges between the same two nodes, which are refused else, as one with the least, the greatest or the first weight, or with --packed keep all: min, max, first or keep",
     ..OPTION
 };
 
@@ -143,29 +189,36 @@ static UNDIRECTED_ARGUMENT: Argument = UNDIRECTED;
 const FORMATS: [Subcommand; 4] = [
     Subcommand {
         name: "edges",
-        about: "Lines of two names and a weight, which may be left out; blanks, tabs or commas between, comments behind # or %",
+        about: "Lines of two names and a weight, which may be left out; blanks, tabs or commas between, comments after # or %",
         notes: "",
         arguments: &[
-            TEXT, SCALE, DROP_LOOPS, PARALLEL, NAMES, HEADER, NUMBERS, COLUMNS, DELIMITER,
+            TEXT, SCALE, DROP_LOOPS, KEPT_LOOPS, PARALLEL, NAMES, HEADER, NUMBERS, COLUMNS,
+            DELIMITER, ONE_WAY, REVERSE,
         ],
     },
     Subcommand {
         name: "matrix-market",
         about: "Matrix Market's coordinate format: pattern, integer or real, general or symmetric; row 1 is node 0",
         notes: "",
-        arguments: &[TEXT, SCALE, DROP_LOOPS, PARALLEL, UNDIRECTED],
+        arguments: &[
+            TEXT, SCALE, DROP_LOOPS, KEPT_LOOPS, PARALLEL, UNDIRECTED, ONE_WAY, REVERSE,
+        ],
     },
     Subcommand {
         name: "dot",
         about: "Graphviz: nodes, edges, chains and weights; other attributes are passed over",
         notes: "",
-        arguments: &[TEXT, SCALE, DROP_LOOPS, PARALLEL, NAMES, UNDIRECTED],
+        arguments: &[
+            TEXT, SCALE, DROP_LOOPS, KEPT_LOOPS, PARALLEL, NAMES, UNDIRECTED,
+        ],
     },
     Subcommand {
         name: "json",
         about: "NetworkX's node-link JSON: nodes, links and weights; other members are passed over",
         notes: "",
-        arguments: &[TEXT, SCALE, DROP_LOOPS, PARALLEL, NAMES, UNDIRECTED],
+        arguments: &[
+            TEXT, SCALE, DROP_LOOPS, KEPT_LOOPS, PARALLEL, NAMES, UNDIRECTED,
+        ],
     },
 ];
 
@@ -175,7 +228,7 @@ static IMPORT: Command = Command {
     aliases: &["take"],
     called: "unison import",
     about: "Import a network from a list of edges, a Matrix Market file, a graph of Graphviz or JSON",
-    notes: "Prints a network file, or with --packed a packed network; nodes are numbered by the first appearance of their names. Matrices and lists of edges parted by blanks, tabs or commas may have any size where they are packed; the others are packed where a network file may have them.\nAn example: unison import edges friends.txt --names friends.names > friends.toml\nAnother one: unison import edges friends.csv --columns source,target > friends.toml\nAnother one: unison import matrix-market road.mtx --undirected --parallel min --packed > road.net\n",
+    notes: "Prints a network file, or with --packed a packed network, of any size; nodes are numbered by the first appearance of their names.\nAn example: unison import edges friends.txt --names friends.names > friends.toml\nAnother one: unison import edges friends.csv --columns source,target > friends.toml\nAnother one: unison import matrix-market road.mtx --undirected --parallel min --packed > road.net\n",
     arguments: &[AS_PACKED],
     subcommands: &FORMATS,
 };
@@ -269,10 +322,8 @@ pub struct ImportRequest {
     pub undirected: bool,
     /// What weights are multiplied by, where they are.
     pub factor: Option<u32>,
-    /// What becomes of self-loops and parallel edges.
-    pub mending: Mending,
-    /// Whether a packed network is written in the place of a network file.
-    pub packed: bool,
+    /// How the links of the text become the network that is written.
+    pub making: Making,
 }
 
 /// The factor that the words name; it is 1 or more.
@@ -283,13 +334,14 @@ pub(crate) fn factor_in(reading: &mut Reading) -> Option<u32>
     if factor > 0 { Some(factor) } else { None }
 }
 
-/// What becomes of edges between the same two nodes.
-fn parallel_in(reading: &mut Reading) -> ParallelLinks {
+/// What becomes of edges between the same two nodes in a packed network.
+fn parallel_in(reading: &mut Reading) -> Parallel {
     match reading.choice(&PARALLEL_ARGUMENT) {
-        None => ParallelLinks::Refused,
-        Some("min") => ParallelLinks::Merged(Kept::Least),
-        Some("max") => ParallelLinks::Merged(Kept::Most),
-        Some(_) => ParallelLinks::Merged(Kept::First),
+        None => Parallel::Refuse,
+        Some("min") => Parallel::Least,
+        Some("max") => Parallel::Greatest,
+        Some("first") => Parallel::First,
+        Some(_) => Parallel::Keep,
     }
 }
 
@@ -377,13 +429,87 @@ fn columns_in(reading: &mut Reading) -> Option<ColumnWords> {
     columns
 }
 
-/// What becomes of loops.
-fn self_loops_in(reading: &Reading) -> SelfLoops {
-    if reading.has(&DROP_LOOPS_ARGUMENT) {
-        SelfLoops::Dropped
-    } else {
-        SelfLoops::Refused
+/// What becomes of edges of a node with itself in a packed network. They are not both dropped and kept.
+fn self_loops_in(reading: &mut Reading) -> large_pack::SelfLoops {
+    match (
+        reading.has(&DROP_LOOPS_ARGUMENT),
+        reading.has(&KEPT_LOOPS_ARGUMENT),
+    ) {
+        (false, false) => large_pack::SelfLoops::Refuse,
+        (true, false) => large_pack::SelfLoops::Drop,
+        (false, true) => large_pack::SelfLoops::Keep,
+        (true, true) => {
+            reading.refuse_words("--keep-loops cannot stand beside --drop-loops");
+            large_pack::SelfLoops::Refuse
+        }
     }
+}
+
+/// How the links of a packed network are made of edges.
+fn packing_in(reading: &mut Reading, factor: Option<u32>) -> PackOptions {
+    let self_loops = self_loops_in(reading);
+    let parallel = parallel_in(reading);
+    PackOptions {
+        nodes: None,
+        is_directed: reading.has(&ONE_WAY_ARGUMENT),
+        reverse: reading.has(&REVERSE_ARGUMENT),
+        factor,
+        header: reading.has(&HEADER_ARGUMENT),
+        self_loops,
+        parallel,
+    }
+}
+
+/// What becomes of links of a node with itself in a network file, where there they are treated so.
+fn file_loops(self_loops: large_pack::SelfLoops) -> SelfLoops {
+    match self_loops {
+        large_pack::SelfLoops::Drop => SelfLoops::Dropped,
+        large_pack::SelfLoops::Refuse | large_pack::SelfLoops::Keep => SelfLoops::Refused,
+    }
+}
+
+/// What becomes of links that join the same two nodes in a network file, where there they are treated so.
+fn file_parallel(parallel: Parallel) -> ParallelLinks {
+    match parallel {
+        Parallel::Least => ParallelLinks::Merged(Kept::Least),
+        Parallel::Greatest => ParallelLinks::Merged(Kept::Most),
+        Parallel::First => ParallelLinks::Merged(Kept::First),
+        Parallel::Refuse | Parallel::Keep => ParallelLinks::Refused,
+    }
+}
+
+/// What becomes of links that no network file has, by these options of a packed network.
+pub(crate) fn file_mending(options: &PackOptions) -> Mending {
+    Mending {
+        self_loops: file_loops(options.self_loops),
+        parallel: file_parallel(options.parallel),
+    }
+}
+
+/// Refuses to keep all edges between the same two nodes in a network file.
+fn check_parallel(reading: &mut Reading, options: &PackOptions) {
+    if options.parallel == Parallel::Keep {
+        reading.refuse_words(
+            "--parallel keep: a network file has one link between two nodes at most (--packed writes a packed network, which has any number)",
+        );
+    }
+}
+
+/// Refuses both to keep a direction and to leave it aside.
+fn check_direction(reading: &mut Reading) {
+    if reading.has(&UNDIRECTED_ARGUMENT) && reading.has(&ONE_WAY_ARGUMENT) {
+        reading.refuse_words("--directed cannot stand beside --undirected");
+    }
+}
+
+/// How the links of the text become the network that is written.
+fn making_in(reading: &mut Reading, factor: Option<u32>) -> Making {
+    let options = packing_in(reading, factor);
+    if reading.has(&AS_PACKED_ARGUMENT) {
+        return Making::Packed(options);
+    }
+    check_parallel(reading, &options);
+    Making::File(file_mending(&options))
 }
 
 /// Refuses `--names` beside `--numbers`: numbers have no other names.
@@ -400,8 +526,9 @@ fn request_in(reading: &mut Reading) -> ImportRequest
     ensures positive { IfSome result.factor (λ factor. 1 ≤ factor) }
 {
     check_names(reading);
+    check_direction(reading);
     let factor = factor_in(reading);
-    let parallel = parallel_in(reading);
+    let making = making_in(reading, factor);
     let columns = columns_in(reading);
     let names = reading.text(&NAMES_ARGUMENT);
     let path = reading.needed_text(&TEXT_ARGUMENT);
@@ -416,15 +543,16 @@ fn request_in(reading: &mut Reading) -> ImportRequest
         columns,
         undirected: reading.has(&UNDIRECTED_ARGUMENT),
         factor,
-        mending: Mending {
-            self_loops: self_loops_in(reading),
-            parallel,
-        },
-        packed: reading.has(&AS_PACKED_ARGUMENT),
+        making,
     }
 }
 
 impl ImportRequest {
+    /// Whether a packed network is written in the place of a network file.
+    pub fn is_packed(&self) -> bool {
+        matches!(self.making, Making::Packed(_))
+    }
+
     /// What the words ask for, the command's name first. Words that no format has, a factor that is no number from 1 to
     /// 4,294,967,295, and `--names` beside `--numbers` are `Usage`.
     pub fn parse(alloc: Global, line: &[String]) -> Result<ImportRequest, WordsFault>

@@ -23,13 +23,13 @@ fn name_of(alloc: Global, field: &str) -> Result<Name, AllocError> {
     Ok(Name::new(text))
 }
 
-/// Puts the opening of the field of this name behind the others.
+/// Puts the opening of the field of this name after the others.
 fn put_named(openings: &mut Vec<Opening>, field: Name, values: Values) -> Result<(), AllocError> {
     openings.push(Opening { field, values })?;
     Ok(())
 }
 
-/// Puts the opening of a field behind the others.
+/// Puts the opening of a field after the others.
 fn put_opening(
     openings: &mut Vec<Opening>,
     alloc: Global,
@@ -40,7 +40,7 @@ fn put_opening(
     put_named(openings, field, values).map_err(Ending::from)
 }
 
-/// Puts the opening that gives a field the same value at some nodes behind the others.
+/// Puts the opening that gives a field the same value at some nodes after the others.
 pub(crate) fn put_same(
     openings: &mut Vec<Opening>,
     alloc: Global,
@@ -199,7 +199,7 @@ fn put_ranges(
     Ok(())
 }
 
-/// Puts the name of a field behind the others.
+/// Puts the name of a field after the others.
 fn put_name(names: &mut Vec<Name>, alloc: Global, field: &str) -> Result<(), AllocError> {
     let name = name_of(alloc, field)?;
     names.push(name)?;
@@ -365,7 +365,7 @@ fn packed_for(rt: &HostRuntime, asked: &InitRequest) -> Result<Vec<u8>, Ending> 
     packed_bytes(rt.alloc(), &network, &settings)
 }
 
-/// The packed network of these rows, with what stands behind them.
+/// The packed network of these rows, with what stands after them.
 fn packed_bytes(
     alloc: Global,
     network: &LargeNetwork,

@@ -26,7 +26,7 @@ fn pattern_told(fault: PatternFault) -> Told {
         PatternFault::BadCount { line } => (
             Some(line),
             "BadCount",
-            "a number in runs is from 1 to 999999999, and a cell or $ stands right behind it",
+            "a number in runs is from 1 to 999999999, and a cell or $ stands right after it",
         ),
         PatternFault::NoEnd => (
             None,

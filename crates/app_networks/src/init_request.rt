@@ -169,7 +169,7 @@ fn range_parts(word: &str) -> Option<(&str, u32, u32)> {
 /// Notes that a word of `--random` has not its parts.
 fn refuse_range(reading: &mut Reading, word: &str) {
     reading.refuse_as(format!(in reading.alloc();
-        "--random: expected FIELD=LOW..HIGH, with two whole numbers from 0 to 4294967295 behind the first =, found `{word}`"
+        "--random: expected FIELD=LOW..HIGH, with two whole numbers from 0 to 4294967295 after the first =, found `{word}`"
     ));
 }
 
@@ -180,7 +180,7 @@ fn range_word(reading: &mut Reading, word: &str) -> Option<RangeWord> {
     Some(RangeWord { field, low, high })
 }
 
-/// Puts a word behind the others.
+/// Puts a word after the others.
 fn put_range(values: &mut Vec<RangeWord>, reading: &mut Reading, word: &str) {
     match range_word(reading, word) {
         Some(found) => {
@@ -213,7 +213,7 @@ fn check_draws(reading: &mut Reading) {
 }
 
 /// The parts of a word of `--cells`: what stands before the first `=`, what follows up to the last `@`, and the two numbers
-/// behind it.
+/// after it.
 fn cells_parts(word: &str) -> Option<(&str, &str, u32, u32)> {
     let (field, rest) = word.split_once('=')?;
     let (path, place) = rest.rsplit_once('@')?;
@@ -226,7 +226,7 @@ fn cells_parts(word: &str) -> Option<(&str, &str, u32, u32)> {
 /// Notes that a word of `--cells` has not its parts.
 fn refuse_cells(reading: &mut Reading, word: &str) {
     reading.refuse_as(format!(in reading.alloc();
-        "--cells: expected FIELD=FILE@X,Y, with a column and a row from 0 to 65535 behind the last @, found `{word}`"
+        "--cells: expected FIELD=FILE@X,Y, with a column and a row from 0 to 65535 after the last @, found `{word}`"
     ));
 }
 
@@ -243,7 +243,7 @@ fn cells_word(reading: &mut Reading, word: &str) -> Option<CellsWord> {
     })
 }
 
-/// Puts a word behind the others.
+/// Puts a word after the others.
 fn put_cells(cells: &mut Vec<CellsWord>, reading: &mut Reading, word: &str) {
     match cells_word(reading, word) {
         Some(pattern) => {

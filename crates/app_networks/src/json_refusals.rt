@@ -1,13 +1,13 @@
 //! What is told of a graph in node-link JSON that has no network.
 
-use crate::import_refusals::told_of;
+use crate::import_refusals::{by_form, told_of};
 use crate::import_request::Format;
 use app_files::{Told, put_place, weight_told};
 use app_table::Draft;
-use import_json::{IdFault, JsonFault, LinkEnd, LinkFault, LinkList, NodeFault};
+use import_formats::json::{IdFault, JsonFault, LinkEnd, LinkFault, LinkList, NodeFault};
 use import_lines::WeightFault;
 use import_links::SettleFault;
-use import_network::TakeFault;
+use import_network::ImportFault;
 use serde_json::Value;
 use std::alloc::{AllocError, Global};
 
@@ -26,7 +26,7 @@ fn id_told(fault: IdFault) -> (&'static str, &'static str) {
 }
 
 /// What is wrong with a node.
-fn node_told(fault: NodeFault) -> (&'static str, &'static str) {
+fn node_told(is_packed: bool, fault: NodeFault) -> (&'static str, &'static str) {
     match fault {
         NodeFault::Id(fault) => id_told(fault),
         NodeFault::SameName => ("SameName", "an earlier node has this id"),
@@ -36,7 +36,11 @@ fn node_told(fault: NodeFault) -> (&'static str, &'static str) {
         ),
         NodeFault::TooManyNodes => (
             "TooManyNodes",
-            "with this node there are more than 65536 nodes",
+            by_form(
+                is_packed,
+                "with this node there are more than 65536 nodes",
+                "with this node there are more than 4294967295 nodes",
+            ),
         ),
     }
 }
@@ -57,7 +61,7 @@ fn without_line(told: (&'static str, &'static str)) -> Told {
 }
 
 /// What is wrong with a text of node-link JSON.
-pub(crate) fn json_told(fault: JsonFault) -> Told {
+pub(crate) fn json_told(is_packed: bool, fault: JsonFault) -> Told {
     match fault {
         JsonFault::NotUtf8 => (None, "NotUtf8", "the text is not UTF-8"),
         JsonFault::NotJson { line, .. } => (Some(line), "NotJson", "the text is no JSON"),
@@ -76,7 +80,7 @@ pub(crate) fn json_told(fault: JsonFault) -> Told {
             "NoLinkList",
             "expected an object with a list `links` or `edges`, as NetworkX's node_link_data gives it",
         ),
-        JsonFault::BadNode { fault, .. } => without_line(node_told(fault)),
+        JsonFault::BadNode { fault, .. } => without_line(node_told(is_packed, fault)),
         JsonFault::BadLink { fault, .. } => without_line(link_told(fault)),
         JsonFault::Memory => (None, "Memory", ""),
     }
@@ -152,15 +156,15 @@ fn put_member(
     alloc: Global,
     draft: &mut Draft,
     text: &[u8],
-    fault: TakeFault,
+    fault: ImportFault,
 ) -> Result<(), AllocError> {
     match fault {
-        TakeFault::Json(fault) => {
+        ImportFault::Json(fault) => {
             put_json_member(draft, fault);
             Ok(())
         }
-        TakeFault::Settle(SettleFault::SelfLoop { line }) => put_link(alloc, draft, text, line),
-        TakeFault::Settle(SettleFault::ParallelEdge { line, .. }) => {
+        ImportFault::Settle(SettleFault::SelfLoop { line }) => put_link(alloc, draft, text, line),
+        ImportFault::Settle(SettleFault::ParallelEdge { line, .. }) => {
             put_link(alloc, draft, text, line)
         }
         _ => Ok(()),
@@ -173,9 +177,9 @@ fn put_json_place(
     draft: &mut Draft,
     name: &str,
     text: &[u8],
-    fault: TakeFault,
+    fault: ImportFault,
 ) -> Result<(), AllocError> {
-    if let TakeFault::Json(JsonFault::NotJson { line, .. }) = fault {
+    if let ImportFault::Json(JsonFault::NotJson { line, .. }) = fault {
         put_place(draft, name, Some(line));
         return Ok(());
     }
@@ -237,23 +241,23 @@ fn put_json_detail(
     alloc: Global,
     draft: &mut Draft,
     text: &[u8],
-    fault: TakeFault,
+    fault: ImportFault,
 ) -> Result<(), AllocError> {
     match fault {
-        TakeFault::Json(JsonFault::NotJson { column, .. }) => {
+        ImportFault::Json(JsonFault::NotJson { column, .. }) => {
             draft.put(" from about column ");
             draft.put_count(column);
             draft.put(" on");
             Ok(())
         }
-        TakeFault::Json(
+        ImportFault::Json(
             JsonFault::BadLink {
                 list,
                 place,
                 fault: LinkFault::NoNode { end },
             },
         ) => put_id(alloc, draft, text, list, place, end),
-        TakeFault::Settle(SettleFault::ParallelEdge { first, .. }) => {
+        ImportFault::Settle(SettleFault::ParallelEdge { first, .. }) => {
             put_earlier(alloc, draft, text, first)
         }
         _ => Ok(()),
@@ -275,7 +279,7 @@ fn put_told(
     name: &str,
     text: &[u8],
     why: &str,
-    fault: TakeFault,
+    fault: ImportFault,
 ) -> Result<(), AllocError> {
     put_json_place(alloc, draft, name, text, fault)?;
     draft.put(": ");
@@ -283,19 +287,23 @@ fn put_told(
     put_json_detail(alloc, draft, text, fault)
 }
 
-/// What is told where a text of node-link JSON has no network.
+/// What is told where a text of node-link JSON has no network of this form, and after it the way to one, where there is a
+/// way.
 pub(crate) fn json_refusal(
     alloc: Global,
     name: &str,
     text: &[u8],
-    fault: TakeFault,
+    is_packed: bool,
+    fault: ImportFault,
+    way: &str,
 ) -> Result<String, AllocError> {
-    let (_, kind, why) = told_of(fault);
+    let (_, kind, why) = told_of(is_packed, fault);
     if kind == "Memory" {
         return Err(AllocError);
     }
     let mut draft = Draft::new(alloc);
     put_head(&mut draft, kind);
     put_told(alloc, &mut draft, name, text, why, fault)?;
+    draft.put(way);
     draft.end()
 }

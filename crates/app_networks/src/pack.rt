@@ -11,7 +11,7 @@ use large_pack::{PackOptions, Packed, pack_edges};
 use link_net::NetFile;
 use net_names::list_text;
 use net_random::{LargeRandom, LargeRandomFault, large_random};
-use net_shapes::{LargeShape, LargeShapeFault, large_shape};
+use net_shapes::{LargeShapeFault, Shape, large_shape};
 use std::alloc::{AllocError, Global};
 use std::thread::Threads;
 
@@ -124,12 +124,20 @@ fn copied_at(rt: &HostRuntime, path: &str) -> Result<Output, Ending> {
     Ok(plain_output(rt.alloc(), bytes))
 }
 
+/// How many nodes a shape has at least.
+fn least_text(shape: &Shape) -> &'static str {
+    match shape {
+        Shape::Star { .. } | Shape::Complete { .. } => "there is a node at least",
+        Shape::Bipartite { .. } => "each side has a node at least",
+        Shape::Tree { .. } => "a tree has a node at least, and an arity of 1 or more",
+        _ => "a shape has a node at least, a ring three, and a torus three in each row and column",
+    }
+}
+
 /// The ending where a shape has no network.
-fn no_shape(alloc: Global, fault: LargeShapeFault) -> Ending {
+fn no_shape(alloc: Global, shape: &Shape, fault: LargeShapeFault) -> Ending {
     let text = match fault {
-        LargeShapeFault::TooFewNodes => {
-            "a shape has a node at least, a ring three, and a torus three in each row and column"
-        }
+        LargeShapeFault::TooFewNodes => least_text(shape),
         LargeShapeFault::TooManyNodes => "a network has 4294967295 nodes at most",
         LargeShapeFault::Memory => return Ending::Memory,
     };
@@ -137,10 +145,10 @@ fn no_shape(alloc: Global, fault: LargeShapeFault) -> Ending {
 }
 
 /// The binary file of a shape.
-pub(crate) fn shape_bytes(alloc: Global, shape: LargeShape) -> Result<Vec<u8>, Ending> {
+pub(crate) fn shape_bytes(alloc: Global, shape: &Shape) -> Result<Vec<u8>, Ending> {
     match large_shape(alloc, shape) {
         Ok(network) => Ok(large_bytes(alloc, &network)?),
-        Err(fault) => Err(no_shape(alloc, fault)),
+        Err(fault) => Err(no_shape(alloc, shape, fault)),
     }
 }
 
@@ -169,7 +177,7 @@ pub(crate) fn random_bytes(
 }
 
 /// The binary file of a shape, beside which nothing is told.
-fn shape_output(alloc: Global, shape: LargeShape) -> Result<Output, Ending> {
+fn shape_output(alloc: Global, shape: &Shape) -> Result<Output, Ending> {
     let bytes = shape_bytes(alloc, shape)?;
     Ok(plain_output(alloc, bytes))
 }
@@ -199,7 +207,7 @@ fn output_for(
         } => names_at(rt, path.as_str(), options, names.as_str()),
         PackRequest::Matrix { path, options } => matrix_at(rt, path.as_str(), options),
         PackRequest::Network { path } => copied_at(rt, path.as_str()),
-        PackRequest::Shape(shape) => shape_output(rt.alloc(), *shape),
+        PackRequest::Shape(shape) => shape_output(rt.alloc(), shape),
         PackRequest::Random { wanted, seed } => random_output(rt.alloc(), *wanted, *seed),
     }
 }

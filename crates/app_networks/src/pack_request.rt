@@ -7,13 +7,15 @@ use crate::generate_request::{
     NEAR_ARGUMENT, NODES, NODES_ARGUMENT, REWIRE, RING_NODES, SEED, SEED_ARGUMENT, TORUS_HEIGHT,
     TORUS_WIDTH, check_name, rewire_in,
 };
-use crate::import_request::{DROP_LOOPS, HEADER, SCALE, TEXT, UNDIRECTED, factor_in};
+use crate::import_request::{
+    DIRECTED, DROP_LOOPS, HEADER, KEEP_LOOPS, REVERSE, SCALE, TEXT, UNDIRECTED, factor_in,
+};
 use app_commands::{FILE_OPTION, FLAG, NETWORK, NETWORK_ARGUMENT, Portion};
 use app_table::{Argument, Choice, Command, OPTION, Reading, Subcommand, Value, WordsFault};
 use import_network::MatrixOptions;
 use large_pack::{PackOptions, Parallel, SelfLoops};
 use net_random::LargeRandom;
-use net_shapes::LargeShape;
+use net_shapes::Shape;
 use std::alloc::Global;
 
 const EDGES: Argument = Argument {
@@ -50,12 +52,6 @@ static DROP_LOOPS_ARGUMENT: Argument = DROP_LOOPS;
 /// `HEADER`, as it is read.
 static HEADER_ARGUMENT: Argument = HEADER;
 
-const KEEP_LOOPS: Argument = Argument {
-    name: "keep-loops",
-    help: "Keep edges of a node with itself, which are refused else: the node is a neighbour of itself",
-    ..FLAG
-};
-
 /// `KEEP_LOOPS`, as it is read.
 static KEEP_LOOPS_ARGUMENT: Argument = KEEP_LOOPS;
 
@@ -73,21 +69,8 @@ const COUNT: Argument = Argument {
 /// `COUNT`, as it is read.
 static COUNT_ARGUMENT: Argument = COUNT;
 
-const DIRECTED: Argument = Argument {
-    name: "directed",
-    help: "An edge a b gives a the neighbour b alone, so that a reads b; else it gives b the neighbour a, too",
-    ..FLAG
-};
-
 /// `DIRECTED`, as it is read.
 static DIRECTED_ARGUMENT: Argument = DIRECTED;
-
-const REVERSE: Argument = Argument {
-    name: "reverse",
-    help: "Turn each edge round: an edge a b gives b the neighbour a, so that b reads a",
-    needs: Some("directed"),
-    ..FLAG
-};
 
 /// `REVERSE`, as it is read.
 static REVERSE_ARGUMENT: Argument = REVERSE;
@@ -129,7 +112,7 @@ const MANY_LINKS: Argument = Argument {
 const FORMATS: [Subcommand; 10] = [
     Subcommand {
         name: "edges",
-        about: "Lines of two numbers of nodes, from 0, or with --names of two names, and a weight, which may be left out; blanks, tabs or commas between, comments behind # or %",
+        about: "Lines of two numbers of nodes, from 0, or with --names of two names, and a weight, which may be left out; blanks, tabs or commas between, comments after # or %",
         notes: "",
         arguments: &[
             EDGES, COUNT, DIRECTED, REVERSE, SCALE, DROP_LOOPS, KEEP_LOOPS, PARALLEL, HEADER, NAMES,
@@ -226,7 +209,7 @@ pub enum PackRequest {
         path: String,
     },
     /// A shape.
-    Shape(LargeShape),
+    Shape(Shape),
     /// A random network, and the seed by which it is drawn.
     Random {
         wanted: LargeRandom,
@@ -334,22 +317,22 @@ fn sides_in(reading: &mut Reading) -> (u32, u32) {
 }
 
 /// The shape that the words name.
-fn shape_in(reading: &mut Reading) -> LargeShape {
+fn shape_in(reading: &mut Reading) -> Shape {
     match reading.subcommand() {
-        "path" => LargeShape::Path {
+        "path" => Shape::Path {
             nodes: reading.number_or(&NODES_ARGUMENT, 0),
         },
-        "ring" => LargeShape::Ring {
+        "ring" => Shape::Ring {
             nodes: reading.number_or(&NODES_ARGUMENT, 0),
         },
         "grid" => {
             let (width, height) = sides_in(reading);
-            LargeShape::Grid { width, height }
+            Shape::Grid { width, height }
         }
         _ => {
             let (width, height) = sides_in(reading);
             let diagonals = reading.has(&DIAGONALS_ARGUMENT);
-            LargeShape::Torus {
+            Shape::Torus {
                 width,
                 height,
                 diagonals,

@@ -114,7 +114,7 @@ fn is_given(colours: &[ValueColour], value: u32) -> bool {
     false
 }
 
-/// The value and the colour of a part behind others.
+/// The value and the colour of a part after others.
 fn value_colour(
     alloc: Global,
     colours: &[ValueColour],
@@ -132,7 +132,7 @@ fn value_colour(
     Ok(own)
 }
 
-/// Puts the value and the colour of a part behind the others.
+/// Puts the value and the colour of a part after the others.
 fn put_colour(colours: &mut Vec<ValueColour>, alloc: Global, part: &str) -> Result<(), WordsFault> {
     let own = value_colour(alloc, colours, part)?;
     match colours.push(own) {

@@ -1,6 +1,7 @@
 //! The commands that draw: images, pages and drawings for Graphviz.
 #![tactic(auto)]
 
+mod colour_notes;
 mod colours;
 mod drawing_request;
 mod grid;

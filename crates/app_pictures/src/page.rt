@@ -11,7 +11,9 @@ use app_files::{Ending, bytes_at, name_at, path_in, print_out, shown_fields};
 use app_jobs::ServeFault;
 use rounds_plan::Plan;
 use rounds_walk::PlanRef;
-use run_page::{EmbedFault, Look, PageFault, embedded, naive_data, rounds_data, steps_data};
+use run_page::{
+    EmbedFault, Look, PageFault, PageRounds, embedded, naive_data, rounds_data, steps_data,
+};
 use run_settle::{SettleFault, Settling, settle};
 use run_watch::{Format, Span, WatchFault};
 use std::alloc::Global;
@@ -51,20 +53,10 @@ fn told_rounds(
     rt: &HostRuntime,
     threads: &(impl Threads + Sync),
     plan: &Plan,
-    span: &Span,
-    look: &Look<'_>,
-    settling: Option<Settling>,
+    shown: &PageRounds<'_>,
 ) -> Result<Vec<u8>, Ending> {
-    let mut telling = Telling::new(rt, span, plan.network().nodes());
-    match rounds_data(
-        threads,
-        rt.alloc(),
-        plan,
-        span,
-        look,
-        settling,
-        &mut telling,
-    ) {
+    let mut telling = Telling::new(rt, shown.span, plan.network().nodes());
+    match rounds_data(threads, rt.alloc(), plan, shown, &mut telling) {
         Ok(data) => Ok(data),
         Err(fault) => Err(no_data(rt.alloc(), fault)),
     }
@@ -80,7 +72,12 @@ fn rounds_text(
 ) -> Result<Vec<u8>, Ending> {
     check_size(rt.alloc(), plan.network().nodes(), span, look.fields.len())?;
     let settling = settling_of(rt.alloc(), plan, span.last())?;
-    told_rounds(rt, threads, plan, span, look, settling)
+    let shown = PageRounds {
+        span,
+        settling,
+        look,
+    };
+    told_rounds(rt, threads, plan, &shown)
 }
 
 /// How far steps go.

@@ -4,7 +4,7 @@ use app_files::{Ending, field_place};
 use rule_check::Program;
 use std::alloc::{AllocError, Global};
 
-/// Puts the place of the field of this name, which stands behind `--node-field`.
+/// Puts the place of the field of this name, which stands after `--node-field`.
 fn put_place(
     places: &mut Vec<u32>,
     alloc: Global,
@@ -16,7 +16,7 @@ fn put_place(
     Ok(())
 }
 
-/// The places of the fields of these names, which stand behind `--node-field`.
+/// The places of the fields of these names, which stand after `--node-field`.
 fn places_of(alloc: Global, program: &Program, words: &[String]) -> Result<Vec<u32>, Ending> {
     let mut places = Vec::new(alloc);
     for word in words {
@@ -25,7 +25,7 @@ fn places_of(alloc: Global, program: &Program, words: &[String]) -> Result<Vec<u
     Ok(places)
 }
 
-/// Puts a copy of a name behind the others.
+/// Puts a copy of a name after the others.
 fn put_copy(copy: &mut Vec<String>, alloc: Global, name: &str) -> Result<(), AllocError> {
     let text = String::from_str(alloc, name)?;
     copy.push(text)?;
@@ -63,7 +63,7 @@ fn names_at<'a>(
     }
 }
 
-/// Puts a copy of names behind the others.
+/// Puts a copy of names after the others.
 fn put_names(
     all: &mut Vec<Vec<String>>,
     alloc: Global,

@@ -1,20 +1,21 @@
 //! `image PROGRAM NETWORK` and `dot PROGRAM NETWORK`: rounds as pictures, and networks for Graphviz.
 
+use crate::colour_notes::put_colour_notes;
 use crate::drawing_request::{DotRequest, ImageRequest};
 use crate::grid::{cell_shape, grid_width};
 use crate::picture_files::RoundFiles;
 use app_commands::{
     GridWidth, NamedPlan, Telling, asked_by, file_run_at, labels_at, named_plan_at, no_rounds,
-    put_colour_notes, read_plan_once, read_run_once, source_at,
+    read_plan_once, read_run_once, source_at,
 };
 use app_files::{Ending, coloured_field, names_of_field, path_in, print_out};
 use link_net::NetRows;
 use rounds_plan::Plan;
 use rounds_walk::PlanRef;
 use run_picture::{
-    CellShape, Layout, MOST_CELLS, MOST_CURVES, MOST_FRAMES, MOST_POINTS, MOST_STROKES,
-    PictureFault, StylesFault, ValueColour, ValueStyles, count_picture, grid_picture,
-    moving_picture, network_dot, network_picture, round_pictures, time_picture,
+    CellShape, Colouring, Drawing, Layout, MOST_CELLS, MOST_CURVES, MOST_FRAMES, MOST_POINTS,
+    MOST_STROKES, MovingGrid, PictureFault, StylesFault, ValueColour, ValueStyles, count_picture,
+    grid_picture, moving_picture, network_dot, network_picture, round_pictures, time_picture,
 };
 use run_watch::{Format, WatchFault};
 use std::alloc::Global;
@@ -116,103 +117,86 @@ fn shape_for(rows: &NetRows<'_>, asked: &ImageRequest) -> CellShape {
     }
 }
 
-/// The picture of rounds one below the other, coloured by a field, or the curves of its counts.
+/// What is drawn: the rounds that are asked for, in the colours of a field.
+fn drawing_of<'a>(asked: &'a ImageRequest, field: u32, styles: &'a ValueStyles<'a>) -> Drawing<'a> {
+    Drawing {
+        span: &asked.span,
+        colouring: Colouring { field, styles },
+    }
+}
+
+/// The picture of rounds one below the other, or the curves of their counts.
 fn drawn_rounds(
     rt: &HostRuntime,
     threads: &(impl Threads + Sync),
     plan: &PlanRef<'_>,
     asked: &ImageRequest,
-    field: u32,
-    styles: &ValueStyles<'_>,
+    drawing: &Drawing<'_>,
 ) -> Result<Vec<u8>, PictureFault> {
-    let (alloc, span) = (rt.alloc(), &asked.span);
-    let mut telling = Telling::new(rt, span, plan.nodes());
+    let alloc = rt.alloc();
+    let mut telling = Telling::new(rt, drawing.span, plan.nodes());
     if asked.counts {
-        return count_picture(threads, alloc, plan, span, field, styles, &mut telling);
+        return count_picture(threads, alloc, plan, drawing, &mut telling);
     }
-    time_picture(threads, alloc, plan, span, field, styles, &mut telling)
+    time_picture(threads, alloc, plan, drawing, &mut telling)
 }
 
-/// The network in one round, or in each of several in turn, coloured by a field.
+/// The network in one round, or in each of several in turn.
 fn drawn_network(
     rt: &HostRuntime,
     threads: &(impl Threads + Sync),
     plan: &Plan,
     asked: &ImageRequest,
-    field: u32,
-    styles: &ValueStyles<'_>,
+    drawing: &Drawing<'_>,
 ) -> Result<Vec<u8>, PictureFault> {
     let alloc = rt.alloc();
-    let span = &asked.span;
     let time = asked.frame_time.unwrap_or(1);
-    let mut telling = Telling::new(rt, span, plan.network().nodes());
-    network_picture(
-        threads,
-        alloc,
-        plan,
-        span,
-        field,
-        time,
-        styles,
-        &mut telling,
-    )
+    let mut telling = Telling::new(rt, drawing.span, plan.network().nodes());
+    network_picture(threads, alloc, plan, drawing, time, &mut telling)
 }
 
-/// The grid of each of several rounds in turn, coloured by a field.
+/// The grid of each of several rounds in turn.
 fn drawn_grids(
     rt: &HostRuntime,
     threads: &(impl Threads + Sync),
     plan: &PlanRef<'_>,
     asked: &ImageRequest,
-    field: u32,
-    styles: &ValueStyles<'_>,
+    drawing: &Drawing<'_>,
 ) -> Result<Vec<u8>, PictureFault> {
     let alloc = rt.alloc();
-    let span = &asked.span;
     let (width, time) = (GridWidth::number(asked.grid), asked.frame_time.unwrap_or(1));
-    let mut telling = Telling::new(rt, span, plan.nodes());
-    moving_picture(
-        threads,
-        alloc,
-        plan,
-        span,
-        field,
-        width,
-        time,
-        styles,
-        &mut telling,
-    )
+    let grid = MovingGrid { width, time };
+    let mut telling = Telling::new(rt, drawing.span, plan.nodes());
+    moving_picture(threads, alloc, plan, drawing, grid, &mut telling)
 }
 
-/// The grid of one round, or of each of several in turn, coloured by a field.
+/// The grid of one round, or of each of several in turn.
 fn drawn_grid(
     rt: &HostRuntime,
     threads: &(impl Threads + Sync),
     plan: &PlanRef<'_>,
     asked: &ImageRequest,
-    field: u32,
-    styles: &ValueStyles<'_>,
+    drawing: &Drawing<'_>,
 ) -> Result<Vec<u8>, PictureFault> {
-    let (round, width) = (asked.span.first(), GridWidth::number(asked.grid));
     if asked.frame_time.is_some() {
-        return drawn_grids(rt, threads, plan, asked, field, styles);
+        return drawn_grids(rt, threads, plan, asked, drawing);
     }
-    grid_picture(threads, rt.alloc(), plan, round, field, width, styles)
+    let (round, width) = (drawing.span.first(), GridWidth::number(asked.grid));
+    grid_picture(threads, rt.alloc(), plan, round, &drawing.colouring, width)
 }
 
-/// The picture of rounds, or of one of them or each in turn as a grid, coloured by a field, or the curves of its counts.
+/// The picture of rounds, or of one of them or each in turn as a grid, or the curves of their counts.
 fn drawn_cells(
     rt: &HostRuntime,
     threads: &(impl Threads + Sync),
     plan: &PlanRef<'_>,
     asked: &ImageRequest,
-    field: u32,
-    styles: &ValueStyles<'_>,
+    drawing: &Drawing<'_>,
 ) -> Result<Vec<u8>, PictureFault> {
     if asked.grid.is_some() {
-        return drawn_grid(rt, threads, plan, asked, field, styles);
+        return drawn_grid(rt, threads, plan, asked, drawing);
     }
-    drawn_rounds(rt, threads, plan, asked, field, styles)
+    drawn_rounds(rt, threads, plan, asked, drawing)
 }
 
 /// A picture, where there is one.
@@ -235,7 +219,8 @@ fn styled_cells(
     let names = names_of_field(names, field);
     let shape = shape_for(&plan.rows(), asked);
     let styles = styles_for(rt.alloc(), names, &asked.colours, shape)?;
-    let drawn = drawn_cells(rt, threads, plan, asked, field, &styles);
+    let drawing = drawing_of(asked, field, &styles);
+    let drawn = drawn_cells(rt, threads, plan, asked, &drawing);
     picture_in(rt.alloc(), drawn)
 }
 
@@ -261,7 +246,8 @@ fn styled_network(
 ) -> Result<Vec<u8>, Ending> {
     let names = names_of_field(&named.names, field);
     let styles = styles_for(rt.alloc(), names, &asked.colours, CellShape::Square)?;
-    let drawn = drawn_network(rt, threads, &named.plan, asked, field, &styles);
+    let drawing = drawing_of(asked, field, &styles);
+    let drawn = drawn_network(rt, threads, &named.plan, asked, &drawing);
     picture_in(rt.alloc(), drawn)
 }
 
@@ -287,28 +273,17 @@ fn layout_of(asked: &ImageRequest) -> Layout {
     }
 }
 
-/// The pictures of all rounds, coloured so by a field.
-fn rounds_in_style(
+/// The pictures of all rounds, drawn so.
+fn drawn_in_rounds(
     rt: &HostRuntime,
     threads: &(impl Threads + Sync),
     plan: &Plan,
     asked: &ImageRequest,
-    field: u32,
-    styles: &ValueStyles<'_>,
+    drawing: &Drawing<'_>,
 ) -> Result<Vec<Vec<u8>>, Ending> {
-    let alloc = rt.alloc();
-    let span = &asked.span;
-    let mut telling = Telling::new(rt, span, plan.network().nodes());
-    match round_pictures(
-        threads,
-        alloc,
-        plan,
-        span,
-        field,
-        layout_of(asked),
-        styles,
-        &mut telling,
-    ) {
+    let (alloc, layout) = (rt.alloc(), layout_of(asked));
+    let mut telling = Telling::new(rt, drawing.span, plan.network().nodes());
+    match round_pictures(threads, alloc, plan, drawing, layout, &mut telling) {
         Ok(texts) => Ok(texts),
         Err(fault) => Err(no_picture(alloc, fault)),
     }
@@ -325,7 +300,8 @@ fn round_texts(
     let names = names_of_field(&named.names, field);
     let shape = shape_for(&named.plan.network().rows(), asked);
     let styles = styles_for(rt.alloc(), names, &asked.colours, shape)?;
-    rounds_in_style(rt, threads, &named.plan, asked, field, &styles)
+    let drawing = drawing_of(asked, field, &styles);
+    drawn_in_rounds(rt, threads, &named.plan, asked, &drawing)
 }
 
 /// The files of the rounds that are asked for, in a folder.
@@ -460,8 +436,12 @@ fn labelled(
 ) -> Result<Vec<u8>, Ending> {
     let names = names_of_field(&named.names, field);
     let styles = styles_for(rt.alloc(), names, &asked.colours, CellShape::Square)?;
+    let colouring = Colouring {
+        field,
+        styles: &styles,
+    };
     let (alloc, plan, round) = (rt.alloc(), &named.plan, asked.round);
-    let drawn = network_dot(threads, alloc, plan, round, field, labels, &styles);
+    let drawn = network_dot(threads, alloc, plan, round, &colouring, labels);
     picture_in(alloc, drawn)
 }
 

@@ -15,7 +15,7 @@ fn path_of(alloc: Global, folder: &str, last: u32, round: u32) -> Result<String,
     format!(in alloc; "{folder}/round_{round:06}.svg")
 }
 
-/// Puts the path of the file of a round behind the others.
+/// Puts the path of the file of a round after the others.
 fn put_path(
     paths: &mut Vec<String>,
     alloc: Global,

@@ -117,7 +117,7 @@ fn format_in(reading: &mut Reading) -> CellsFormat {
     }
 }
 
-/// Whether a word can stand behind `rule =` in the header of runs, which it does not end.
+/// Whether a word can stand after `rule =` in the header of runs, which it does not end.
 fn is_rule(word: &str) -> bool {
     !word.is_empty() && word.bytes().all(|byte| byte.is_ascii_graphic())
 }

@@ -4,7 +4,7 @@ use crate::large_request::ColumnFormat;
 use crate::shown_rounds::ShownRounds;
 use app_commands::array_of;
 use app_files::Ending;
-use npy_arrays::ArrayShape;
+use report_files::npy::ArrayShape;
 use rounds_walk::push_column;
 use rule_check::State;
 use run_watch::put_label;

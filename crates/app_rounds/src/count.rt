@@ -1,6 +1,6 @@
 //! `count PROGRAM NETWORK --rounds FIRST..LAST`: how many nodes have each value, round by round.
 ghost use Rattle.std.specs.Prelude.{IfSome};
-ghost use Rattle.app_commands.specs.Requests.{HasRuns};
+ghost use Rattle.app_rounds.specs.Requests.{HasRuns};
 
 use crate::count_request::{CountRequest, FigureWord, UntilWord, ValueWord};
 use crate::count_runs::runs_text;
@@ -9,6 +9,7 @@ use app_files::{Ending, coloured_field, field_place, names_of_field, print_out, 
 use rounds_walk::PlanRef;
 use rule_check::Program;
 use run_counts::{CountFormat, Counting, Figure, FigureKind, Holders, Until, counted};
+use run_watch::Workers;
 use std::alloc::Global;
 use std::thread::Threads;
 
@@ -21,7 +22,7 @@ fn option_of(kind: FigureKind) -> &'static str {
     }
 }
 
-/// Puts the column that a word asks for behind the others.
+/// Puts the column that a word asks for after the others.
 fn put_figure(
     figures: &mut Vec<Figure>,
     alloc: Global,
@@ -154,9 +155,12 @@ fn counted_text(
     counting: &Counting<'_>,
 ) -> Result<Vec<u8>, Ending> {
     let (alloc, span) = (rt.alloc(), &asked.span);
-    let count = threads_for(threads, &asked.runs.texts);
+    let workers = Workers {
+        rt: threads,
+        count: threads_for(threads, &asked.runs.texts),
+    };
     let mut telling = Telling::new(rt, span, plan.nodes());
-    let text = counted(threads, alloc, plan, span, counting, count, &mut telling);
+    let text = counted(&workers, alloc, plan, span, counting, &mut telling);
     telling.end();
     text.map_err(no_rounds)
 }

@@ -1,11 +1,13 @@
 //! `count`: how many nodes have each value, round by round.
 ghost use Rattle.std.specs.Prelude.{IfOk, IfSome};
-ghost use Rattle.app_commands.specs.Requests.{AreThreadsWithin, HasRuns};
+ghost use Rattle.app_commands.specs.Requests.{AreThreadsWithin};
+ghost use Rattle.app_rounds.specs.Requests.{HasRuns};
 
+use crate::varied::{RunConstants, VARIED, Varied, run_constants_in};
 use app_commands::{
     EVERY, FIELD, FIELD_ARGUMENT, FLAG, FROM, NETWORK, OVERLAP, PROGRAM, PlanPaths, QUIET,
-    QUIET_ARGUMENT, ROUNDS, RunConstants, RunTexts, SEED, SEQUENTIAL, SET, SET_FILE, SET_NAMES,
-    SET_RANDOM, THREADS, VARIED, Varied, run_constants_in, span_in,
+    QUIET_ARGUMENT, ROUNDS, RunTexts, SEED, SEQUENTIAL, SET, SET_FILE, SET_NAMES, SET_RANDOM,
+    THREADS, span_in,
 };
 use app_table::{Argument, Choice, Command, Kind, OPTION, Reading, Value, WordsFault, number};
 use run_counts::{CountFormat, FigureKind, Holders};
@@ -20,7 +22,7 @@ const COUNTED: Argument = Argument {
 const UNTIL: Argument = Argument {
     name: "until",
     value_name: "none:FIELD=VALUE",
-    help: "End behind the first shown round in which no node has this value in this field, or with all:FIELD=VALUE every node: a number, or the name of a state; FIELD=VALUE alone is none:FIELD=VALUE",
+    help: "End after the first shown round in which no node has this value in this field, or with all:FIELD=VALUE every node: a number, or the name of a state; FIELD=VALUE alone is none:FIELD=VALUE",
     ..OPTION
 };
 
@@ -182,7 +184,7 @@ fn value_word(reading: &mut Reading, word: &str) -> Option<ValueWord> {
     None
 }
 
-/// At which nodes a value is to stand by a word of `--until`, where the word says it, and what stands behind that.
+/// At which nodes a value is to stand by a word of `--until`, where the word says it, and what stands after that.
 fn holders_in(word: &str) -> (Option<Holders>, &str) {
     if let Some(rest) = word.strip_prefix("none:") {
         return (Some(Holders::NoNode), rest);
@@ -193,7 +195,7 @@ fn holders_in(word: &str) -> (Option<Holders>, &str) {
     }
 }
 
-/// The parts of a word of `--until`: what stands before the first `=`, and the value behind it.
+/// The parts of a word of `--until`: what stands before the first `=`, and the value after it.
 fn until_parts(reading: &mut Reading, word: &str) -> Option<UntilWord> {
     let (holders, rest) = holders_in(word);
     let (field, value) = rest.split_once('=')?;
@@ -211,7 +213,7 @@ fn until_word(reading: &mut Reading, word: &str) -> Option<UntilWord> {
     let until = until_parts(reading, word);
     if until.is_none() {
         reading.refuse_as(format!(in reading.alloc();
-            "--until: expected none:FIELD=VALUE or all:FIELD=VALUE, with a whole number from 0 to 4294967295 or the name of a state behind the first =, found `{word}`"
+            "--until: expected none:FIELD=VALUE or all:FIELD=VALUE, with a whole number from 0 to 4294967295 or the name of a state after the first =, found `{word}`"
         ));
     }
     until
@@ -233,14 +235,14 @@ fn has_word(words: &[String], word: &str) -> bool {
     false
 }
 
-/// Notes that a word stands twice behind an option of columns.
+/// Notes that a word stands twice after an option of columns.
 fn refuse_twice(reading: &mut Reading, option: &str, word: &str) {
     reading.refuse_as(format!(in reading.alloc();
         "--{option}: `{word}` stands there twice; a column is shown once"
     ));
 }
 
-/// Puts a column behind the others.
+/// Puts a column after the others.
 fn put_figure(figures: &mut Vec<FigureWord>, reading: &mut Reading, kind: FigureKind, word: &str) {
     let field = reading.copied(word);
     if figures.push(FigureWord { kind, field }).is_err() {
@@ -248,7 +250,7 @@ fn put_figure(figures: &mut Vec<FigureWord>, reading: &mut Reading, kind: Figure
     }
 }
 
-/// Puts the columns that an option asks for behind the others.
+/// Puts the columns that an option asks for after the others.
 fn put_figures(
     figures: &mut Vec<FigureWord>,
     reading: &mut Reading,

@@ -1,13 +1,13 @@
 //! `count` of several runs of a model, in each of which a constant has another value.
 ghost use Rattle.std.specs.Prelude.{◌≡◌, ◌≤◌, IfOk, length};
-ghost use Rattle.app_commands.specs.Requests.{HasRuns};
+ghost use Rattle.app_rounds.specs.Requests.{HasRuns};
 ghost use Rattle.run_counts.specs.Ensembles.{most_runs};
 
 use crate::count::Counted;
 use crate::count_request::CountRequest;
-use app_commands::{
-    Ground, PlanPaths, RunNetwork, RunTexts, RunsTelling, Varied, ground_on, no_rounds, run_network,
-};
+use crate::runs_telling::RunsTelling;
+use crate::varied::Varied;
+use app_commands::{Ground, PlanPaths, RunNetwork, RunTexts, ground_on, no_rounds, run_network};
 use app_files::{Ending, bytes_at, check_model, expanded_text, state_names};
 use model_rules::Given;
 use rounds_walk::PlanRef;
@@ -38,7 +38,7 @@ fn texts_at(rt: &HostRuntime, threads: &impl Threads, paths: &PlanPaths) -> Resu
     Ok(Texts { model, network })
 }
 
-/// Puts a constant with this value behind the others.
+/// Puts a constant with this value after the others.
 fn put_given(
     constants: &mut Vec<Given>,
     alloc: Global,
@@ -50,7 +50,7 @@ fn put_given(
     Ok(())
 }
 
-/// The constants of a run: those of all runs, and behind them the one that has this value.
+/// The constants of a run: those of all runs, and after them the one that has this value.
 fn constants_with(
     alloc: Global,
     given: &[Given],

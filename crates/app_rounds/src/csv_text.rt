@@ -4,7 +4,7 @@ use crate::csv_request::CsvRequest;
 use app_commands::{asked_by, names_from, told_text};
 use app_files::{Ending, Told, bytes_at, name_at, print_out, read_once};
 use net_names::NodeNames;
-use report_table::{CsvFault, Table, TableFault, names_csv, read_table};
+use report_files::tables::{CsvFault, Table, TableFault, names_csv, read_table};
 use std::alloc::{AllocError, Global};
 
 /// What is told of a text that is no report.

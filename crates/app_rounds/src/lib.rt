@@ -17,9 +17,11 @@ mod large_watch;
 mod lockstep_request;
 mod report_cells;
 mod round_report;
+mod runs_telling;
 mod settle;
 mod settle_request;
 mod shown_rounds;
+mod varied;
 mod watch;
 mod watch_request;
 
@@ -37,5 +39,6 @@ pub use report_cells::print_cells;
 pub use round_report::report_round;
 pub use settle::settle_rounds;
 pub use settle_request::{SettleRequest, settle_command};
+pub use varied::Varied;
 pub use watch::watch_rounds;
 pub use watch_request::{View, WatchRequest, watch_command};

@@ -6,7 +6,7 @@ use app_commands::{asked_by, put_note};
 use app_files::{Ending, bytes_at, name_at, print_out};
 use app_table::Draft;
 use net_patterns::{PatternFormat, ValueFault, grid_pattern};
-use report_table::{Table, column_values};
+use report_files::tables::{Table, column_values};
 use std::alloc::{AllocError, Global};
 
 /// How the pattern is written.

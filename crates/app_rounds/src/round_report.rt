@@ -9,10 +9,10 @@ use app_commands::{
 };
 use app_files::{Ending, field_place, names_of_field, print_out};
 use app_jobs::ServeFault;
-use large_parts::state_rows;
-use npy_arrays::ArrayShape;
+use report_files::npy::ArrayShape;
 use report_text::report_states;
 use rounds_plan::RoundFault;
+use rounds_walk::part_rounds::state_rows;
 use rounds_walk::{PackedStates, PlanRef, Start, lockstep_states};
 use rule_check::{Program, State};
 use run_watch::{Span, csv_states};

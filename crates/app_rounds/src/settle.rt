@@ -53,7 +53,7 @@ fn found_report(
     }
 }
 
-/// What was found, as a line, with a report behind it.
+/// What was found, as a line, with a report after it.
 fn text_with(alloc: Global, found: Settling, report: &[u8]) -> Result<Vec<u8>, AllocError> {
     let mut text = settling_line(alloc, found)?.into_bytes();
     text.extend_from_slice(report)?;

@@ -7,7 +7,7 @@ use app_commands::{
 use app_files::{Ending, path_in, print_out, shown_fields};
 use rounds_walk::PlanRef;
 use rule_check::Program;
-use run_watch::{Format, Show, watched};
+use run_watch::{Format, Show, Workers, watched};
 use std::alloc::Global;
 use std::thread::Threads;
 
@@ -46,9 +46,12 @@ fn watched_text(
     show: &Show<'_>,
 ) -> Result<Vec<u8>, Ending> {
     let (alloc, span) = (rt.alloc(), &asked.span);
-    let count = threads_for(threads, &asked.texts);
+    let workers = Workers {
+        rt: threads,
+        count: threads_for(threads, &asked.texts),
+    };
     let mut telling = Telling::new(rt, span, plan.nodes());
-    watched(threads, alloc, plan, span, show, count, &mut telling).map_err(no_rounds)
+    watched(&workers, alloc, plan, span, show, &mut telling).map_err(no_rounds)
 }
 
 /// The text of the rounds, these fields being shown.

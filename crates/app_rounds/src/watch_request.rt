@@ -55,7 +55,7 @@ static WATCH: Command = Command {
     aliases: &[],
     called: "unison watch",
     about: "Show all rounds from one to another, in one pass, as reports, CSV or JSON",
-    notes: "Prints the rounds FIRST, FIRST + K, FIRST + 2 K and so on, up to LAST, in one pass. Reports stand one behind the other; CSV and JSON lines have a record for each node in each round.\nAn example: unison watch examples/distance.rules examples/path.toml --rounds 0..2\nAnother one: unison watch examples/distance.rules examples/path.toml --rounds 0..2 --changes --format csv\n",
+    notes: "Prints the rounds FIRST, FIRST + K, FIRST + 2 K and so on, up to LAST, in one pass. Reports stand one after the other; CSV and JSON lines have a record for each node in each round.\nAn example: unison watch examples/distance.rules examples/path.toml --rounds 0..2\nAnother one: unison watch examples/distance.rules examples/path.toml --rounds 0..2 --changes --format csv\n",
     arguments: &[
         PROGRAM,
         NETWORK,

@@ -5,7 +5,7 @@ use app_commands::{asked_by, names_for, no_world, read_plan_once, shared_plan, s
 use app_files::{Ending, path_in, print_out};
 use net_names::NodeNames;
 use rounds_plan::Plan;
-use run_explain::{Show, told};
+use run_steps::explain::{Show, told};
 use std::alloc::Global;
 use std::sync::Arc;
 use unison_world::Step;

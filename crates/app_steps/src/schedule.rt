@@ -10,7 +10,7 @@ use link_net::{MOST_NODES, Network};
 use net_names::NodeNames;
 use rounds_plan::Plan;
 use run_schedule::{Daemon, ListFault, Manner, listed, with_refused};
-use run_script::{StepTextFault, written};
+use run_steps::script::{StepTextFault, written};
 use std::alloc::{AllocError, Global};
 use std::sync::Arc;
 use unison_trace::{ReplayFault, write_schedule};

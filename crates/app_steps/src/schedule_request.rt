@@ -183,7 +183,7 @@ const MANNERS: [Subcommand; 11] = [
     Subcommand {
         name: "write",
         about: "A schedule from a script, a line such as `4 reads 7` for each step",
-        notes: "The lines: `4 reads 7`, `4 reads all`, `4 moves`, `4 turn` (reads all and moves), `sweep` (a turn of each node), and `repeat 3 {` and `}` around others; what stands behind # is a comment.\nAn example: printf 'sweep\\n0 turn\\n' | unison schedule write - examples/distance.rules examples/path.toml\n",
+        notes: "The lines: `4 reads 7`, `4 reads all`, `4 moves`, `4 turn` (reads all and moves), `sweep` (a turn of each node), and `repeat 3 {` and `}` around others; what stands after # is a comment.\nAn example: printf 'sweep\\n0 turn\\n' | unison schedule write - examples/distance.rules examples/path.toml\n",
         arguments: &[LINES, PROGRAM, NETWORK, NAMES, FROM, CONSTANT],
     },
 ];

@@ -6,7 +6,7 @@ use app_commands::{asked_by, names_for, put_note, read_plan_once, shared_plan};
 use app_files::{Ending, bytes_at, name_at, path_in, write_out};
 use net_names::NodeNames;
 use rounds_plan::Plan;
-use run_verify::{Verified, VerifyFault, verify};
+use run_steps::verify::{Verified, VerifyFault, verify};
 use std::alloc::{AllocError, Global};
 use std::sync::Arc;
 
@@ -93,7 +93,7 @@ fn put_counts(
     Ok(())
 }
 
-/// What stands behind the name of a thing of which there are so many.
+/// What stands after the name of a thing of which there are so many.
 fn plural(count: u64) -> &'static str {
     if count == 1 { "" } else { "s" }
 }

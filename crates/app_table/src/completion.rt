@@ -14,7 +14,7 @@ _unison() {
   case $command:$form in
 "#;
 
-/// What stands behind them.
+/// What stands after them.
 const TAIL: &str = r#"  esac
   case $current in
   -*) COMPREPLY=($(compgen -W "$options --help" -- "$current")) ;;
@@ -45,7 +45,7 @@ fn put_names(draft: &mut Draft, rows: &[Subcommand]) {
     }
 }
 
-/// Adds the head of the script and the names of commands without forms, behind which other names may be added by `put_word`.
+/// Adds the head of the script and the names of commands without forms, after which other names may be added by `put_word`.
 pub fn put_head(draft: &mut Draft, rows: &[Subcommand]) {
     draft.put(HEAD);
     draft.put("  :) words=\"");

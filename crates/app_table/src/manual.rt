@@ -94,7 +94,7 @@ fn put_arguments(draft: &mut Draft, arguments: &[Argument]) {
     }
 }
 
-/// Adds what stands behind the help, a paragraph for each line.
+/// Adds what stands after the help, a paragraph for each line.
 fn put_notes(draft: &mut Draft, notes: &str) {
     for line in notes.lines() {
         draft.put(".PP\n");

@@ -43,14 +43,14 @@ fn arg_of<'a>(alloc: Global, row: &Argument) -> Result<Arg<'a>, AllocError> {
         .requires_all(row.needs.as_slice())
 }
 
-/// Puts the parser of an argument behind the others.
+/// Puts the parser of an argument after the others.
 fn put_arg<'a>(args: &mut Vec<Arg<'a>>, alloc: Global, row: &Argument) -> Result<(), AllocError> {
     let arg = arg_of(alloc, row)?;
     args.push(arg)?;
     Ok(())
 }
 
-/// Puts the parsers of arguments behind the others.
+/// Puts the parsers of arguments after the others.
 fn put_args<'a>(
     args: &mut Vec<Arg<'a>>,
     alloc: Global,
@@ -87,7 +87,7 @@ fn subcommand_parser<'a>(
         .args(args)
 }
 
-/// Puts the parser of a subcommand behind the others.
+/// Puts the parser of a subcommand after the others.
 fn put_subcommand<'a>(
     parsers: &mut Vec<Parser<'a>>,
     alloc: Global,
@@ -133,7 +133,7 @@ fn parser_of<'a>(alloc: Global, row: &Command) -> Result<Parser<'a>, AllocError>
     plain_parser(alloc, row)?.subcommands(subcommands)
 }
 
-/// Puts a value behind the others.
+/// Puts a value after the others.
 pub(crate) fn put_value(
     values: &mut Vec<String>,
     alloc: Global,
@@ -178,7 +178,7 @@ fn values_in(
     }
 }
 
-/// Puts what is given of an argument behind the others.
+/// Puts what is given of an argument after the others.
 fn put_given(
     alloc: Global,
     given: &mut Vec<Given>,
@@ -193,7 +193,7 @@ fn put_given(
     Ok(())
 }
 
-/// Puts what is given of arguments behind the others.
+/// Puts what is given of arguments after the others.
 fn put_all_given(
     alloc: Global,
     given: &mut Vec<Given>,

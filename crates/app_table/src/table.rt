@@ -57,7 +57,7 @@ pub struct Argument {
 pub struct Subcommand {
     pub name: &'static str,
     pub about: &'static str,
-    /// What stands behind its help; lines end with a line feed.
+    /// What stands after its help; lines end with a line feed.
     pub notes: &'static str,
     pub arguments: &'static [Argument],
 }
@@ -71,9 +71,9 @@ pub struct Command {
     /// How it is called in usage and help, as `unison generate`.
     pub called: &'static str,
     pub about: &'static str,
-    /// What stands behind its help; lines end with a line feed.
+    /// What stands after its help; lines end with a line feed.
     pub notes: &'static str,
-    /// What it takes; where it has subcommands, what each of them takes behind its own arguments.
+    /// What it takes; where it has subcommands, what each of them takes after its own arguments.
     pub arguments: &'static [Argument],
     /// One of them has to be named where there are any.
     pub subcommands: &'static [Subcommand],
@@ -85,7 +85,7 @@ impl Command {
         self.name == word || self.aliases.contains(&word)
     }
 
-    /// The arguments that stand right behind its name: none where it has subcommands, behind the names of which they stand.
+    /// The arguments that stand right after its name: none where it has subcommands, after the names of which they stand.
     pub(crate) fn own_arguments(&self) -> &'static [Argument] {
         if self.subcommands.is_empty() {
             self.arguments

@@ -8,7 +8,7 @@ abbrev pub lines_ended : List ℕ → ℕ
 lines_ended [] = 0
 lines_ended (b ∷ bs) = if b == 10 then lines_ended bs + 1 else lines_ended bs
 
--- the last line of the bytes begins here: at their beginning or behind an LF, and no LF stands from here on
+-- the last line of the bytes begins here: at their beginning or after an LF, and no LF stands from here on
 pub record IsLineStart (bytes : List ℕ) (start : ℕ) : Type 0 where
   pub within : start ≤ length bytes
   pub begins : 0 < start → slice_index bytes (start - 1) ≡ 10
@@ -18,7 +18,7 @@ pub record IsLineStart (bytes : List ℕ) (start : ℕ) : Type 0 where
 abbrev pub width : List ℕ → ℕ
 width bytes = if is_utf8 bytes then length (chars bytes) else length bytes
 
--- the place of the byte `at`: behind the lines that end before it, in the last line of the bytes before it
+-- the place of the byte `at`: after the lines that end before it, in the last line of the bytes before it
 pub record IsPlace (text : List ℕ) (at : ℕ) (place : Place) : Type 0 where
   pub line : place.line ≡ lines_ended (take at text) + 1
   pub start : IsLineStart (take at text) place.start

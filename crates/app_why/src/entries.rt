@@ -47,7 +47,7 @@ fn unit_length(bytes: &[u8]) -> usize {
     1
 }
 
-/// The depth behind a byte, in brackets and braces.
+/// The depth after a byte, in brackets and braces.
 fn depth_behind(depth: usize, byte: u8) -> usize {
     match byte {
         b'[' | b'{' => depth.saturating_add(1),

@@ -239,7 +239,7 @@ pub fn model_word_hint(word: &str) -> Option<&'static str> {
     }
 }
 
-/// What to do in a program about two tokens, one behind the other, that are signs which another language writes so.
+/// What to do in a program about two tokens, one after the other, that are signs which another language writes so.
 pub(crate) fn pair_hint(first: Option<Token>, second: Option<Token>) -> Option<&'static str> {
     for (one, other, hint, _) in &PAIRS {
         if is_sign(first, *one) && is_sign(second, *other) {

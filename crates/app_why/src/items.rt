@@ -45,7 +45,7 @@ pub(crate) fn name_of<'a>(item: &[Lexeme<'a>]) -> &'a str {
     }
 }
 
-/// What stands behind the `=` of an item.
+/// What stands after the `=` of an item.
 fn body<'t, 'a>(item: &'t [Lexeme<'a>]) -> &'t [Lexeme<'a>] {
     match item {
         [_, _, _, rest @ ..] => rest,
@@ -79,7 +79,7 @@ pub(crate) fn is_aggregate(token: Token) -> bool {
     )
 }
 
-/// How many parts are still wanted behind a token where so many are wanted before it: an operation wants two in place
+/// How many parts are still wanted after a token where so many are wanted before it: an operation wants two in place
 /// of one, a choice three, a word with one part one, and a leaf none.
 fn wanted_behind(wanted: usize, token: Token) -> usize {
     match token {

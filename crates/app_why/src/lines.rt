@@ -113,7 +113,7 @@ fn step_rest(line: &[u8]) -> &[u8] {
     }
 }
 
-/// The rest of a line behind the fields in order, or that at which it departs from them.
+/// The rest of a line after the fields in order, or that at which it departs from them.
 fn fields_rest<'a>(program: &Program, line: &'a [u8]) -> &'a [u8] {
     let mut rest = line;
     for field in 0..program.field_count() {

@@ -8,7 +8,7 @@ use std::str;
 /// The place of a byte in a text.
 #[derive(Clone, Copy)]
 pub struct Place {
-    /// The number of its line, counted from 1; a line more begins behind each LF.
+    /// The number of its line, counted from 1; a line more begins after each LF.
     pub line: usize,
     /// The number of its column, counted from 1: in characters where what stands before it in its line is UTF-8, and
     /// else in bytes.

@@ -109,7 +109,7 @@ fn put_place(out: &mut String, named: Named, at: Option<usize>) -> Result<(), Al
     }
 }
 
-/// Adds what to do, each line behind two blanks.
+/// Adds what to do, each line after two blanks.
 fn put_hint(out: &mut String, hint: &str) -> Result<(), AllocError> {
     for line in hint.lines() {
         write!(out, "  {line}\n")?;

@@ -17,7 +17,7 @@ pub enum Slip {
     AlwaysHolds,
     /// `^` before a small number.
     NoPower,
-    /// `not` and a bracket behind which an operator stands; in models alone.
+    /// `not` and a bracket after which an operator stands; in models alone.
     NotOfAll,
 }
 
@@ -148,7 +148,7 @@ fn aggregate_slip(part: &Expr) -> Option<Slip> {
     None
 }
 
-/// Adds the notes on an expression, whose first token has this number. Answers the number of the token behind it.
+/// Adds the notes on an expression, whose first token has this number. Answers the number of the token after it.
 fn put_notes_on(
     out: &mut String,
     body: Body<'_>,
@@ -177,7 +177,7 @@ fn put_notes_on(
     }
 }
 
-/// The tokens of the expression of a rule, behind `next`, its name and `=`.
+/// The tokens of the expression of a rule, after `next`, its name and `=`.
 fn body_of<'a>(lexemes: &'a [Lexeme<'a>], item: usize) -> &'a [Lexeme<'a>] {
     match item_tokens(lexemes, item) {
         [_, _, _, rest @ ..] => rest,

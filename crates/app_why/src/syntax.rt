@@ -35,7 +35,7 @@ fn expected_text(expected: Expected) -> &'static str {
 /// The aggregates.
 const AGGREGATES: [&str; 6] = ["total", "least", "most", "count", "any", "all"];
 
-/// The tokens at a place, before it and behind it.
+/// The tokens at a place, before it and after it.
 #[derive(Clone, Copy)]
 struct Around<'a> {
     before: Option<Token<'a>>,
@@ -96,8 +96,8 @@ fn foreign_hint(expected: Expected, around: &Around) -> Option<&'static str> {
     foreign_word_hint(expected, around)
 }
 
-/// Whether the token stands behind the word of an aggregate, as in `least n.dist` and `least (n.dist + 1)`, or in other
-/// languages behind that of a function.
+/// Whether the token stands after the word of an aggregate, as in `least n.dist` and `least (n.dist + 1)`, or in other
+/// languages after that of a function.
 fn is_called(token: Option<Token>) -> bool {
     matches!(token, Some(Token::Near(_) | Token::Sign(Sign::Open)))
 }

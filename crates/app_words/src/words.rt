@@ -157,7 +157,7 @@ pub fn five_commands() -> &'static [Subcommand] {
 }
 
 /// The five commands as subcommands of a command that is called by this name, as in `unison`, with this line about it and
-/// these notes behind its help.
+/// these notes after its help.
 pub fn command_as(called: &'static str, about: &'static str, notes: &'static str) -> Command {
     Command {
         name: "unison",

@@ -1,8 +1,8 @@
 //! Configurations: looks at one, one of given states, and the first difference of two.
 
-use call_fixtures::networks::PAIR;
-use call_fixtures::programs::{SWAP, SWAP_AND_COUNT};
-use call_fixtures::{Refusal, config_after, difference, plan_of, report_of};
+use crate::fixtures::networks::PAIR;
+use crate::fixtures::programs::{SWAP, SWAP_AND_COUNT};
+use crate::fixtures::{Refusal, config_after, difference, plan_of, report_of};
 use lockstep::{Config, Difference, Plan, lockstep};
 use rule_check::State;
 use std::alloc::Global;

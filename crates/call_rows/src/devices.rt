@@ -1,6 +1,6 @@
 //! Counted readers and writers, over devices that take or give few bytes, or fail.
 
-use call_fixtures::devices::{LateSource, Source, late_writer, writer};
+use crate::fixtures::devices::{LateSource, Source, late_writer, writer};
 use lockstep::{DeviceFault, Tally, write_text};
 use std::io::{ErrorKind, Read, Write};
 use std::process::Abort;

@@ -1,8 +1,8 @@
 //! The line of a difference, which no comparison of the programs comes to.
 
+use crate::fixtures::networks::PAIR;
+use crate::fixtures::programs::SWAP;
 use app_jobs::{ServeFault, difference_line};
-use call_fixtures::networks::PAIR;
-use call_fixtures::programs::SWAP;
 use link_net::read_network;
 use lockstep::{Difference, Plan};
 use rule_check::check;

@@ -1,6 +1,6 @@
 //! What happens to worlds, and what they answer.
 
-use call_fixtures::{first_stray, read, world_of, write};
+use crate::fixtures::{first_stray, read, world_of, write};
 use phase_register::Phase;
 use std::alloc::Global;
 use std::process::Abort;

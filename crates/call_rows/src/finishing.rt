@@ -1,8 +1,8 @@
 //! Why a world that is not finished, or is another plan's, has no configuration.
 
-use call_fixtures::networks::{PAIR, PAIR_AT_TWO, UNSET_PAIR};
-use call_fixtures::programs::{LEAST, SWAP};
-use call_fixtures::{Refusal, plan_of, world_of};
+use crate::fixtures::networks::{PAIR, PAIR_AT_TWO, UNSET_PAIR};
+use crate::fixtures::programs::{LEAST, SWAP};
+use crate::fixtures::{Refusal, plan_of, world_of};
 use lockstep::Plan;
 use std::alloc::Global;
 use std::test::Fail;

@@ -13,6 +13,8 @@ mod events;
 #[cfg(test)]
 mod finishing;
 #[cfg(test)]
+mod fixtures;
+#[cfg(test)]
 mod logs;
 #[cfg(test)]
 mod memory;

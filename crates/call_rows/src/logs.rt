@@ -1,8 +1,8 @@
 //! Worlds beside the steps that changed them: a full trace, results, and a stop that is refused.
 
-use call_fixtures::networks::PAIR;
-use call_fixtures::programs::SWAP;
-use call_fixtures::{first_stray, read, shared_plan, write};
+use crate::fixtures::networks::PAIR;
+use crate::fixtures::programs::SWAP;
+use crate::fixtures::{first_stray, read, shared_plan, write};
 use lockstep::Plan;
 use std::alloc::Global;
 use std::process::Abort;

@@ -6,9 +6,9 @@
 //! refused.
 
 use crate::events::{assert_nodes, assert_step};
-use call_fixtures::networks::{PAIR, PAIR_AT_TWO};
-use call_fixtures::programs::SWAP;
-use call_fixtures::{Refusal, read, shared_plan, write};
+use crate::fixtures::networks::{PAIR, PAIR_AT_TWO};
+use crate::fixtures::programs::SWAP;
+use crate::fixtures::{Refusal, read, shared_plan, write};
 use lockstep::{Config, Plan};
 use phase_register::Phase;
 use std::alloc::Global;

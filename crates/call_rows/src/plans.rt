@@ -1,8 +1,8 @@
 //! Plans: whether two are the same, and a configuration of another plan.
 
-use call_fixtures::networks::{ALONE, PATH};
-use call_fixtures::programs::{DISTANCE, ROUNDS, SWAP};
-use call_fixtures::{Refusal, config_after, plan_of};
+use crate::fixtures::networks::{ALONE, PATH};
+use crate::fixtures::programs::{DISTANCE, ROUNDS, SWAP};
+use crate::fixtures::{Refusal, config_after, plan_of};
 use lockstep::{Plan, ResumeFault};
 use std::alloc::Global;
 use std::process::Abort;

@@ -1,6 +1,6 @@
 //! Programs: the texts of their faults, whether two are the same, and steps by one neighbour after the other.
 
-use call_fixtures::{Refusal, program_of};
+use crate::fixtures::{Refusal, program_of};
 use rule_check::{CheckFault, Near, Program, State, Sums};
 use rule_lang::LangFault;
 use std::alloc::{AllocError, Global};

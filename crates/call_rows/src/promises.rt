@@ -1,10 +1,10 @@
 //! What is seen of nodes after single steps, and the report of a run by threads.
 
-use call_fixtures::devices::writer;
-use call_fixtures::networks::{PAIR, PATH};
-use call_fixtures::programs::{DISTANCE, SWAP};
-use call_fixtures::reports::PATH_AFTER_ONE;
-use call_fixtures::{read, shared_plan, write};
+use crate::fixtures::devices::writer;
+use crate::fixtures::networks::{PAIR, PATH};
+use crate::fixtures::programs::{DISTANCE, SWAP};
+use crate::fixtures::reports::PATH_AFTER_ONE;
+use crate::fixtures::{read, shared_plan, write};
 use headline::{Seen, after_steps, run_report};
 use lockstep::Tally;
 use std::io::ErrorKind;

@@ -1,9 +1,9 @@
 //! Replays whose reader fails.
 
-use call_fixtures::devices::{Source, writer};
-use call_fixtures::networks::PAIR;
-use call_fixtures::programs::SWAP;
-use call_fixtures::{Refusal, shared_plan};
+use crate::fixtures::devices::{Source, writer};
+use crate::fixtures::networks::PAIR;
+use crate::fixtures::programs::SWAP;
+use crate::fixtures::{Refusal, shared_plan};
 use lockstep::Tally;
 use std::alloc::Global;
 use std::io::ErrorKind;
@@ -14,7 +14,7 @@ use unison_trace::{ReplayFault, replay_over};
 /// Each of two linked nodes reads the other and writes.
 const ROUND: &[u8] = b"read 0 0\nwrite 0\nread 1 0\nwrite 1\n";
 
-/// Asserts what comes of a schedule whose reader fails with an error of this kind behind these bytes.
+/// Asserts what comes of a schedule whose reader fails with an error of this kind after these bytes.
 fn assert_failure(
     rt: &impl Abort,
     alloc: Global,
@@ -36,7 +36,7 @@ fn assert_failure(
     Ok(())
 }
 
-/// Asserts what comes of a schedule whose reader fails behind each number of its bytes.
+/// Asserts what comes of a schedule whose reader fails after each number of its bytes.
 fn assert_failures(rt: &impl Abort, alloc: Global, kind: ErrorKind) -> Result<(), Refusal> {
     for len in 0..=ROUND.len() {
         assert_failure(rt, alloc, kind, &ROUND[..len])?;

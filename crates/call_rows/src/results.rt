@@ -1,8 +1,8 @@
 //! Results that are computed apart from a world.
 
 use crate::events::{Event, Scene, assert_events, assert_scenes, played};
-use call_fixtures::networks::{ALONE, PAIR};
-use call_fixtures::programs::{LEAST, SWAP};
+use crate::fixtures::networks::{ALONE, PAIR};
+use crate::fixtures::programs::{LEAST, SWAP};
 use std::alloc::Global;
 use std::process::Abort;
 use std::test::Fail;

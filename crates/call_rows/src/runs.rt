@@ -1,9 +1,9 @@
 //! Runs of workers: the largest trace, and gates that show that workers compute side by side, each for its own nodes.
 
-use call_fixtures::networks::{ALONE, APART, PAIR, PATH, RING};
-use call_fixtures::programs::{COUNTER, DISTANCE, MAJORITY, SWAP};
-use call_fixtures::reports::{PATH_AFTER_ONE, RING_AFTER_FOUR};
-use call_fixtures::{Refusal, report_of, shared_plan};
+use crate::fixtures::networks::{ALONE, APART, PAIR, PATH, RING};
+use crate::fixtures::programs::{COUNTER, DISTANCE, MAJORITY, SWAP};
+use crate::fixtures::reports::{PATH_AFTER_ONE, RING_AFTER_FOUR};
+use crate::fixtures::{Refusal, report_of, shared_plan};
 use lockstep::Plan;
 use std::alloc::Global;
 use std::process::Abort;

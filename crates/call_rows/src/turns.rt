@@ -1,9 +1,9 @@
 //! Turns and sweeps: what a world answers, and where its nodes stand at the end; and looks at a world.
 
 use crate::events::{Event, Scene, assert_scenes};
-use call_fixtures::networks::{PAIR, PAIR_AT_TWO, RING};
-use call_fixtures::programs::{MAJORITY, SWAP};
-use call_fixtures::world_of;
+use crate::fixtures::networks::{PAIR, PAIR_AT_TWO, RING};
+use crate::fixtures::programs::{MAJORITY, SWAP};
+use crate::fixtures::world_of;
 use phase_register::Phase;
 use std::test::Fail;
 use unison_world::{Answer, TurnAnswer};

@@ -1,7 +1,7 @@
 //! Long walks of turns and results: at each of many times, every node has the lockstep state of its moves.
 
-use call_fixtures::draws::below;
-use call_fixtures::{Refusal, read, shared_plan};
+use crate::fixtures::draws::below;
+use crate::fixtures::{Refusal, read, shared_plan};
 use lockstep::{Config, Plan, lockstep};
 use std::alloc::Global;
 use std::process::Abort;
@@ -34,7 +34,7 @@ impl Draws {
 }
 
 /// A ring of 30 nodes, where the link from node n to the next weighs n times n; from each third node a chord leads to
-/// the seventh behind it.
+/// the seventh after it.
 const RING_WITH_CHORDS: &str =
     "nodes = 30\nphase = 1\nlinks = [[0,1,0],[0,7],[1,2,1],[2,3,4],[3,4,9],[3,10],[4,5,16],[5,6,25],[6,7,36],[6,13],[7,8,49],[8,9,64],[9,10,81],[9,16],[10,11,100],[11,12,121],[12,13,144],[12,19],[13,14,169],[14,15,196],[15,16,225],[15,22],[16,17,256],[17,18,289],[18,19,324],[18,25],[19,20,361],[20,21,400],[21,22,441],[21,28],[22,23,484],[23,24,529],[24,25,576],[24,1],[25,26,625],[26,27,676],[27,28,729],[27,4],[28,29,784],[29,0,841],]\n[set]\ns = [[0, 5], [7, 11], [29, 65520]]\n";
 

@@ -24,7 +24,7 @@ too_long whole value digit i bs inside read is long fits =
     let step = value_step value bs i inside in
     omega (arith, more, step, read, is, long, fits)
 
--- digits behind others
+-- digits after others
 pub together_some : (front back : List ℕ) (value : ℕ) (r : Option ℕ) → value ≡ digits_value 10 front → SomeIff r (digits_value_after 10 value back < 18446744073709551616) (digits_value_after 10 value back)
     → SomeIff r (digits_value 10 (front ++ back) < 18446744073709551616) (digits_value 10 (front ++ back))
 together_some front back value r is told =

@@ -7,7 +7,7 @@ use Rattle.std.proofs.lemmas.List.Sums.{prefix_len_passes, prefix_len_stops, pre
 use Rattle.std.proofs.lemmas.Str.{IsCharBoundary-start, IsCharBoundary-end, IsCharBoundary-after_ascii, IsCharBoundary-before_ascii}
 use Rattle.import_lines.specs.Texts.{is_line_feed, is_separator, is_filled, words_of, say_nothing, told_from}
 
--- the parts behind the first one, where what stands behind it begins with the element at which the list is cut
+-- the parts after the first one, where what stands after it begins with the element at which the list is cut
 abbrev others : {X : Type 0} → (X → Bool) → List X → List (List X)
 others p [] = []
 others p (x ∷ xs) = slice_split p xs
@@ -43,7 +43,7 @@ words_skip (b ∷ bs) =
 pub words_first : (b : ℕ) (bs : List ℕ) → is_separator b ≡ false → words_of (b ∷ bs) ≡ before_first is_separator (b ∷ bs) ∷ words_of (drop (position_or_len is_separator (b ∷ bs)) (b ∷ bs))
 words_first b bs other = rw (split_first is_separator (b ∷ bs), words_behind (b ∷ bs)) (rw (other, one-add (position_or_len is_separator bs)) refl)
 
--- what stands behind the separators at the front begins with none
+-- what stands after the separators at the front begins with none
 pub stops_at : (bs begun : List ℕ) (c : ℕ) (cs : List ℕ) → begun ≡ drop (prefix_len is_separator bs) bs → begun ≡ c ∷ cs → is_separator c ≡ false
 stops_at [] begun c cs is shape = cc
 stops_at (b ∷ bs) begun c cs is shape =
@@ -89,7 +89,7 @@ told_behind n (b ∷ bs) =
       | inr other ↦ rw (other, one-add (position_or_len is_line_feed bs), add-one (suc (position_or_len is_line_feed bs))) (rw (add-one (position_or_len is_line_feed bs)) at (told_behind n bs))
     ]
 
--- the first line, and the lines behind it
+-- the first line, and the lines after it
 pub told_more : (n : ℕ) (bs line rest : List ℕ) → line ≡ before_first is_line_feed bs → rest ≡ after_first is_line_feed bs → told_from n bs ≡ cond (not (say_nothing (words_of line))) ((n, line) ∷ told_from (n + 1) rest) (told_from (n + 1) rest)
 told_more n bs line rest is behind = rw (is, behind, split_first is_line_feed bs, told_behind (n + 1) bs) refl
 
@@ -105,7 +105,7 @@ none_passes p (b ∷ bs) =
       | inr other ↦ (let same = none_passes p bs in rw (other, one-add (position_or_len p bs)) (sym (suc_same (position_or_len p bs) (length bs)) ∙ same))
     ]
 
--- the first byte of a line behind its separators
+-- the first byte of a line after its separators
 pub says_none : (bs begun : List ℕ) → begun ≡ drop (prefix_len is_separator bs) bs → begun ≡ [] → say_nothing (words_of bs) ≡ true
 says_none bs begun is none = rw (words_skip bs) (rw (sym is ∙ none) refl)
 
@@ -171,7 +171,7 @@ told_said n bs line rest nothing is behind tells holds = told_more n bs line res
 pub told_passed : (n : ℕ) (bs line rest : List ℕ) (nothing : Bool) → line ≡ before_first is_line_feed bs → rest ≡ after_first is_line_feed bs → nothing ≡ say_nothing (words_of line) → nothing ≡ true → told_from (n + 1) rest ≡ told_from n bs
 told_passed n bs line rest nothing is behind tells holds = sym (told_more n bs line rest is behind ∙ rw (sym tells ∙ holds) refl)
 
--- behind a line there is less
+-- after a line there is less
 pub rest_shorter : (bs rest : List ℕ) → rest ≡ after_first is_line_feed bs → false ≡ (length bs == 0) → length rest + 1 ≤ length bs
 rest_shorter bs rest is some =
     let full = eqb-false (length bs) 0 (sym some) in

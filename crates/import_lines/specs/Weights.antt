@@ -36,7 +36,7 @@ abbrev pub is_exponent : List ℕ → Bool
 is_exponent [] = false
 is_exponent (b ∷ bytes) = if is_sign b then is_whole bytes else is_whole (b ∷ bytes)
 
--- a number, whole or decimal: a mantissa, and an exponent behind an E or without
+-- a number, whole or decimal: a mantissa, and an exponent after an E or without
 abbrev pub is_number : List ℕ → Bool
 is_number bytes =
     is_mantissa (before_first is_exponent_mark bytes)
@@ -55,11 +55,11 @@ bad_weight word = if is_negative word then Negative else if is_number word then 
 abbrev pub mantissa_of : List ℕ → List ℕ
 mantissa_of word = before_first is_exponent_mark word
 
--- its digits, those before the point and those behind it, as one whole number
+-- its digits, those before the point and those after it, as one whole number
 abbrev pub digits_of : List ℕ → ℕ
 digits_of word = digits_value 10 (before_first is_point (mantissa_of word) ++ after_first is_point (mantissa_of word))
 
--- how many of them stand behind the point
+-- how many of them stand after the point
 abbrev pub places_of : List ℕ → ℕ
 places_of word = length (after_first is_point (mantissa_of word))
 
@@ -67,7 +67,7 @@ places_of word = length (after_first is_point (mantissa_of word))
 abbrev pub exponent_of : List ℕ → List ℕ
 exponent_of word = after_first is_exponent_mark word
 
--- what stands behind a sign, where there is one
+-- what stands after a sign, where there is one
 abbrev pub behind_sign : List ℕ → List ℕ
 behind_sign [] = []
 behind_sign (b ∷ bytes) = if is_sign b then bytes else b ∷ bytes

@@ -6,12 +6,12 @@ ghost use Rattle.import_lines.specs.Texts.{edge_lines, is_line_feed, told_from};
 use crate::cuts::cut_at;
 use crate::words::says_nothing;
 
-/// What is left of a text behind some of its lines.
+/// What is left of a text after some of its lines.
 #[derive(Clone, Copy)]
 pub struct Lines<'a> {
     /// How many lines stand before.
     pub passed: u64,
-    /// The bytes behind them.
+    /// The bytes after them.
     pub bytes: &'a [u8],
 }
 
@@ -28,7 +28,7 @@ pub fn line_length(bytes: &[u8]) -> usize
     bytes.len()
 }
 
-/// The first line without its LF, and what stands behind it.
+/// The first line without its LF, and what stands after it.
 pub fn split_line(bytes: &[u8]) -> (&[u8], &[u8])
     ensures line { result.0.now ≡ before_first is_line_feed bytes.now }
     ensures rest { result.1.now ≡ after_first is_line_feed bytes.now }

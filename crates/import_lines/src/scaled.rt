@@ -24,7 +24,7 @@ fn digit(byte: u8) -> u8
     byte - b'0'
 }
 
-/// The number that digits say behind those of another number, where it is below 2 to the power of 64.
+/// The number that digits say after those of another number, where it is below 2 to the power of 64.
 fn value_behind(before: u64, digits: &[u8]) -> Option<u64>
     requires { all_ascii_digits digits.now ≡ true }
     ensures { SomeIff result (digits_value_after 10 before digits.now < 2 ^ 64) (digits_value_after 10 before digits.now) }
@@ -64,7 +64,7 @@ fn power(digits: &[u8]) -> u128
     value
 }
 
-/// Whether an exponent has a minus sign, and what stands behind its sign.
+/// Whether an exponent has a minus sign, and what stands after its sign.
 fn split_sign(exponent: &[u8]) -> (bool, &[u8])
     ensures lowering { result.0 ≡ is_lowering exponent.now }
     ensures behind { result.1.now ≡ behind_sign exponent.now }
@@ -76,7 +76,7 @@ fn split_sign(exponent: &[u8]) -> (bool, &[u8])
     }
 }
 
-/// The weight nearest to a number with so many places behind its point, and with this exponent.
+/// The weight nearest to a number with so many places after its point, and with this exponent.
 fn with_exponent(number: u128, places: usize, exponent: &[u8]) -> Result<Weight, WeightFault>
     requires small { number < 2 ^ 96 }
     requires digits { all_ascii_digits (behind_sign exponent.now) ≡ true }

@@ -7,7 +7,7 @@ pub enum WeightFault {
     /// A minus sign before a number, whole or decimal.
     #[error("Negative")]
     Negative,
-    /// A decimal number, where no factor is given: digits with a point among them, or with an exponent behind them.
+    /// A decimal number, where no factor is given: digits with a point among them, or with an exponent after them.
     #[error("Decimal")]
     Decimal,
     /// No number.

@@ -36,7 +36,7 @@ fn word_length(bytes: &[u8]) -> usize
     bytes.len()
 }
 
-/// The first word of a text, and what stands behind it; none where there is no word.
+/// The first word of a text, and what stands after it; none where there is no word.
 pub fn next_word(text: &str) -> Option<(&str, &str)>
     ensures { MatchOption result (words_of text.now ≡ []) (λ x. words_of text.now ≡ x.0.now ∷ words_of x.1.now) }
 {

@@ -26,7 +26,7 @@ noted_line p (q ∷ qs) =
       | inr other ↦ (let key = sym same ∙ other in rw (other, key) (noted_line p qs))
     ]
 
--- a new line goes behind the others
+-- a new line goes after the others
 put_last : (key : ℕ × ℕ) (line : ℕ) (es : List ((ℕ × ℕ) × ℕ)) → None ≡ lookup (are_same key) es → insert_entry are_same es key line ≡ es ++ (key, line) ∷ []
 put_last key line [] none = refl
 put_last key line (e ∷ es) none =

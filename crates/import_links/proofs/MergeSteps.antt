@@ -13,7 +13,7 @@ use Rattle.import_links.specs.Merging.{kept_of, are_parallel, with_kept, merged}
 use Rattle.import_links.specs.Puts.{ends, are_same, put}
 use Rattle.import_links.proofs.Twins.{parallel_same, others_merged}
 
--- the links of the entries with what is kept of later links, and behind them what the others of those make
+-- the links of the entries with what is kept of later links, and after them what the others of those make
 abbrev pub absorbed : Kept → List ((ℕ × ℕ) × Link) → List Link → List Link
 absorbed k [] ls = merged k ls
 absorbed k (e ∷ es) ls = with_kept k e.1 (filter (λ m. are_same (ends m) e.0) ls) ∷ absorbed k es (filter (λ m. not (are_same (ends m) e.0)) ls)

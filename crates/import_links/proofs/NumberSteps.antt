@@ -1,10 +1,9 @@
 -- Links of edges whose ends are numbers, edge by edge.
-use Rattle.std.proofs.Common.{◌≡◌, ◌<◌, ◌≤◌, ℕ, Bool, true, false, not, nat_lt, nat_le, None, arith, if◌then◌else◌, List, [], ◌∷◌, ◌++◌, refl, sym, ap, ◌∙◌, append_assoc, append-nil, Result, Ok, Err, Some}
+use Rattle.std.proofs.Common.{◌≡◌, ◌<◌, ◌≤◌, ◌+◌, ℕ, Bool, true, false, not, nat_lt, nat_le, None, arith, if◌then◌else◌, List, [], ◌∷◌, ◌++◌, refl, sym, ap, ◌∙◌, append_assoc, append-nil, Result, Ok, Err, Some}
 use Rattle.std.specs.Result.{result_err}
 use Rattle.std.specs.Str.Parse.{digits_value}
 use Rattle.std.proofs.lemmas.Bool.{lt-ltb, le-ltb, leb-false}
 use Rattle.std.proofs.lemmas.List.Sums.{fold-append}
-use Rattle.link_net.specs.Limits.{most_nodes}
 use Rattle.import_lines.specs.Weights.{most_weight, is_whole, is_number, is_negative, bad_weight, weight_of}
 use Rattle.import_lines.specs.declared.weight_fault.WeightFault.{WeightFault}
 use Rattle.import_lines.specs.declared.weight_fault.WeightFault.TheVariants.{Negative, Decimal, BadWeight, TooManyDigits, WeightTooLarge}
@@ -24,24 +23,24 @@ front_more front l (Ok ls) = ap Ok (append_assoc front (l ∷ []) ls)
 front_more front l (Err fault) = refl
 
 -- one edge more
-pub links_more : (front later : List PlacedLink) (l : PlacedLink) (e : NamedEdge) (edges rest : List NamedEdge) → later ≡ front ++ l ∷ [] → edges ≡ e ∷ rest → link_of e ≡ Ok l → with_front later (links_in rest) ≡ with_front front (links_in edges)
-links_more front later l e edges rest is shape made = rw (is, shape, made) (front_more front l (links_in rest))
+pub links_more : (most : ℕ) (front later : List PlacedLink) (l : PlacedLink) (e : NamedEdge) (edges rest : List NamedEdge) → later ≡ front ++ l ∷ [] → edges ≡ e ∷ rest → link_of most e ≡ Ok l → with_front later (links_in most rest) ≡ with_front front (links_in most edges)
+links_more most front later l e edges rest is shape made = rw (is, shape, made) (front_more front l (links_in most rest))
 
 -- no edge is left
-pub links_all : (front : List PlacedLink) (edges : List NamedEdge) (defined : Result (List PlacedLink) NumberFault) → edges ≡ [] → with_front front (links_in edges) ≡ defined → defined ≡ Ok front
-links_all front edges defined none is = sym (rw none at is) ∙ ap Ok (append-nil front)
+pub links_all : (most : ℕ) (front : List PlacedLink) (edges : List NamedEdge) (defined : Result (List PlacedLink) NumberFault) → edges ≡ [] → with_front front (links_in most edges) ≡ defined → defined ≡ Ok front
+links_all most front edges defined none is = sym (rw none at is) ∙ ap Ok (append-nil front)
 
 fault_more : (l : PlacedLink) (read : Result (List PlacedLink) NumberFault) → result_err (and_then read (λ ls. Ok (l ∷ ls))) ≡ result_err read
 fault_more l (Ok ls) = refl
 fault_more l (Err fault) = refl
 
 -- an edge between numbers does not change the first fault
-pub skip_good : (l : PlacedLink) (e : NamedEdge) (edges rest : List NamedEdge) → edges ≡ e ∷ rest → link_of e ≡ Ok l → result_err (links_in edges) ≡ result_err (links_in rest)
-skip_good l e edges rest shape made = rw (shape, made) (fault_more l (links_in rest))
+pub skip_good : (most : ℕ) (l : PlacedLink) (e : NamedEdge) (edges rest : List NamedEdge) → edges ≡ e ∷ rest → link_of most e ≡ Ok l → result_err (links_in most edges) ≡ result_err (links_in most rest)
+skip_good most l e edges rest shape made = rw (shape, made) (fault_more l (links_in most rest))
 
 -- a bad edge at the front is the first
-pub stop_bad : (fault : NumberFault) (e : NamedEdge) (edges rest : List NamedEdge) → edges ≡ e ∷ rest → link_of e ≡ Err fault → result_err (links_in edges) ≡ Some fault
-stop_bad fault e edges rest shape made = rw (shape, made) refl
+pub stop_bad : (most : ℕ) (fault : NumberFault) (e : NamedEdge) (edges rest : List NamedEdge) → edges ≡ e ∷ rest → link_of most e ≡ Err fault → result_err (links_in most edges) ≡ Some fault
+stop_bad most fault e edges rest shape made = rw (shape, made) refl
 
 -- one link more asks for no other nodes
 pub nodes_more : (ps now : List PlacedLink) (p : PlacedLink) → now ≡ ps ++ p ∷ [] → nodes_of now ≡ with_ends_of (nodes_of ps) p
@@ -74,37 +73,37 @@ none_said name false small k fault h other = refl
 none_said name true true k fault h other = cc
 none_said name true false k fault h other = (let same : fault ≡ WeightTooLarge = cc in absurd (other same))
 
-module _ (line : ℕ) (name : List ℕ) where
+module _ (most : ℕ) (small_most : most ≤ most_weight + 1) (line : ℕ) (name : List ℕ) where
   abbrev small : Bool
   small = nat_le (digits_value 10 name) most_weight
 
-  pub is_number_of : (w : Weight) → weight_of None name ≡ Ok w → w.value < most_nodes → Ok w.value ≡ number_of line name
+  pub is_number_of : (w : Weight) → weight_of None name ≡ Ok w → w.value < most → Ok w.value ≡ number_of most line name
   is_number_of w h low =
       let t = value_said name (is_whole name) small (digits_value 10 name) w h in
       let is = t.1 in
-      let few : nat_lt (digits_value 10 name) most_nodes ≡ true = lt-ltb (digits_value 10 name) most_nodes (omega (arith, is, low)) in
+      let few : nat_lt (digits_value 10 name) most ≡ true = lt-ltb (digits_value 10 name) most (omega (arith, is, low)) in
       rw (t.0, few, is) refl
 
-  pub is_past : (w : Weight) → weight_of None name ≡ Ok w → most_nodes ≤ w.value → Err (NumberTooLarge line) ≡ number_of line name
+  pub is_past : (w : Weight) → weight_of None name ≡ Ok w → most ≤ w.value → Err (NumberTooLarge line) ≡ number_of most line name
   is_past w h high =
       let t = value_said name (is_whole name) small (digits_value 10 name) w h in
       let is = t.1 in
-      let many : nat_lt (digits_value 10 name) most_nodes ≡ false = le-ltb (digits_value 10 name) most_nodes (omega (arith, is, high)) in
+      let many : nat_lt (digits_value 10 name) most ≡ false = le-ltb (digits_value 10 name) most (omega (arith, is, high)) in
       rw (t.0, many) refl
 
-  pub is_large : weight_of None name ≡ Err WeightTooLarge → Err (NumberTooLarge line) ≡ number_of line name
+  pub is_large : weight_of None name ≡ Err WeightTooLarge → Err (NumberTooLarge line) ≡ number_of most line name
   is_large h =
       let t = large_said name (is_whole name) small (digits_value 10 name) h in
       let past = leb-false (digits_value 10 name) most_weight t.1 in
-      let many : nat_lt (digits_value 10 name) most_nodes ≡ false = le-ltb (digits_value 10 name) most_nodes (omega (arith, past)) in
+      let many : nat_lt (digits_value 10 name) most ≡ false = le-ltb (digits_value 10 name) most (omega (arith, past)) in
       rw (t.0, many) refl
 
-  pub is_none : (fault : WeightFault) → weight_of None name ≡ Err fault → (fault ≡ WeightTooLarge → ⊥) → Err (NoNumber line) ≡ number_of line name
+  pub is_none : (fault : WeightFault) → weight_of None name ≡ Err fault → (fault ≡ WeightTooLarge → ⊥) → Err (NoNumber line) ≡ number_of most line name
   is_none fault h other =
       let t = none_said name (is_whole name) small (digits_value 10 name) fault h other in
       rw t refl
 
-  pub is_fault : (fault : WeightFault) → weight_of None name ≡ Err fault → Err (number_fault line fault) ≡ number_of line name
+  pub is_fault : (fault : WeightFault) → weight_of None name ≡ Err fault → Err (number_fault line fault) ≡ number_of most line name
   is_fault WeightTooLarge h = is_large h
   is_fault Negative h = is_none Negative h (λ e. cc)
   is_fault Decimal h = is_none Decimal h (λ e. cc)

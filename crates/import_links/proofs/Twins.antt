@@ -44,7 +44,7 @@ parallel_like l x y h =
     let same : ends x ≡ ends l = same_pair (ends x) (ends l) (sym (parallel_same l x) ∙ h) in
     parallel_same l y ∙ ap (λ p. are_same (ends y) p) (sym same) ∙ sym (parallel_same x y)
 
--- a test behind a weaker one
+-- a test after a weaker one
 filter_weaker : {X : Type 0} (p q : X → Bool) → ((x : X) → p x ≡ true → q x ≡ true) → (xs : List X) → filter p (filter q xs) ≡ filter p xs
 filter_weaker p q h [] = refl
 filter_weaker p q h (x ∷ xs) =

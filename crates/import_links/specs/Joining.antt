@@ -27,7 +27,7 @@ names_with names (e ∷ es) = names_with (with_ends names e) es
 abbrev pub link_in : List (List ℕ) → NamedEdge → PlacedLink
 link_in names e = record { link = (place_in names e.first, place_in names e.second, e.weight); line = e.line; exact = e.exact }
 
--- the links of edges whose ends are named one after another, behind these names
+-- the links of edges whose ends are named one after another, after these names
 abbrev pub links_with : List (List ℕ) → List NamedEdge → List PlacedLink
 links_with names [] = []
 links_with names (e ∷ es) = link_in (with_ends names e) e ∷ links_with (with_ends names e) es

@@ -1,4 +1,4 @@
--- Links that are put one by one behind those that were made, each entry under the two ends of its link.
+-- Links that are put one by one after those that were made, each entry under the two ends of its link.
 use Rattle.std.specs.Prelude.{ℕ, ◌==◌, Bool, ◌&&◌, List, [], ◌∷◌, min, max, if◌then◌else◌}
 use Rattle.net_text.specs.Listing.{Link}
 use Rattle.import_links.specs.declared.kept.Kept.{Kept}

@@ -11,8 +11,8 @@ pub enum JoinFault {
     /// It is no name: it is empty, has more than 65,536 bytes, or has a control character.
     #[error("line {line}: not a name")]
     BadName { line: u64 },
-    /// With it there are more than 65,536 names.
-    #[error("line {line}: there are more than 65536 nodes")]
+    /// With it there are more names than there may be.
+    #[error("line {line}: there are more nodes than there may be")]
     TooManyNodes { line: u64 },
     /// Memory ran out.
     #[error("not enough memory")]

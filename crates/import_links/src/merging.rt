@@ -15,7 +15,7 @@ pub(crate) fn ends(link: &Link) -> (u32, u32)
     (link.0.min(link.1), link.0.max(link.1))
 }
 
-/// Puts a link behind the others, or keeps one weight where one of them joins the same two nodes.
+/// Puts a link after the others, or keeps one weight where one of them joins the same two nodes.
 fn put(made: &mut IndexMap<(u32, u32), Link>, link: &Link, kept: Kept) -> Result<(), AllocError>
     ensures { OnOk result (made.new.entries ≡ put kept link.now made.old.entries) }
 {

@@ -2,8 +2,8 @@
 use Rattle.std.proofs.Common.{◌≡◌, true, List, ◌++◌, map, Option, Result, Ok, Err}
 use Rattle.std.specs.Option.{option_or}
 use Rattle.import_links.specs.declared.placed.PlacedLink.{PlacedLink}
-use Rattle.import_matrix.specs.declared.fault.MatrixFault.{MatrixFault}
-use Rattle.import_matrix.specs.Steps.{and_then}
+use Rattle.import_formats.specs.declared.matrix_market.fault.MatrixFault.{MatrixFault}
+use Rattle.import_formats.specs.matrix_market.Steps.{and_then}
 use Rattle.large_pack.specs.declared.options.PackOptions.{PackOptions}
 use Rattle.large_pack.specs.declared.options.SelfLoops.{SelfLoops}
 use Rattle.large_pack.specs.declared.fault.PackFault.{PackFault}
@@ -15,7 +15,7 @@ use Rattle.large_pack.proofs.Rising.{all_tied}
 use Rattle.import_network.specs.Entries.{edges_of}
 use Rattle.import_network.specs.MatrixSteps.{ranked_in}
 
--- the first fault of self-loops, behind entries that told so_far
+-- the first fault of self-loops, after entries that told so_far
 abbrev pub loops_after : SelfLoops → Option PackFault → Result (List PlacedLink) MatrixFault → Result (Option PackFault) MatrixFault
 loops_after self_loops so_far read = and_then read (λ links. Ok (option_or so_far (first_fault (loop_fault self_loops) (edges_of links))))
 

@@ -6,3 +6,4 @@ mod EntrySteps
 mod Surveying
 mod Numbering
 mod NamedPacks
+mod LinkPacks

@@ -4,8 +4,8 @@ use Rattle.std.specs.Result.{IsErrAnd, result_map_both}
 use Rattle.std.proofs.lemmas.Bool.Decides.{nat_tests}
 use Rattle.link_net.specs.Limits.{most_rows}
 use Rattle.import_lines.specs.Named.{NamedEdge}
-use Rattle.import_edges.specs.declared.fault.EdgeFault.{EdgeFault}
-use Rattle.import_edges.specs.Edges.{and_then, fault_as}
+use Rattle.import_formats.specs.declared.edges.fault.EdgeFault.{EdgeFault}
+use Rattle.import_formats.specs.edges.Edges.{and_then, fault_as}
 use Rattle.import_links.specs.Joining.{names_with}
 use Rattle.large_pack.specs.declared.options.PackOptions.{PackOptions}
 use Rattle.large_pack.specs.declared.options.SelfLoops.{SelfLoops}

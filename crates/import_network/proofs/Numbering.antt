@@ -1,13 +1,13 @@
 -- Edges between the numbers of names, read line by line.
-use Rattle.std.proofs.Common.{◌≡◌, ℕ, ◌<◌, ◌≤◌, Bool, true, false, List, [], ◌∷◌, ◌++◌, length, map, refl, sym, ap, subst, ◌∙◌, append-nil, arith, Option, Result, Ok, Err}
+use Rattle.std.proofs.Common.{◌≡◌, ℕ, ◌<◌, ◌≤◌, Bool, true, false, List, [], ◌∷◌, ◌++◌, length, map, refl, sym, ap, subst, ◌∙◌, append-nil, arith, Result, Ok, Err}
 use Rattle.std.specs.Prelude.{IfErr}
 use Rattle.std.specs.Result.{IsErrAnd}
 use Rattle.std.proofs.lemmas.Bool.{ltb-true}
 use Rattle.std.proofs.lemmas.List.{length-append}
 use Rattle.import_lines.specs.Named.{NamedEdge}
-use Rattle.import_edges.specs.declared.fault.EdgeFault.{EdgeFault}
-use Rattle.import_edges.specs.declared.reader.Reading.{Reading}
-use Rattle.import_edges.specs.Edges.{and_then, edge_of, edges_in}
+use Rattle.import_formats.specs.declared.edges.fault.EdgeFault.{EdgeFault}
+use Rattle.import_formats.specs.declared.edges.reader.Reading.{Reading}
+use Rattle.import_formats.specs.edges.Edges.{and_then, edge_of, edges_in}
 use Rattle.import_links.specs.declared.placed.PlacedLink.{PlacedLink}
 use Rattle.import_links.specs.Joining.{with_ends, names_with, link_in, links_with}
 use Rattle.import_links.proofs.Stable.{links_all, all_grown, ends_placed, first_there, has_with}
@@ -33,7 +33,7 @@ edge_placed r names e = ap (line_of r) (ends_placed names e)
 
 -- ---- all edges
 
--- the edges numbered one after another, behind these names
+-- the edges numbered one after another, after these names
 abbrev pub edges_with : Bool → List (List ℕ) → List NamedEdge → List EdgeLine
 edges_with r names [] = []
 edges_with r names (e ∷ es) = edge_in r (with_ends names e) e ∷ edges_with r (with_ends names e) es
@@ -79,7 +79,7 @@ numbered_within o es = subst (λ (es' : List EdgeLine). RankedWithin (length (na
 abbrev Read : Type 0
 Read = Result (List NamedEdge) EdgeFault
 
--- the names and the edges, behind those so far
+-- the names and the edges, after those so far
 abbrev pub numbered_after : PackOptions → List (List ℕ) → List Ranked → Read → Result (List (List ℕ) × List Ranked) EdgeFault
 numbered_after o names items read = and_then read (λ es. Ok (names_with names es, items ++ map (ranked o) (edges_with o.reverse names es)))
 

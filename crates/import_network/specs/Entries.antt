@@ -2,10 +2,10 @@
 use Rattle.std.specs.Prelude.{ℕ, Bool, false, List, map, Some, Result, Ok, if◌then◌else◌}
 use Rattle.link_net.specs.Limits.{most_rows}
 use Rattle.import_links.specs.declared.placed.PlacedLink.{PlacedLink}
-use Rattle.import_matrix.specs.declared.matrix.EntryReading.{EntryReading}
-use Rattle.import_matrix.specs.declared.matrix.Direction.TheVariants.{LeftAside, Kept}
-use Rattle.import_matrix.specs.Steps.{and_then, told_as}
-use Rattle.import_matrix.specs.Matrices.{MatrixLinks, entries_of}
+use Rattle.import_formats.specs.declared.matrix_market.matrix.EntryReading.{EntryReading}
+use Rattle.import_formats.specs.declared.matrix_market.matrix.Direction.TheVariants.{LeftAside, Kept}
+use Rattle.import_formats.specs.matrix_market.Steps.{and_then, told_as}
+use Rattle.import_formats.specs.matrix_market.Matrices.{MatrixLinks, entries_of}
 use Rattle.large_pack.specs.declared.edge_line.EdgeLine.{EdgeLine}
 use Rattle.large_pack.specs.declared.options.PackOptions.{PackOptions}
 use Rattle.large_pack.specs.declared.fault.PackFault.{PackFault}

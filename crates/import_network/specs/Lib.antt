@@ -1,5 +1,7 @@
 pub mod Faults
-pub mod Taking
+pub mod Makings
+pub mod LinkPacking
+pub mod Drafts
 pub mod Naming
 pub mod MatrixFaults
 pub mod Entries

@@ -1,6 +1,6 @@
 -- The faults of the two steps as those of packing a matrix. Running out of memory is told in one form.
-use Rattle.import_matrix.specs.declared.fault.MatrixFault.{MatrixFault}
-use Rattle.import_matrix.specs.declared.fault.MatrixFault.TheVariants as matrix
+use Rattle.import_formats.specs.declared.matrix_market.fault.MatrixFault.{MatrixFault}
+use Rattle.import_formats.specs.declared.matrix_market.fault.MatrixFault.TheVariants as matrix
 use Rattle.large_pack.specs.declared.fault.PackFault.{PackFault}
 use Rattle.large_pack.specs.declared.fault.PackFault.TheVariants as edges
 use Rattle.import_network.specs.declared.packed_matrix.fault.MatrixPackFault.{MatrixPackFault}

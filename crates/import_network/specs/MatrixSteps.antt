@@ -1,8 +1,8 @@
 -- Internal: entries that are read one after another. No public clause cites it.
 use Rattle.std.specs.Prelude.{List, map, Result, Ok}
 use Rattle.import_links.specs.declared.placed.PlacedLink.{PlacedLink}
-use Rattle.import_matrix.specs.declared.fault.MatrixFault.{MatrixFault}
-use Rattle.import_matrix.specs.Steps.{and_then}
+use Rattle.import_formats.specs.declared.matrix_market.fault.MatrixFault.{MatrixFault}
+use Rattle.import_formats.specs.matrix_market.Steps.{and_then}
 use Rattle.large_pack.specs.declared.options.PackOptions.{PackOptions}
 use Rattle.large_pack.specs.declared.ranked.Ranked.{Ranked}
 use Rattle.large_pack.specs.Ranks.{ranked}

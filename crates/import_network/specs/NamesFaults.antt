@@ -1,6 +1,6 @@
 -- The faults of the steps as those of packing edges between named nodes. Running out of memory is told in one form.
-use Rattle.import_edges.specs.declared.fault.EdgeFault.{EdgeFault}
-use Rattle.import_edges.specs.declared.fault.EdgeFault.TheVariants as lines
+use Rattle.import_formats.specs.declared.edges.fault.EdgeFault.{EdgeFault}
+use Rattle.import_formats.specs.declared.edges.fault.EdgeFault.TheVariants as lines
 use Rattle.net_names.specs.declared.fault.NameListFault.{NameListFault}
 use Rattle.net_names.specs.declared.fault.NameListFault.TheVariants as names
 use Rattle.large_pack.specs.declared.fault.PackFault.{PackFault}

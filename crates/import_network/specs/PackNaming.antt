@@ -4,10 +4,10 @@ use Rattle.std.specs.List.{filter_map, slice_get}
 use Rattle.std.specs.Str.{bytes_eq}
 use Rattle.link_net.specs.Limits.{most_rows}
 use Rattle.import_lines.specs.Named.{NamedEdge}
-use Rattle.import_edges.specs.declared.reader.Reading.{Reading}
-use Rattle.import_edges.specs.Steps.{and_then, fault_as}
+use Rattle.import_formats.specs.declared.edges.reader.Reading.{Reading}
+use Rattle.import_formats.specs.edges.Steps.{and_then, fault_as}
 use Rattle.import_lines.specs.Texts.{edge_lines}
-use Rattle.import_edges.specs.Edges.{edges_in}
+use Rattle.import_formats.specs.edges.Edges.{edges_in}
 use Rattle.import_links.specs.Joining.{names_with}
 use Rattle.net_names.specs.Naming.{place_in}
 use Rattle.large_pack.specs.declared.edge_line.EdgeLine.{EdgeLine}

@@ -1,4 +1,4 @@
--- Rows that are laid out one behind the other.
+-- Rows that are laid out one after the other.
 use Rattle.std.proofs.Common.{◌≡◌, ◌∙◌, ℕ, ◌+◌, ◌-◌, ◌<◌, ◌≤◌, List, [], ◌∷◌, ◌++◌, length, get_or, zero, suc, refl, sym, ap, map, take, drop, arith}
 use Rattle.std.proofs.Math.Seq.{get_or-append_seam, drop-append_seam}
 use Rattle.std.specs.List.{zip, slice_range}
@@ -19,7 +19,7 @@ map_same_below f h (suc n) same =
       next n m is before here =
           rw is (map-range_with_len_more f 0 n n (omega arith) ∙ ap (λ xs. xs ++ f n ∷ []) before ∙ ap (λ x. map h (numbers_below n) ++ x ∷ []) here ∙ sym (map-range_with_len_more h 0 n n (omega arith)))
 
--- two lists side by side, each with a column behind it
+-- two lists side by side, each with a column after it
 zip_more : (xs ys : List ℕ) (row : List (ℕ × ℕ)) → length ys ≡ length xs → zip (xs ++ map (λ a. a.0) row) (ys ++ map (λ a. a.1) row) ≡ zip xs ys ++ row
 zip_more [] [] [] same = refl
 zip_more [] [] (a ∷ row) same = ap (λ r. a ∷ r) (zip_more [] [] row refl)
@@ -32,7 +32,7 @@ range_before : {X : Type 0} (xs ys : List X) (i j : ℕ) → i ≤ j → j ≤ l
 range_before xs ys i j up low =
     ap (take (j - i)) (drop-append-le i xs ys (omega arith)) ∙ take-append-le (j - i) (drop i xs) ys (omega (arith, length-drop i xs))
 
--- the items behind others
+-- the items after others
 range_behind : {X : Type 0} (xs ys : List X) (i j : ℕ) → i ≡ length xs → j ≡ length xs + length ys → slice_range (xs ++ ys) i j ≡ ys
 range_behind xs ys i j from to =
     rw from (ap (take (j - length xs)) (drop-append_seam xs ys) ∙ take_all (j - length xs) ys (omega (arith, from, to)))
@@ -91,7 +91,7 @@ module _ (offsets ns ws xs ys : List ℕ) (placed : AreOffsets offsets (length n
   items_placed : AreOffsets offsets (length (zip ns ws))
   items_placed = rw (paired_length ns ws paired) placed
 
-  -- one row more stands behind the others
+  -- one row more stands after the others
   pub rows_more : rows_of (offsets ++ length (ns ++ xs) ∷ []) (ns ++ xs) (ws ++ ys) ≡ rows_of offsets ns ws ++ zip xs ys ∷ []
   rows_more =
       rw (both_behind, ← total)

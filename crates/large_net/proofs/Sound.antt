@@ -54,7 +54,7 @@ module _ (offsets ns ws : List ℕ) (placed : AreOffsets offsets (length ns)) (p
   pub row_part : (u : ℕ) → u < length offsets - 1 → row (rows_of offsets ns ws) u ≡ part offsets (zip ns ws) u
   row_part u low = get_or-map-range_with_len (part offsets (zip ns ws)) 0 (length offsets - 1) u u [] low (omega arith)
 
-  -- the neighbour at a slot stands that far behind the node's offset
+  -- the neighbour at a slot stands that far after the node's offset
   pub slot_value : (u j : ℕ) → u < length offsets - 1 → j < get_or offsets (u + 1) 0 - get_or offsets u 0 → get_or offsets u 0 + j < length ns
       → neighbour (rows_of offsets ns ws) u j ≡ get_or ns (get_or offsets u 0 + j) 0
   slot_value u j low near at =

@@ -36,7 +36,7 @@ pub words_length : (xs : List ℕ) → length (flat_map (to_le_bytes w32) xs) �
 words_length [] = refl
 words_length (x ∷ xs) = omega (arith, words_length xs, length-append (to_le_bytes w32 x) (flat_map (to_le_bytes w32) xs))
 
--- as many bytes as are asked for, and behind them what stands there, where something may
+-- as many bytes as are asked for, and after them what stands there, where something may
 pub has_room : (tailed : Bool) (asked found : ℕ) (tail : List ℕ) → found ≡ asked + length tail → (tailed ≡ false → tail ≡ []) → has_length tailed asked found ≡ true
 has_room true asked found tail is none = grind (arith, nat_tests)
 has_room false asked found tail is none =
@@ -94,7 +94,7 @@ written ws = cond (list_any (λ w. not (eqb w 1)) ws) ws []
 regroup : (a b c d e : List ℕ) → (((a ++ b) ++ c) ++ d) ++ e ≡ a ++ (b ++ (c ++ (d ++ e)))
 regroup a b c d e = simp append_assoc
 
--- the flags of a file with weights or without, with something behind the rows or without
+-- the flags of a file with weights or without, with something after the rows or without
 abbrev pub flags : Bool → Bool → ℕ
 flags w t = bool_byte w + 2 * bool_byte t
 
@@ -158,7 +158,7 @@ module _ (offsets ns ws : List ℕ) (paired : length ws ≡ length ns) (nodes en
   pub spelled_length : length (spelled offsets ns ws nodes ends flag tail) ≡ length_for nodes ends (has_weight ws) + length tail
   spelled_length = ap length file_is ∙ head_length nodes ends flag (a ++ (b ++ (c ++ tail))) ∙ body_length
 
-  -- what stands behind the offsets
+  -- what stands after the offsets
   from_neighbours : (place : ℕ) → drop (neighbours_start nodes + place) file ≡ drop place (b ++ (c ++ tail))
   from_neighbours place =
       let rest = b ++ (c ++ tail) in
@@ -197,7 +197,7 @@ module _ (offsets ns ws : List ℕ) (paired : length ws ≡ length ns) (nodes en
         (written_back small_weights (has_weight ws) refl)
         (clean_lists offsets ns ws laid)
 
-    -- what stands behind the rows
+    -- what stands after the rows
     from_tail : drop (length_for nodes ends (has_weight ws)) file ≡ tail
     from_tail =
         let front = head nodes ends flag ++ (a ++ (b ++ c)) in

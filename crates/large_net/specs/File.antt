@@ -19,15 +19,15 @@ magic = codes "UNISONW1"
 abbrev pub long_at : List ℕ → ℕ → ℕ
 long_at bytes place = from_le_bytes w64 (slice_range bytes place (place + 8))
 
--- so many numbers of eight bytes each, the lowest byte first, one behind the other
+-- so many numbers of eight bytes each, the lowest byte first, one after the other
 abbrev pub longs : ℕ → List ℕ → List ℕ
 longs count bytes = map (from_le_bytes w64) (first_chunks 8 count bytes)
 
--- so many numbers of four bytes each, the lowest byte first, one behind the other
+-- so many numbers of four bytes each, the lowest byte first, one after the other
 abbrev pub words : ℕ → List ℕ → List ℕ
 words count bytes = map (from_le_bytes w32) (first_chunks 4 count bytes)
 
--- where the neighbours begin: behind the header and an offset for each node and one more
+-- where the neighbours begin: after the header and an offset for each node and one more
 abbrev pub neighbours_start : ℕ → ℕ
 neighbours_start nodes = 32 + 8 * (nodes + 1)
 
@@ -39,11 +39,11 @@ length_for nodes ends weighted = neighbours_start nodes + (if weighted then 8 * 
 abbrev pub asked_length : FileHeader → ℕ
 asked_length header = length_for header.nodes header.ends header.weighted
 
--- what the numbers of the first 32 bytes say: how many nodes and how many neighbours there are, whether the flags are 1 or 3, so that weights follow, and whether they are 2 or 3, so that something stands behind the rows
+-- what the numbers of the first 32 bytes say: how many nodes and how many neighbours there are, whether the flags are 1 or 3, so that weights follow, and whether they are 2 or 3, so that something stands after the rows
 abbrev pub spelled_header : List ℕ → FileHeader
 spelled_header bytes = record { nodes = long_at bytes 8; ends = long_at bytes 16; weighted = long_at bytes 24 % 2 == 1; tailed = nat_lt 1 (long_at bytes 24) }
 
--- a file has as many bytes as are asked for, or more where something stands behind the rows
+-- a file has as many bytes as are asked for, or more where something stands after the rows
 abbrev pub has_length : Bool → ℕ → ℕ → Bool
 has_length tailed asked found = found == asked || (tailed && nat_lt asked found)
 
@@ -105,11 +105,11 @@ abbrev pub large_of : List ℕ → Result Neighbours LargeFault
 large_of bytes = and_then (header_of bytes) (λ header.
     unless (rows_fault (offsets_in header bytes) (neighbours_in header bytes)) (rows_of (offsets_in header bytes) (neighbours_in header bytes) (weights_in header bytes)))
 
--- what stands behind the rows of a file with this header, where something does
+-- what stands after the rows of a file with this header, where something does
 abbrev pub tail_in : FileHeader → List ℕ → Option (List ℕ)
 tail_in header bytes = if header.tailed then Some (drop (asked_length header) bytes) else None
 
--- what stands behind the rows of a file, where something does, or the first fault of its header
+-- what stands after the rows of a file, where something does, or the first fault of its header
 abbrev pub tail_of : List ℕ → Result (Option (List ℕ)) LargeFault
 tail_of bytes = with_header (header_of bytes) (λ header. tail_in header bytes)
 

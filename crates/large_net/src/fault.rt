@@ -23,7 +23,7 @@ pub enum LargeFault {
     #[error("the file has {found} bytes, and its header asks for {expected}")]
     Length { expected: u64, found: u64 },
     /// The offsets of this node are bad: node 0 does not begin at 0, or the next offset is lower than this one; or, at
-    /// the number behind the last node, the last offset is not the number of neighbours.
+    /// the number after the last node, the last offset is not the number of neighbours.
     #[error("the offsets are bad at node {node}")]
     Offsets { node: u64 },
     /// This node has more than 4,294,967,295 neighbours.

@@ -33,7 +33,7 @@ impl FileHeader {
         self.nodes as usize + 1
     }
 
-    /// The place of the first neighbour, behind the offsets.
+    /// The place of the first neighbour, after the offsets.
     pub(crate) fn neighbours_start(self) -> usize
         requires few { self.nodes ≤ most_rows }
         ensures { result ≡ neighbours_start self.nodes }

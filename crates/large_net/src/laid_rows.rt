@@ -1,4 +1,4 @@
-//! Rows that are laid out one behind the other.
+//! Rows that are laid out one after the other.
 ghost use Rattle.std.specs.Prelude.{◌≡◌, ◌∷◌, ◌++◌, ◌<◌, ◌≤◌, [], length, zip, IfOk};
 ghost use Rattle.link_net.specs.Neighbours.{AreRows};
 
@@ -7,7 +7,7 @@ use link_net::NetRows;
 use std::alloc::{AllocError, Global};
 use std::marker::Model;
 
-/// Rows that are laid out one behind the other. Seen as the list of these rows.
+/// Rows that are laid out one after the other. Seen as the list of these rows.
 #[derive(Drop)]
 pub(crate) struct LaidRows {
     offsets: Vec<usize>,
@@ -47,7 +47,7 @@ impl LaidRows {
         })
     }
 
-    /// One row more behind the others.
+    /// One row more after the others.
     fn with_row(self, row_neighbours: &[u32], row_weights: &[u32]) -> Result<LaidRows, AllocError>
         requires paired { length row_weights.now ≡ length row_neighbours.now }
         ensures more { IfOk result (λ laid. laid ≡ self ++ zip row_neighbours.now row_weights.now ∷ []) }
@@ -67,7 +67,7 @@ impl LaidRows {
         })
     }
 
-    /// These rows behind the others.
+    /// These rows after the others.
     pub(crate) fn with_rows(self, rows: &NetRows<'_>) -> Result<LaidRows, AllocError>
         ensures more { IfOk result (λ laid. laid ≡ self ++ rows.now) }
         ensures whole { AreRows rows.now }

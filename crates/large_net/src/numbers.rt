@@ -1,4 +1,4 @@
-//! Numbers of four and of eight bytes, the lowest byte first, that stand behind one another.
+//! Numbers of four and of eight bytes, the lowest byte first, that stand after one another.
 ghost use Rattle.std.specs.Prelude.{◌≡◌, ◌+◌, ◌*◌, ◌<◌, ◌≤◌, length, map, drop, slice_index, IfOk};
 ghost use Rattle.std.specs.Int.{from_le_bytes, w32, w64};
 ghost use Rattle.std.specs.Simd.{first_chunks};

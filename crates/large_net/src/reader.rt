@@ -115,7 +115,7 @@ pub fn read_large<R: Threads>(
     read_rows(rt, alloc, bytes, header)
 }
 
-/// What stands behind the rows of a file, where its flags say that something does; or the fault of its header.
+/// What stands after the rows of a file, where its flags say that something does; or the fault of its header.
 pub fn file_tail(bytes: &[u8]) -> Result<Option<&[u8]>, LargeFault>
     ensures tail { IfOk result (λ tail. tail_of bytes.now ≡ Ok (option_map (λ s. s.now) tail)) }
     ensures refused { IfErr result (λ fault. tail_of bytes.now ≡ Err fault) }

@@ -45,14 +45,14 @@ fn written(weights: &[u32]) -> &[u32]
     if has_weight(weights) { weights } else { &[] }
 }
 
-/// The flags of a file: 1 where weights follow, and 2 more where something stands behind the rows.
+/// The flags of a file: 1 where weights follow, and 2 more where something stands after the rows.
 fn flags_of(weighted: bool, tailed: bool) -> usize
     ensures { result ≡ bool_byte weighted + 2 * bool_byte tailed }
 {
     usize::from(weighted) + 2 * usize::from(tailed)
 }
 
-/// The file of the rows that stand in these lists, and of what is to stand behind them, where something is said to.
+/// The file of the rows that stand in these lists, and of what is to stand after them, where something is said to.
 fn spell(
     alloc: Global,
     offsets: &[usize],
@@ -98,7 +98,7 @@ pub fn large_bytes(alloc: Global, network: &LargeNetwork) -> Result<Vec<u8>, All
     )
 }
 
-/// The file of a network, without weights where each is 1, with these bytes behind the rows.
+/// The file of a network, without weights where each is 1, with these bytes after the rows.
 pub fn tailed_bytes(
     alloc: Global,
     network: &LargeNetwork,

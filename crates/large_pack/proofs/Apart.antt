@@ -137,7 +137,7 @@ AllApart dir (e ∷ es) = AllByRecursion (AreApart dir e) es × AllApart dir es
 abbrev numbers_of : Bool → List EdgeLine → List ℕ
 numbers_of dir es = map key_of (arcs_of dir es)
 
--- what stands behind an edge's arcs
+-- what stands after an edge's arcs
 behind_arcs : (dir : Bool) (e : EdgeLine) (es : List EdgeLine) → IsDistinct same_key (numbers_of dir (e ∷ es))
     → AllByRecursion (λ k. same_key (number e.first e.second) k ≡ false) (numbers_of dir es) × IsDistinct same_key (numbers_of dir es)
 behind_arcs dir e es apart =

@@ -21,7 +21,7 @@ pub record Precedes (x y : Ranked) : Type 0 where
   pub rank : x.first ≡ y.first → x.second ≡ y.second → x.rank ≤ y.rank
   pub line : x.first ≡ y.first → x.second ≡ y.second → x.rank ≡ y.rank → x.line < y.line
 
--- each edge stands before those behind it
+-- each edge stands before those after it
 abbrev pub AllRise : List Ranked → Type 0
 AllRise [] = Unit {0}
 AllRise (x ∷ xs) = AllByRecursion (Precedes x) xs × AllRise xs
@@ -63,7 +63,7 @@ alike_chain x y z h g =
     let two = alike_ends y z g in
     alike_test x z (one.0 ∙ two.0, one.1 ∙ two.1)
 
--- an edge beats those of its ends that stand behind it
+-- an edge beats those of its ends that stand after it
 pub beats_behind : (x y : Ranked) → Precedes x y → alike x y ≡ true → beats x y ≡ true
 beats_behind x y before same =
     let ends = alike_ends x y same in
@@ -146,14 +146,14 @@ none_passes p (x ∷ xs) h = rw (h.0) (none_passes p xs h.1)
 
 -- ---- lists
 
--- beaten by none of k, the edges behind it, and what P speaks of
+-- beaten by none of k, the edges after it, and what P speaks of
 abbrev stays : (Ranked → Bool) → Ranked → List Ranked → Ranked → Bool
 stays P k xs y = not (P y || list_any (λ d. beats d y) (k ∷ xs))
 
 pub none_behind : (x : Ranked) (xs : List Ranked) → AllByRecursion (Precedes x) xs → list_any (λ d. beats d x) xs ≡ false
 none_behind x xs up = none_passes (λ d. beats d x) xs (both_weaker {P = Precedes x} {Q = Precedes x} {R = λ d. beats d x ≡ false} xs up up (λ y p q. unbeaten_by x y p))
 
--- P speaks of edges before k: what they beat behind k has the ends of k
+-- P speaks of edges before k: what they beat after k has the ends of k
 firsts_stay : (P : Ranked → Bool) (k : Ranked) (xs : List Ranked) → AllByRecursion (λ y. P y ≡ true → alike k y ≡ true) xs → AllRise (k ∷ xs)
     → dedup_from alike k xs ≡ k ∷ filter (stays P k xs) xs
 firsts_stay P k [] near up = refl

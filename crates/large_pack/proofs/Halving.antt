@@ -1,30 +1,25 @@
 -- Lines cut in two, and what was read of both.
-use Rattle.std.proofs.Common.{◌≡◌, ◌≢◌, ◌∙◌, ℕ, suc, ◌+◌, ◌≤◌, Bool, true, false, not, max, ◌==◌, List, [], ◌∷◌, ◌++◌, length, take, drop, filter, slice_get, refl, sym, ap, append_assoc, length-append, one-add, add-one, Option, Result, Ok, Err, arith, inl, inr}
+use Rattle.std.proofs.Common.{◌≡◌, ◌≢◌, ◌∙◌, ℕ, suc, ◌+◌, ◌≤◌, Bool, true, false, not, max, ◌==◌, List, [], ◌∷◌, ◌++◌, length, take, drop, filter, slice_get, refl, sym, ap, append_assoc, one-add, add-one, Option, Result, Ok, Err, arith, inl, inr}
 use Rattle.std.proofs.lemmas.Bool.{cases_Bool}
 use Rattle.std.proofs.lemmas.Bool.Decides.{nat_tests}
 use Rattle.std.specs.List.{slice_split, onto_first, enumerate_from, count_by, filter_map, fold, position_or_len, before_first, after_first}
 use Rattle.std.specs.Option.{option_or, IfSome}
 use Rattle.std.specs.Result.{IsErrAnd}
 use Rattle.std.proofs.Math.Seq.{take-add, take-append_seam}
-use Rattle.std.proofs.lemmas.List.{take-append-drop, map-append}
+use Rattle.std.proofs.lemmas.List.{take-append-drop}
 use Rattle.std.proofs.lemmas.List.Splits.{length-slice_split}
 use Rattle.std.proofs.lemmas.List.Sums.{fold-append}
-use Rattle.std.proofs.lemmas.Grind.{flat_map-append}
 use Rattle.std.proofs.lemmas.List.Elements.{filter-append, filter_map-append}
 use Rattle.import_lines.specs.Texts.{is_line_feed, words_of, say_nothing, told_from}
 use Rattle.large_pack.specs.declared.edge_line.EdgeLine.{EdgeLine}
 use Rattle.large_pack.specs.declared.fault.PackFault.{PackFault}
 use Rattle.large_pack.specs.declared.options.PackOptions.{PackOptions}
-use Rattle.large_pack.specs.declared.options.SelfLoops.{SelfLoops}
-use Rattle.large_pack.specs.declared.options.SelfLoops.TheVariants.{Refuse as RefuseLoops, Drop as DropLoops, Keep as KeepLoops}
-use Rattle.large_pack.specs.declared.keys.KeyedEdges.{KeyedEdges}
 use Rattle.large_pack.specs.declared.survey.Survey.{Survey}
 use Rattle.large_pack.specs.declared.survey.Reading.{Reading}
 use Rattle.large_pack.specs.Lines.{and_then, edge_of, edges_in}
-use Rattle.large_pack.specs.Sound.{is_loop, reach, first_fault, outside_fault, loop_fault}
-use Rattle.large_pack.specs.Packing.{edge_arcs, arcs_of, straight_edges}
+use Rattle.large_pack.specs.Sound.{reach, first_fault, outside_fault, loop_fault}
 use Rattle.large_pack.specs.Surveys.{survey_of, survey_in}
-use Rattle.large_pack.specs.Keys.{usual_weight, arc_in, arcs_in, AreKeyed, IsRead, IsReadOf}
+use Rattle.large_pack.specs.Keys.{AreKeyed, IsRead, IsReadOf}
 
 -- ---- lines
 
@@ -169,7 +164,7 @@ module _ (o : PackOptions) (front back : List (ℕ × List ℕ)) (first : Result
       let bad : edges_in o front ≡ Err fault = rw was at read in
       rw is (edges_both o front back ∙ rw bad refl)
 
-  -- that of the lines behind is, where those before have none
+  -- that of the lines after is, where those before have none
   pub second_bad : (second r : Result Reading PackFault) (a : Reading) (fault : PackFault) → first ≡ Ok a → second ≡ Err fault → IsErrAnd r (λ e. e ≡ fault)
       → IsReadOf o front first → IsReadOf o back second → IsReadOf o (front ++ back) r
   second_bad second (Ok reading) a fault good was is one two = absurd is

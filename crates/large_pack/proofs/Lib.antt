@@ -8,7 +8,7 @@ mod Beating
 mod Mapped
 mod Packs
 pub mod Rising
-mod Sounds
+pub mod Sounds
 mod Repeats
 mod Apart
 mod Unrepeated

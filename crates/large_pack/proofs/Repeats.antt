@@ -32,7 +32,7 @@ find_none p (x ∷ xs) none = rw (none.0) (find_none p xs none.1)
 
 -- ---- repeats of sorted edges
 
--- each edge behind the head that repeats one, with that one
+-- each edge after the head that repeats one, with that one
 abbrev repeats_from : Ranked → List Ranked → List (Ranked × Ranked)
 repeats_from k [] = []
 repeats_from k (x ∷ xs) = if alike x k then (x, k) ∷ repeats_from k xs else repeats_from x xs
@@ -102,7 +102,7 @@ module _ (all : List Ranked) where
     later : Contains all p.0
     head : Contains all p.1
 
-  -- what is known of the head k and of the edges behind it, where P speaks of those before it
+  -- what is known of the head k and of the edges after it, where P speaks of those before it
   record IsPlaced (P : Ranked → Bool) (k : Ranked) (xs : List Ranked) : Type 0 where
     near : AllByRecursion (λ y. P y ≡ true → alike k y ≡ true) xs
     up : AllRise (k ∷ xs)

@@ -13,7 +13,7 @@ use Rattle.large_pack.specs.Ranks.{ends_of, ranked, LinesRise, AreTied, RankedWi
 
 -- ---- lines
 
--- each number is below those behind it
+-- each number is below those after it
 abbrev pub Rise : List ℕ → Type 0
 Rise [] = Unit {0}
 Rise (k ∷ ks) = AllByRecursion (λ j. k < j) ks × Rise ks

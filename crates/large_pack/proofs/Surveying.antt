@@ -10,7 +10,7 @@ use Rattle.large_pack.specs.Lines.{and_then, edge_of, edges_in}
 use Rattle.large_pack.specs.Sound.{outside_fault, loop_fault, first_fault}
 use Rattle.large_pack.specs.Surveys.{with_edge}
 
--- what edges tell behind others that told s
+-- what edges tell after others that told s
 abbrev pub survey_on : PackOptions → Survey → List EdgeLine → Survey
 survey_on options s edges = record {
   reach = fold (λ n e. max (max n (e.first + 1)) (e.second + 1)) s.reach edges;

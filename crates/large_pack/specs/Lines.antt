@@ -1,5 +1,5 @@
 -- The edges that the lines of a text say, between nodes that are numbered.
-use Rattle.std.specs.Prelude.{ℕ, Bool, not, List, [], ◌∷◌, drop, nat_le, Option, Some, None, Result, Ok, Err, if◌then◌else◌}
+use Rattle.std.specs.Prelude.{ℕ, Bool, not, List, [], ◌∷◌, nat_le, Option, Some, None, Result, Ok, Err, if◌then◌else◌}
 use Rattle.std.specs.Option.{unwrap_or}
 use Rattle.std.specs.Result.{result_map_both}
 use Rattle.std.specs.Str.Parse.{digits_value}

@@ -64,7 +64,7 @@ abbrev pub sooner : Option (ℕ × ℕ) → ℕ × ℕ → Option (ℕ × ℕ)
 sooner None p = Some p
 sooner (Some q) p = if nat_le q.0 p.0 then Some q else Some p
 
--- of the edges behind the head and of what is known, the least repeat
+-- of the edges after the head and of what is known, the least repeat
 abbrev pub repeat_behind : Ranked → Option (ℕ × ℕ) → List Ranked → Option (ℕ × ℕ)
 repeat_behind head known [] = known
 repeat_behind head known (e ∷ edges) =
@@ -80,7 +80,7 @@ straight_ranked DropLoops edges = filter (λ e. not (e.first == e.second)) edges
 straight_ranked RefuseLoops edges = edges
 straight_ranked KeepLoops edges = edges
 
--- each edge stands in a line before those of the edges behind it
+-- each edge stands in a line before those of the edges after it
 abbrev pub LinesRise : List Ranked → Type 0
 LinesRise [] = Unit {0}
 LinesRise (e ∷ edges) = AllByRecursion (λ d. e.line < d.line) edges × LinesRise edges

@@ -19,4 +19,4 @@ pub use options::{PackOptions, Parallel, SelfLoops};
 pub use pack::{Packed, pack_edges, pack_ranked};
 pub use ranked::{Ranked, rank_edge};
 pub use rows::{Arc, network_of_arcs};
-pub use survey::loop_fault;
+pub use survey::{loop_fault, outside_fault};

@@ -1,5 +1,5 @@
 //! The network that arcs make.
-ghost use Rattle.std.specs.Prelude.{◌≡◌, ◌+◌, ◌<◌, ◌≤◌, ℕ, length, map, slice_index, slice_index_or, IfOk};
+ghost use Rattle.std.specs.Prelude.{◌≡◌, ◌+◌, ◌<◌, ◌≤◌, ℕ, length, slice_index, slice_index_or, IfOk};
 ghost use Rattle.std.specs.List.Sorted.{IsNonDecreasingBy};
 ghost use Rattle.link_net.specs.Arcs.{IsFirst};
 ghost use Rattle.link_net.specs.Limits.{most_rows};
@@ -7,6 +7,7 @@ ghost use Rattle.link_net.specs.Links.{AllWithin};
 ghost use Rattle.large_pack.specs.Rows.{HasArcs};
 
 use large_net::LargeNetwork;
+use link_net::{targets, weights};
 use std::alloc::{AllocError, Global};
 
 /// An arc: the node that has the neighbour, the neighbour, the weight.
@@ -41,20 +42,6 @@ fn offsets(alloc: Global, arcs: &[Arc], nodes: u32) -> Result<Vec<usize>, AllocE
     }
     offsets.push(arcs.len())?;
     Ok(offsets)
-}
-
-/// Where each arc leads.
-fn targets(alloc: Global, arcs: &[Arc]) -> Result<Vec<u32>, AllocError>
-    ensures { IfOk result (λ v. v.items ≡ map (λ a. a.1) arcs.now) }
-{
-    arcs.iter().map(|arc| arc.1).collect(alloc)
-}
-
-/// The weight of each arc.
-fn weights(alloc: Global, arcs: &[Arc]) -> Result<Vec<u32>, AllocError>
-    ensures { IfOk result (λ v. v.items ≡ map (λ a. a.2) arcs.now) }
-{
-    arcs.iter().map(|arc| arc.2).collect(alloc)
 }
 
 /// The network that arcs between so many nodes make: the neighbours of a node by rising number, and those of one number

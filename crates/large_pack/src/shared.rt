@@ -32,7 +32,7 @@ fn line_feeds(bytes: &[u8]) -> u64
     count
 }
 
-/// The lines that begin before a place, and those behind them.
+/// The lines that begin before a place, and those after them.
 fn halves(lines: Lines<'_>, place: usize) -> (Lines<'_>, Lines<'_>)
     requires room { lines.passed + length lines.bytes.now < 2 ^ 64 }
     requires inside { place ≤ length lines.bytes.now }
@@ -82,7 +82,7 @@ fn both_keyed(first: Option<KeyedEdges>, second: Option<KeyedEdges>) -> Option<K
     Some(keyed)
 }
 
-/// What was read of some lines and of those behind them.
+/// What was read of some lines and of those after them.
 fn both_readings(
     first: Result<Reading, PackFault>,
     second: Result<Reading, PackFault>,

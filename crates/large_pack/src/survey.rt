@@ -25,8 +25,8 @@ pub(crate) struct Survey {
 }
 
 /// The fault of an edge with an end that is not below the number of nodes, where that is given.
-fn outside_fault(nodes: Option<u32>, edge: &EdgeLine) -> Option<PackFault>
-    ensures { result ≡ outside_fault nodes edge.now }
+pub fn outside_fault(nodes: Option<u32>, edge: &EdgeLine) -> Option<PackFault>
+    ensures fault { result ≡ outside_fault nodes edge.now }
 {
     let nodes = nodes?;
     if edge.first >= nodes {

@@ -12,7 +12,7 @@ use Rattle.link_net.specs.Arcs.{Arc, arcs_of, arc_cmp, IsFirst}
 use Rattle.link_net.specs.Layout.{part, rows_of, AreOffsets, IsLaidOut}
 use Rattle.link_net.proofs.Rows.{shown, from_node, ends_from, ends-neighbours, arcs_within, from_within, to_within}
 use Rattle.link_net.proofs.Ranges.{map_agrees, any_agrees}
-use Rattle.link_net.proofs.Weights.{arcs_weigh, ends_weigh}
+use Rattle.link_net.proofs.ArcWeights.{arcs_weigh, ends_weigh}
 use Rattle.link_net.proofs.Offsets.{part_is, are_offsets}
 use Rattle.link_net.proofs.Parts.{map_part, length_part}
 use Rattle.link_net.proofs.Looks.{rows_sum}

@@ -1,7 +1,7 @@
-mod Arcs
+mod ArcLaws
 mod Rows
 mod Ranges
-mod Weights
+mod ArcWeights
 mod Offsets
 mod Parts
 mod Whole

@@ -9,7 +9,7 @@ use Rattle.std.specs.List.Sorted.{IsPermutation, IsStrictlySortedBy, IsNonDecrea
 use Rattle.std.proofs.lemmas.List.Sorted.{list_any-IsPermutation, IsNonDecreasingBy-from_sort, All-permutation}
 use Rattle.std.proofs.lemmas.List.Elements.{All-from_recursion, recursion_from_All}
 use Rattle.std.specs.Ordering.{is_lt}
-use Rattle.link_net.proofs.Arcs.{are_linked-arcs}
+use Rattle.link_net.proofs.ArcLaws.{are_linked-arcs}
 use Rattle.link_net.specs.Links.{are_linked, linked_with, AllWithin}
 use Rattle.link_net.specs.Arcs.{Arc, arcs_of, leads, arc_cmp}
 

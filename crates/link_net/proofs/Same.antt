@@ -15,7 +15,7 @@ abbrev joined : {X : Type 0} → List (List X) → List X
 joined [] = []
 joined (xs ∷ xss) = xs ++ joined xss
 
--- a part, and what lies behind it
+-- a part, and what lies after it
 part_and_rest : {X : Type 0} (i j : ℕ) (xs : List X) → i ≤ j → take (j - i) (drop i xs) ++ drop j xs ≡ drop i xs
 part_and_rest i j xs order =
     let behind : drop (j - i) (drop i xs) ≡ drop j xs = drop-drop (j - i) i xs ∙ ap (λ k. drop k xs) (omega arith) in

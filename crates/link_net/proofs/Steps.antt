@@ -9,7 +9,7 @@ use Rattle.toml.specs.declared.value.Value.{Value}
 use Rattle.link_net.specs.declared.field_set.FieldSet.{FieldSet}
 use Rattle.link_net.specs.Document.{pair_in, pairs_of, link_in, sets_of}
 
--- an array whose items are read one by one, each before those behind it
+-- an array whose items are read one by one, each before those after it
 module _ {A : Type 0} (read : Data → Option A) (all : Items → Option (List A)) (none : all no_items ≡ Some []) (more : (d : Data) (ds : Items) → all (item d ds) ≡ option_and_then (λ x. option_map (λ xs. x ∷ xs) (all ds)) (read d)) where
   -- the values before this place are read to the list
   abbrev pub AreRead : List Value → ℕ → List A → Type 0

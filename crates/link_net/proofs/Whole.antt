@@ -11,7 +11,7 @@ use Rattle.link_net.specs.Neighbours.{Neighbours, row, degree, neighbour, weight
 use Rattle.link_net.specs.Links.{is_self_link, joins, are_linked, linked_with, weight_of, neighbours_of, network_of}
 use Rattle.link_net.specs.Arcs.{Arc}
 use Rattle.link_net.specs.Reading.{is_crowded}
-use Rattle.link_net.proofs.Arcs.{joins-sym, are_linked_sym}
+use Rattle.link_net.proofs.ArcLaws.{joins-sym, are_linked_sym}
 use Rattle.link_net.proofs.Ranges.{none_in_range, kept_rise, kept_pass, kept_place, rises_at, Place}
 
 -- no node is linked with itself

@@ -31,7 +31,7 @@ pub use net_file::NetFile;
 pub use network::Network;
 pub use numbers::MOST_NODES;
 use std::alloc::Global;
-pub use tables::{Link, MOST_LINKS, MOST_NEIGHBOURS, link_network};
+pub use tables::{Arc, Link, MOST_LINKS, MOST_NEIGHBOURS, arcs, link_network, targets, weights};
 use toml::Table;
 
 /// Reads a network file: the description that its bytes are, or the first fault in the order of [`NetFault`],

@@ -22,10 +22,10 @@ pub const MOST_NEIGHBOURS: usize = 4096;
 pub type Link = (u32, u32, u32);
 
 /// A link seen from one of its ends: the node that it comes from, the node that it leads to, its weight.
-pub(crate) type Arc = (u32, u32, u32);
+pub type Arc = (u32, u32, u32);
 
-/// Both directions of each link.
-fn arcs(alloc: Global, links: &[Link]) -> Result<Vec<Arc>, AllocError>
+/// Both directions of each link, one after the other. It fails only where memory runs out.
+pub fn arcs(alloc: Global, links: &[Link]) -> Result<Vec<Arc>, AllocError>
     ensures { IfOk result (λ v. v.items ≡ arcs_of links.now) }
 {
     let mut arcs = Vec::with_capacity(alloc, 2 * links.len())?;
@@ -93,15 +93,15 @@ pub(crate) fn offsets(alloc: Global, arcs: &[Arc], nodes: u32) -> Result<Vec<usi
     Ok(offsets)
 }
 
-/// Where each arc leads.
-fn targets(alloc: Global, arcs: &[Arc]) -> Result<Vec<u32>, AllocError>
+/// Where each arc leads. It fails only where memory runs out.
+pub fn targets(alloc: Global, arcs: &[Arc]) -> Result<Vec<u32>, AllocError>
     ensures { IfOk result (λ v. v.items ≡ map (λ a. a.1) arcs.now) }
 {
     arcs.iter().map(|arc| arc.1).collect(alloc)
 }
 
-/// The weight of each arc.
-fn weights(alloc: Global, arcs: &[Arc]) -> Result<Vec<u32>, AllocError>
+/// The weight of each arc. It fails only where memory runs out.
+pub fn weights(alloc: Global, arcs: &[Arc]) -> Result<Vec<u32>, AllocError>
     ensures { IfOk result (λ v. v.items ≡ map (λ a. a.2) arcs.now) }
 {
     arcs.iter().map(|arc| arc.2).collect(alloc)

@@ -1,4 +1,4 @@
--- The rules and the faults of items, one behind the other.
+-- The rules and the faults of items, one after the other.
 use Rattle.std.proofs.Common.{◌≡◌, ◌≤◌, ℕ, length, List, [], ◌∷◌, ◌++◌, refl, sym, ap, ◌∙◌, subst, arith}
 use Rattle.std.specs.Prelude.{Option, Some, None, false, nat_lt}
 use Rattle.std.specs.List.{filter_map}

@@ -1,4 +1,4 @@
--- The faults and the terms of one argument and of those behind it.
+-- The faults and the terms of one argument and of those after it.
 use Rattle.std.proofs.Common.{◌≡◌, ◌+◌, ℕ, List, refl, sym, ap, subst}
 use Rattle.std.specs.Prelude.{Bool, true, false, Option, Some, None}
 use Rattle.std.specs.Option.{option_or}
@@ -54,7 +54,7 @@ pub more_told : (f : Frame) (later : List (List ℕ)) (inside : Bool) (at : ℕ)
 more_told f later inside at e NoArgument left item end h q = absurd (cc)
 more_told f later inside at e (OneArgument d es) left item end h q = told_plain left item (Some (fault.At cause.WrongArguments at)) end (ap (λ (x : ExpandFault). Some x) (sym q))
 
--- what is told of the arguments behind the first of several
+-- what is told of the arguments after the first of several
 pub rest_told : (f : Frame) (later : List (List ℕ)) (inside : Bool) (at : ℕ) (e : Tree) (es : ArgumentTree) (left now item was : ℕ) (end : ExpandFault) → is_end es ≡ false → fault_in f later inside e ≡ None → now + parts_in f later inside e ≡ left → was ≡ item
     → bounded_fault now (parts_upto (faults_in f later inside es) (parts_each f later inside es)) was (some_fault at (faults_in f later inside es)) ≡ Some end
     → bounded_fault left (parts_in f later inside e + unless_wrong (fault_in f later inside e) (parts_upto (faults_in f later inside es) (parts_each f later inside es))) item (some_fault at (faults_in f later inside (OneArgument e es))) ≡ Some end

@@ -80,7 +80,7 @@ field_names (FieldTree n states initial ∷ items) = ap (λ ns. n.name ∷ ns) (
 field_names (LetTree n parameters body ∷ items) = field_names items
 field_names (NextTree n body ∷ items) = field_names items
 
--- what holds of names holds of those behind
+-- what holds of names holds of those after
 among_behind : (ms ns : List NameAt) (x : List ℕ) → is_among (bare (ms ++ ns)) x ≡ false → is_among (bare ns) x ≡ false
 among_behind [] ns x h = h
 among_behind (m ∷ ms) ns x h = among_behind ms ns x (neither (bytes_eq m.name x) (is_among (bare (ms ++ ns)) x) h).1

@@ -23,7 +23,7 @@ pub or_none : (a : Option ExpandFault) → option_or a None ≡ a
 or_none None = refl
 or_none (Some x) = refl
 
--- one behind others, and more behind them
+-- one after others, and more after them
 pub behind_one : {A : Type 0} (a : List A) (x : A) (b : List A) → (a ++ x ∷ []) ++ b ≡ a ++ x ∷ b
 behind_one a x b = append_assoc a (x ∷ []) b
 
@@ -32,7 +32,7 @@ none_cut [] x b e = absurd (cc)
 none_cut (y ∷ a) x b e = absurd (cc)
 
 module _ (A : Type 0) (F : List A → A → Option ExpandFault) where
-  -- the first that is found of a list behind others
+  -- the first that is found of a list after others
   abbrev pub first_at : List A → List A → Option ExpandFault
   first_at passed [] = None
   first_at passed (x ∷ xs) = option_or (F passed x) (first_at (passed ++ x ∷ []) xs)
@@ -114,7 +114,7 @@ module _ (A : Type 0) (F : List A → A → Option ExpandFault) where
       ∙ (ap (λ (o : Option ExpandFault). option_or o (first_at (passed ++ h.ahead) (h.here ∷ h.rest))) (none_first passed h.ahead h.none)
       ∙ ap (λ (o : Option ExpandFault). option_or o (first_at ((passed ++ h.ahead) ++ h.here ∷ []) h.rest)) h.is))
 
-  -- the last that is found of a list behind others
+  -- the last that is found of a list after others
   abbrev pub last_at : List A → List A → Option ExpandFault
   last_at passed [] = None
   last_at passed (x ∷ xs) = option_or (last_at (passed ++ x ∷ []) xs) (F passed x)

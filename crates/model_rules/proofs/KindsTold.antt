@@ -274,7 +274,7 @@ module _ (frame : Frame) (later : List (List ℕ)) (inside : Bool) where
       told_same (ApplyTree name at es) (own frame later inside (ApplyTree name at es)) (call_cause frame later name (count_of es) (inside || list_any looks (terms_for frame es)))
       (ap (λ (n : ℕ). call_cause frame later name n (inside || list_any looks (terms_for frame es))) (as_many frame es)) (call_told_of name at es)
 
-  -- behind `n.`
+  -- after `n.`
   seen_told : (name : List ℕ) (at : ℕ) (known : KnownTree) → IsSeenAs frame inside name known → Told (NearTree name at) (seen_cause known)
   seen_told name at known s =
       let part = NearTree name at in

@@ -33,7 +33,7 @@ filled_some ts t = omega (arith, size_some t)
 pub seen_some : (t : TermTree) → 0 < size (seen_near t)
 seen_some t = size_some (seen_near t)
 
--- the parts of what is put in nowhere, once, and at places behind others
+-- the parts of what is put in nowhere, once, and at places after others
 pub put_none : (ts : List TermTree) → put_parts ts [] ≡ 0
 unfolding put_parts
 put_none ts = refl
@@ -112,7 +112,7 @@ pub all_made : (left now new parts more : ℕ) (a : Option ExpandFault) → a �
 all_made left now new parts more a n e h =
     subst (λ (o : Option ExpandFault). new + (parts + unless_wrong o more) ≡ left) (sym n) (omega arith)
 
--- the same where no part is made for the second, or no other fault can come behind the first
+-- the same where no part is made for the second, or no other fault can come after the first
 or_case : (left parts item : ℕ) (a b : Option ExpandFault) (end : ExpandFault) (c : Bool) → nat_lt left parts ≡ c → bounded_fault left parts item a ≡ Some end → bounded_fault left parts item (option_or a b) ≡ Some end
 or_case left parts item a b end true q h =
     let l : left < parts = less_is left parts q in
@@ -151,7 +151,7 @@ told_unput left parts item at c x h =
     subst (λ (o : Option Cause). bounded_fault left (unless_wrong o parts) item (told_at at o) ≡ Some (fault.At x at)) (sym h)
     (told_first left 0 item (Some (fault.At x at)) (omega arith))
 
--- a call that is told what is told behind some parts
+-- a call that is told what is told after some parts
 pub refused_behind : {X : Type 0} (r : Result X ExpandFault) (left now made parts item was : ℕ) (first : Option ExpandFault) → now + made ≡ left → was ≡ item → IfErr r (IsFirst (bounded_fault now parts was first)) → IfErr r (IsFirst (bounded_fault left (made + parts) item first))
 refused_behind (Ok x) left now made parts item was first e q h = tt
 refused_behind (Err x) left now made parts item was first e q h = λ m.
@@ -176,7 +176,7 @@ pub refused_alone : {X : Type 0} (r : Result X ExpandFault) (left item : ℕ) (f
 refused_alone (Ok x) left item first h = tt
 refused_alone (Err x) left item first h = λ m. told_plain left item first x (h m)
 
--- a call that is told what is told behind the first of two expressions
+-- a call that is told what is told after the first of two expressions
 pub refused_next : {X : Type 0} (r : Result X ExpandFault) (left now parts more item was : ℕ) (a b : Option ExpandFault) → a ≡ None → now + parts ≡ left → was ≡ item → IfErr r (IsFirst (bounded_fault now more was b)) → IfErr r (IsFirst (bounded_fault left (parts + unless_wrong a more) item (option_or a b)))
 refused_next (Ok x) left now parts more item was a b n e q h = tt
 refused_next (Err x) left now parts more item was a b n e q h = λ m. told_next left now parts more item was a b x n e q (h m)

@@ -25,7 +25,7 @@ use Rattle.model_rules.proofs.Parts.{told_long, told_first}
 use Rattle.model_rules.proofs.FirstInOrder.{none_some, some_none, same_some, or_assoc, or_none}
 use Rattle.model_rules.proofs.KindsTold.{own, call_own, own_wrong, own_back, own_right, right_own, less_is, not_less_is}
 
--- ---- faults and counts, one behind the other
+-- ---- faults and counts, one after the other
 
 told_or : (at : ℕ) (a b : Option Cause) → told_at at (option_or a b) ≡ option_or (told_at at a) (told_at at b)
 told_or at None b = refl

@@ -1,4 +1,4 @@
--- As many turns as there are names are enough: behind them nothing more becomes known.
+-- As many turns as there are names are enough: after them nothing more becomes known.
 use Rattle.std.proofs.Common.{◌≡◌, ◌<◌, ◌≤◌, ◌⊎◌, inl, inr, ℕ, zero, suc, ◌+◌, List, [], ◌∷◌, ◌++◌, length, refl, sym, ap, ◌∙◌, subst, arith}
 use Rattle.std.specs.Prelude.{Bool, true, false, nat_lt, Option, Some, None, if◌then◌else◌}
 use Rattle.std.specs.Option.{option_to_list}
@@ -178,7 +178,7 @@ module _ (items : List ItemTree) (values : List GivenTree) where
   behind zero w = let same : length names ≡ 0 = omega arith in ap after (sym same)
   behind (suc turn) w = behind_case turn (nat_lt turn (length names)) refl w (behind turn)
 
-  -- a fault that is met behind the last turn is met in the last turn already
+  -- a fault that is met after the last turn is met in the last turn already
 
   late_same : (turn m : ℕ) (passed : List (List ℕ)) (name : List ℕ) (e : ExpandFault) → length names ≤ turn → suc m ≡ length names → after (suc m) ≡ after m → fault_of items values (course items values turn passed) name ≡ Some e
       → fault_of items values (course items values m passed) name ≡ Some e

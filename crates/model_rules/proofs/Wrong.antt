@@ -31,7 +31,7 @@ pub made_is : (items : List ItemTree) (values : List GivenTree) (scope : Scope) 
     → rules_made (frame_of scope) items ≡ program_made items values
 made_is items values scope d f l p = ap (λ (g : Frame). rules_made g items) (frame_is items scope (settled items values (seed_first items values)) d f l p)
 
--- behind those of names
+-- after those of names
 behind : (a b c : Option ExpandFault) → a ≡ None → b ≡ None → option_or a (option_or b c) ≡ c
 behind a b c h g = ap (λ (o : Option ExpandFault). option_or o (option_or b c)) h ∙ ap (λ (o : Option ExpandFault). option_or o c) g
 

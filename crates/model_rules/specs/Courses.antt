@@ -30,7 +30,7 @@ pub record BecomesKnown (items : List ItemTree) (values : List GivenTree) (lets 
   pub right : (e : ExpandFault) → IsDefinitionFault values (frame_in items lets []) (names_defined items) name item e → ⊥
   pub worth : told_known values (frame_in items lets []) name item ≡ Some known
 
--- what is known behind a look at a name: one more where it becomes known, and else the same
+-- what is known after a look at a name: one more where it becomes known, and else the same
 abbrev pub IsKnownBehind : List ItemTree → List GivenTree → List KnownTree → List ℕ → List KnownTree → Type 0
 IsKnownBehind items values lets name next =
     ((known : KnownTree) × BecomesKnown items values lets name known × (next ≡ lets ++ known ∷ []))
@@ -62,7 +62,7 @@ pub record IsFirstStop (items : List ItemTree) (values : List GivenTree) (known 
   pub earlier : IsQuiet items values known turn passed
   pub turns : (other : ℕ) → other < turn → IsQuiet items values known other (names_defined items)
 
--- none of these names, which stand behind others, has a fault when it is looked at in the turn
+-- none of these names, which stand after others, has a fault when it is looked at in the turn
 abbrev pub AreRight : List ItemTree → List GivenTree → (ℕ → List (List ℕ) → List KnownTree) → ℕ → List (List ℕ) → List (List ℕ) → Type 0
 AreRight items values known turn others names =
     (passed : List (List ℕ)) (name : List ℕ) (behind : List (List ℕ)) (e : ExpandFault)
@@ -102,7 +102,7 @@ pub record AreDefined (items : List ItemTree) (values : List GivenTree) (lets : 
 
 -- ---- laws
 
--- as many turns as there are names are enough: behind them nothing more becomes known
+-- as many turns as there are names are enough: after them nothing more becomes known
 abbrev pub TurnsAreEnough : Type 0
 TurnsAreEnough =
     (items : List ItemTree) (values : List GivenTree) (known : ℕ → List (List ℕ) → List KnownTree) → IsCourse items values known
@@ -120,7 +120,7 @@ WaitsForever =
     (items : List ItemTree) (values : List GivenTree) (known : ℕ → List (List ℕ) → List KnownTree) (found : ExpandFault) → IsCourse items values known → AreDistinct (names_defined items)
     → (waiting : IsLastWaiting items values known found) → (turn : ℕ) → let_for (known turn []) waiting.name ≡ None
 
--- and each name behind it becomes known
+-- and each name after it becomes known
 abbrev pub OthersAreKnown : Type 0
 OthersAreKnown =
     (items : List ItemTree) (values : List GivenTree) (known : ℕ → List (List ℕ) → List KnownTree) (found : ExpandFault) → IsCourse items values known

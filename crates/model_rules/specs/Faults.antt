@@ -62,13 +62,13 @@ rule_fault model frame later (NextTree n body) = next_fault frame later body n.a
 abbrev pub rules_made : Frame → List ItemTree → List RuleTree
 rules_made frame items = filter_map (rule_for frame) items
 
--- The first fault of an item behind these others: one of its rule, or else, at the place of its name, that the rules up to its own have
+-- The first fault of an item after these others: one of its rule, or else, at the place of its name, that the rules up to its own have
 -- too many aggregates or bytes.
 abbrev pub item_fault : List ItemTree → Frame → List (List ℕ) → List ItemTree → ItemTree → Option ExpandFault
 item_fault model frame later before item =
     option_or (rule_fault model frame later item) (told_at (name_place item) (size_cause (rules_made frame (before ++ item ∷ []))))
 
--- the first fault of the items behind these others: that of the first item that has one
+-- the first fault of the items after these others: that of the first item that has one
 abbrev pub items_fault : List ItemTree → Frame → List (List ℕ) → List ItemTree → List ItemTree → Option ExpandFault
 items_fault model frame later before [] = None
 items_fault model frame later before (item ∷ items) =

@@ -88,7 +88,7 @@ IsTooLargeAs rules other = ⊥
 abbrev pub IsSizeFault : List RuleTree → ℕ → ExpandFault → Type 0
 IsSizeFault rules at found = (why : Cause) × IsTooLargeAs rules why × (found ≡ fault.At why at)
 
--- a fault of a field or of a next value behind these items: one by itself, or else that the rules up to its own are too many
+-- a fault of a field or of a next value after these items: one by itself, or else that the rules up to its own are too many
 abbrev pub IsRuleFault : List ItemTree → Frame → List (List ℕ) → List ItemTree → ItemTree → ExpandFault → Type 0
 IsRuleFault model frame later passed item =
     OrElse (IsOwnFault model frame later item) (IsSizeFault (rules_made frame (passed ++ item ∷ [])) (name_place item))

@@ -69,7 +69,7 @@ abbrev pub bound_cause : List TermTree → Option Cause
 bound_cause [] = None
 bound_cause (t ∷ ts) = below_cause t
 
--- a decimal with more than nine digits behind its point, or a chance above 1
+-- a decimal with more than nine digits after its point, or a chance above 1
 abbrev pub chance_cause : Decimal → Option Cause
 chance_cause p = if nat_lt 9 p.places || nat_lt (10 ^ p.places) p.numerator then Some cause.OutOfRange else None
 

@@ -22,7 +22,7 @@ abbrev pub IsFine : Frame → List (List ℕ) → Step → Type 0
 IsFine frame later begins = Unit {0}
 IsFine frame later (looked inside part) = IsRight frame later inside part
 
--- This is the first fault of these steps: behind those that are passed a part is wrong, in the way and at the place that are told, and at
+-- This is the first fault of these steps: after those that are passed a part is wrong, in the way and at the place that are told, and at
 -- none of those that are passed anything is.
 pub record IsFirstIn (frame : Frame) (later : List (List ℕ)) (steps passed : List Step) (found : ExpandFault) : Type 0 where
   pub inside : Bool

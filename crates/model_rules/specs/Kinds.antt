@@ -41,7 +41,7 @@ pub record StandsForNone (frame : Frame) (name : List ℕ) : Type 0 where
   pub other : IsOther frame name
   pub none : let_for frame.lets name ≡ None
 
--- in an aggregate and behind `n.`, the name stands for what is known so
+-- in an aggregate and after `n.`, the name stands for what is known so
 pub record IsSeenAs (frame : Frame) (inside : Bool) (name : List ℕ) (known : KnownTree) : Type 0 where
   pub place : inside ≡ true
   pub field : is_among frame.fields name ≡ false
@@ -97,7 +97,7 @@ IsOut t = ⊥
 abbrev pub IsBadBound : TermTree → Type 0
 IsBadBound t = (is_fixed t ≡ true) × (IsOut t ⊎ ((amount_in t ≡ 0) ⊎ (65536 < amount_in t)))
 
--- a chance has more than nine digits behind its point, or is above 1
+-- a chance has more than nine digits after its point, or is above 1
 abbrev pub IsBadChance : Decimal → Type 0
 IsBadChance p = (9 < p.places) ⊎ (10 ^ p.places < p.numerator)
 
@@ -137,7 +137,7 @@ IsUnknownName frame later (NameTree name at) = StandsForNone frame name × (is_a
 IsUnknownName frame later (ApplyTree name at es) = StandsForNone frame name × (is_among later name ≡ false)
 IsUnknownName frame later part = ⊥
 
--- no field and no let has the name behind `n.`: what has it is none, or a constant or a state
+-- no field and no let has the name after `n.`: what has it is none, or a constant or a state
 abbrev pub IsUnknownNear : Frame → List (List ℕ) → Bool → Tree → Type 0
 IsUnknownNear frame later inside (NearTree name at) =
     (IsSeenAsNone frame inside name × (is_among later name ≡ false)) ⊎ ((known : KnownTree) × IsSeenAs frame inside name known × (known.is_let ≡ false))
@@ -176,7 +176,7 @@ IsTwiceGathered frame inside (ApplyTree name at es) =
     (known : KnownTree) × StandsFor frame name known × (known.count ≡ count_of es) × (looks known.term ≡ false) × (gathers known.term ≡ true) × ((inside || list_any looks (terms_for frame es)) ≡ true)
 IsTwiceGathered frame inside part = ⊥
 
--- a let behind `n.` uses an aggregate, `degree` or `n.`
+-- a let after `n.` uses an aggregate, `degree` or `n.`
 abbrev pub IsUnseen : Frame → Bool → Tree → Type 0
 IsUnseen frame inside (NearTree name at) =
     (known : KnownTree) × IsSeenAs frame inside name known × (known.is_let ≡ true) × (known.count ≡ 0) × ((knows_degree known.term || looks known.term) ≡ true)

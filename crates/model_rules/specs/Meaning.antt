@@ -38,7 +38,7 @@ name_value scene name =
     if is_among scene.parameters name then slice_index scene.arguments (place scene.parameters name) else
     (if is_among scene.here.names name then word scene.here.names scene.here.own name else scene.worths scene.here name [])
 
--- a name behind `n.`: a field of the neighbour, or what a let is worth there
+-- a name after `n.`: a field of the neighbour, or what a let is worth there
 abbrev pub near_value : Scene → List ℕ → Near → ℕ
 near_value scene name near =
     if is_among scene.here.names name then word scene.here.names near.state name else scene.worths (beside scene.here near) name []
@@ -154,7 +154,7 @@ abbrev mutual
   meaning scene (ChanceTree at p) near = chance p.numerator p.places
   meaning scene (ChanceOfTree at p) near = operate op.Less (node_draw scene at) (chance p.numerator p.places)
 
-  -- the value of the first arm whose test is not 0, else that behind `else`
+  -- the value of the first arm whose test is not 0, else that after `else`
   pub arms_meaning : Scene → ArmTree → Near → ℕ
   arms_meaning scene (OneArm test value rest) near = if meaning scene test near == 0 then arms_meaning scene rest near else meaning scene value near
   arms_meaning scene (ElseArm value) near = meaning scene value near

@@ -62,7 +62,7 @@ put_parts terms places = sum_by (λ k. size_put (slice_get terms k)) places
 abbrev pub filled_parts : List TermTree → TermTree → ℕ
 filled_parts terms t = size t + put_parts terms (parameters_in t)
 
--- what is made behind something that may be wrong: nothing where it is
+-- what is made after something that may be wrong: nothing where it is
 abbrev pub unless_wrong : {A : Type 0} → Option A → ℕ → ℕ
 unless_wrong None parts = parts
 unless_wrong (Some x) parts = 0
@@ -76,7 +76,7 @@ abbrev pub seen_parts : Option KnownTree → ℕ
 seen_parts None = 0
 seen_parts (Some known) = size (seen_near known.term)
 
--- a name by itself, and one behind `n.`: a let alone has parts
+-- a name by itself, and one after `n.`: a let alone has parts
 abbrev pub name_parts : Frame → List ℕ → ℕ
 name_parts frame name =
     if is_among frame.parameters name then 0 else (if is_among frame.fields name then 0 else let_parts (let_for frame.lets name) [])

@@ -64,12 +64,12 @@ name_cause frame later name inside =
     if is_among frame.parameters name then None else
     (if is_among frame.fields name then None else apply_cause (let_for frame.lets name) later name 0 inside)
 
--- the let behind `n.`, if there is one
+-- the let after `n.`, if there is one
 abbrev pub near_let_cause : Option KnownTree → List (List ℕ) → List ℕ → Option Cause
 near_let_cause None later name = Some (unknown_cause later name cause.UnknownNear)
 near_let_cause (Some known) later name = seen_cause known
 
--- a name behind `n.`, which stands in an aggregate: a field or a let
+-- a name after `n.`, which stands in an aggregate: a field or a let
 abbrev pub near_cause : Frame → List (List ℕ) → List ℕ → Bool → Option Cause
 near_cause frame later name inside =
     if inside then (if is_among frame.fields name then None else near_let_cause (let_for frame.lets name) later name) else Some cause.NeighbourOutside

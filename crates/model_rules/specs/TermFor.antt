@@ -33,7 +33,7 @@ named_term frame name =
     if is_among frame.parameters name then ParameterTerm (place frame.parameters name) else
     (if is_among frame.fields name then OwnTerm name else let_term (let_for frame.lets name) [])
 
--- a name behind `n.`: a field or a let
+-- a name after `n.`: a field or a let
 abbrev pub near_named_term : Frame → List ℕ → TermTree
 near_named_term frame name = if is_among frame.fields name then NearTerm name else near_let_term (let_for frame.lets name)
 

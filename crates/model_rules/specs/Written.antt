@@ -8,7 +8,7 @@ use Rattle.rule_lang.specs.Canonical.{item_text, program_text}
 abbrev pub comment : ℕ → List ℕ
 comment line = codes "# line " ++ (decimal line ++ 10 ∷ [])
 
--- rules in the canonical spelling, each behind the comment with its line, as far as there are lines
+-- rules in the canonical spelling, each after the comment with its line, as far as there are lines
 abbrev pub commented : List ℕ → List ItemTree → List ℕ
 commented lines [] = []
 commented [] (rule ∷ rules) = item_text rule ++ commented [] rules

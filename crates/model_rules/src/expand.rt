@@ -28,7 +28,6 @@ use crate::scope::Scope;
 use crate::term::Term;
 use model_text::{Arguments, Arms, Expr, Function};
 use rule_lang::{Agg, Op};
-use std::alloc::Global;
 
 /// The term of an expression, which stands inside of an aggregate or outside.
 #[cycle(expansion)]
@@ -36,7 +35,6 @@ pub fn expression(
     tree: &Expr,
     scope: &Scope,
     inside: bool,
-    alloc: Global,
     room: &mut Room,
 ) -> Result<Term, ExpandFault>
     ensures exact { IfOk result (λ t. term_of t ≡ term_for (frame_of scope.now) (tree_of tree.now)) }
@@ -46,18 +44,12 @@ pub fn expression(
     ensures refused { IfErr result (IsFirst (bounded room.old (parts_in (frame_of scope.now) (later_of scope.now) inside (tree_of tree.now)) (fault_in (frame_of scope.now) (later_of scope.now) inside (tree_of tree.now)))) }
 {
     room.take()?;
-    form(tree, scope, inside, alloc, room)
+    form(tree, scope, inside, room)
 }
 
 /// The term of an expression whose own part is taken.
 #[cycle(expansion)]
-fn form(
-    tree: &Expr,
-    scope: &Scope,
-    inside: bool,
-    alloc: Global,
-    room: &mut Room,
-) -> Result<Term, ExpandFault>
+fn form(tree: &Expr, scope: &Scope, inside: bool, room: &mut Room) -> Result<Term, ExpandFault>
     ensures exact { IfOk result (λ t. term_of t ≡ term_for (frame_of scope.now) (tree_of tree.now)) }
     ensures faultless { OnOk result (fault_in (frame_of scope.now) (later_of scope.now) inside (tree_of tree.now) ≡ None) }
     ensures item { item_at room.new ≡ item_at room.old }
@@ -67,11 +59,11 @@ fn form(
     match tree {
         Expr::Number { value, .. } => Ok(Term::Number(*value)),
         Expr::Nothing { .. } => Ok(Term::Number(4294967295)),
-        Expr::Name { name, at } => name_term(name, *at, scope, inside, alloc, room),
+        Expr::Name { name, at } => name_term(name, *at, scope, inside, room),
         Expr::Id { .. } => Ok(Term::Id),
         Expr::Degree { .. } => Ok(Term::Degree),
         Expr::Round { .. } => Ok(Term::Round),
-        Expr::Near { name, at } => near_term(name, *at, scope, inside, alloc, room),
+        Expr::Near { name, at } => near_term(name, *at, scope, inside, room),
         Expr::NearId { at } => near_id(inside, *at),
         Expr::NearWeight { at } => near_weight(inside, *at),
         Expr::Infix {
@@ -80,62 +72,50 @@ fn form(
             right,
             ..
         } => {
-            let left = expression(left, scope, inside, alloc, room)?;
-            let right = expression(right, scope, inside, alloc, room)?;
-            Ok(infix_term(*operator, left, right, alloc)?)
+            let left = expression(left, scope, inside, room)?;
+            let right = expression(right, scope, inside, room)?;
+            Ok(infix_term(*operator, left, right, room.alloc)?)
         }
-        Expr::Not { part, .. } => negation(part, scope, inside, alloc, room),
-        Expr::Parens { part, .. } => expression(part, scope, inside, alloc, room),
+        Expr::Not { part, .. } => negation(part, scope, inside, room),
+        Expr::Parens { part, .. } => expression(part, scope, inside, room),
         Expr::If { test, yes, no, .. } => {
-            let test = expression(test, scope, inside, alloc, room)?;
-            let yes = expression(yes, scope, inside, alloc, room)?;
-            let no = expression(no, scope, inside, alloc, room)?;
-            Ok(choice(test, yes, no, alloc)?)
+            let test = expression(test, scope, inside, room)?;
+            let yes = expression(yes, scope, inside, room)?;
+            let no = expression(no, scope, inside, room)?;
+            Ok(choice(test, yes, no, room.alloc)?)
         }
-        Expr::Cases { arms, .. } => cases(arms, scope, inside, alloc, room),
+        Expr::Cases { arms, .. } => cases(arms, scope, inside, room),
         Expr::Call {
             function,
             at,
             arguments,
-        } => call(*function, arguments, *at, scope, inside, alloc, room),
+        } => call(*function, arguments, *at, scope, inside, room),
         Expr::Apply {
             name,
             at,
             arguments,
-        } => application(name, arguments, *at, scope, inside, alloc, room),
+        } => application(name, arguments, *at, scope, inside, room),
         Expr::Chance { at, decimal } => Ok(Term::Number(chance_of(decimal, *at)?)),
-        Expr::ChanceOf { at, decimal } => chance_term(decimal, scope, *at, alloc),
+        Expr::ChanceOf { at, decimal } => chance_term(decimal, scope, *at, room.alloc),
     }
 }
 
 /// The term of `not` before an expression.
 #[cycle(expansion)]
-fn negation(
-    part: &Expr,
-    scope: &Scope,
-    inside: bool,
-    alloc: Global,
-    room: &mut Room,
-) -> Result<Term, ExpandFault>
+fn negation(part: &Expr, scope: &Scope, inside: bool, room: &mut Room) -> Result<Term, ExpandFault>
     ensures exact { IfOk result (λ t. term_of t ≡ NotTerm (term_for (frame_of scope.now) (tree_of part.now))) }
     ensures faultless { OnOk result (fault_in (frame_of scope.now) (later_of scope.now) inside (tree_of part.now) ≡ None) }
     ensures item { item_at room.new ≡ item_at room.old }
     ensures taken { OnOk result (parts_left room.new + parts_in (frame_of scope.now) (later_of scope.now) inside (tree_of part.now) ≡ parts_left room.old) }
     ensures refused { IfErr result (IsFirst (bounded room.old (parts_in (frame_of scope.now) (later_of scope.now) inside (tree_of part.now)) (fault_in (frame_of scope.now) (later_of scope.now) inside (tree_of part.now)))) }
 {
-    let part = expression(part, scope, inside, alloc, room)?;
-    Ok(Term::Not(Box::new(alloc, part)?))
+    let part = expression(part, scope, inside, room)?;
+    Ok(Term::Not(Box::new(room.alloc, part)?))
 }
 
 /// The term of the arms of `cases`.
 #[cycle(expansion)]
-fn cases(
-    arms: &Arms,
-    scope: &Scope,
-    inside: bool,
-    alloc: Global,
-    room: &mut Room,
-) -> Result<Term, ExpandFault>
+fn cases(arms: &Arms, scope: &Scope, inside: bool, room: &mut Room) -> Result<Term, ExpandFault>
     ensures exact { IfOk result (λ t. term_of t ≡ arms_term (frame_of scope.now) (arms_of arms.now)) }
     ensures faultless { OnOk result (arms_fault (frame_of scope.now) (later_of scope.now) inside (arms_of arms.now) ≡ None) }
     ensures item { item_at room.new ≡ item_at room.old }
@@ -144,12 +124,12 @@ fn cases(
 {
     match arms {
         Arms::Arm { test, value, rest } => {
-            let test = expression(test, scope, inside, alloc, room)?;
-            let value = expression(value, scope, inside, alloc, room)?;
-            let rest = cases(rest, scope, inside, alloc, room)?;
-            Ok(choice(test, value, rest, alloc)?)
+            let test = expression(test, scope, inside, room)?;
+            let value = expression(value, scope, inside, room)?;
+            let rest = cases(rest, scope, inside, room)?;
+            Ok(choice(test, value, rest, room.alloc)?)
         }
-        Arms::Else { value } => expression(value, scope, inside, alloc, room),
+        Arms::Else { value } => expression(value, scope, inside, room),
     }
 }
 
@@ -161,7 +141,6 @@ fn call(
     at: u32,
     scope: &Scope,
     inside: bool,
-    alloc: Global,
     room: &mut Room,
 ) -> Result<Term, ExpandFault>
     ensures exact { IfOk result (λ t. term_of t ≡ call_term (kind_of function) (frame_of scope.now) at (terms_for (frame_of scope.now) (arguments_of arguments.now))) }
@@ -171,10 +150,10 @@ fn call(
     ensures refused { IfErr result (IsFirst (bounded room.old (call_parts (kind_of function) (frame_of scope.now) inside at (terms_for (frame_of scope.now) (arguments_of arguments.now)) (faults_in (frame_of scope.now) (later_of scope.now) inside (arguments_of arguments.now)) (parts_each (frame_of scope.now) (later_of scope.now) inside (arguments_of arguments.now)) (parts_each (frame_of scope.now) (later_of scope.now) true (arguments_of arguments.now))) (call_fault (kind_of function) (frame_of scope.now) inside at (terms_for (frame_of scope.now) (arguments_of arguments.now)) (faults_in (frame_of scope.now) (later_of scope.now) inside (arguments_of arguments.now)) (faults_in (frame_of scope.now) (later_of scope.now) true (arguments_of arguments.now))))) }
 {
     match call_kind(function) {
-        CallKind::Gather(agg) => gathered(arguments, agg, at, scope, inside, alloc, room),
-        CallKind::Join(op) => joined(arguments, op, at, scope, inside, alloc, room),
-        CallKind::Distance => difference(arguments, at, scope, inside, alloc, room),
-        CallKind::Draw(source) => random(arguments, source, at, scope, inside, alloc, room),
+        CallKind::Gather(agg) => gathered(arguments, agg, at, scope, inside, room),
+        CallKind::Join(op) => joined(arguments, op, at, scope, inside, room),
+        CallKind::Distance => difference(arguments, at, scope, inside, room),
+        CallKind::Draw(source) => random(arguments, source, at, scope, inside, room),
     }
 }
 
@@ -186,7 +165,6 @@ fn gathered(
     at: u32,
     scope: &Scope,
     inside: bool,
-    alloc: Global,
     room: &mut Room,
 ) -> Result<Term, ExpandFault>
     ensures exact { IfOk result (λ t. term_of t ≡ OverTerm agg (first_term (terms_for (frame_of scope.now) (arguments_of arguments.now)))) }
@@ -198,8 +176,8 @@ fn gathered(
     if inside {
         return Err(wrong(Cause::NestedAggregate, at));
     }
-    let part = single(arguments, at, scope, true, alloc, room)?;
-    Ok(over_term(agg, part, alloc)?)
+    let part = single(arguments, at, scope, true, room)?;
+    Ok(over_term(agg, part, room.alloc)?)
 }
 
 /// The term of a let with arguments.
@@ -210,7 +188,6 @@ fn application(
     at: u32,
     scope: &Scope,
     inside: bool,
-    alloc: Global,
     room: &mut Room,
 ) -> Result<Term, ExpandFault>
     ensures exact { IfOk result (λ t. term_of t ≡ let_term (let_for (knowns_of scope.now.lets.items) name.now) (terms_for (frame_of scope.now) (arguments_of arguments.now))) }
@@ -219,8 +196,8 @@ fn application(
     ensures taken { OnOk result (parts_left room.new + (parts_upto (faults_in (frame_of scope.now) (later_of scope.now) inside (arguments_of arguments.now)) (parts_each (frame_of scope.now) (later_of scope.now) inside (arguments_of arguments.now)) + unless_wrong (first_of (faults_in (frame_of scope.now) (later_of scope.now) inside (arguments_of arguments.now))) (unless_wrong (call_cause (frame_of scope.now) (later_of scope.now) name.now (length (terms_for (frame_of scope.now) (arguments_of arguments.now))) (inside || list_any looks (terms_for (frame_of scope.now) (arguments_of arguments.now)))) (let_parts (let_for (knowns_of scope.now.lets.items) name.now) (terms_for (frame_of scope.now) (arguments_of arguments.now))))) ≡ parts_left room.old) }
     ensures refused { IfErr result (IsFirst (bounded room.old (parts_upto (faults_in (frame_of scope.now) (later_of scope.now) inside (arguments_of arguments.now)) (parts_each (frame_of scope.now) (later_of scope.now) inside (arguments_of arguments.now)) + unless_wrong (first_of (faults_in (frame_of scope.now) (later_of scope.now) inside (arguments_of arguments.now))) (unless_wrong (call_cause (frame_of scope.now) (later_of scope.now) name.now (length (terms_for (frame_of scope.now) (arguments_of arguments.now))) (inside || list_any looks (terms_for (frame_of scope.now) (arguments_of arguments.now)))) (let_parts (let_for (knowns_of scope.now.lets.items) name.now) (terms_for (frame_of scope.now) (arguments_of arguments.now))))) (option_or (first_of (faults_in (frame_of scope.now) (later_of scope.now) inside (arguments_of arguments.now))) (told_at at (call_cause (frame_of scope.now) (later_of scope.now) name.now (length (terms_for (frame_of scope.now) (arguments_of arguments.now))) (inside || list_any looks (terms_for (frame_of scope.now) (arguments_of arguments.now)))))))) }
 {
-    let terms = each(arguments, scope, inside, alloc, room)?;
-    called(name, at, &terms, scope, inside, alloc, room)
+    let terms = each(arguments, scope, inside, room)?;
+    called(name, at, &terms, scope, inside, room)
 }
 
 /// The terms of the arguments of a let, in order.
@@ -229,7 +206,6 @@ fn each(
     arguments: &Arguments,
     scope: &Scope,
     inside: bool,
-    alloc: Global,
     room: &mut Room,
 ) -> Result<Vec<Term>, ExpandFault>
     ensures exact { IfOk result (λ ts. terms_of ts.items ≡ terms_for (frame_of scope.now) (arguments_of arguments.now)) }
@@ -239,10 +215,10 @@ fn each(
     ensures refused { IfErr result (IsFirst (bounded room.old (parts_upto (faults_in (frame_of scope.now) (later_of scope.now) inside (arguments_of arguments.now)) (parts_each (frame_of scope.now) (later_of scope.now) inside (arguments_of arguments.now))) (first_of (faults_in (frame_of scope.now) (later_of scope.now) inside (arguments_of arguments.now))))) }
 {
     match arguments {
-        Arguments::End => Ok(Vec::new(alloc)),
+        Arguments::End => Ok(Vec::new(room.alloc)),
         Arguments::Argument { first, rest } => {
-            let first = expression(first, scope, inside, alloc, room)?;
-            let mut terms = each(rest, scope, inside, alloc, room)?;
+            let first = expression(first, scope, inside, room)?;
+            let mut terms = each(rest, scope, inside, room)?;
             terms.insert(0, first)?;
             Ok(terms)
         }
@@ -257,7 +233,6 @@ fn single(
     at: u32,
     scope: &Scope,
     inside: bool,
-    alloc: Global,
     room: &mut Room,
 ) -> Result<Term, ExpandFault>
     ensures exact { IfOk result (λ t. term_of t ≡ first_term (terms_for (frame_of scope.now) (arguments_of arguments.now))) }
@@ -272,7 +247,7 @@ fn single(
             if !ends(rest) {
                 return Err(wrong(Cause::WrongArguments, at));
             }
-            expression(first, scope, inside, alloc, room)
+            expression(first, scope, inside, room)
         }
     }
 }
@@ -286,7 +261,6 @@ fn joined(
     at: u32,
     scope: &Scope,
     inside: bool,
-    alloc: Global,
     room: &mut Room,
 ) -> Result<Term, ExpandFault>
     ensures exact { IfOk result (λ t. term_of t ≡ joined_term op (terms_for (frame_of scope.now) (arguments_of arguments.now))) }
@@ -299,11 +273,11 @@ fn joined(
         Arguments::End => Err(wrong(Cause::WrongArguments, at)),
         Arguments::Argument { first, rest } => {
             if ends(rest) {
-                return expression(first, scope, inside, alloc, room);
+                return expression(first, scope, inside, room);
             }
-            let first = expression(first, scope, inside, alloc, room)?;
-            let rest = joined(rest, op, at, scope, inside, alloc, room)?;
-            Ok(between(op, first, rest, alloc)?)
+            let first = expression(first, scope, inside, room)?;
+            let rest = joined(rest, op, at, scope, inside, room)?;
+            Ok(between(op, first, rest, room.alloc)?)
         }
     }
 }
@@ -315,7 +289,6 @@ fn difference(
     at: u32,
     scope: &Scope,
     inside: bool,
-    alloc: Global,
     room: &mut Room,
 ) -> Result<Term, ExpandFault>
     ensures exact { IfOk result (λ t. term_of t ≡ parted (first_term (terms_for (frame_of scope.now) (arguments_of arguments.now))) (second_term (terms_for (frame_of scope.now) (arguments_of arguments.now)))) }
@@ -327,9 +300,9 @@ fn difference(
     match arguments {
         Arguments::End => Err(wrong(Cause::WrongArguments, at)),
         Arguments::Argument { first, rest } => {
-            let first = expression(first, scope, inside, alloc, room)?;
-            let second = single(rest, at, scope, inside, alloc, room)?;
-            distance(first, second, alloc, room)
+            let first = expression(first, scope, inside, room)?;
+            let second = single(rest, at, scope, inside, room)?;
+            distance(first, second, room)
         }
     }
 }
@@ -342,7 +315,6 @@ fn random(
     at: u32,
     scope: &Scope,
     inside: bool,
-    alloc: Global,
     room: &mut Room,
 ) -> Result<Term, ExpandFault>
     ensures exact { IfOk result (λ t. term_of t ≡ bounded_term (draw_term source (frame_of scope.now) at) (terms_for (frame_of scope.now) (arguments_of arguments.now))) }
@@ -352,11 +324,11 @@ fn random(
     ensures refused { IfErr result (IsFirst (bounded room.old (only_parts (parts_each (frame_of scope.now) (later_of scope.now) inside (arguments_of arguments.now))) (option_or (option_or (few_fault at (faults_in (frame_of scope.now) (later_of scope.now) inside (arguments_of arguments.now))) (told_at at (bound_cause (terms_for (frame_of scope.now) (arguments_of arguments.now))))) (told_at at (draw_cause source (frame_of scope.now) inside at))))) }
 {
     match arguments {
-        Arguments::End => random_term(source, scope, inside, at, alloc),
+        Arguments::End => random_term(source, scope, inside, at, room.alloc),
         Arguments::Argument { .. } => {
-            let limit = bound(arguments, at, scope, inside, alloc, room)?;
-            let draw = random_term(source, scope, inside, at, alloc)?;
-            Ok(scaled(draw, limit, alloc)?)
+            let limit = bound(arguments, at, scope, inside, room)?;
+            let draw = random_term(source, scope, inside, at, room.alloc)?;
+            Ok(scaled(draw, limit, room.alloc)?)
         }
     }
 }
@@ -369,7 +341,6 @@ fn bound(
     at: u32,
     scope: &Scope,
     inside: bool,
-    alloc: Global,
     room: &mut Room,
 ) -> Result<Term, ExpandFault>
     ensures exact { IfOk result (λ t. term_of t ≡ first_term (terms_for (frame_of scope.now) (arguments_of arguments.now))) }
@@ -378,7 +349,7 @@ fn bound(
     ensures taken { OnOk result (parts_left room.new + only_parts (parts_each (frame_of scope.now) (later_of scope.now) inside (arguments_of arguments.now)) ≡ parts_left room.old) }
     ensures refused { IfErr result (IsFirst (bounded room.old (only_parts (parts_each (frame_of scope.now) (later_of scope.now) inside (arguments_of arguments.now))) (option_or (only_fault at (faults_in (frame_of scope.now) (later_of scope.now) inside (arguments_of arguments.now))) (told_at at (bound_cause (terms_for (frame_of scope.now) (arguments_of arguments.now))))))) }
 {
-    let limit = single(arguments, at, scope, inside, alloc, room)?;
+    let limit = single(arguments, at, scope, inside, room)?;
     check_bound(&limit, at)?;
     Ok(limit)
 }

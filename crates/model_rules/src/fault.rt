@@ -22,7 +22,7 @@ pub enum Cause {
     NextTwice,
     /// A `next` item for the name of no field.
     NoField,
-    /// The name of no states behind a field.
+    /// The name of no states after a field.
     UnknownStates,
     /// A name that no constant, state, field, let or parameter has.
     UnknownName,
@@ -36,7 +36,7 @@ pub enum Cause {
     NeighbourOutside,
     /// An aggregate in an aggregate, also by a let.
     NestedAggregate,
-    /// A let behind `n.` that uses an aggregate, `degree` or a form of the neighbour.
+    /// A let after `n.` that uses an aggregate, `degree` or a form of the neighbour.
     NotSeen,
     /// A constant or a let that uses itself, also by others.
     Ring,
@@ -63,7 +63,7 @@ pub enum ExpandFault {
     /// or of the name of the item.
     At { cause: Cause, at: u32 },
     /// A constant that the caller sets and the model does not have: its place among those that are set, counted from 0.
-    /// Looked for behind `UnknownStates`, before anything is expanded.
+    /// Looked for after `UnknownStates`, before anything is expanded.
     UnknownGiven { place: usize },
     /// Out of memory.
     Memory,

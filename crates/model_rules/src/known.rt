@@ -61,8 +61,8 @@ fn item_term(tree: &Expr, at: u32, scope: &Scope, alloc: Global) -> Result<Term,
     ensures faultless { OnOk result (expression_fault (frame_of scope.now) (later_of scope.now) (tree_of tree.now) at ≡ None) }
     ensures refused { IfErr result (IsFirst (expression_fault (frame_of scope.now) (later_of scope.now) (tree_of tree.now) at)) }
 {
-    let mut room = Room::new(at);
-    expression(tree, scope, false, alloc, &mut room)
+    let mut room = Room::new(alloc, at);
+    expression(tree, scope, false, &mut room)
 }
 
 /// The value of an expression that is made of numbers, constants and states alone.

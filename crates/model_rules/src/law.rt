@@ -22,7 +22,7 @@ pub fn one_verdict_on_a_model()
 {}
 
 /// The law that the constants, states and lets of a model become known in as many turns as there are names, or not at all; and that a name
-/// of which a `Ring` is told never does, where no name stands twice, but each behind it, and each name where no fault is told of any.
+/// of which a `Ring` is told never does, where no name stands twice, but each after it, and each name where no fault is told of any.
 pub fn turns_of_a_model_are_enough()
     ensures enough { TurnsAreEnough }
     ensures never { WaitsForever }

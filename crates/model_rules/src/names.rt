@@ -21,7 +21,6 @@ use crate::scope::{Known, Scope, let_of, place_of};
 use crate::seen::seen;
 use crate::term::Term;
 use crate::tests::{has_aggregate, looks_outside, needs_neighbours};
-use std::alloc::Global;
 
 /// A form of the neighbour stands in an aggregate.
 pub fn inside_only(inside: bool, at: u32) -> Result<(), ExpandFault>
@@ -77,7 +76,6 @@ fn put_in(
     arguments: &[Term],
     at: u32,
     inside: bool,
-    alloc: Global,
     room: &mut Room,
 ) -> Result<Term, ExpandFault>
     ensures exact { IfOk result (λ t. term_of t ≡ filled (terms_of arguments.now) (term_of known.now.term)) }
@@ -89,7 +87,7 @@ fn put_in(
 {
     match put_in_cause(known, arguments, inside) {
         Some(cause) => Err(wrong(cause, at)),
-        None => fill(&known.term, arguments, alloc, room),
+        None => fill(&known.term, arguments, room),
     }
 }
 
@@ -110,7 +108,6 @@ pub fn name_term(
     at: u32,
     scope: &Scope,
     inside: bool,
-    alloc: Global,
     room: &mut Room,
 ) -> Result<Term, ExpandFault>
     ensures exact { IfOk result (λ t. term_of t ≡ named_term (frame_of scope.now) name.now) }
@@ -124,10 +121,10 @@ pub fn name_term(
         return Ok(Term::Parameter(k));
     }
     if let Some(_) = place_of(&scope.fields, name) {
-        return Ok(Term::Own(String::from_str(alloc, name)?));
+        return Ok(Term::Own(String::from_str(room.alloc, name)?));
     }
     match let_of(&scope.lets, name) {
-        Some(known) => put_in(known, &[], at, inside, alloc, room),
+        Some(known) => put_in(known, &[], at, inside, room),
         None => Err(unknown(name, at, scope, Cause::UnknownName)),
     }
 }
@@ -150,7 +147,7 @@ fn seen_let_cause(known: &Known) -> Option<Cause>
 
 /// The term of a let as seen from a neighbour.
 #[tactic(auto, using(crate::proofs::Parts::told_put, crate::proofs::Parts::told_unput))]
-fn seen_let(known: &Known, at: u32, alloc: Global, room: &mut Room) -> Result<Term, ExpandFault>
+fn seen_let(known: &Known, at: u32, room: &mut Room) -> Result<Term, ExpandFault>
     ensures exact { IfOk result (λ t. term_of t ≡ seen_near (term_of known.now.term)) }
     ensures item { item_at room.new ≡ item_at room.old }
     ensures at_once { (cause : Cause) → seen_cause (known_of known.now) ≡ Some cause → result ≡ Err (At cause at) }
@@ -160,18 +157,17 @@ fn seen_let(known: &Known, at: u32, alloc: Global, room: &mut Room) -> Result<Te
 {
     match seen_let_cause(known) {
         Some(cause) => Err(wrong(cause, at)),
-        None => seen(&known.term, alloc, room),
+        None => seen(&known.term, room),
     }
 }
 
-/// The term of a name behind `n.`.
+/// The term of a name after `n.`.
 #[tactic(auto, using(crate::proofs::Refused::near_field, crate::proofs::Refused::near_let, crate::proofs::Refused::near_outside, crate::proofs::Refused::near_term_field, crate::proofs::Refused::free_near, crate::proofs::Parts::told_unput))]
 pub fn near_term(
     name: &str,
     at: u32,
     scope: &Scope,
     inside: bool,
-    alloc: Global,
     room: &mut Room,
 ) -> Result<Term, ExpandFault>
     ensures exact { IfOk result (λ t. term_of t ≡ near_named_term (frame_of scope.now) name.now) }
@@ -185,10 +181,10 @@ pub fn near_term(
         return Err(wrong(Cause::NeighbourOutside, at));
     }
     if let Some(_) = place_of(&scope.fields, name) {
-        return Ok(Term::Near(String::from_str(alloc, name)?));
+        return Ok(Term::Near(String::from_str(room.alloc, name)?));
     }
     match let_of(&scope.lets, name) {
-        Some(known) => seen_let(known, at, alloc, room),
+        Some(known) => seen_let(known, at, room),
         None => Err(unknown(name, at, scope, Cause::UnknownNear)),
     }
 }
@@ -201,7 +197,6 @@ fn applied(
     arguments: &[Term],
     scope: &Scope,
     inside: bool,
-    alloc: Global,
     room: &mut Room,
 ) -> Result<Term, ExpandFault>
     ensures exact { IfOk result (λ t. term_of t ≡ let_term (let_for (knowns_of scope.now.lets.items) name.now) (terms_of arguments.now)) }
@@ -212,7 +207,7 @@ fn applied(
     ensures refused { IfErr result (IsFirst (bounded room.old (unless_wrong (apply_cause (let_for (knowns_of scope.now.lets.items) name.now) (later_of scope.now) name.now (length arguments.now) (inside || list_any looks (terms_of arguments.now))) (let_parts (let_for (knowns_of scope.now.lets.items) name.now) (terms_of arguments.now))) (told_at at (apply_cause (let_for (knowns_of scope.now.lets.items) name.now) (later_of scope.now) name.now (length arguments.now) (inside || list_any looks (terms_of arguments.now)))))) }
 {
     match let_of(&scope.lets, name) {
-        Some(known) => put_in(known, arguments, at, inside, alloc, room),
+        Some(known) => put_in(known, arguments, at, inside, room),
         None => Err(unknown(name, at, scope, Cause::UnknownName)),
     }
 }
@@ -232,7 +227,6 @@ pub fn called(
     arguments: &[Term],
     scope: &Scope,
     inside: bool,
-    alloc: Global,
     room: &mut Room,
 ) -> Result<Term, ExpandFault>
     ensures exact { IfOk result (λ t. term_of t ≡ let_term (let_for (knowns_of scope.now.lets.items) name.now) (terms_of arguments.now)) }
@@ -245,5 +239,5 @@ pub fn called(
     if stands_alone(name, scope) {
         return Err(wrong(Cause::WrongCount, at));
     }
-    applied(name, at, arguments, scope, inside, alloc, room)
+    applied(name, at, arguments, scope, inside, room)
 }

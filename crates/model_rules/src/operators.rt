@@ -103,23 +103,18 @@ pub fn choice(test: Term, yes: Term, no: Term, alloc: Global) -> Result<Term, Al
 }
 
 /// The term of the distance between two numbers.
-pub fn distance(
-    left: Term,
-    right: Term,
-    alloc: Global,
-    room: &mut Room,
-) -> Result<Term, ExpandFault>
+pub fn distance(left: Term, right: Term, room: &mut Room) -> Result<Term, ExpandFault>
     ensures exact { IfOk result (λ t. term_of t ≡ parted (term_of left) (term_of right)) }
     ensures item { item_at room.new ≡ item_at room.old }
     ensures taken { OnOk result (parts_left room.new + (size (term_of left) + size (term_of right)) ≡ parts_left room.old) }
     ensures refused { IfErr result (IsTooLong (item_at room.old)) }
     ensures many { IfErr result (λ fault. fault ≢ Memory → parts_left room.old < size (term_of left) + size (term_of right)) }
 {
-    let same_left = copy(&left, alloc, room)?;
-    let same_right = copy(&right, alloc, room)?;
-    let above = between(Op::Minus, left, right, alloc)?;
-    let below = between(Op::Minus, same_right, same_left, alloc)?;
-    Ok(between(Op::Max, above, below, alloc)?)
+    let same_left = copy(&left, room)?;
+    let same_right = copy(&right, room)?;
+    let above = between(Op::Minus, left, right, room.alloc)?;
+    let below = between(Op::Minus, same_right, same_left, room.alloc)?;
+    Ok(between(Op::Max, above, below, room.alloc)?)
 }
 
 /// What a random number is drawn for, in each round anew.

@@ -22,7 +22,7 @@ use std::alloc::{AllocError, Global};
 /// The most bytes of a program text.
 const MOST_BYTES: usize = 65536;
 
-/// The text of the rules, each behind a comment with the line of the model on which its name stands, where it then has no
+/// The text of the rules, each after a comment with the line of the model on which its name stands, where it then has no
 /// more bytes than a program text may have, and else without comments.
 #[tactic(auto, using(crate::proofs::ProgramTexts::plain_is))]
 fn text_of(
@@ -44,7 +44,7 @@ fn text_of(
 }
 
 /// The text of the program that the model of a text is expanded to, where the caller sets these constants: one line for
-/// each field and each next value, in the model's order and in the canonical spelling, behind a comment `# line 7` with the
+/// each field and each next value, in the model's order and in the canonical spelling, after a comment `# line 7` with the
 /// line of the model, counted from 1, on which the name of the field or the next value stands. Where the text with its
 /// comments would have more than 65,536 bytes, it has none. The program is the model's: it has its fields, and the next
 /// state of each node is the model's, whatever the round, the number, the state and the neighbours are.

@@ -6,21 +6,28 @@ ghost use Rattle.model_rules.specs.declared.fault.ExpandFault.TheVariants.{At};
 ghost use Rattle.model_rules.specs.Refusals.{item_at, parts_left};
 
 use crate::fault::{Cause, ExpandFault};
+use std::alloc::Global;
 
 /// How many parts may still be made, for the item at a place of the text.
 #[derive(Drop)]
 pub struct Room {
     left: u32,
     at: u32,
+    /// Where memory is taken from for them.
+    pub alloc: Global,
 }
 
 impl Room {
     /// Room for as many parts as a program text may have bytes.
-    pub fn new(at: u32) -> Room
+    pub fn new(alloc: Global, at: u32) -> Room
         ensures item { item_at result ≡ at }
         ensures whole { parts_left result ≡ 65536 }
     {
-        Room { left: 65536, at }
+        Room {
+            left: 65536,
+            at,
+            alloc,
+        }
     }
 
     /// Takes the place of one part, or tells that the item is too long.

@@ -26,7 +26,7 @@ pub struct Given {
 pub struct Known {
     /// Its name.
     pub name: String,
-    /// Whether it is a let, which alone may stand behind `n.`.
+    /// Whether it is a let, which alone may stand after `n.`.
     pub is_let: bool,
     /// How many parameters it has.
     pub count: usize,

@@ -10,13 +10,12 @@ ghost use Rattle.model_rules.specs.TermView.{term_of};
 use crate::fault::ExpandFault;
 use crate::room::Room;
 use crate::term::Term;
-use std::alloc::Global;
 
 /// The term as seen from a neighbour: of its fields and its number. What a neighbour does not know is 0,
 /// and so are parameters.
 #[cycle(seeing)]
 #[tactic(auto, using(crate::proofs::Parts::seen_some))]
-pub fn seen(term: &Term, alloc: Global, room: &mut Room) -> Result<Term, ExpandFault>
+pub fn seen(term: &Term, room: &mut Room) -> Result<Term, ExpandFault>
     ensures exact { IfOk result (λ t. term_of t ≡ seen_near (term_of term.now)) }
     ensures item { item_at room.new ≡ item_at room.old }
     ensures taken { OnOk result (parts_left room.new + size (seen_near (term_of term.now)) ≡ parts_left room.old) }
@@ -26,7 +25,7 @@ pub fn seen(term: &Term, alloc: Global, room: &mut Room) -> Result<Term, ExpandF
     room.take()?;
     match term {
         Term::Number(n) => Ok(Term::Number(*n)),
-        Term::Own(name) => Ok(Term::Near(String::from_str(alloc, name)?)),
+        Term::Own(name) => Ok(Term::Near(String::from_str(room.alloc, name)?)),
         Term::Id => Ok(Term::NearId),
         Term::Round => Ok(Term::Round),
         Term::Degree
@@ -36,15 +35,15 @@ pub fn seen(term: &Term, alloc: Global, room: &mut Room) -> Result<Term, ExpandF
         | Term::NearWeight
         | Term::Over(_, _) => Ok(Term::Number(0)),
         Term::Infix(op, a, b) => {
-            let a = seen_boxed(a, alloc, room)?;
-            let b = seen_boxed(b, alloc, room)?;
+            let a = seen_boxed(a, room)?;
+            let b = seen_boxed(b, room)?;
             Ok(Term::Infix(*op, a, b))
         }
-        Term::Not(a) => Ok(Term::Not(seen_boxed(a, alloc, room)?)),
+        Term::Not(a) => Ok(Term::Not(seen_boxed(a, room)?)),
         Term::Choice(a, b, c) => {
-            let a = seen_boxed(a, alloc, room)?;
-            let b = seen_boxed(b, alloc, room)?;
-            let c = seen_boxed(c, alloc, room)?;
+            let a = seen_boxed(a, room)?;
+            let b = seen_boxed(b, room)?;
+            let c = seen_boxed(c, room)?;
             Ok(Term::Choice(a, b, c))
         }
     }
@@ -52,13 +51,13 @@ pub fn seen(term: &Term, alloc: Global, room: &mut Room) -> Result<Term, ExpandF
 
 /// A term as seen from a neighbour, in a box.
 #[cycle(seeing)]
-fn seen_boxed(term: &Term, alloc: Global, room: &mut Room) -> Result<Box<Term>, ExpandFault>
+fn seen_boxed(term: &Term, room: &mut Room) -> Result<Box<Term>, ExpandFault>
     ensures exact { IfOk result (λ t. term_of t.value ≡ seen_near (term_of term.now)) }
     ensures item { item_at room.new ≡ item_at room.old }
     ensures taken { OnOk result (parts_left room.new + size (seen_near (term_of term.now)) ≡ parts_left room.old) }
     ensures refused { IfErr result (IsTooLong (item_at room.old)) }
     ensures many { IfErr result (λ fault. fault ≢ Memory → parts_left room.old < size (seen_near (term_of term.now))) }
 {
-    let made = seen(term, alloc, room)?;
-    Ok(Box::new(alloc, made)?)
+    let made = seen(term, room)?;
+    Ok(Box::new(room.alloc, made)?)
 }

@@ -1,4 +1,4 @@
-//! The canonical spelling of rules, each behind its comment.
+//! The canonical spelling of rules, each after its comment.
 
 ghost use Rattle.std.specs.Prelude.{◌≡◌, ◌++◌, OnOk, IfOk, string_bytes};
 ghost use Rattle.std.specs.List.{AllByRecursion};
@@ -18,7 +18,7 @@ fn put_comment(alloc: Global, out: &mut String, line: usize) -> Result<(), Alloc
     out.push_str("\n")
 }
 
-/// The text of rules, each behind the comment with the line that it has among these, as far as there are lines.
+/// The text of rules, each after the comment with the line that it has among these, as far as there are lines.
 pub(crate) fn spelled(alloc: Global, lines: &[usize], rules: &[Item]) -> Result<Vec<u8>, AllocError>
     ensures text { IfOk result (λ bytes. bytes.items ≡ commented lines.now (items_of rules.now)) }
     ensures numbers { OnOk result (AllByRecursion HasItemNumbers (items_of rules.now)) }

@@ -12,7 +12,7 @@ use Rattle.model_text.specs.Reading.{Reads, open_at, close_at, then_at, else_at,
 use Rattle.model_text.proofs.Nesting.{row, nesting, arms_nesting, arguments_nesting}
 use Rattle.model_text.proofs.SingleTokens.{close_reads, open_reads, then_reads, else_reads, brace_open_reads, brace_close_reads, colon_reads, semicolon_reads, decimal_reads, operator_reads, operator_no_open, below_not, Closed, close_closes, comma_closes, semicolon_closes, colon_closes, then_closes, else_closes}
 
--- what may stand behind an expression: an operator that it precedes, or no operator; and no opening bracket
+-- what may stand after an expression: an operator that it precedes, or no operator; and no opening bracket
 pub record Behind (t : Tree) (rest : List Placed) : Type 0 where
   pub operator : (x : Operator × ℕ × List Placed) → operator_at rest ≡ Some x → Precedes t x.0
   pub no_open : open_at rest ≡ None
@@ -20,11 +20,11 @@ pub record Behind (t : Tree) (rest : List Placed) : Type 0 where
 pub behind_closed : (t : Tree) (rest : List Placed) → Closed rest → Behind t rest
 behind_closed t rest c = record { operator = λ x q. absurd (let n = c.no_operator in let e : None ≡ Some x = sym n ∙ q in cc); no_open = c.no_open }
 
--- the expression is read from a level on, up to the operators behind it
+-- the expression is read from a level on, up to the operators after it
 abbrev pub Begins : Tree → Type 0
 Begins t = (d l j : ℕ) (ts rest : List Placed) → l ≤ level t → nesting t ≤ suc d → row t + j ≡ d → IsLevelled t → Spells t ts rest → Behind t rest → expr_at (suc d) l ts ≡ more_at (expr_at d) j l t rest
 
--- the expression is read, where no operator of its level or a greater one stands behind it
+-- the expression is read, where no operator of its level or a greater one stands after it
 abbrev pub Reads_whole : Tree → Type 0
 Reads_whole t = (d l : ℕ) (ts rest : List Placed) → l ≤ level t → nesting t ≤ d → IsLevelled t → Spells t ts rest → Behind t rest → ((x : Operator × ℕ × List Placed) → operator_at rest ≡ Some x → operator_level x.0 < l) → expr_at d l ts ≡ Some (t, rest)
 
@@ -99,7 +99,7 @@ whole t g (suc d) l ts rest h k v s b n =
     let r = row_nesting t in
     g d l (d - row t) ts rest h k (omega arith) v s b ∙ more_stops (expr_at d) (d - row t) l t rest n
 
--- the expression is read with no level wanted, where no operator stands behind it
+-- the expression is read with no level wanted, where no operator stands after it
 pub part : (t : Tree) → Begins t → (d : ℕ) (ts rest : List Placed) → nesting t ≤ d → IsLevelled t → Spells t ts rest → Closed rest → expr_at d 0 ts ≡ Some (t, rest)
 part t g d ts rest k v s c = whole t g d 0 ts rest (omega arith) k v s (behind_closed t rest c) (λ x q. absurd (let n = c.no_operator in let e : None ≡ Some x = sym n ∙ q in cc))
 
@@ -110,7 +110,7 @@ infix_behind o at left right b p = record {
   no_open = operator_no_open o at b;
 }
 
--- behind the right part of an infix
+-- after the right part of an infix
 chain_false : (right : Tree) (o p : Operator) → operator_level o < level right → operator_level p ≤ operator_level o → is_chain right p ≡ false
 chain_false right o p h k = grind (arith, nat_tests)
 
@@ -211,7 +211,7 @@ if_reads : (expr : ℕ → Reads Tree) (at : ℕ) (t y n : Tree) (a b c d e rest
 unfolding if_at
 if_reads expr at t y n a b c d e rest h1 h2 h3 h4 h5 = rw (h1, h2, h3, h4, h5) refl
 
--- behind an open expression stands no operator
+-- after an open expression stands no operator
 no_operator : (rest : List Placed) (t : Tree) → is_open t ≡ true → Behind t rest → (x : Operator × ℕ × List Placed) → operator_at rest ≡ Some x → ⊥
 no_operator rest t o b x q = let p = (b.operator x q).2 in let c : true ≡ false = sym o ∙ p in cc
 

@@ -1,4 +1,4 @@
--- What stands behind a part is an end of the tokens.
+-- What stands after a part is an end of the tokens.
 use Rattle.std.proofs.Common.{◌≡◌, ◌≤◌, ◌<◌, List, [], ◌∷◌, ◌++◌, Option, Some, None, refl, sym, ap, ◌∙◌, arith, append_assoc, length, length-append}
 use Rattle.model_text.specs.declared.token.Sign.{Sign}
 use Rattle.model_text.specs.Tokens.{Tok, Placed, placed}

@@ -26,7 +26,7 @@ unfolding ending_at
 ending_is ending.Round ts rest h = close_is ts rest h
 ending_is ending.Brace ts rest h = brace_close_is ts rest h
 
--- names were read behind names
+-- names were read after names
 pub record Listed (e : Ending) (names : List NameAt) (ts : List Placed) (all : List NameAt) (rest : List Placed) : Type 0 where
   pub more : List NameAt
   pub is : all ≡ names ++ more
@@ -63,7 +63,7 @@ pub longer_read : (e : Ending) (names : List NameAt) (n : NameAt) (ts a b : List
 unfolding names_at
 longer_read e names n ts a b c s = rw (c.1, s) refl
 
--- nothing is read behind what is not
+-- nothing is read after what is not
 unread : (o : Option (NameAt × List Placed)) → (o >>= λ n. Some (Some n.0)) ≡ None → o ≡ None
 unread None h = refl
 unread (Some x) h = absurd (cc)

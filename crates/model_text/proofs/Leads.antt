@@ -1,4 +1,4 @@
--- The items read so far, and the tokens behind them; and that a text is one model at most.
+-- The items read so far, and the tokens after them; and that a text is one model at most.
 use Rattle.std.proofs.Common.{◌≡◌, ℕ, ◌+◌, ◌-◌, ◌≤◌, ◌<◌, List, [], ◌∷◌, ◌++◌, Option, Some, None, refl, sym, ap, subst, ◌∙◌, arith, append_assoc, append-nil, length, drop, length-drop}
 use Rattle.std.proofs.lemmas.List.{length-map, drop-map, drop_all}
 use Rattle.rule_lang.proofs.SingleTokens.{same_pair}
@@ -16,7 +16,7 @@ use Rattle.model_text.specs.Reading.{item_at}
 use Rattle.model_text.proofs.ItemsRead.{item_sound, item_complete}
 use Rattle.model_text.proofs.Ends.{item_ends}
 
--- the items so far, and the tokens behind them: a tree of the rest is one of the whole, and no other is
+-- the items so far, and the tokens after them: a tree of the rest is one of the whole, and no other is
 pub record Leads (all : List Placed) (items : List ItemTree) (rest : List Placed) : Type 0 where
   pub on : (js : List ItemTree) → HasTree rest js → HasTree all (items ++ js)
   pub only : (js : List ItemTree) → HasTree all js → (ks : List ItemTree) × (js ≡ items ++ ks) × HasTree rest ks

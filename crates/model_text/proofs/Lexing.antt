@@ -18,7 +18,7 @@ no_bytes _ _ _ (after_token end b size bytes token tokens s h) e = absurd (cc)
 same_step : (s : Option (Option Tok × ℕ)) (o p : Option Tok) (m n : ℕ) → s ≡ Some (o, m) → s ≡ Some (p, n) → (o ≡ p) × (m ≡ n)
 same_step s o p m n e f = same_pair (sym e ∙ f)
 
--- the bytes behind two steps that take as many
+-- the bytes after two steps that take as many
 moved : (end m n : ℕ) (more bytes : List ℕ) (tokens : List Placed) → more ≡ bytes → m ≡ n → HasTokens end (drop m more) tokens → HasTokens end (drop n bytes) tokens
 moved end m n more bytes tokens e f h = subst (λ x. HasTokens end (drop x bytes) tokens) f (subst (λ x. HasTokens end (drop m x) tokens) e h)
 
@@ -128,7 +128,7 @@ one_list _ _ _ (after_token end b size bytes token ts s h) us e =
     let p = behind_token end (b ∷ bytes) us e b size bytes token refl s in
     ap (λ z. placed token (end - length (b ∷ bytes)) ∷ z) (one_list end (drop size bytes) ts h p.more p.behind) ∙ sym p.is
 
--- a word behind `n.`
+-- a word after `n.`
 pub near_is : (bytes w : List ℕ) (t : Tok) → w ≡ take (prefix_len is_word_byte (take (length bytes - 2) (drop 2 bytes))) (take (length bytes - 2) (drop 2 bytes)) → Some t ≡ near_tok w → Some (t, 1 + length w) ≡ near_at bytes
 near_is bytes w t e f =
     let d : w ≡ run sort.Word (drop 2 bytes) = e ∙ ap (λ l. take (prefix_len is_word_byte l) l) (cut_at 2 bytes) in

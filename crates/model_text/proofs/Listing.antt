@@ -1,4 +1,4 @@
--- The names read so far, and the tokens behind them.
+-- The names read so far, and the tokens after them.
 use Rattle.std.proofs.Common.{◌≡◌, ℕ, ◌+◌, ◌-◌, ◌≤◌, ◌<◌, List, [], ◌∷◌, ◌++◌, Option, Some, None, refl, sym, ap, ◌∙◌, arith, length, drop, length-drop, drop-drop}
 use Rattle.std.specs.Prelude.{map}
 use Rattle.std.proofs.lemmas.List.{length-map, drop-map}
@@ -13,7 +13,7 @@ use Rattle.model_text.specs.Causes.{Fails}
 use Rattle.model_text.specs.Reading.{◌>>=◌, ending_at, another_at, names_at}
 use Rattle.model_text.proofs.ItemsRead.{more_read, more_long, none_read, last_read}
 
--- no name stands behind a comma
+-- no name stands after a comma
 pub stuck_more : (s : Stuck) (e : Ending) (names : List NameAt) (ts : List Placed) (whole : Option (List NameAt × List Placed)) → names_at e names ts ≡ whole → Fails s (another_at ts) → Fails s whole
 stuck_more Memory e names ts whole q h = tt
 stuck_more (Token left expected) e names ts whole q h = sym q ∙ none_read e names ts h

@@ -21,7 +21,7 @@ some_of None f y e = cc
 some_of (Some x) f y e = (x, refl, e)
 
 -- an expression was read: it has this spelling, operators of level l at least and at most this nesting; and an operator
--- behind it has a lesser level, and does not belong to its last part
+-- after it has a lesser level, and does not belong to its last part
 pub record Parsed (d l : ℕ) (ts : List Placed) (t : Tree) (rest : List Placed) : Type 0 where
   pub spelled : Spells t ts rest
   pub levelled : IsLevelled t
@@ -62,11 +62,11 @@ lt_of m n e = grind (arith, nat_tests)
 ge_of : (m n : ℕ) → nat_lt m n ≡ false → n ≤ m
 ge_of m n e = grind (arith, nat_tests)
 
--- no operator behind it
+-- no operator after it
 ended_parsed : (d l j : ℕ) (ts0 ts : List Placed) (left : Tree) → Begun d l j ts0 left ts → operator_at ts ≡ None → Parsed d l ts0 left ts
 ended_parsed d l j ts0 ts left b e = record { spelled = b.spelled; levelled = b.levelled; tight = b.tight; deep = b.deep; ends = λ x q. absurd (let c : None ≡ Some x = sym e ∙ q in cc) }
 
--- an operator of a lesser level behind it
+-- an operator of a lesser level after it
 looser_parsed : (d l j : ℕ) (ts0 ts : List Placed) (left : Tree) (y : Operator × ℕ × List Placed) → Begun d l j ts0 left ts → operator_at ts ≡ Some y → operator_level y.0 < l → Parsed d l ts0 left ts
 looser_parsed d l j ts0 ts left y b e h = record {
   spelled = b.spelled;
@@ -76,7 +76,7 @@ looser_parsed d l j ts0 ts left y b e h = record {
   ends = λ x q. let c : Some y ≡ Some x = sym e ∙ q in let m : y ≡ x = cc in (subst (λ z. operator_level z.0 < l) m h, (b.ready y e).1);
 }
 
--- an operator of this level or a greater one behind it, and a right part
+-- an operator of this level or a greater one after it, and a right part
 infix_begun : (d l j : ℕ) (ts0 ts rest : List Placed) (left right : Tree) (y : Operator × ℕ × List Placed) → Begun (suc d) l (suc j) ts0 left ts → operator_at ts ≡ Some y → l ≤ operator_level y.0 → is_chain left y.0 ≡ false → Parsed d (suc (operator_level y.0)) y.2 right rest → Begun (suc d) l j ts0 (InfixTree y.0 y.1 left right) rest
 infix_begun d l j ts0 ts rest left right y b e h c p = record {
   spelled = (y.2, subst (Spells left ts0) (operator_is ts y e) b.spelled, p.spelled);
@@ -87,7 +87,7 @@ infix_begun d l j ts0 ts rest left right y b e h c p = record {
   ready = λ x q. ((let n = (p.ends x q).0 in omega arith), (p.ends x q).1);
 }
 
--- the operators behind a left part
+-- the operators after a left part
 ended_sound : (d l j : ℕ) (ts0 ts : List Placed) (left : Tree) (o : Option (Operator × ℕ × List Placed)) → operator_at ts ≡ o → Begun d l j ts0 left ts → (x : Tree × List Placed) → ended_at l left o ts ≡ Some x → Parsed d l ts0 x.0 x.1
 ended_sound d l j ts0 ts left None q b x e = parsed_at d l ts0 (left, ts) x e (ended_parsed d l j ts0 ts left b q)
 ended_sound d l j ts0 ts left (Some y) q b x e =
@@ -96,7 +96,7 @@ ended_sound d l j ts0 ts left (Some y) q b x e =
       | false ↦ (λ t f. absurd (cc))
     ] refl e
 
--- how the operators behind a longer left part are read soundly
+-- how the operators after a longer left part are read soundly
 abbrev SoundMore : ℕ → ℕ → ℕ → (Tree → Reads Tree) → Type 0
 SoundMore d l j more = (left : Tree) (ts0 ts : List Placed) → Begun d l j ts0 left ts → (x : Tree × List Placed) → more left ts ≡ Some x → Parsed d l ts0 x.0 x.1
 
@@ -124,7 +124,7 @@ unfolding more_at
 more_sound d l zero expr snd left ts0 ts b x e = ended_sound (suc d) l zero ts0 ts left (operator_at ts) refl b x e
 more_sound d l (suc j) expr snd left ts0 ts b x e = joined_sound d l j expr (more_at expr j l) snd (more_sound d l j expr snd) ts0 ts left (operator_at ts) refl b x e
 
--- an expression of level 10, behind whose last part no operator belongs
+-- an expression of level 10, after whose last part no operator belongs
 first_begun : (d l : ℕ) (ts rest : List Placed) (t : Tree) → l ≤ 10 → Spells t ts rest → IsLevelled t → level t ≡ 10 → nesting t ≤ suc d → row t ≡ 0 → is_open t ≡ false → Begun (suc d) l d ts t rest
 first_begun d l ts rest t h s v n k r o = record {
   spelled = s;

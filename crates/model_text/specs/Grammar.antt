@@ -54,18 +54,18 @@ level (InfixTree operator at left right) = operator_level operator
 level (NotTree at part) = 3
 level _ = 10
 
--- the last part is an `else` without a bracket behind it: an operator there would belong to that part
+-- the last part is an `else` without a bracket after it: an operator there would belong to that part
 abbrev pub is_open : Tree → Bool
 is_open (InfixTree operator at left right) = is_open right
 is_open (NotTree at part) = is_open part
 is_open (IfTree at test first second) = true
 is_open _ = false
 
--- a comparison behind a comparison
+-- a comparison after a comparison
 abbrev pub is_chain : Tree → Operator → Bool
 is_chain left operator = nat_eq (level left) 4 && nat_eq (operator_level operator) 4
 
--- An operator may stand behind this left part: the part binds as tight (operators of one level group from the left), is
+-- An operator may stand after this left part: the part binds as tight (operators of one level group from the left), is
 -- no comparison where the operator is one, and does not end with an `else`.
 abbrev pub Precedes : Tree → Operator → Type 0
 Precedes left operator = (operator_level operator ≤ level left) × (is_chain left operator ≡ false) × (is_open left ≡ false)
@@ -158,7 +158,7 @@ abbrev mutual
   SpellsArguments NoArgument from to = Comes (SignTok sign.Close) from to
   SpellsArguments (OneArgument first rest) from to = (a : List Placed) × Spells first from a × SpellsMore rest a to
 
-  -- the same behind an argument, each behind a comma
+  -- the same after an argument, each after a comma
   pub SpellsMore : ArgumentTree → List Placed → List Placed → Type 0
   SpellsMore NoArgument from to = Comes (SignTok sign.Close) from to
   SpellsMore (OneArgument first rest) from to = (a b : List Placed) × Comes (SignTok sign.Comma) from a × Spells first a b × SpellsMore rest b to
@@ -167,7 +167,7 @@ abbrev mutual
 abbrev pub SpellsName : NameAt → List Placed → List Placed → Type 0
 SpellsName n from to = from ≡ placed (NameTok n.name) n.at ∷ to
 
--- names behind a name, each behind a comma, and the closing bracket
+-- names after a name, each after a comma, and the closing bracket
 abbrev pub SpellsNames : Sign → List NameAt → List Placed → List Placed → Type 0
 SpellsNames closing [] from to = Comes (SignTok closing) from to
 SpellsNames closing (n ∷ names) from to = (a b : List Placed) × Comes (SignTok sign.Comma) from a × SpellsName n a b × SpellsNames closing names b to

@@ -1,5 +1,5 @@
 -- Internal: what the functions of the parser return, token by token: what they read at the front of a token list, and
--- the tokens behind it. No public clause cites it; what a tree's tokens are stands in Grammar.
+-- the tokens after it. No public clause cites it; what a tree's tokens are stands in Grammar.
 use Rattle.std.specs.Prelude.{ℕ, zero, suc, List, [], ◌∷◌, ◌++◌, Option, Some, None, nat_le, nat_lt, if◌then◌else◌}
 use Rattle.model_text.specs.declared.tree.Operator.{Operator}
 use Rattle.model_text.specs.declared.tree.Operator.TheVariants.{Or, And, Equal, Differ, Less, LessEq, Greater, GreaterEq, BitOr, BitXor, BitAnd, Plus, Minus, Times, Quot, Rem}
@@ -20,7 +20,7 @@ abbrev pub ◌>>=◌ : {A B : Type 0} → Option A → (A → Option B) → Opti
 None >>= f = None
 (Some x) >>= f = f x
 
--- something read, and the tokens behind it
+-- something read, and the tokens after it
 abbrev pub Reads : Type 0 → Type 0
 Reads A = List Placed → Option (A × List Placed)
 
@@ -98,7 +98,7 @@ operator_of (KeywordTok word.Or) = Some Or
 operator_of (KeywordTok word.And) = Some And
 operator_of _ = None
 
--- an operator, its place and the tokens behind it
+-- an operator, its place and the tokens after it
 abbrev pub operator_only : Option Operator → ℕ → List Placed → Option (Operator × ℕ × List Placed)
 operator_only None at ts = None
 operator_only (Some o) at ts = Some (o, at, ts)
@@ -260,7 +260,7 @@ unfoldable pub ending_at : Ending → List Placed → Option (List Placed)
 ending_at ending.Round ts = close_at ts
 ending_at ending.Brace ts = brace_close_at ts
 
--- the name behind a comma, where a comma stands
+-- the name after a comma, where a comma stands
 abbrev pub another_by : Option (List Placed) → Option (Option NameAt)
 another_by None = Some None
 another_by (Some rest) = name_at rest >>= λ n. Some (Some n.0)
@@ -268,7 +268,7 @@ another_by (Some rest) = name_at rest >>= λ n. Some (Some n.0)
 unfoldable pub another_at : List Placed → Option (Option NameAt)
 another_at ts = another_by (comma_at ts)
 
--- names behind names, each behind a comma, to the closing bracket
+-- names after names, each after a comma, to the closing bracket
 unfoldable pub names_at : Ending → List NameAt → Reads (List NameAt)
 names_at e names (placed (SignTok sign.Comma) at ∷ placed (NameTok w) place ∷ ts) = names_at e (names ++ record { name = w; at = place } ∷ []) ts
 names_at e names ts = ending_at e ts >>= λ rest. Some (names, rest)

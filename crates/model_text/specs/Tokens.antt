@@ -13,7 +13,7 @@ use Rattle.model_text.specs.declared.lex.Sort.{Sort}
 use Rattle.model_text.specs.declared.lex.Sort.TheVariants as sort
 use Rattle.model_text.specs.Keywords.{keyword_of}
 
--- a reserved word, a name, a name behind `n.`, `n.id`, `n.weight`, a number, a decimal, or a sign
+-- a reserved word, a name, a name after `n.`, `n.id`, `n.weight`, a number, a decimal, or a sign
 pub data Tok : Type 0 where
   KeywordTok : (keyword : Keyword) → Tok
   NameTok : (name : List ℕ) → Tok
@@ -68,7 +68,7 @@ word_only (Some k) w = KeywordTok k
 abbrev pub word_tok : List ℕ → Tok
 word_tok w = word_only (keyword_of w) w
 
--- a word behind `n.`: a name, `id` or `weight`
+-- a word after `n.`: a name, `id` or `weight`
 abbrev pub near_only : Option Keyword → List ℕ → Option Tok
 near_only None w = Some (NearTok w)
 near_only (Some word.Id) w = Some NearIdTok
@@ -78,7 +78,7 @@ near_only (Some _) w = None
 unfoldable pub near_tok : List ℕ → Option Tok
 near_tok w = near_only (keyword_of w) w
 
--- a token with how many bytes it takes behind its first
+-- a token with how many bytes it takes after its first
 abbrev pub sized : Option Tok → ℕ → Option (Tok × ℕ)
 sized None size = None
 sized (Some t) size = Some (t, size)
@@ -127,7 +127,7 @@ abbrev pub long_or_short : Option Sign → Option Sign → Option (Tok × ℕ)
 long_or_short None short = sign_only short 0
 long_or_short (Some s) short = Some (SignTok s, 1)
 
--- the longest sign of this byte and those behind it
+-- the longest sign of this byte and those after it
 unfoldable pub sign_at : ℕ → List ℕ → Option (Tok × ℕ)
 sign_at b [] = sign_only (short_sign_of b) 0
 sign_at b (c ∷ bytes) = if nat_eq c 61 then long_or_short (long_sign_of b) (short_sign_of b) else sign_only (short_sign_of b) 0
@@ -139,7 +139,7 @@ begins_near (a ∷ []) = false
 begins_near (a ∷ b ∷ []) = false
 begins_near (a ∷ b ∷ c ∷ bytes) = (a == 110) && ((b == 46) && is_ascii_alphabetic c)
 
--- a letter and the letters, digits and `_` behind it are a word; behind `n.` it is one of the neighbour
+-- a letter and the letters, digits and `_` after it are a word; after `n.` it is one of the neighbour
 abbrev pub word_at : List ℕ → Option (Tok × ℕ)
 word_at bytes = Some (word_tok (run sort.Word bytes), length (run sort.Word bytes) - 1)
 
@@ -152,7 +152,7 @@ begins_fraction [] = false
 begins_fraction (a ∷ []) = false
 begins_fraction (a ∷ b ∷ bytes) = (a == 46) && is_ascii_digit b
 
--- digits and the digits behind the point, nine at most: a decimal
+-- digits and the digits after the point, nine at most: a decimal
 abbrev pub decimal_only : Option ℕ → ℕ → Option Tok
 decimal_only None places = None
 decimal_only (Some n) places = Some (DecimalTok (record { numerator = n; places = places }))
@@ -161,7 +161,7 @@ abbrev pub decimal_tok : List ℕ → List ℕ → Option Tok
 decimal_tok digits fraction =
     if nat_le (length fraction) 9 then decimal_only (whole_value (numeral_after (numeral_from (0, false) digits) (λ s. numeral_from s fraction))) (length fraction) else None
 
--- the digits behind the point that follows so many digits
+-- the digits after the point that follows so many digits
 abbrev pub fraction_behind : ℕ → List ℕ → List ℕ
 fraction_behind digits bytes = run sort.Digit (drop (digits + 1) bytes)
 
@@ -173,7 +173,7 @@ decimal_at bytes =
 abbrev pub number_at : List ℕ → Option (Tok × ℕ)
 number_at bytes = sized (option_map NumberTok (numeral_value (run sort.Numeral bytes))) (length (run sort.Numeral bytes) - 1)
 
--- the token at the front of bytes, and how many it takes behind the first
+-- the token at the front of bytes, and how many it takes after the first
 unfoldable pub token_at : List ℕ → Option (Tok × ℕ)
 token_at [] = None
 token_at (b ∷ bytes) =
@@ -186,7 +186,7 @@ stepped None = None
 stepped (Some x) = Some (Some x.0, x.1)
 
 -- what stands at the front of bytes: a blank or a comment, which give no token, or a token; and how many bytes it takes
--- behind the first
+-- after the first
 unfoldable pub step_at : List ℕ → Option (Option Tok × ℕ)
 step_at [] = None
 step_at (b ∷ bytes) =

@@ -1,4 +1,4 @@
-//! One token that has to stand first: what it is, and the tokens behind it.
+//! One token that has to stand first: what it is, and the tokens after it.
 
 ghost use Rattle.std.specs.Prelude.{◌≡◌, ◌≤◌};
 ghost use Rattle.std.specs.Option.{option_map};
@@ -167,7 +167,7 @@ pub fn word_else<'t, 'a>(tokens: &'t [Lexeme<'a>]) -> Result<&'t [Lexeme<'a>], S
     }
 }
 
-/// What stands behind `else`, where it stands here.
+/// What stands after `else`, where it stands here.
 #[tactic(auto, unfolding(crate::specs::Reading::else_at))]
 pub fn behind_else<'t, 'a>(tokens: &'t [Lexeme<'a>]) -> Option<&'t [Lexeme<'a>]>
     ensures { option_map (λ x. placed_all x.now) result ≡ else_at (placed_all tokens.now) }
@@ -184,7 +184,7 @@ pub fn behind_else<'t, 'a>(tokens: &'t [Lexeme<'a>]) -> Option<&'t [Lexeme<'a>]>
     }
 }
 
-/// What stands behind a closing bracket, where it stands here.
+/// What stands after a closing bracket, where it stands here.
 #[tactic(auto, unfolding(crate::specs::Reading::close_at))]
 pub fn behind_close<'t, 'a>(tokens: &'t [Lexeme<'a>]) -> Option<&'t [Lexeme<'a>]>
     ensures { option_map (λ x. placed_all x.now) result ≡ close_at (placed_all tokens.now) }
@@ -201,7 +201,7 @@ pub fn behind_close<'t, 'a>(tokens: &'t [Lexeme<'a>]) -> Option<&'t [Lexeme<'a>]
     }
 }
 
-/// What stands behind a comma, where it stands here.
+/// What stands after a comma, where it stands here.
 #[tactic(auto, unfolding(crate::specs::Reading::comma_at))]
 pub fn behind_comma<'t, 'a>(tokens: &'t [Lexeme<'a>]) -> Option<&'t [Lexeme<'a>]>
     ensures { option_map (λ x. placed_all x.now) result ≡ comma_at (placed_all tokens.now) }
@@ -316,7 +316,7 @@ fn operator_of(token: Token) -> Option<Operator>
     }
 }
 
-/// The operator that stands here, its place and the tokens behind it.
+/// The operator that stands here, its place and the tokens after it.
 #[tactic(auto, unfolding(crate::specs::Reading::operator_at))]
 pub fn operator_at<'t, 'a>(tokens: &'t [Lexeme<'a>]) -> Option<(Operator, u32, &'t [Lexeme<'a>])>
     ensures { option_map (λ x. (x.0, x.1, placed_all x.2.now)) result ≡ operator_at (placed_all tokens.now) }

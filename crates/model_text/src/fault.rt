@@ -51,7 +51,7 @@ pub enum ModelFault {
     /// The text has more than 65,536 bytes.
     TooLong,
     /// No token begins at the byte `at`; of a number above 4,294,967,295, of one with `_` that does not stand between
-    /// digits and of a decimal with more than nine digits behind its point it is the first digit.
+    /// digits and of a decimal with more than nine digits after its point it is the first digit.
     Lex { at: u32 },
     /// The token that begins at the byte `at` is the first that cannot stand at its place, at which `expected`
     /// could; where the text breaks off inside an item, `at` is the length of the text.

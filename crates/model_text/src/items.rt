@@ -20,7 +20,7 @@ use std::alloc::Global;
 /// The greatest depth of an expression.
 const NESTING: u32 = 100;
 
-/// The name behind a comma, where a comma stands here.
+/// The name after a comma, where a comma stands here.
 #[tactic(auto, unfolding(crate::specs::Reading::another_at))]
 fn another<'a>(alloc: Global, tokens: &[Lexeme<'a>]) -> Result<Option<Name>, Stuck>
     ensures { Gives (λ x. option_map name_of x) result (another_at (placed_all tokens.now)) }
@@ -32,7 +32,7 @@ fn another<'a>(alloc: Global, tokens: &[Lexeme<'a>]) -> Result<Option<Name>, Stu
     Ok(Some(next))
 }
 
-/// Names behind names, each behind a comma, to the closing bracket.
+/// Names after names, each after a comma, to the closing bracket.
 fn names<'t, 'a>(
     alloc: Global,
     end: Ending,
@@ -66,7 +66,7 @@ fn list<'t, 'a>(
     names(alloc, end, found, rest)
 }
 
-/// An expression that is no deeper than one of an item may be, and the tokens behind it.
+/// An expression that is no deeper than one of an item may be, and the tokens after it.
 #[tactic(auto, unfolding(crate::specs::Reading::shallow_at))]
 fn shallow<'t, 'a>(
     alloc: Global,
@@ -213,7 +213,7 @@ fn next_item<'t, 'a>(
     Ok((Item::Next { name, body }, rest))
 }
 
-/// An item, and the tokens behind it.
+/// An item, and the tokens after it.
 #[tactic(auto, unfolding(crate::specs::Reading::item_at))]
 fn item<'t, 'a>(alloc: Global, tokens: &'t [Lexeme<'a>]) -> Result<(Item, &'t [Lexeme<'a>]), Stuck>
     ensures { Gives (λ x. (item_of x.0, placed_all x.1.now)) result (item_at (placed_all tokens.now)) }

@@ -17,7 +17,7 @@ use crate::tree::Decimal;
 use std::alloc::{AllocError, Global};
 use std::str;
 
-/// The most digits behind a decimal's point.
+/// The most digits after a decimal's point.
 const DECIMAL_PLACES: usize = 9;
 
 /// A sort of bytes.
@@ -91,7 +91,7 @@ fn add_byte(numeral: Numeral, byte: u8) -> Option<Numeral>
     })
 }
 
-/// The value that a numeral has with these bytes behind it.
+/// The value that a numeral has with these bytes after it.
 fn add_bytes(numeral: Numeral, bytes: &[u8]) -> Option<Numeral>
     ensures { option_map state_of result ≡ numeral_from (state_of numeral) bytes.now }
 {
@@ -159,7 +159,7 @@ fn long_sign(byte: u8) -> Option<Sign>
     }
 }
 
-/// The longest sign of this byte and those behind it, and how many of those it takes.
+/// The longest sign of this byte and those after it, and how many of those it takes.
 #[tactic(auto, unfolding(crate::specs::Tokens::sign_at))]
 fn sign<'a>(first: u8, rest: &'a [u8]) -> Option<(Token<'a>, usize)>
     ensures sign { option_map (λ p. (tok_of p.0, p.1)) result ≡ sign_at first rest.now }
@@ -203,7 +203,7 @@ fn word_token<'a>(word: &'a str) -> Token<'a>
     }
 }
 
-/// The token of a word behind `n.`.
+/// The token of a word after `n.`.
 #[tactic(auto, unfolding(crate::specs::Tokens::near_tok))]
 fn near_token<'a>(word: &'a str) -> Option<Token<'a>>
     ensures { option_map tok_of result ≡ near_tok word.now }
@@ -230,7 +230,7 @@ fn is_near(bytes: &[u8]) -> bool
     }
 }
 
-/// The name, `id` or `weight` behind `n.`, and how many bytes it takes behind the first.
+/// The name, `id` or `weight` after `n.`, and how many bytes it takes after the first.
 fn near(bytes: &[u8]) -> Option<(Token<'_>, usize)>
     requires { 2 ≤ length bytes.now }
     ensures token { option_map (λ x. (tok_of x.0, x.1)) result ≡ near_at bytes.now }
@@ -252,7 +252,7 @@ fn is_fraction(bytes: &[u8]) -> bool
     }
 }
 
-/// A decimal of these digits before and behind the point.
+/// A decimal of these digits before and after the point.
 fn decimal_token(digits: &[u8], fraction: &[u8]) -> Option<Token<'static>>
     ensures { option_map tok_of result ≡ decimal_tok digits.now fraction.now }
 {
@@ -273,7 +273,7 @@ fn decimal_token(digits: &[u8], fraction: &[u8]) -> Option<Token<'static>>
     }))
 }
 
-/// A decimal with so many digits before its point, and how many bytes it takes behind the first.
+/// A decimal with so many digits before its point, and how many bytes it takes after the first.
 fn decimal(bytes: &[u8], digits: usize) -> Option<(Token<'static>, usize)>
     requires { digits + 1 ≤ length bytes.now }
     ensures token { option_map (λ x. (tok_of x.0, x.1)) result ≡ sized (decimal_tok (take digits bytes.now) (fraction_behind digits bytes.now)) (digits + length (fraction_behind digits bytes.now)) }
@@ -285,7 +285,7 @@ fn decimal(bytes: &[u8], digits: usize) -> Option<(Token<'static>, usize)>
     Some((token, digits + fraction.len()))
 }
 
-/// A number, and how many bytes it takes behind the first.
+/// A number, and how many bytes it takes after the first.
 fn number(bytes: &[u8]) -> Option<(Token<'static>, usize)>
     requires { 1 ≤ length bytes.now }
     ensures token { option_map (λ x. (tok_of x.0, x.1)) result ≡ number_at bytes.now }
@@ -296,7 +296,7 @@ fn number(bytes: &[u8]) -> Option<(Token<'static>, usize)>
     Some((Token::Number(value), front.len().saturating_sub(1)))
 }
 
-/// The token at the front, and how many bytes it takes behind the first.
+/// The token at the front, and how many bytes it takes after the first.
 #[tactic(auto, unfolding(crate::specs::Tokens::token_at))]
 fn token(bytes: &[u8]) -> Option<(Token<'_>, usize)>
     ensures token { option_map (λ x. (tok_of x.0, x.1)) result ≡ token_at bytes.now }
@@ -329,7 +329,7 @@ fn blank(byte: u8) -> bool
     byte == b' ' || byte == b'\t' || byte == b'\n' || byte == b'\r'
 }
 
-/// One blank, one comment or one token, and how many bytes it takes behind the first.
+/// One blank, one comment or one token, and how many bytes it takes after the first.
 #[tactic(auto, unfolding(crate::specs::Tokens::step_at))]
 fn step(bytes: &[u8]) -> Option<(Option<Token<'_>>, usize)>
     ensures step { option_map (λ x. (option_map tok_of x.0, x.1)) result ≡ step_at bytes.now }

@@ -22,7 +22,7 @@ use std::alloc::Global;
 /// The level of `not`.
 const NOT_LEVEL: u32 = 3;
 
-/// Whether an operator behind this part would be a comparison behind a comparison.
+/// Whether an operator after this part would be a comparison after a comparison.
 fn is_chain(left: &Expr, operator: Operator) -> bool
     ensures { result ≡ is_chain (tree_of left.now) operator }
 {
@@ -36,7 +36,7 @@ fn is_chain(left: &Expr, operator: Operator) -> bool
 }
 
 /// An expression of at most this depth whose operators have this level at least, and the tokens
-/// behind it.
+/// after it.
 #[cycle(expression)]
 #[tactic(auto, unfolding(crate::specs::Reading::expr_at))]
 pub fn expression<'t, 'a>(
@@ -55,7 +55,7 @@ pub fn expression<'t, 'a>(
     more(alloc, depth - 1, depth - 1, level, left, rest)
 }
 
-/// A part: a whole expression in a box, and the tokens behind it.
+/// A part: a whole expression in a box, and the tokens after it.
 #[cycle(expression)]
 fn part<'t, 'a>(
     alloc: Global,
@@ -70,7 +70,7 @@ fn part<'t, 'a>(
     Ok((Box::new(alloc, part)?, rest))
 }
 
-/// The operators of this level and above behind a left part, no more than `joins`, with their right parts.
+/// The operators of this level and above after a left part, no more than `joins`, with their right parts.
 #[cycle(expression)]
 #[tactic(auto, unfolding(crate::specs::Reading::more_at))]
 fn more<'t, 'a>(
@@ -340,7 +340,7 @@ fn else_arm<'t, 'a>(
     Ok((Box::new(alloc, Arms::Else { value })?, rest))
 }
 
-/// An arm with a test, and those behind it.
+/// An arm with a test, and those after it.
 #[cycle(expression)]
 #[tactic(auto, unfolding(crate::specs::Reading::one_arm_at))]
 fn one_arm<'t, 'a>(
@@ -497,7 +497,7 @@ fn others<'t, 'a>(
     }
 }
 
-/// An argument, and those behind it.
+/// An argument, and those after it.
 #[cycle(expression)]
 #[tactic(auto, unfolding(crate::specs::Reading::argument_at))]
 fn argument<'t, 'a>(

@@ -45,7 +45,7 @@ pub enum Token<'a> {
     NearWeight,
     /// A number.
     Number(u32),
-    /// A number with digits behind a point.
+    /// A number with digits after a point.
     Decimal(Decimal),
     /// A sign.
     Sign(Sign),

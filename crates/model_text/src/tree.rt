@@ -71,7 +71,7 @@ pub enum Function {
 }
 
 /// A decimal: `numerator` over the power of ten with exponent `places`, as 5 and 2 for `0.05`. It
-/// has as many places as digits stood behind the point; a whole number has 0.
+/// has as many places as digits stood after the point; a whole number has 0.
 #[derive(Clone, Copy)]
 pub struct Decimal {
     pub numerator: u32,
@@ -194,7 +194,7 @@ pub enum Arms {
 #[cycle(expression)]
 #[derive(Drop)]
 pub enum Arguments {
-    /// No argument, or none behind those before.
+    /// No argument, or none after those before.
     End,
     /// `first, rest`
     Argument {

@@ -36,7 +36,7 @@ not_less Fits a b grows = omega (arith, grown_size Fits a b grows)
 pub old_at : (Fits : ℕ → Type 0) (a b : List ℕ) (i : ℕ) → Grows Fits a b → i < length a → get_or b i 0 ≡ get_or a i 0
 old_at Fits a b i grows inside = ap (λ xs. get_or xs i 0) grows.whole ∙ get_or_append_left a grows.more 0 i inside
 
--- what stands behind the old elements fits
+-- what stands after the old elements fits
 pub new_at : (Fits : ℕ → Type 0) (a b : List ℕ) (i : ℕ) → Grows Fits a b → length a ≤ i → i < length b → Fits (get_or b i 0)
 new_at Fits a b i grows behind inside =
     let k = i - length a in

@@ -5,7 +5,7 @@ use Rattle.std.proofs.lemmas.Bool.{cases_Bool, eqb-false}
 use Rattle.import_lines.specs.Texts.{is_line_feed}
 use Rattle.net_initial.specs.NodeLists.{trimmed, names_nothing, with_line, listed_from, listed_in}
 
--- the lines behind the first one, where what stands behind it begins with the end of a line
+-- the lines after the first one, where what stands after it begins with the end of a line
 abbrev others : List ℕ → List (List ℕ)
 others [] = []
 others (x ∷ xs) = slice_split is_line_feed xs
@@ -26,7 +26,7 @@ listed_behind n (b ∷ bs) =
       | inr other ↦ rw (other, one-add (position_or_len is_line_feed bs), add-one (suc (position_or_len is_line_feed bs))) (rw (add-one (position_or_len is_line_feed bs)) at (listed_behind n bs))
     ]
 
--- the first line, and the lines behind it
+-- the first line, and the lines after it
 first_line : (n : ℕ) (bs line rest : List ℕ) → line ≡ before_first is_line_feed bs → rest ≡ after_first is_line_feed bs → listed_in n bs ≡ with_line n line (listed_in (n + 1) rest)
 first_line n bs line rest is behind = rw (is, behind, split_first bs, listed_behind (n + 1) bs) refl
 
@@ -45,7 +45,7 @@ lines_more k bs line rest done whole is behind before =
     ∙ ap (λ t. done ++ t) (sym (before_others (k + 1) line (listed_in ((k + 1) + 1) rest)) ∙ sym (first_line (k + 1) bs line rest is behind))
     ∙ before
 
--- behind a line there is less
+-- after a line there is less
 pub rest_shorter : (bs rest : List ℕ) → rest ≡ after_first is_line_feed bs → false ≡ (length bs == 0) → length rest + 1 ≤ length bs
 rest_shorter bs rest is some =
     let full = eqb-false (length bs) 0 (sym some) in

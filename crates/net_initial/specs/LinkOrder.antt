@@ -7,7 +7,7 @@ use Rattle.net_text.specs.Listing.{Link}
 abbrev pub Precedes : Link → Link → Type 0
 Precedes l m = (l.0 < m.0) ⊎ ((l.0 ≡ m.0) × (l.1 < m.1))
 
--- each link begins at the lesser of its ends, and precedes each one that stands behind it
+-- each link begins at the lesser of its ends, and precedes each one that stands after it
 pub record AreInOrder (links : List Link) : Type 0 where
   pub lesser_first : AllByRecursion (λ l. l.0 < l.1) links
   pub rising : AllPairs Precedes links

@@ -69,7 +69,7 @@ fn sampled(alloc: Global, nodes: u32, count: u32, seed: u64) -> Result<Vec<u32>,
     Ok(drawn)
 }
 
-/// Nodes in parts of these lengths, one behind the other.
+/// Nodes in parts of these lengths, one after the other.
 fn parted(alloc: Global, nodes: &[u32], counts: &[u64]) -> Result<Vec<Vec<u32>>, AllocError>
     requires { sum counts.now ≡ length nodes.now }
     ensures counts { IfOk result (λ v. map (λ part. length part.items) v.items ≡ counts.now) }

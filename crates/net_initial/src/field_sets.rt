@@ -130,7 +130,7 @@ fn is_cleared(cleared: &[Name], field: &str) -> bool
     cleared.iter().any(|name| field == name.as_str())
 }
 
-/// Puts a copy of a set behind the others, unless its field is cleared.
+/// Puts a copy of a set after the others, unless its field is cleared.
 fn put_kept(
     kept: &mut Vec<FieldSet>,
     alloc: Global,

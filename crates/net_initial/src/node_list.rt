@@ -31,7 +31,7 @@ fn names_nothing(text: &[u8]) -> bool
     }
 }
 
-/// Puts a line behind the others, where it names a node.
+/// Puts a line after the others, where it names a node.
 fn put_line<'a>(lines: &mut Vec<NodeLine<'a>>, line: u64, bytes: &'a [u8]) -> Result<(), AllocError>
     ensures { OnOk result (map (λ l. (l.line, l.text.now)) lines.new.items ≡ map (λ l. (l.line, l.text.now)) lines.old.items ++ with_line line bytes.now []) }
 {
@@ -43,7 +43,7 @@ fn put_line<'a>(lines: &mut Vec<NodeLine<'a>>, line: u64, bytes: &'a [u8]) -> Re
     Ok(())
 }
 
-/// The lines of a list of nodes that name one, in their order: blank lines, and those that begin with `#` behind blanks or
+/// The lines of a list of nodes that name one, in their order: blank lines, and those that begin with `#` after blanks or
 /// without, are passed over.
 pub fn node_lines<'a>(alloc: Global, list: &'a [u8]) -> Result<Vec<NodeLine<'a>>, AllocError>
     ensures lines { IfOk result (λ v. map (λ l. (l.line, l.text.now)) v.items ≡ listed_in 1 list.now) }

@@ -148,7 +148,7 @@ pub(crate) fn put_openings(table: &mut [Option<u32>], openings: &[Opening], fiel
     }
 }
 
-/// Puts the pair of a node behind the others, where the node has a value.
+/// Puts the pair of a node after the others, where the node has a value.
 fn put_shown(pairs: &mut Vec<(i64, i64)>, node: usize, value: Option<u32>) -> Result<(), AllocError>
     requires { node < 4294967295 }
     ensures { OnOk result (pairs.new.items ≡ pairs.old.items ++ option_to_list (option_map (λ v. (pos node, pos v)) value)) }

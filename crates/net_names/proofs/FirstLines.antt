@@ -19,7 +19,7 @@ more_parts : (x : List ℕ) (parts : List (List ℕ)) → 0 < length parts → l
 more_parts x [] some = absurd (omega arith)
 more_parts x (part ∷ parts) some = refl
 
--- a line that ends, and what stands behind it
+-- a line that ends, and what stands after it
 ended : (bytes line rest : List ℕ) → slice_split is_end bytes ≡ line ∷ slice_split is_end rest → lines bytes ≡ strip_carriage_return line ∷ lines rest
 ended bytes line rest split = ap lines_of_parts split ∙ more_parts line (slice_split is_end rest) (omega (arith, length-slice_split is_end rest))
 

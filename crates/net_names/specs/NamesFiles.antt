@@ -24,7 +24,7 @@ at_line line name.BadName = BadName line
 at_line line name.TooManyNames = TooManyNames line
 at_line line name.Memory = Memory
 
--- why a line gives no new name behind the names of the lines before it
+-- why a line gives no new name after the names of the lines before it
 abbrev pub IsLineFault : List (List ℕ) → List ℕ → NamesFileFault → Type 0
 IsLineFault earlier here (BadName line) = (line ≡ length earlier + 1) × (is_name here ≡ false)
 IsLineFault earlier here (NameTwice line first) = (line ≡ length earlier + 1) × (has_name earlier here ≡ true) × (first ≡ place_in earlier here + 1)

@@ -16,7 +16,7 @@ fn without_return(line: &[u8]) -> &[u8]
     }
 }
 
-/// The first line of bytes, without its end, and what stands behind it.
+/// The first line of bytes, without its end, and what stands after it.
 pub(crate) fn first_line(bytes: &[u8]) -> (&[u8], &[u8])
     requires some { 0 < length bytes.now }
     ensures line { lines bytes.now ≡ result.0.now ∷ lines result.1.now }

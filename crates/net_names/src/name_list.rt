@@ -58,7 +58,7 @@ impl NameList {
         Some(place as u32)
     }
 
-    /// Puts a new name behind the others.
+    /// Puts a new name after the others.
     fn put(&mut self, name: &str) -> Result<(), AllocError>
         requires new { has_name self.old name.now ≡ false }
         requires room { length self.old < most_rows }
@@ -69,7 +69,7 @@ impl NameList {
         Ok(())
     }
 
-    /// The number of a name; a name that is not there yet is put behind the others. `TooManyNames` where it is new and
+    /// The number of a name; a name that is not there yet is put after the others. `TooManyNames` where it is new and
     /// there are 4,294,967,295, also where memory runs out; `Memory` comes only where memory runs out. With a fault the
     /// names stay as they were.
     pub fn number(&mut self, name: &str) -> Result<u32, NameListFault>

@@ -33,7 +33,7 @@ impl Model for NodeNames {
     ghost invariant = { λ a. AreNames (map string_bytes a.texts.keys) };
 }
 
-/// Puts a text that is new behind the others.
+/// Puts a text that is new after the others.
 pub(crate) fn put_text(
     alloc: Global,
     texts: &mut IndexSet<String>,
@@ -95,7 +95,7 @@ impl NodeNames {
         }
     }
 
-    /// Puts a new name behind the others.
+    /// Puts a new name after the others.
     fn put(&mut self, name: &str) -> Result<(), AllocError>
         requires name { is_name name.now ≡ true }
         requires new { has_name self.old name.now ≡ false }
@@ -108,7 +108,7 @@ impl NodeNames {
         Ok(())
     }
 
-    /// The number of a name, below so many; a name that is not there yet is put behind the others. The first fault of
+    /// The number of a name, below so many; a name that is not there yet is put after the others. The first fault of
     /// [`NamesFault`]: `BadName` where it is no name, `TooManyNames` where the number would be no lower; `Memory` comes
     /// only where memory runs out, and where neither of these holds. With a fault the names stay as they were.
     pub fn number(&mut self, name: &str, most: u32) -> Result<u32, NamesFault>

@@ -20,7 +20,7 @@ fn at_line(fault: NamesFault, line: u64) -> NamesFileFault
     }
 }
 
-/// Puts the name that a line is behind the others.
+/// Puts the name that a line is after the others.
 fn read_line(names: &mut NodeNames, bytes: &[u8]) -> Result<(), NamesFileFault>
     ensures put { OnOk result (names.new ≡ names.old ++ bytes.now ∷ []) }
     ensures are_names { OnOk result (AreNames names.new) }

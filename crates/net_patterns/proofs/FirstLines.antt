@@ -56,7 +56,7 @@ comments_passed (c ∷ cs) text number all =
     ∙ comments_passed cs text (number + 1) all.1
     ∙ ap (λ n. told_from n text) (omega arith)
 
--- the runs behind comments and a header
+-- the runs after comments and a header
 chosen_runs : (text header runs : List ℕ) (number : ℕ) (more : List (ℕ × List ℕ)) → IsLine 120 header
     → pieces_behind text ((number, header ++ 10 ∷ runs) ∷ more) ≡ pieces_from (number + 1) None 0 runs
 chosen_runs text [] runs number more is = absurd (omega (arith, is.0))
@@ -71,7 +71,7 @@ runs_behind comments header runs all is =
     ap (λ told. pattern_of (pieces_behind text told)) (comments_passed comments (header ++ 10 ∷ runs) 1 all ∙ line_told header runs (1 + length comments) is.1 (header_says header is.0))
     ∙ ap pattern_of (chosen_runs text header runs (1 + length comments) (told_from (1 + length comments + 1) runs) is)
 
--- the rows behind a comment
+-- the rows after a comment
 comment_passed : (line rest : List ℕ) (number : ℕ) → list_any is_line_feed line ≡ false → plain_pieces number true (line ++ 10 ∷ rest) ≡ plain_pieces (number + 1) (is_comment rest) rest
 comment_passed [] rest number none = refl
 comment_passed (b ∷ bs) rest number none =

@@ -5,7 +5,7 @@ use Rattle.std.proofs.lemmas.Bool.{cases_Bool, eqb-false}
 use Rattle.std.proofs.lemmas.Bool.Decides.{Decides-eqb}
 use Rattle.net_patterns.specs.Texts.{is_line_feed, lines_behind, says_nothing, told_from}
 
--- the lines behind one are the next and those behind it
+-- the lines after one are the next and those after it
 pub told_behind : (text : List ℕ) (line : ℕ) → filter (λ (l : ℕ × List ℕ). not (says_nothing (before_first is_line_feed l.1))) (lines_behind line text) ≡ told_from (line + 1) (after_first is_line_feed text)
 told_behind [] line = refl
 told_behind (b ∷ bs) line =
@@ -21,7 +21,7 @@ module _ (line : ℕ) (text head rest : List ℕ) (nothing : Bool) (is : head �
   pub told_passed : nothing ≡ true → told_from (line + 1) rest ≡ told_from line text
   told_passed holds = (let said : says_nothing (before_first is_line_feed text) ≡ true = ap says_nothing (sym is) ∙ sym tells ∙ holds in rw (said, behind) (sym (told_behind text line)))
 
--- behind a line there is less
+-- after a line there is less
 pub rest_shorter : (bs rest : List ℕ) → rest ≡ after_first is_line_feed bs → false ≡ (length bs == 0) → length rest + 1 ≤ length bs
 rest_shorter bs rest is some =
     let full = eqb-false (length bs) 0 (sym some) in

@@ -10,7 +10,7 @@ use Rattle.net_patterns.specs.RunSteps.{pieces_from}
 no_count : (n : ℕ) → 999999999 < n → (nat_lt 0 n && nat_le n 999999999) ≡ false
 no_count n more = grind (arith, nat_tests)
 
--- behind such a number stands no run, whatever follows
+-- after such a number stands no run, whatever follows
 pub too_great : (bs : List ℕ) (line n : ℕ) → 999999999 < n → pieces_from line (Some n) 0 bs ≡ Err (BadCount line) ∷ []
 too_great [] line n more = refl
 too_great (b ∷ bs) line n more =

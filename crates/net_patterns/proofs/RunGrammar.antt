@@ -21,7 +21,7 @@ use Rattle.net_patterns.specs.Written.{state_tag}
 use Rattle.net_patterns.proofs.RunTexts.{IsTag, dead_tag, ends_tag, gap_passed, line_after, live_tag, numeral_read, point_tag}
 use Rattle.net_patterns.proofs.StateTags.{state_tag_read}
 
--- the line behind blanks
+-- the line after blanks
 feed_step : (feed : Bool) (line n : ℕ) → cond feed (line + 1) line + n ≡ line + (cond feed 1 0 + n)
 feed_step true line n = omega arith
 feed_step false line n = omega arith
@@ -180,7 +180,7 @@ record Tagged (text : List ℕ) : Type 0 where
   same : text ≡ tag ++ rest
   less : length rest < length text
 
--- behind any number a character without a meaning stands at the front
+-- after any number a character without a meaning stands at the front
 abbrev Untagged : List ℕ → Type 0
 Untagged text = (line : ℕ) (number : Option ℕ) (n : ℕ) → count_of number ≡ Some n → pieces_from line number 0 text ≡ Err (BadCell line) ∷ []
 
@@ -283,7 +283,7 @@ is_number line n digits behind numeral value ends why =
 true_is : (t : Bool) → t ≡ true → t ≡ false → ⊥
 true_is t yes_it no_it = cc
 
--- a tag behind a count, or a character without a meaning
+-- a tag after a count, or a character without a meaning
 tag_told : (b : ℕ) (bs : List ℕ) (line n : ℕ) (number : Option ℕ) (digits : List ℕ) → IsCountOf n digits → count_of number ≡ Some n → pieces_from line None 0 (digits ++ (b ∷ bs)) ≡ pieces_from line number 0 (b ∷ bs)
     → is_ascii_digit b ≡ false → is_between b ≡ false → ((rest : List ℕ) → length rest ≤ length bs → Read line rest) → AreRuns line (pieces_from line number 0 (b ∷ bs)) (digits ++ (b ∷ bs))
 tag_told b bs line n number digits is_count is ahead other more later =

@@ -21,7 +21,7 @@ use Rattle.net_patterns.proofs.MarkSteps.{rows_passed, dead_passed, alive_passed
 is_digit : (d : ℕ) → 48 ≤ d → d ≤ 57 → is_ascii_digit d ≡ true
 is_digit d low high = grind (arith, nat_tests)
 
--- digits behind a number
+-- digits after a number
 more_digits : (ds : List ℕ) (line n : ℕ) (rest : List ℕ) → AllDigits 10 ds → pieces_from line (Some n) 0 (ds ++ rest) ≡ pieces_from line (Some (digits_value_after 10 n ds)) 0 rest
 more_digits [] line n rest all = refl
 more_digits (d ∷ ds) line n rest all =
@@ -45,7 +45,7 @@ number_read n line rest few =
     let numeral = decimal_is_IsNumeral n few in
     numeral_read (decimal n) line rest numeral.0 ∙ ap (λ k. pieces_from line (Some k) 0 rest) numeral.1
 
--- letters that stand for a mark, read behind a count and without one
+-- letters that stand for a mark, read after a count and without one
 pub record IsTag (tag : List ℕ) (mark : Mark) : Type 0 where
   pub counted : (line n : ℕ) (rest : List ℕ) → 0 < n → n ≤ 999999999 → pieces_from line (Some n) 0 (tag ++ rest) ≡ Ok (record { line = line; count = n; mark = mark }) ∷ pieces_from line None 0 rest
   pub single : (line : ℕ) (rest : List ℕ) → pieces_from line None 0 (tag ++ rest) ≡ Ok (record { line = line; count = 1; mark = mark }) ∷ pieces_from line None 0 rest
@@ -63,7 +63,7 @@ long_run tag n more = rw (not_same n 0 (omega arith), not_same n 1 more) refl
 no_digit : (b : ℕ) → is_gap b ≡ true → is_ascii_digit b ≡ false
 no_digit b is = grind (arith, nat_tests)
 
--- the line behind a gap
+-- the line after a gap
 abbrev pub line_after : ℕ → List ℕ → ℕ
 line_after line [] = line
 line_after line (b ∷ bs) = line_after (line_past line b) bs
@@ -80,7 +80,7 @@ ReadsAs n mark bytes =
     (front : List Cell) (column row line : ℕ) (rest : List ℕ)
     → (next : ℕ) × (comes front column row (pieces_from line None 0 (bytes ++ rest)) ≡ comes front column row (Ok (record { line = line; count = n; mark = mark }) ∷ pieces_from next None 0 rest))
 
--- a run that is written, with a gap right behind its tag, is read as that run
+-- a run that is written, with a gap right after its tag, is read as that run
 run_alone : (tag behind : List ℕ) (mark : Mark) → IsTag tag mark → list_all is_gap behind ≡ true → (n : ℕ) → n ≤ 65536 → ReadsAs n mark (run_text (tag ++ behind) n)
 run_alone tag behind mark is all zero few front column row line rest = (line, refl)
 run_alone tag behind mark is all (suc zero) few front column row line rest = (
@@ -102,7 +102,7 @@ run_alone tag behind mark is all (suc (suc n)) few front column row line rest = 
       ),
 )
 
--- and so it is where another gap stands behind it
+-- and so it is where another gap stands after it
 pub run_read : (tag behind : List ℕ) (mark : Mark) → IsTag tag mark → list_all is_gap behind ≡ true → (gap : List ℕ) → list_all is_gap gap ≡ true → (n : ℕ) → n ≤ 65536 → ReadsAs n mark (run_text (tag ++ behind) n ++ gap)
 run_read tag behind mark is all gap passed n few front column row line rest =
     let run = run_alone tag behind mark is all n few front column row line (gap ++ rest) in (
@@ -124,7 +124,7 @@ live_tag = record { counted = λ line n rest some few. rw (is_count n some few) 
 pub point_tag : IsTag (46 ∷ []) Dead
 point_tag = record { counted = λ line n rest some few. rw (is_count n some few) refl; single = λ line rest. refl }
 
--- a run with no gap right behind its tag
+-- a run with no gap right after its tag
 plain_run : (tag : List ℕ) (mark : Mark) → IsTag tag mark → (gap : List ℕ) → list_all is_gap gap ≡ true → (n : ℕ) → n ≤ 65536 → ReadsAs n mark (run_text tag n ++ gap)
 plain_run tag mark is gap passed n few front column row line rest =
     rw (append-nil tag) at (run_read tag [] mark is refl gap passed n few front column row line rest)

@@ -32,7 +32,7 @@ known state few = grind (arith, nat_tests)
 and_false : (higher : ℕ) → (higher == 0 && false) ≡ false
 and_false higher = grind (arith, nat_tests)
 
--- a capital letter, behind one that adds so many states
+-- a capital letter, after one that adds so many states
 letter_read : (number : Option ℕ) (count higher b state line : ℕ) (rest : List ℕ) → count_of number ≡ Some count → 65 ≤ b → b ≤ 88 → higher + (b - 64) ≡ state → state ≤ 255
     → pieces_from line number higher (b ∷ rest) ≡ Ok (record { line = line; count = count; mark = Alive state }) ∷ pieces_from line None 0 rest
 letter_read number count higher b state line rest counted low high same few =

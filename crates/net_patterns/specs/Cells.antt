@@ -71,7 +71,7 @@ abbrev pub with_front : List Cell → Result (List Cell) PatternFault → Result
 with_front front (Ok cs) = Ok (front ++ cs)
 with_front front (Err fault) = Err fault
 
--- the cells, or the fault of the first that has no room, or the fault that stands behind them all
+-- the cells, or the fault of the first that has no room, or the fault that stands after them all
 abbrev pub judged : ℕ → List (ℕ × Cell) → Option PatternFault → Result (List Cell) PatternFault
 judged before [] None = Ok []
 judged before [] (Some fault) = Err fault

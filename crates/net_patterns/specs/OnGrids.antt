@@ -24,7 +24,7 @@ grid_cells width node values = map (cell_at width) (filter (λ s. nat_lt 0 s.1) 
 abbrev pub span_at : ℕ → ℕ → ℕ → Span
 span_at width node value = record { state = value; row = node / width; column = node % width; count = 1 }
 
--- a live cell at a node goes on with a span: it stands right behind it in the same row, and has the same state
+-- a live cell at a node goes on with a span: it stands right after it in the same row, and has the same state
 abbrev pub goes_on : ℕ → ℕ → ℕ → Span → Bool
 goes_on width node value s = node / width == s.row && (node % width == s.column + s.count && value == s.state)
 
@@ -32,7 +32,7 @@ goes_on width node value s = node / width == s.row && (node % width == s.column 
 abbrev pub longer : Span → Span
 longer s = record { state = s.state; row = s.row; column = s.column; count = s.count + 1 }
 
--- the spans of the values of nodes from this one on, behind a span that may go on: live cells of one state side by side
+-- the spans of the values of nodes from this one on, after a span that may go on: live cells of one state side by side
 -- in a row are one span
 abbrev pub spans_from : ℕ → ℕ → Span → List ℕ → List Span
 spans_from width node s [] = s ∷ []
@@ -45,7 +45,7 @@ spans_from width node s (value ∷ values) =
 abbrev pub no_span : Span
 no_span = record { state = 1; row = 0; column = 0; count = 0 }
 
--- how each kind of text writes ends of rows and cells: behind ends of rows of runs, and behind their end, stands LF (10)
+-- how each kind of text writes ends of rows and cells: after ends of rows of runs, and after their end, stands LF (10)
 abbrev pub spelling_of : Kind → Spelling
 spelling_of TwoStates = as_tags (codes "b") (λ state. codes "o") (10 ∷ []) [] (10 ∷ [])
 spelling_of ManyStates = as_tags (codes ".") state_tag (10 ∷ []) [] (10 ∷ [])

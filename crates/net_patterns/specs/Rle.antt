@@ -39,7 +39,7 @@ abbrev pub EndsDigits : List ℕ → Type 0
 EndsDigits [] = Unit {0}
 EndsDigits (b ∷ bs) = is_ascii_digit b ≡ false
 
--- the text ends here, or what may stand between runs or behind them all, a blank or !, stands at the front
+-- the text ends here, or what may stand between runs or after them all, a blank or !, stands at the front
 abbrev pub EndsRuns : List ℕ → Type 0
 EndsRuns [] = Unit {0}
 EndsRuns (b ∷ bs) = (is_blank b || b == 33) ≡ true
@@ -56,12 +56,12 @@ IsFaultAt line text (BadCell l) =
     × ((mark : Mark) (tag rest : List ℕ) → IsTagOf mark tag → behind ≡ tag ++ rest → ⊥))
 IsFaultAt line text _ = ⊥
 
--- the line behind blanks: each LF (10) ends one
+-- the line after blanks: each LF (10) ends one
 abbrev pub line_behind : ℕ → List ℕ → ℕ
 line_behind line blanks = line + count_by (λ b. b == 10) blanks
 
--- a text whose first byte stands in this line has these pieces, behind blanks each: runs, and the end, !, whatever stands
--- behind it; or runs and a fault
+-- a text whose first byte stands in this line has these pieces, after blanks each: runs, and the end, !, whatever stands
+-- after it; or runs and a fault
 abbrev pub AreRuns : ℕ → List (Result Run PatternFault) → List ℕ → Type 0
 AreRuns line [] text =
     (blanks : List ℕ) × (behind : List ℕ) × (list_all is_blank blanks ≡ true) × (text ≡ blanks ++ (codes "!" ++ behind))

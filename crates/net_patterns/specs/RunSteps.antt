@@ -20,7 +20,7 @@ most_state = 255
 abbrev pub letter_of : ℕ → Option ℕ
 letter_of b = if nat_le 65 b && nat_le b 88 then Some (b - 64) else None
 
--- a letter from p to y: how many states it adds to those of the capital letter behind it, 24 for p and 240 for y
+-- a letter from p to y: how many states it adds to those of the capital letter after it, 24 for p and 240 for y
 abbrev pub higher_of : ℕ → Option ℕ
 higher_of b = if nat_le 112 b && nat_le b 121 then Some (24 * (b - 111)) else None
 
@@ -36,7 +36,7 @@ plain_tag b =
     else if b == 36 then Some RowEnd
     else None
 
--- the mark that a tag stands for, behind a letter that adds so many states, 0 where none does
+-- the mark that a tag stands for, after a letter that adds so many states, 0 where none does
 abbrev pub mark_with : ℕ → ℕ → Option ℕ → Option Mark
 mark_with higher b (Some letter) = alive_of (higher + letter)
 mark_with higher b None = if higher == 0 then plain_tag b else None
@@ -57,7 +57,7 @@ abbrev pub count_of : Option ℕ → Option ℕ
 count_of None = Some 1
 count_of (Some n) = if nat_lt 0 n && nat_le n most_count then Some n else None
 
--- the line behind a blank
+-- the line after a blank
 abbrev pub line_past : ℕ → ℕ → ℕ
 line_past line b = if b == 10 then line + 1 else line
 
@@ -65,9 +65,9 @@ line_past line b = if b == 10 then line + 1 else line
 abbrev pub is_between : ℕ → Bool
 is_between b = is_blank b || b == 33
 
--- the pieces of a byte that is no count's digit, behind a number of this count, where there is one, and a letter that adds
--- so many states, 0 where none does: between runs a blank says nothing, and ! is the end; behind a letter from p to y come
--- the first pieces, and behind a tag the others
+-- the pieces of a byte that is no count's digit, after a number of this count, where there is one, and a letter that adds
+-- so many states, 0 where none does: between runs a blank says nothing, and ! is the end; after a letter from p to y come
+-- the first pieces, and after a tag the others
 abbrev pub pieces_at : ℕ → Option ℕ → Option ℕ → ℕ → ℕ → List (Result Run PatternFault) → List (Result Run PatternFault) → List (Result Run PatternFault)
 pieces_at line number None higher b longer pieces = Err (BadCount line) ∷ []
 pieces_at line number (Some count) higher b longer pieces =
@@ -75,14 +75,14 @@ pieces_at line number (Some count) higher b longer pieces =
     else if higher == 0 && is_some (higher_of b) then longer
     else run_of line count (mark_of higher b) pieces
 
--- the fault of a text that ends behind a number that has no tag yet and a letter that adds so many states
+-- the fault of a text that ends after a number that has no tag yet and a letter that adds so many states
 abbrev pub end_fault : ℕ → Option ℕ → ℕ → PatternFault
 end_fault line number higher =
     if nat_lt 0 higher then BadCell line
     else if is_some number then BadCount line
     else NoEnd
 
--- the pieces of a text behind a number that has no tag yet, where there is one, and a letter that adds so many states, 0
+-- the pieces of a text after a number that has no tag yet, where there is one, and a letter that adds so many states, 0
 -- where none does; its first byte stands in this line
 abbrev pub pieces_from : ℕ → Option ℕ → ℕ → List ℕ → List (Result Run PatternFault)
 pieces_from line number higher [] = Err (end_fault line number higher) ∷ []
@@ -91,7 +91,7 @@ pieces_from line number higher (b ∷ bs) =
     else pieces_at line number (count_of number) higher b (pieces_from line number (unwrap_or (higher_of b) 0) bs) (pieces_from (line_past line b) None 0 bs)
 
 -- the pieces of a text, where these are the lines that say something: where the first begins with x, those of the runs
--- behind it; else those of plain text
+-- after it; else those of plain text
 abbrev pub pieces_behind : List ℕ → List (ℕ × List ℕ) → List (Result Run PatternFault)
 pieces_behind text [] = Err NoPattern ∷ []
 pieces_behind text (l ∷ ls) =

@@ -17,6 +17,6 @@ cells_at column row ((line, RowEnd) ∷ signs) = cells_at 0 (row + 1) signs
 abbrev pub comes : List Cell → ℕ → ℕ → List (Result Run PatternFault) → Result (List Cell) PatternFault
 comes front column row pieces = with_front front (judged (length front) (cells_at column row (written_out (runs_in pieces))) (fault_in pieces))
 
--- the same where these bytes are left, behind this number and a letter that adds so many states
+-- the same where these bytes are left, after this number and a letter that adds so many states
 abbrev pub reads : List Cell → ℕ → ℕ → ℕ → Option ℕ → ℕ → List ℕ → Result (List Cell) PatternFault
 reads front column row line number higher bytes = comes front column row (pieces_from line number higher bytes)

@@ -10,7 +10,7 @@ use Rattle.net_patterns.specs.declared.fault.PatternFault.TheVariants.{NoPattern
 use Rattle.net_patterns.specs.Cells.{Run, pattern_of}
 use Rattle.net_patterns.specs.Rle.{AreRuns, is_blank, run_of}
 
--- where the lines behind this one begin: the number of each, and the text from its first byte to the end
+-- where the lines after this one begin: the number of each, and the text from its first byte to the end
 abbrev pub lines_behind : ℕ → List ℕ → List (ℕ × List ℕ)
 lines_behind line [] = []
 lines_behind line (b ∷ bs) = if is_line_feed b then (line + 1, bs) ∷ lines_behind (line + 1) bs else lines_behind line bs
@@ -49,7 +49,7 @@ plain_pieces line comment (b ∷ bs) =
     else run_of line 1 (plain_mark b) (plain_pieces line comment bs)
 
 -- the pieces of a text whose first line that says something is this: where it begins with x (120), those of the runs
--- behind it; else those of plain text
+-- after it; else those of plain text
 abbrev pub AreOfKind : Bool → List ℕ → ℕ × List ℕ → List (Result Run PatternFault) → Type 0
 AreOfKind true text l pieces = AreRuns (l.0 + 1) pieces (after_first is_line_feed l.1)
 AreOfKind false text l pieces = pieces ≡ plain_pieces 1 (is_comment text) text

@@ -29,7 +29,7 @@ pub record IsAhead (most column row : ℕ) (s : Span) : Type 0 where
   pub low : s.row < 65536
   pub near : s.column + s.count ≤ 65536
 
--- spans in reading order from this column and row on: each stands ahead of the place behind the one before; this is the
+-- spans in reading order from this column and row on: each stands ahead of the place after the one before; this is the
 -- greatest state
 abbrev pub AreAhead : ℕ → ℕ → ℕ → List Span → Type 0
 AreAhead most column row [] = Unit {0}
@@ -63,8 +63,8 @@ run_text tag n = if n == 0 then [] else if n == 1 then tag else decimal n ++ tag
 abbrev pub is_gap : ℕ → Bool
 is_gap b = b == 32 || b == 9 || b == 13 || b == 10
 
--- runs: $ ends rows, and this text stands right behind it; these are the tags of dead cells and of live ones of a state; !
--- is the end; the gap stands behind each run, and more behind the end
+-- runs: $ ends rows, and this text stands right after it; these are the tags of dead cells and of live ones of a state; !
+-- is the end; the gap stands after each run, and more after the end
 abbrev pub as_tags : List ℕ → (ℕ → List ℕ) → List ℕ → List ℕ → List ℕ → Spelling
 as_tags dead alive ends gap behind = record {
   row_ends = λ n. run_text (codes "$" ++ ends) n ++ gap;
@@ -86,8 +86,8 @@ as_plain = record { row_ends = λ n. replicate n 10; dead = λ n. replicate n 46
 abbrev pub IsLine : ℕ → List ℕ → Type 0
 IsLine first line = (slice_index line 0 ≡ first) × (list_any (λ b. b == 10) line ≡ false)
 
--- what stands around runs: comment lines, a header line, a text behind each end of rows, a gap behind each run, and what
--- stands behind the end
+-- what stands around runs: comment lines, a header line, a text after each end of rows, a gap after each run, and what
+-- stands after the end
 pub record Frame : Type 0 where
   pub comments : List (List ℕ)
   pub header : List ℕ
@@ -95,8 +95,8 @@ pub record Frame : Type 0 where
   pub gap : List ℕ
   pub behind : List ℕ
 
--- each comment begins with # (35) and the header with x (120); the text behind ends of rows and the gap say nothing, and
--- behind the end may stand anything
+-- each comment begins with # (35) and the header with x (120); the text after ends of rows and the gap say nothing, and
+-- after the end may stand anything
 pub record IsFrame (f : Frame) : Type 0 where
   pub comments : AllByRecursion (IsLine 35) f.comments
   pub header : IsLine 120 f.header

@@ -121,8 +121,8 @@ fn text_of(
 /// The values of the nodes of a grid of this width as a pattern: a value of 0 is a dead cell, and another a live one of
 /// that state. Live cells of one state side by side in a row are one run.
 ///
-/// Runs stand behind the header `x = WIDTH, y = HEIGHT`, in lines of their rows; they are of two states, `b` and `o`,
-/// where no value is above 1, else `.` and letters. Rows stand behind a comment that says how many columns and rows
+/// Runs stand after the header `x = WIDTH, y = HEIGHT`, in lines of their rows; they are of two states, `b` and `o`,
+/// where no value is above 1, else `.` and letters. Rows stand after a comment that says how many columns and rows
 /// there are.
 ///
 /// `TooMany` comes where there are more than 65,536 values, and else `TooGreat` names the first node whose value is no

@@ -14,7 +14,7 @@ pub(crate) struct Opening<'a> {
     pub(crate) line: u64,
     /// The text from its first byte to the end.
     pub(crate) text: &'a [u8],
-    /// The text behind it.
+    /// The text after it.
     pub(crate) rest: &'a [u8],
 }
 

@@ -34,11 +34,11 @@ fn read_either(alloc: Global, bytes: &[u8]) -> Result<Vec<Cell>, PatternFault>
 ///
 /// The first line that says something, that is, that has other characters than blanks, TAB and CR and does not begin
 /// with `#`, says of which kind the text is. Where it begins with `x` it is the header of runs (RLE); the runs stand
-/// behind it, and what it says is not looked at. Else the whole text is plain.
+/// after it, and what it says is not looked at. Else the whole text is plain.
 ///
 /// Runs: a count and a tag, or a tag alone for one. `b` and `.` are dead cells, `o` and `A` live ones of state 1, `B` to
 /// `X` those of states 2 to 24, `pA` to `pX` those of 25 to 48 and so on up to `yO` for 255; `$` ends rows, and `!` ends
-/// the pattern, whatever stands behind it. A count is from 1 to 999,999,999. Blanks, TAB, CR and LF may stand anywhere
+/// the pattern, whatever stands after it. A count is from 1 to 999,999,999. Blanks, TAB, CR and LF may stand anywhere
 /// but between a count and its tag, and within a tag.
 ///
 /// Plain text: each line is a row of `.` for dead cells and `O` or `*` for live ones of state 1, an empty line an empty row; a
@@ -50,7 +50,7 @@ fn read_either(alloc: Global, bytes: &[u8]) -> Result<Vec<Cell>, PatternFault>
 /// comes only where memory runs out.
 ///
 /// What is written is read back: live cells in reading order, 65,536 at most, that are written as runs of two states or of
-/// many behind a header, as rows of plain text behind a comment, or, where there is a cell, as such rows alone are the cells that come out.
+/// many after a header, as rows of plain text after a comment, or, where there is a cell, as such rows alone are the cells that come out.
 pub fn read_pattern(alloc: Global, bytes: &[u8]) -> Result<Vec<Cell>, PatternFault>
     ensures answer { MatchResult result (λ v. IsPattern bytes.now (Ok v.items)) (λ fault. fault ≢ Memory → IsPattern bytes.now (Err fault)) }
     ensures one { (answer : Result (List Cell) PatternFault) → IsPattern bytes.now answer → IsAnswer (λ v. v.items) answer result }

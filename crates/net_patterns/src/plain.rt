@@ -67,7 +67,7 @@ impl Reader {
         self.board.put(self.line, 1, mark)
     }
 
-    /// Takes the end of a line, behind which this text stands.
+    /// Takes the end of a line, after which this text stands.
     fn take_end(&mut self, behind: &[u8]) -> Result<(), PatternFault>
         requires column { self.old.board.column ≤ 65536 }
         requires row { self.old.board.row ≤ 65536 }
@@ -86,7 +86,7 @@ impl Reader {
         Ok(())
     }
 
-    /// Takes a byte, behind which this text stands.
+    /// Takes a byte, after which this text stands.
     fn take(&mut self, byte: u8, behind: &[u8]) -> Result<(), PatternFault>
         requires column { self.old.board.column ≤ 65536 }
         requires row { self.old.board.row ≤ 65536 }

@@ -38,7 +38,7 @@ fn letter_of(tag: u8) -> Option<u8>
     }
 }
 
-/// How many states a letter adds to those of the capital letter behind it.
+/// How many states a letter adds to those of the capital letter after it.
 fn higher_of(letter: u8) -> Option<u8>
     ensures { result ≡ higher_of letter }
 {
@@ -60,7 +60,7 @@ fn plain_tag(tag: u8) -> Option<Mark>
     }
 }
 
-/// The mark that a tag stands for, behind a letter that adds so many states.
+/// The mark that a tag stands for, after a letter that adds so many states.
 fn mark_of(higher: u8, tag: u8) -> Option<Mark>
     ensures { result ≡ mark_of higher tag }
 {
@@ -109,7 +109,7 @@ impl Reader {
         Ok(())
     }
 
-    /// Takes a tag behind a count.
+    /// Takes a tag after a count.
     fn take_tag(&mut self, count: u32, tag: u8) -> Result<(), PatternFault>
         requires count { 0 < count }
         requires column { self.old.board.column ≤ 65536 }

@@ -9,9 +9,9 @@ use std::alloc::AllocError;
 /// How a pattern is written.
 #[derive(Clone, Copy, Debug, PartialEq, Eq)]
 pub enum PatternFormat {
-    /// Runs behind a header: of two states where no value is above 1, else of many.
+    /// Runs after a header: of two states where no value is above 1, else of many.
     Runs,
-    /// Rows of `.` and `O` behind a comment.
+    /// Rows of `.` and `O` after a comment.
     Rows,
 }
 

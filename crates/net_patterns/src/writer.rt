@@ -79,7 +79,7 @@ impl Writer {
         Ok(())
     }
 
-    /// Takes the value of a node behind a span that may go on, and writes the span where it does not. The span that may
+    /// Takes the value of a node after a span that may go on, and writes the span where it does not. The span that may
     /// go on then.
     fn put_value(
         &mut self,

@@ -1,5 +1,5 @@
 -- Both directions of links.
-use Rattle.std.proofs.Common.{◌≡◌, ℕ, ◌+◌, ◌*◌, ◌<◌, ◌≤◌, List, [], ◌∷◌, length, refl, ap, arith}
+use Rattle.std.proofs.Common.{◌≡◌, ℕ, ◌*◌, List, [], ◌∷◌, length, refl, arith}
 use Rattle.link_net.specs.Arcs.{arcs_of}
 use Rattle.link_net.specs.Links.{AllWithin}
 use Rattle.net_text.specs.Listing.{Link}

@@ -1,21 +1,21 @@
 -- A network that has the arcs of simple links is that of these links.
-use Rattle.std.proofs.Common.{◌≡◌, ℕ, ◌+◌, ◌<◌, ◌≤◌, ◌==◌, Bool, true, false, ◌&&◌, ◌||◌, List, [], ◌∷◌, map, length, get_or, true≢false, Ordering, Less, Equal, Greater, nat_cmp, refl, sym, ap, subst, ◌∙◌, inl, inr, arith, zero, suc}
-use Rattle.std.specs.List.{list_any, filter, find, AllByRecursion, All}
-use Rattle.std.specs.List.Sorted.{IsPermutation, IsSorted, IsNonDecreasingBy}
+use Rattle.std.proofs.Common.{◌≡◌, ℕ, ◌+◌, ◌<◌, ◌≤◌, ◌==◌, Bool, true, false, ◌&&◌, ◌||◌, List, [], ◌∷◌, map, get_or, true≢false, Ordering, Less, Equal, Greater, nat_cmp, refl, sym, ap, ◌∙◌, inl, inr, arith}
+use Rattle.std.specs.List.{list_any, filter, AllByRecursion}
+use Rattle.std.specs.List.Sorted.{IsSorted, IsNonDecreasingBy}
 use Rattle.std.specs.Ordering.{is_lt, ordering_then}
 use Rattle.std.proofs.lemmas.Bool.{cases_Bool}
 use Rattle.std.proofs.lemmas.Bool.Decides.{nat_tests}
 use Rattle.std.proofs.lemmas.List.{ext_get_or}
 use Rattle.std.proofs.lemmas.List.Elements.{All-from_recursion, recursion_from_All}
 use Rattle.std.proofs.lemmas.List.FromFn.{length-map-range_with_len, get_or-map-range_with_len}
-use Rattle.std.proofs.lemmas.List.Sorted.{All-permutation, IsPermutation-map, IsPermutation-sym, IsNonDecreasingBy-from_sort, sum_by-IsPermutation}
-use Rattle.link_net.specs.Arcs.{Arc, arcs_of}
+use Rattle.std.proofs.lemmas.List.Sorted.{All-permutation, IsPermutation-map, IsNonDecreasingBy-from_sort, sum_by-IsPermutation}
+use Rattle.link_net.specs.Arcs.{arcs_of}
 use Rattle.link_net.specs.Links.{AllWithin, is_self_link, has_link_twice, joins, are_linked, linked_with, neighbours_of, network_of, weight_of}
 use Rattle.link_net.specs.Neighbours.{Neighbours, numbers_below, row}
 use Rattle.net_text.specs.Listing.{Link}
 use Rattle.net_random.specs.RandomNetworks.{AreSimpleLinks}
 use Rattle.large_pack.specs.Rows.{ends_from, end_cmp, HasArcs}
-use Rattle.net_random.proofs.Ordered.{one_if, times, times_more, Ascends, ascending_same, ascends, kept_ascends, times_kept}
+use Rattle.net_random.proofs.Ordered.{one_if, times, times_more, ascending_same, ascends, kept_ascends, times_kept}
 
 -- the nodes of a row
 abbrev nodes_of : List (ℕ × ℕ) → List ℕ

@@ -1,5 +1,5 @@
 -- Lists of numbers that never fall: those in which each number stands as often are equal.
-use Rattle.std.proofs.Common.{◌≡◌, ℕ, ◌+◌, ◌<◌, ◌≤◌, ◌==◌, Bool, true, false, nat_lt, List, [], ◌∷◌, map, drop, length, refl, sym, ap, subst, ◌∙◌, inl, inr, arith, zero, suc, if◌then◌else◌}
+use Rattle.std.proofs.Common.{◌≡◌, ℕ, ◌+◌, ◌<◌, ◌≤◌, ◌==◌, Bool, true, false, nat_lt, List, [], ◌∷◌, map, refl, ap, subst, ◌∙◌, inl, inr, arith, zero, suc, if◌then◌else◌}
 use Rattle.std.specs.List.{sum_by, AllByRecursion, filter, range_with_len}
 use Rattle.std.specs.List.Sorted.{IsNonDecreasingBy}
 use Rattle.std.proofs.lemmas.Bool.{cases_Bool}
@@ -16,7 +16,7 @@ one_if b = if b then 1 else 0
 abbrev pub times : ℕ → List ℕ → ℕ
 times w xs = sum_by (λ x. one_if (x == w)) xs
 
--- each number is at most those behind it
+-- each number is at most those after it
 abbrev pub Ascends : List ℕ → Type 0
 Ascends [] = Unit {0}
 Ascends (x ∷ xs) = AllByRecursion (λ y. x ≤ y) xs × Ascends xs

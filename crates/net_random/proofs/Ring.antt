@@ -16,7 +16,7 @@ use Rattle.net_text.specs.Listing.{Link}
 use Rattle.net_random.specs.RandomNetworks.{pair_count, AreSimpleLinks, following, ring_link, ring_links}
 use Rattle.net_random.proofs.Growing.{all-append, range_more}
 
--- twice as many neighbours before and behind a node as there are other nodes at most
+-- twice as many neighbours before and after a node as there are other nodes at most
 pub few_near : (n near : ℕ) → 1 ≤ n → n * near ≤ pair_count n → 2 * near < n
 few_near n near some room =
     elim (cases_Bool (nat_lt (2 * near) n)) [

@@ -10,6 +10,7 @@ use Rattle.net_random.specs.declared.large.kind.LargeRandom.{LargeRandom}
 -- the same as one of the networks of which text is made
 abbrev pub random_of : LargeRandom → RandomNetwork
 random_of (LargeRandom.Random n k) = RandomNetwork.Random n k
+random_of (LargeRandom.Tree n) = RandomNetwork.Tree n
 random_of (LargeRandom.Preferential n e) = RandomNetwork.Preferential n e
 random_of (LargeRandom.SmallWorld n k p q) = RandomNetwork.SmallWorld n k p q
 

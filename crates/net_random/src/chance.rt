@@ -28,7 +28,7 @@ fn number_in(rng: &mut Pcg64) -> usize
     rng.random_range(0..=GREATEST)
 }
 
-/// Puts a place behind others, where the number that is drawn for it is below so many billionths.
+/// Puts a place after others, where the number that is drawn for it is below so many billionths.
 fn put_place(
     places: &mut Vec<usize>,
     rng: &mut Pcg64,

@@ -9,7 +9,7 @@ use Rattle.net_shapes.specs.Shapes.{row, column}
 use Rattle.net_shapes.specs.declared.large.axis.Axis.{Axis}
 use Rattle.net_shapes.specs.declared.large.frame.Frame.{Frame}
 use Rattle.net_shapes.specs.declared.large.spot.Spot.{Spot}
-use Rattle.net_shapes.specs.Frames.{Rises, AreNear, IsAxis, IsFrame, are_beside, frame_joins, frame_nodes, is_kept, in_row, around}
+use Rattle.net_shapes.specs.Frames.{Rises, AreNear, IsAxis, IsFrame, are_beside, frame_joins, frame_nodes, is_kept, in_row, around, slants}
 use Rattle.net_shapes.specs.Rows.{joined_with}
 use Rattle.net_shapes.proofs.LargePlaces.{column_below, row_below, place_test}
 use Rattle.net_shapes.proofs.Rising.{AllBetween, all-append, rises-append, rising-filter}
@@ -146,11 +146,11 @@ sorted_out p q d r c other =
 
 module _ (f : Frame) (is : IsFrame f) (u : ℕ) (low : u < frame_nodes f) where
   abbrev spot : Spot
-  spot = record { width = f.columns.places; column = column f.columns.places u; row = row f.columns.places u; diagonals = f.diagonals }
+  spot = record { width = f.columns.places; column = column f.columns.places u; row = row f.columns.places u; slant = f.slant }
 
   -- the neighbours at the places near a node's own are those that the frame joins with it
   pub around_is : (cs bs : List ℕ) → AreNear f.columns (column f.columns.places u) cs → AreNear f.rows (row f.columns.places u) bs
-      → around (record { width = f.columns.places; column = column f.columns.places u; row = row f.columns.places u; diagonals = f.diagonals }) cs bs ≡ joined_with (frame_joins f) (frame_nodes f) u
+      → around (record { width = f.columns.places; column = column f.columns.places u; row = row f.columns.places u; slant = f.slant }) cs bs ≡ joined_with (frame_joins f) (frame_nodes f) u
   around_is cs bs columns rows =
       let w = f.columns.places in
       let wide = is.columns.some in
@@ -162,6 +162,6 @@ module _ (f : Frame) (is : IsFrame f) (u : ℕ) (low : u < frame_nodes f) where
       let y_low = row_below w wide f.rows.places u low in
       let a_low = column_below w wide q in
       let b_low = row_below w wide f.rows.places q (omega arith) in
-      sorted_out (column w q == column w u) (row w q == row w u) f.diagonals (are_beside f.rows (row w u) (row w q)) (are_beside f.columns (column w u) (column w q))
+      sorted_out (column w q == column w u) (row w q == row w u) (slants f.slant (row w u) (column w u) (column w q)) (are_beside f.rows (row w u) (row w q)) (are_beside f.columns (column w u) (column w q))
       (beside_other f.columns (column w u) (column w q) is.columns x_low a_low)
       ∙ rw (← columns.all (column w q) a_low, ← rows.all (row w q) b_low) (sym (around_has spot cs wide below bs q)))

@@ -17,7 +17,7 @@ use Rattle.net_shapes.proofs.Lists.{has-append, has_when}
 use Rattle.net_shapes.proofs.Sound.{IsSound}
 
 -- the links of one more digit
-raised-append : (u : ℕ) (bs cs : List ℕ) → raised u (bs ++ cs) ≡ raised u bs ++ raised u cs
+pub raised-append : (u : ℕ) (bs cs : List ℕ) → raised u (bs ++ cs) ≡ raised u bs ++ raised u cs
 raised-append u [] cs = refl
 raised-append u (b ∷ bs) cs =
     ap (λ t. when (digit u b == 0) (u + 2 ^ b) ++ t) (raised-append u bs cs) ∙ sym (append_assoc (when (digit u b == 0) (u + 2 ^ b)) (raised u bs) (raised u cs))
@@ -40,10 +40,10 @@ raised_more u k =
     ∙ map-append u (raised u (range_with_len 0 k)) (when (digit u k == 0) (u + 2 ^ k))
 
 -- a digit that is 0 becomes 1
-abbrev rises : ℕ → ℕ → ℕ → Bool
+abbrev pub rises : ℕ → ℕ → ℕ → Bool
 rises u w b = digit u b == 0 && u + 2 ^ b == w
 
-has_raised : (u w : ℕ) (bs : List ℕ) → has w (raised u bs) ≡ list_any (rises u w) bs
+pub has_raised : (u w : ℕ) (bs : List ℕ) → has w (raised u bs) ≡ list_any (rises u w) bs
 has_raised u w [] = refl
 has_raised u w (b ∷ bs) =
     rw (has-append w (when (digit u b == 0) (u + 2 ^ b)) (raised u bs), has_when (digit u b == 0) (u + 2 ^ b) w, has_raised u w bs)
@@ -80,7 +80,7 @@ even_below u p j some low even =
           ]
 
 module _ (d : ℕ) where
-  raise_below : (u b : ℕ) → u < 2 ^ d → b < d → digit u b ≡ 0 → u + 2 ^ b < 2 ^ d
+  pub raise_below : (u b : ℕ) → u < 2 ^ d → b < d → digit u b ≡ 0 → u + 2 ^ b < 2 ^ d
   raise_below u b low within even =
       rw (halves d b within) (even_below u (2 ^ b) (2 ^ (d - (b + 1))) (pow_pos b) (rw (halves d b within) at low) even)
 

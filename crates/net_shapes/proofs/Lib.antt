@@ -23,4 +23,9 @@ mod Rising
 mod LargePlaces
 mod Around
 mod Tables
+mod CubeSizes
+mod FitsLarge
 mod EachLargeShape
+mod Listing
+mod CubeRows
+mod ListedRows

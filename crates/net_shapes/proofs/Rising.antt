@@ -57,7 +57,7 @@ pub all-append : (P : ℕ → Type 0) (xs ys : List ℕ) → AllByRecursion P xs
 all-append P [] ys a b = b
 all-append P (x ∷ xs) ys a b = (a.0, all-append P xs ys a.1 b)
 
--- lists that rise one behind the other
+-- lists that rise one after the other
 pub rises-append : (xs ys : List ℕ) → Rises xs → Rises ys → AllByRecursion (λ x. AllByRecursion (λ y. x < y) ys) xs → Rises (xs ++ ys)
 rises-append [] ys a b between = b
 rises-append (x ∷ xs) ys a b between = (all-append (λ y. x < y) xs ys a.0 between.0, rises-append xs ys a.1 b between.1)

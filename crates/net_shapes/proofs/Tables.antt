@@ -1,4 +1,4 @@
--- Rows that stand one behind the other in one list.
+-- Rows that stand one after the other in one list.
 use Rattle.std.proofs.Common.{◌≡◌, ◌∙◌, ℕ, ◌+◌, ◌-◌, ◌<◌, ◌≤◌, Bool, List, [], ◌∷◌, ◌++◌, length, get_or, zero, suc, nat_lt, refl, sym, ap, map, take, drop, length-append, subst, arith, inl, inr, replicate}
 use Rattle.std.proofs.Math.Seq.{drop-append_seam, take-append_seam}
 use Rattle.std.specs.List.{AllByRecursion, filter, flat_map, range_with_len, slice_range, zip}
@@ -111,15 +111,9 @@ map_agrees : {X : Type 0} (f g : ℕ → X) (a n : ℕ) → ((u : ℕ) → a ≤
 map_agrees f g a zero same = refl
 map_agrees f g a (suc n) same = rw (same a (omega arith) (omega arith), map_agrees f g (a + 1) n (λ u low high. same u (omega arith) (omega arith)))
 
-filter_agrees : (p q : ℕ → Bool) (a n : ℕ) → ((u : ℕ) → a ≤ u → u < a + n → p u ≡ q u) → filter p (range_with_len a n) ≡ filter q (range_with_len a n)
+pub filter_agrees : (p q : ℕ → Bool) (a n : ℕ) → ((u : ℕ) → a ≤ u → u < a + n → p u ≡ q u) → filter p (range_with_len a n) ≡ filter q (range_with_len a n)
 filter_agrees p q a zero same = refl
 filter_agrees p q a (suc n) same = rw (same a (omega arith) (omega arith), filter_agrees p q (a + 1) n (λ u low high. same u (omega arith) (omega arith))) refl
-
--- tests that agree on the nodes make the same network
-pub rows_agree : (joins links : ℕ → ℕ → Bool) (n : ℕ) → ((u v : ℕ) → u < n → v < n → joins u v ≡ links u v) → joined_rows joins n ≡ joined_rows links n
-rows_agree joins links n same =
-    map_agrees (λ u. map one (joined_with joins n u)) (λ u. map one (joined_with links n u)) 0 n
-    (λ u from low. ap (map one) (filter_agrees (joins u) (links u) 0 n (λ v start high. same u v (omega arith) (omega arith))))
 
 -- what a filter of a range keeps
 kept_below : (p : ℕ → Bool) (a n : ℕ) → AllByRecursion (λ y. y < a + n) (filter p (range_with_len a n))
@@ -178,7 +172,7 @@ module _ (joins : ℕ → ℕ → Bool) (n : ℕ) where
         (λ low high. rw count (within_row u j high)) (λ high. absurd (omega (arith, high)));
   }
 
-  -- the rows one behind the other, each link with weight 1, are the network
+  -- the rows one after the other, each link with weight 1, are the network
   pub rows_are : rows_of (starts (joined_with joins n) n) (ends_before (joined_with joins n) n) (replicate (length (ends_before (joined_with joins n) n)) 1) ≡ joined_rows joins n
   rows_are =
       let rows = joined_with joins n in

@@ -44,7 +44,7 @@ module _ (n k : ℕ) (some : 1 ≤ k) where
       omega arith
 
   -- whose parent u is
-  is_child : (u w : ℕ) → 0 < w → w < n → (w - 1) / k ≡ u → (u * k + 1 ≤ w) × (w < u * k + 1 + min k (n - (u * k + 1)))
+  pub is_child : (u w : ℕ) → 0 < w → w < n → (w - 1) / k ≡ u → (u * k + 1 ≤ w) × (w < u * k + 1 + min k (n - (u * k + 1)))
   is_child u w positive low parent =
       let whole = div-add-mod' (w - 1) k in
       let left = mod_below (w - 1) k (omega arith) in

@@ -4,6 +4,7 @@ pub mod Ahead
 pub mod Made
 pub mod Rows
 pub mod Frames
+pub mod Listed
 pub mod Tables
 pub mod LargeShapes
 pub mod LargeSizes

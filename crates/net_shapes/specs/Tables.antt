@@ -1,9 +1,9 @@
--- Internal: rows that stand one behind the other in one list. No public clause cites it.
+-- Internal: rows that stand one after the other in one list. No public clause cites it.
 use Rattle.std.specs.Prelude.{◌≡◌, ℕ, ◌+◌, List, length, map}
 use Rattle.std.specs.List.{flat_map}
 use Rattle.link_net.specs.Neighbours.{numbers_below}
 
--- the rows of the nodes below n, one behind the other
+-- the rows of the nodes below n, one after the other
 abbrev pub ends_before : (ℕ → List ℕ) → ℕ → List ℕ
 ends_before rows n = flat_map rows (numbers_below n)
 

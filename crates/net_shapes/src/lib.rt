@@ -9,7 +9,7 @@ mod sizes;
 mod text;
 
 pub use fault::ShapeFault;
-pub use large::{LargeShape, LargeShapeFault, large_shape};
+pub use large::{LargeShapeFault, large_refusal, large_shape};
 pub use maker::links_of;
 pub use shape::Shape;
 pub use text::made_text;

@@ -7,7 +7,7 @@ ghost use Rattle.net_shapes.specs.Sizes.{is_from, has_size, grid_links, diagonal
 use crate::{Shape, ShapeFault};
 use link_net::{MOST_LINKS, MOST_NEIGHBOURS, MOST_NODES};
 
-/// The most dimensions of a hypercube that has no more nodes than a network may have.
+/// The most dimensions of a hypercube that has no more nodes than a network file may have.
 const MOST_DIMENSIONS: u32 = 16;
 
 /// The power of two.

@@ -6,7 +6,7 @@ ghost use Rattle.net_text.specs.Written.{weight_text, link_text, links_text, All
 use link_net::Link;
 use std::alloc::AllocError;
 
-/// Writes a weight behind the ends of a link, where it is not 1.
+/// Writes a weight after the ends of a link, where it is not 1.
 fn put_weight(out: &mut String, weight: u32) -> Result<(), AllocError>
     ensures { OnOk result (string_bytes out.new ≡ string_bytes out.old ++ weight_text weight) }
 {

@@ -9,7 +9,7 @@ use crate::{LinkList, write_network};
 use link_net::{Link, MOST_NODES, NetFault, NetRows, link_network};
 use std::alloc::{AllocError, Global};
 
-/// Puts the links of a node to those of its neighbours whose numbers are not lower behind others.
+/// Puts the links of a node to those of its neighbours whose numbers are not lower after others.
 fn push_links(
     links: &mut Vec<Link>,
     node: u32,

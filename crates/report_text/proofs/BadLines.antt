@@ -57,7 +57,7 @@ good_round p text lines t small cut first =
     })
 
 module _ (p : PlanView) (few : length p.program.fields ≤ 8) (narrow : length p.network ≤ 2 ^ 32) (plain : All IsInLine (names_of p.program)) where
-  -- the line behind the good ones is that of no node
+  -- the line after the good ones is that of no node
   no_node : (lines : List ℕ) (number : ℕ) (stop : StopsAtLine (names_of p.program) (length p.program.fields) (length p.network) lines number) (tail : List State) → length stop.good + length tail ≡ length p.network → All (IsStateOf (length p.program.fields)) tail → slice_get (lines_of (node_lines (names_of p.program) (length stop.good) tail)) 0 ≡ slice_get (lines_of stop.rest) 0 → ⊥
   no_node lines number stop [] size fits same = stop.too_many (omega arith) (no_line stop.rest (sym same))
   no_node lines number stop (s ∷ tail) size fits same =
@@ -127,6 +127,6 @@ module _ (p : PlanView) (few : length p.program.fields ≤ 8) (narrow : length p
         ∙ fits.same
         ∙ ap (λ ls. slice_get ls (number - 1)) good_lines ∙ get_behind (round_line t ∷ lines_from names 0 stop.good) (lines_of stop.rest) (number - 1) mine)
 
-    -- the line behind the good ones is the first bad one
+    -- the line after the good ones is the first bad one
     pub first_bad : IsFirstBadLine p text number
     first_bad = record { counted = omega (arith, stop.place); before = fits_before; bad = unfit }

@@ -14,7 +14,7 @@ other_byte b other = grind (arith, nat_tests)
 add_byte : (b : ℕ) (bytes line : List ℕ) (lines : List (List ℕ)) → b ≢ 10 → lines_of bytes ≡ line ∷ lines → lines_of (b ∷ bytes) ≡ (b ∷ line) ∷ lines
 add_byte b bytes line lines other is = rw (other_byte b other) (ap (put_byte b) is)
 
--- a line, and what stands behind it
+-- a line, and what stands after it
 pub line_split : (body rest : List ℕ) → IsInLine body → lines_of (body ++ (10 ∷ rest)) ≡ (body ++ 10 ∷ []) ∷ lines_of rest
 line_split [] rest inline = refl
 line_split (b ∷ body) rest inline = add_byte b (body ++ (10 ∷ rest)) (body ++ 10 ∷ []) (lines_of rest) inline.0 (line_split body rest inline.1)

@@ -25,7 +25,7 @@ pub left_apart : (names : List (List ℕ)) (words rest behind : List ℕ) (p : �
 left_apart names words rest behind p inside long left =
     left ∙ ap (λ t. t ++ behind) (fields_more names words p inside long) ∙ append_assoc (field_text (get_or names p []) (get_or words p 0)) (fields_text (drop (p + 1) names) (drop (p + 1) words)) behind
 
--- and behind the field stands what is left then
+-- and after the field stands what is left then
 pub left_more : (names : List (List ℕ)) (words rest more behind : List ℕ) (p v : ℕ) → p < length names → p < length words → v < 2 ^ 32 → get_or words p 0 < 2 ^ 32 → Ends more → Ends behind → rest ≡ field_text (get_or names p []) v ++ more → rest ≡ fields_text (drop p names) (drop p words) ++ behind → more ≡ fields_text (drop (p + 1) names) (drop (p + 1) words) ++ behind
 left_more names words rest more behind p v inside long small tiny ends stops read left =
     (field_once (get_or names p []) v (get_or words p 0) more (fields_text (drop (p + 1) names) (drop (p + 1) words) ++ behind) small tiny ends

@@ -33,7 +33,7 @@ pub high_round : (c : Configuration) → most_rounds < c.rounds → within_limit
 high_round c high = let yes : nat_lt most_rounds c.rounds ≡ true = grind (arith, nat_tests) in rw yes
 
 module _ (p : PlanView) (few : length p.program.fields ≤ 8) (text lines : List ℕ) (t : ℕ) (small : t < 2 ^ 32) (cut : text ≡ round_line t ++ lines) where
-  -- the lines of all nodes behind the round's are a report
+  -- the lines of all nodes after the round's are a report
   pub is_report : (states : List State) → HasNodeLines (names_of p.program) (length p.program.fields) (length p.network) lines states → IsReportOf p text (record { rounds = t; fields = length p.program.fields; states = states })
   is_report states has = record {
     shape = record { round = small; fields = refl; nodes = has.count; states = has.fit };

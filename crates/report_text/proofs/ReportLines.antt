@@ -30,7 +30,7 @@ fields_inline (name ∷ names) (w ∷ words) plain small =
     inline_append (field_text name w) (fields_text names words) (field_inline name w (plain 0 [] (omega arith)) (small 0 (omega arith)))
     (fields_inline names words (all_behind IsInLine name names plain) (λ k h. small (suc k) (omega arith)))
 
--- the line of a round, and what stands behind it
+-- the line of a round, and what stands after it
 pub round_split : (t : ℕ) (rest : List ℕ) → t < 2 ^ 32 → lines_of (round_line t ++ rest) ≡ round_line t ∷ lines_of rest
 round_split t rest small =
     let body = codes "round " ++ decimal t in
@@ -48,7 +48,7 @@ count_lines names u [] = refl
 count_lines names u (s ∷ states) = ap suc (count_lines names (u + 1) states)
 
 module _ (names : List (List ℕ)) (fields : ℕ) (count : length names ≡ fields) (few : fields ≤ 8) (plain : All IsInLine names) where
-  -- the line of a node, and what stands behind it
+  -- the line of a node, and what stands after it
   pub node_split : (u : ℕ) (s : State) (rest : List ℕ) → u < 2 ^ 32 → IsStateOf fields s → lines_of (node_line names u s ++ rest) ≡ node_line names u s ∷ lines_of rest
   node_split u s rest small fits =
       let inner = fields_text names s.words in
@@ -64,7 +64,7 @@ module _ (names : List (List ℕ)) (fields : ℕ) (count : length names ≡ fiel
       ∙ node_split u s (node_lines names (u + 1) states ++ rest) (omega arith) (fits 0 blank (omega arith))
       ∙ ap (λ ls. node_line names u s ∷ ls) (nodes_split (u + 1) states rest (omega arith) (all_behind (IsStateOf fields) s states fits))
 
-  -- the lines of a report's front, and what stands behind it
+  -- the lines of a report's front, and what stands after it
   pub report_split : (t : ℕ) (states : List State) (rest : List ℕ) → t < 2 ^ 32 → length states ≤ 2 ^ 32 → All (IsStateOf fields) states → lines_of (round_line t ++ (node_lines names 0 states ++ rest)) ≡ (round_line t ∷ lines_from names 0 states) ++ lines_of rest
   report_split t states rest small few_nodes fits =
       round_split t (node_lines names 0 states ++ rest) small ∙ ap (λ ls. round_line t ∷ ls) (nodes_split 0 states rest (omega arith) fits)

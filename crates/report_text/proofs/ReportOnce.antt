@@ -11,7 +11,7 @@ use Rattle.report_text.specs.ReadReport.{IsStateOf, IsReportOf}
 use Rattle.report_text.specs.NodeLines.{HasNodeLines, StopsAtLine}
 use Rattle.report_text.proofs.Once.{node_once, round_once}
 
--- the states behind those whose lines come first, and their lines
+-- the states after those whose lines come first, and their lines
 pub record Continues (names : List (List ℕ)) (u : ℕ) (good states : List State) (rest : List ℕ) : Type 0 where
   pub tail : List State
   pub whole : states ≡ good ++ tail
@@ -66,7 +66,7 @@ module _ (names : List (List ℕ)) (fields : ℕ) (count : length names ≡ fiel
       let on = lines_continue 0 read states [] has.fit fits (omega (arith, has.count, size)) (append-nil (node_lines names 0 read) ∙ sym has.text ∙ is) in
       none_left read states on.tail (has.count ∙ sym size) on.whole
 
--- the first line of a report is that of its round, and those of its nodes stand behind
+-- the first line of a report is that of its round, and those of its nodes stand after
 pub round_first : (p : PlanView) (text lines : List ℕ) (t : ℕ) (c : Configuration) → text ≡ round_line t ++ lines → t < 2 ^ 32 → IsReportOf p text c → (t ≡ c.rounds) × (lines ≡ node_lines (names_of p.program) 0 c.states)
 round_first p text lines t c cut small report =
     round_once t c.rounds lines (node_lines (names_of p.program) 0 c.states) small report.shape.round (sym cut ∙ report.text)

@@ -7,11 +7,11 @@ use Rattle.rule_lang.specs.Tokens.{StopsAt}
 abbrev pub Ends : List ℕ → Type 0
 Ends bytes = StopsAt is_ascii_digit bytes
 
--- whatever stands behind
+-- whatever stands after
 abbrev pub Anything : List ℕ → Type 0
 Anything bytes = Unit {0}
 
--- found: the bytes are the spelling of a fitting value, and what stands behind it; none: no spelling of a fitting value stands at the front
+-- found: the bytes are the spelling of a fitting value, and what stands after it; none: no spelling of a fitting value stands at the front
 abbrev pub IsFront : {X : Type 0} → (X → List ℕ) → (X → Type 0) → (List ℕ → Type 0) → List ℕ → Option (X × List ℕ) → Type 0
 IsFront {X} spell Fits Behind bytes (Some found) = (bytes ≡ spell found.0 ++ found.1) × Fits found.0 × Behind found.1
 IsFront {X} spell Fits Behind bytes None = (value : X) (behind : List ℕ) → Fits value → Behind behind → bytes ≢ spell value ++ behind

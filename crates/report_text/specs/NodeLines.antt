@@ -6,7 +6,7 @@ use Rattle.report_text.specs.declared.fault.ReportFault.TheVariants.{BadLine, To
 use Rattle.report_text.specs.Report.{node_line, node_lines}
 use Rattle.report_text.specs.ReadReport.{IsStateOf}
 
--- the text has the lines of some nodes from node 0 on, and then no line of the next one, or something behind the last one; the number is that of this line, the round's line counted
+-- the text has the lines of some nodes from node 0 on, and then no line of the next one, or something after the last one; the number is that of this line, the round's line counted
 pub record StopsAtLine (names : List (List ℕ)) (fields nodes : ℕ) (text : List ℕ) (number : ℕ) : Type 0 where
   pub good : List State
   pub rest : List ℕ

@@ -9,7 +9,7 @@ use Rattle.rounds_plan.specs.Plans.{PlanView}
 use Rattle.report_text.specs.Report.{report_text}
 use Rattle.report_text.specs.Lines.{lines_of}
 
--- a state of a program with so many fields: eight words below 2 ^ 32, those behind the fields 0
+-- a state of a program with so many fields: eight words below 2 ^ 32, those after the fields 0
 pub record IsStateOf (fields : ℕ) (state : State) : Type 0 where
   pub count : length state.words ≡ 8
   pub small : All (λ w. w < 2 ^ 32) state.words

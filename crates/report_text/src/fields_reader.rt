@@ -8,7 +8,7 @@ ghost use Rattle.report_text.specs.ReadReport.{IsStateOf};
 use crate::number::{behind, read_number};
 use rule_check::State;
 
-/// The value of the field of this name, and what stands behind it.
+/// The value of the field of this name, and what stands after it.
 fn read_value<'a>(name: &str, bytes: &'a [u8]) -> Option<(u32, &'a [u8])>
     ensures front { IsFront (field_text name.now) (λ n. n < 2 ^ 32) Ends bytes.now (option_map (λ x. (x.0, x.1.now)) result) }
 {
@@ -18,7 +18,7 @@ fn read_value<'a>(name: &str, bytes: &'a [u8]) -> Option<(u32, &'a [u8])>
     read_number(value)
 }
 
-/// The state that the fields of these names give, and what stands behind them.
+/// The state that the fields of these names give, and what stands after them.
 fn read_values<'a>(fields: &[&str], bytes: &'a [u8]) -> Option<(State, &'a [u8])>
     requires few { length fields.now ≤ 8 }
     requires ends { Ends bytes.now }
@@ -34,7 +34,7 @@ fn read_values<'a>(fields: &[&str], bytes: &'a [u8]) -> Option<(State, &'a [u8])
     Some((State { words }, rest))
 }
 
-/// The state that the fields of these names give, to the end of their line, and what stands behind the line.
+/// The state that the fields of these names give, to the end of their line, and what stands after the line.
 pub fn read_state<'a>(fields: &[&str], bytes: &'a [u8]) -> Option<(State, &'a [u8])>
     requires few { length fields.now ≤ 8 }
     requires ends { Ends bytes.now }

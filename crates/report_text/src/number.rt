@@ -22,7 +22,7 @@ fn digits_length(bytes: &[u8]) -> usize
     bytes.len()
 }
 
-/// The digits at the front, and what stands behind them.
+/// The digits at the front, and what stands after them.
 fn split_digits(bytes: &[u8]) -> (&[u8], &[u8])
     ensures { IsSpan is_ascii_digit bytes.now result.0.now result.1.now }
 {
@@ -61,7 +61,7 @@ fn spelled(digits: &[u8]) -> Option<u32>
     }
 }
 
-/// The number from 0 to 4,294,967,295 in decimal digits at the front of the bytes, and what stands behind its digits.
+/// The number from 0 to 4,294,967,295 in decimal digits at the front of the bytes, and what stands after its digits.
 ///
 /// None where no digit stands there, where a zero leads further digits, or where all the digits at the front make a
 /// greater number. Nothing else is taken as part of a number: no sign, no space, no underscore.
@@ -73,7 +73,7 @@ pub fn read_number(bytes: &[u8]) -> Option<(u32, &[u8])>
     Some((value, rest))
 }
 
-/// What stands behind this word, where the bytes begin with it; none where they do not.
+/// What stands after this word, where the bytes begin with it; none where they do not.
 pub fn behind<'a>(word: &[u8], bytes: &'a [u8]) -> Option<&'a [u8]>
     ensures { MatchOption result ((rest : List ℕ) → bytes.now ≢ word.now ++ rest) (λ rest. bytes.now ≡ word.now ++ rest.now) }
 {

@@ -17,7 +17,7 @@ use rounds_plan::{Config, MOST_ROUNDS, Plan, RoundStates};
 use rule_check::{Program, State};
 use std::alloc::Global;
 
-/// The names of a program's fields in order of declaration; behind them, nothing.
+/// The names of a program's fields in order of declaration; after them, nothing.
 pub fn field_names(program: &Program) -> [&str; 8]
     ensures names { map (λ name. name.now) (take (length program.now.fields) result) ≡ names_of program.now }
 {
@@ -28,7 +28,7 @@ pub fn field_names(program: &Program) -> [&str; 8]
     names
 }
 
-/// The state that the line of a node gives, and what stands behind the line.
+/// The state that the line of a node gives, and what stands after the line.
 fn read_node<'a>(fields: &[&str], node: u32, bytes: &'a [u8]) -> Option<(State, &'a [u8])>
     requires few { length fields.now ≤ 8 }
     ensures { IsFront (node_line (map (λ f. f.now) fields.now) node) (IsStateOf (length fields.now)) Anything bytes.now (option_map (λ x. (x.0, x.1.now)) result) }
@@ -40,7 +40,7 @@ fn read_node<'a>(fields: &[&str], node: u32, bytes: &'a [u8]) -> Option<(State, 
     read_state(fields, values)
 }
 
-/// The round that the line of the round gives, and what stands behind the line.
+/// The round that the line of the round gives, and what stands after the line.
 pub fn read_round(bytes: &[u8]) -> Option<(u32, &[u8])>
     ensures { IsFront round_line (λ t. t < 2 ^ 32) Anything bytes.now (option_map (λ x. (x.0, x.1.now)) result) }
 {
@@ -50,7 +50,7 @@ pub fn read_round(bytes: &[u8]) -> Option<(u32, &[u8])>
     Some((rounds, more))
 }
 
-/// The states that the lines of so many nodes give, which stand behind the line of the round.
+/// The states that the lines of so many nodes give, which stand after the line of the round.
 fn read_lines(
     alloc: Global,
     fields: &[&str],
@@ -80,7 +80,7 @@ fn read_lines(
     Ok(states)
 }
 
-/// The states that the lines of so many nodes of a program give, which stand behind the line of the round.
+/// The states that the lines of so many nodes of a program give, which stand after the line of the round.
 fn program_states(
     alloc: Global,
     program: &Program,

@@ -7,7 +7,7 @@ use rounds_plan::{Config, Plan};
 use rule_check::{Program, State};
 use std::alloc::{AllocError, Global};
 
-/// Writes a value of the field at a place behind what stands in the text: one space, the field's name, `=` and the value in
+/// Writes a value of the field at a place after what stands in the text: one space, the field's name, `=` and the value in
 /// decimal digits.
 ///
 /// Where memory runs out some of it may stand there.
@@ -24,8 +24,8 @@ pub fn put_field(
     write!(out, " {name}={value}")
 }
 
-/// Writes a state's fields behind what stands in the text: for each field, in order of declaration, one space, its
-/// name, `=` and its value in decimal digits, as in ` dist=3`. Words behind the fields are not written.
+/// Writes a state's fields after what stands in the text: for each field, in order of declaration, one space, its
+/// name, `=` and its value in decimal digits, as in ` dist=3`. Words after the fields are not written.
 ///
 /// Where memory runs out some of it may stand there.
 pub fn put_fields(out: &mut String, program: &Program, state: &State) -> Result<(), AllocError>
@@ -37,7 +37,7 @@ pub fn put_fields(out: &mut String, program: &Program, state: &State) -> Result<
     Ok(())
 }
 
-/// Writes the line of a node behind what stands in the text.
+/// Writes the line of a node after what stands in the text.
 fn put_node(
     out: &mut String,
     program: &Program,

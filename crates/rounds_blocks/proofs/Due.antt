@@ -21,7 +21,7 @@ module _ (P Q : ℕ → Type 0) (task : Task) (first at : ℕ) (weaker : (u : �
   pub due_more : HoldsOfDue Q task first (at + 1)
   due_more i d low high is = due_at i d low high is (cases_lt i at)
 
--- the batches from one on behind others
+-- the batches from one on after others
 module _ (P Q : ℕ → Type 0) (task : Task) (first at behind : ℕ) (weaker : (u : ℕ) → P u → Q u) (before : HoldsOfDue P task first at) (next : HoldsOfDue Q task at behind) where
   joined_at : (i : ℕ) (d : Batch) → first ≤ i → i < behind → IsDue task.due.now i → ((i < at) ⊎ (at ≤ i)) → All Q (slice_index_or task.batches.now i d).nodes
   joined_at i d low high is (inl h) = All-weaker P Q weaker (slice_index_or task.batches.now i d).nodes (before i d low h is)

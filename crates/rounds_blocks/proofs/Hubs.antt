@@ -30,7 +30,7 @@ part_at : {X : Type 0} (xs : List X) (at behind k : ℕ) (d : X) → k < behind 
 part_at xs at behind k d inside = get_or-take (behind - at) (drop at xs) k d inside ∙ get_or-drop at xs k d
 
 module _ (network : Neighbours) (batch : Batch) (whole : IsBatch network batch) where
-  -- in the slot behind the second node's last one no node but the first has a neighbour
+  -- in the slot after the second node's last one no node but the first has a neighbour
   few_behind : (j : ℕ) (d : Slot) → j ≡ slice_index batch.degrees.items 1 → j < length batch.slots.items
       → ((1 < length (slice_index_or batch.slots.items j d).neighbours) ⊎ (length (slice_index_or batch.slots.items j d).neighbours ≤ 1)) → length (slice_index_or batch.slots.items j d).neighbours ≤ 1
   few_behind j d second there (inr h) = h

@@ -7,7 +7,7 @@ use Rattle.rounds_blocks.specs.declared.task.Task.{Task}
 use Rattle.rounds_blocks.specs.Rounds.{HasWord, HasWordInside}
 use Rattle.rounds_blocks.specs.Walks.{IsCopied}
 
--- two parts, one behind the other
+-- two parts, one after the other
 module _ (word : ℕ → ℕ) (low : ℕ) (front others : List ℕ) (u : ℕ) where
   at_front : low ≤ u → u < low + length front → slice_index (front ++ others) (u - low) ≡ slice_index front (u - low)
   at_front from below = get_or_append_left front others 0 (u - low) (omega (arith, from, below))

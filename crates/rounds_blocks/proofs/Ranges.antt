@@ -28,7 +28,7 @@ range_more a n =
     ∙ map-range_with_len_more (λ x. x) a n (a + n) refl
     ∙ ap (λ xs. xs ++ (a + n) ∷ []) (map_same (range_with_len a n))
 
--- the first numbers, and those behind them
+-- the first numbers, and those after them
 pub numbers_parts : (a n : ℕ) → numbers_below (a + n) ≡ numbers_below a ++ range_with_len a n
 numbers_parts a zero =
     let e : a + 0 ≡ a = omega arith in
@@ -48,7 +48,7 @@ range_within a n most few k d h =
     let inside : k < n = omega (arith, h, length-range_with_len a n) in
     omega (arith, inside, few, get_or-range_with_len a n k d inside)
 
--- the nodes of a window behind those before it
+-- the nodes of a window after those before it
 pub window_more : (first end : ℕ) (before window after : List ℕ) → first ≤ end → IsPermutation (numbers_below first) before → IsPermutation (range_with_len first (end - first)) window
     → after ≡ before ++ window → IsPermutation (numbers_below end) after
 window_more first end before window after order once here are =

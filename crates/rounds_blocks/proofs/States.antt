@@ -31,7 +31,7 @@ word_either words columns n u j here rest past (inl h) = here j h
 word_either words columns n u j here rest past (inr h) =
     rest j h ∙ sym (no_column (column_words columns) u j (omega (arith, h, past, length-map columns (λ (column : Vec ℕ). column.items))))
 
--- words that are read up to the last column, and 0 behind it
+-- words that are read up to the last column, and 0 after it
 pub state_read : (words : List ℕ) (columns : List (Vec ℕ)) (n u : ℕ) → length words ≡ 8 → ((j : ℕ) → j < n → slice_index words j ≡ lane (column_words columns) u j) → ((j : ℕ) → n ≤ j → slice_index words j ≡ 0) → length columns ≤ n
     → make_state words ≡ state_at columns u
 state_read words columns n u long here rest past = state_is words columns u long (λ j _. word_either words columns n u j here rest past (cases_lt j n))
@@ -84,7 +84,7 @@ word_past columns u k past (inr h) =
     let word = lane (column_words columns) u in
     get_or_past (map word (range_with_len 0 8)) k 0 (omega (arith, h, length-map-range_with_len word 0 8))
 
--- the words behind the columns are 0
+-- the words after the columns are 0
 pub plain_all : (columns : List (Vec ℕ)) (n : ℕ) (states : List State) → states ≡ map (state_at columns) (numbers_below n) → All (IsPlain (length columns)) states
 plain_all columns n states are k d h =
     let inside : k < n = omega (arith, h, ap length are, length-map-range_with_len (state_at columns) 0 n) in

@@ -68,7 +68,7 @@ module _ (rules : Rules) (network : Neighbours) (batches : List Batch) (active n
       next.changed.items (looked.noted reads_not) active.nears.now next.due.items looked.changes walk.active.near (walk.unread reads_not) (looked.awake reads_not)
   sleepers (inr reads) = λ i d h not. absurd (let e : true ≡ false = sym (looked.all reads i h) ∙ not in cc)
 
-  -- the walk behind the round
+  -- the walk after the round
   pub walked : IsWalk rules network batches next shares new from
   walked = record {
     whole = walk.whole;

@@ -63,11 +63,11 @@ pub record IsTask (rules : Rules) (task : Task) : Type 0 where
 abbrev pub HasNext : Rules → Task → List (Vec ℕ) → ℕ → Type 0
 HasNext rules task to u = IsNext rules task.network.now task.round task.from.now to u
 
--- it holds of the nodes of each marked batch, from the first one on to the one behind the last
+-- it holds of the nodes of each marked batch, from the first one on to the one after the last
 abbrev pub HoldsOfDue : (ℕ → Type 0) → Task → ℕ → ℕ → Type 0
 HoldsOfDue P task first behind = (i : ℕ) (d : Batch) → first ≤ i → i < behind → IsDue task.due.now i → All P (slice_index_or task.batches.now i d).nodes
 
--- a thread's part of each round: the batches from the first one on to the one behind the last, what computes a program's rules, and a column for each field
+-- a thread's part of each round: the batches from the first one on to the one after the last, what computes a program's rules, and a column for each field
 pub record IsShare (rules : Rules) (nodes batches : ℕ) (share : Share) : Type 0 where
   pub inside : share.behind ≤ batches
   pub computes : share.block.rules ≡ rules

@@ -134,7 +134,7 @@ fn copy_span(span: &Span, source: &[u32], low: usize, part: &mut [u32])
 }
 
 /// Copies the words of the nodes of the next batches, as far as these were computed and the nodes are in these parts, which begin with the
-/// node `low`: of all of a span at once where there is one, or else of one batch. The batch behind those.
+/// node `low`: of all of a span at once where there is one, or else of one batch. The batch after those.
 fn copy_next(
     task: &Task<'_>,
     spans: &[Span],

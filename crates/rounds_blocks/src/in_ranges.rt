@@ -18,7 +18,7 @@ struct Last<'a, 'b, 'c> {
     part: &'b mut [u32],
 }
 
-/// Shares whose nodes are ranges, one behind the other, and the part of the column with these ranges.
+/// Shares whose nodes are ranges, one after the other, and the part of the column with these ranges.
 #[derive(Drop)]
 struct Others<'a, 'b, 'c> {
     shares: &'a mut Vec<Share<'c>>,
@@ -61,7 +61,7 @@ fn work_from<R: Threads + Sync>(
     }
 }
 
-/// Puts a share behind the others, for which there is room.
+/// Puts a share after the others, for which there is room.
 fn put_back<'c>(shares: &mut Vec<Share<'c>>, share: Share<'c>)
     requires room { length shares.old.items < vec_capacity shares.old }
     ensures items { shares.new.items ≡ shares.old.items ++ share.entry ∷ [] }

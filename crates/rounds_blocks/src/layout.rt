@@ -60,7 +60,7 @@ fn next_batch(network: &NetRows<'_>, nodes: &[u32], most_ends: u32) -> usize
     most
 }
 
-/// Puts these nodes behind the others, in batches whose nodes have so many neighbours together at most.
+/// Puts these nodes after the others, in batches whose nodes have so many neighbours together at most.
 fn put_batches(
     batches: &mut Vec<Batch>,
     alloc: Global,

@@ -1,4 +1,4 @@
-//! Work in threads that one thread starts, one behind the other.
+//! Work in threads that one thread starts, one after the other.
 ghost use Rattle.std.specs.Prelude.{◌≡◌, ◌<◌, ◌≤◌, ◌+◌, ◌^◌, length};
 ghost use Rattle.std.specs.Fork.{AcceptsAt, ChangesAt, AcceptsEach, ChangesEach};
 ghost use Rattle.rounds_blocks.specs.InLine.{AcceptsFrom, ChangesFrom};
@@ -15,7 +15,7 @@ fn call<T, F: Fn(usize, &mut T)>(f: &F, place: usize, item: &mut T)
     f(place, item);
 }
 
-/// Calls `f` at each place of `s`, which begins at a place of a whole, one behind the other.
+/// Calls `f` at each place of `s`, which begins at a place of a whole, one after the other.
 fn in_turn<T, F: Fn(usize, &mut T)>(f: &F, from: usize, s: &mut [T])
     requires room { from + length s.old < 2 ^ 64 }
     requires accepts { AcceptsFrom F.Fn f.now from s.old }
@@ -86,7 +86,7 @@ fn beside<R: Threads + Sync, T: Send, F: Fn(usize, &mut T) + Sync>(
 }
 
 /// Calls `f` at each place of `s`, with the place, in so many threads, each of which takes about as many places that follow one
-/// another. This thread is one of them, and starts all others, one behind the other: where threads that are new themselves start others at
+/// another. This thread is one of them, and starts all others, one after the other: where threads that are new themselves start others at
 /// the same time, two of them are often given one processor, and one waits for it while another processor has nothing to do.
 pub fn each_in_line<R: Threads + Sync, T: Send, F: Fn(usize, &mut T) + Sync>(
     rt: &R,

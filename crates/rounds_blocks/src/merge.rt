@@ -55,7 +55,7 @@ fn copy_from<R: Threads + Sync>(
     beside(rt, threads - 1, computed, field, low, front, others);
 }
 
-/// Copies to the first part of a column in a new thread, and to the one behind it from this thread on.
+/// Copies to the first part of a column in a new thread, and to the one after it from this thread on.
 #[cycle(copies)]
 fn beside<R: Threads + Sync>(
     rt: &R,

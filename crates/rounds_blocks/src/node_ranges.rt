@@ -1,4 +1,4 @@
-//! Shares whose nodes are ranges of numbers, one behind the other.
+//! Shares whose nodes are ranges of numbers, one after the other.
 ghost use Rattle.std.specs.Prelude.{◌≡◌, ◌<◌, ◌≤◌, IfOk, length};
 ghost use Rattle.rounds_blocks.specs.Spans.{HaveSpans};
 ghost use Rattle.rounds_blocks.specs.Walks.{AreInRanges, HasRange};

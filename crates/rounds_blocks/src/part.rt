@@ -65,7 +65,7 @@ fn step_part_where(task: &Task<'_>, at: usize, block: &mut Block<'_>, low: usize
     }
 }
 
-/// Writes the next words of the nodes of those batches that have to be computed, from the first one on to the one behind the last, to a
+/// Writes the next words of the nodes of those batches that have to be computed, from the first one on to the one after the last, to a
 /// part of the one column.
 fn step_part_due(
     task: &Task<'_>,

@@ -93,7 +93,7 @@ fn step_where(task: &Task<'_>, at: usize, block: &mut Block<'_>, to: &mut [Vec<u
 }
 
 /// Writes the next states of the nodes of those batches that have to be computed, from the first one on to the one
-/// behind the last.
+/// after the last.
 pub fn step_due(
     task: &Task<'_>,
     first: usize,

@@ -7,7 +7,7 @@ use crate::spans::Span;
 use crate::task::Task;
 use rounds_code::Block;
 
-/// A thread's share of each round: the batches from the first one on to the one behind the last, what computes their
+/// A thread's share of each round: the batches from the first one on to the one after the last, what computes their
 /// nodes' next states, and the columns that these are written to. Where the nodes of shares are ranges, these are those from `low` on to
 /// the one before `high`, and the share has no columns: it writes to its range of the one column that the program has.
 #[derive(Drop)]
@@ -25,7 +25,7 @@ pub struct Share<'a> {
 pub struct Shares<'a> {
     /// One for each thread; none where rounds are not shared.
     pub all: Vec<Share<'a>>,
-    /// Whether their nodes are ranges, one behind the other.
+    /// Whether their nodes are ranges, one after the other.
     pub in_ranges: bool,
     /// Where they are not: what of the shares' words is copied at once.
     pub spans: Vec<Span>,

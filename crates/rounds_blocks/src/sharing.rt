@@ -39,13 +39,13 @@ const NODE_READ: u64 = 24;
 /// What a neighbour takes that lies anywhere.
 const READ: u64 = 16;
 
-/// What a neighbour takes that is read with those before and behind it.
+/// What a neighbour takes that is read with those before and after it.
 const READ_IN_RUN: u64 = 4;
 
 /// What a slot of several nodes takes, however few neighbours stand in it.
 const SLOT_READ: u64 = 128;
 
-/// How far behind the neighbour that was read before, in words, one may lie to take as long as one in a run: what lies
+/// How far after the neighbour that was read before, in words, one may lie to take as long as one in a run: what lies
 /// there has been fetched by the time that it is read.
 const NEAR: u32 = 256;
 
@@ -82,7 +82,7 @@ fn reading_in_slots(slots: &[Slot]) -> u64 {
     sum
 }
 
-/// What neighbours take that are read one after another, behind one that was read before. The last of them.
+/// What neighbours take that are read one after another, after one that was read before. The last of them.
 fn reading_behind(before: u32, neighbours: &[u32]) -> (u64, u32) {
     let mut sum: u64 = 0;
     let mut last = before;

@@ -11,7 +11,7 @@ use crate::near::homes_of;
 use std::alloc::{AllocError, Global};
 
 /// The nodes from one number on to the one before another, where these are the nodes of batches that follow one another, from one on to
-/// the one before `behind`. Where `behind` is no greater than that one, nothing is said.
+/// the one before `after`. Where `after` is no greater than that one, nothing is said.
 #[derive(Clone, Copy)]
 pub struct Span {
     pub behind: usize,
@@ -84,7 +84,7 @@ fn is_span(batches: &[Batch], homes: &[usize], first: usize, span: &Span) -> boo
         && homes_inside(homes, span.low, span.high, first, span.behind)
 }
 
-/// The number behind the greatest of these nodes, or the other one if that is greater.
+/// The number after the greatest of these nodes, or the other one if that is greater.
 fn end_behind(nodes: &[u32], end: usize) -> usize {
     let mut most = end;
     for node in nodes {
@@ -125,7 +125,7 @@ fn span_at(batches: &[Batch], homes: &[usize], first: usize, low: usize) -> Span
     }
 }
 
-/// The span that begins with this batch, if it is the one behind the last span.
+/// The span that begins with this batch, if it is the one after the last span.
 fn span_behind(batches: &[Batch], homes: &[usize], at: usize, last: &Span) -> Span
     requires homes { AreHomes batches.now (length homes.now) homes.now }
     ensures exact { IsSpan (length homes.now) batches.now at result }

@@ -1,4 +1,4 @@
-//! Rounds of a program on a network, one behind the other.
+//! Rounds of a program on a network, one after the other.
 ghost use Rattle.std.specs.Prelude.{◌≡◌, ◌≢◌, ◌↔◌, ◌<◌, ℕ, All, IfOk, IsTrue, false, true, length, map, slice_index_or};
 ghost use denote.Param.Send.{IsSync};
 ghost use Rattle.rule_check.specs.declared.state.State.{State};

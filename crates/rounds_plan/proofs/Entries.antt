@@ -82,7 +82,7 @@ any_more test xs k x at fails left =
 pub any_end : {X : Type 0} (test : X → Bool) (xs : List X) (k : ℕ) → length xs ≤ k → list_any test (drop k xs) ≡ list_any test xs → list_any test xs ≡ false
 any_end test xs k past left = sym left ∙ ap (list_any test) (drop_all k xs past)
 
--- where nothing that is left passes, neither does the next element nor what is behind it
+-- where nothing that is left passes, neither does the next element nor what is after it
 pub none_left : {X : Type 0} (test : X → Bool) (xs : List X) (k : ℕ) (x : X) → slice_get xs k ≡ Some x → list_any test (drop k xs) ≡ false → (test x ≡ false) × (list_any test (drop (k + 1) xs) ≡ false)
 none_left test xs k x at none =
     either (test x) (list_any test (drop (k + 1) xs)) (ap (list_any test) (sym (drop_at_place xs k x at)) ∙ none)

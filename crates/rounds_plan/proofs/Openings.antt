@@ -45,7 +45,7 @@ updated_past f (x ∷ xs) [] k past = refl
 updated_past f (x ∷ xs) (w ∷ ws) zero past = absurd (omega arith)
 updated_past f (x ∷ xs) (w ∷ ws) (suc k) past = updated_past f xs ws k (omega arith)
 
--- no value of `set` stands behind the fields
+-- no value of `set` stands after the fields
 pub openings-plain : (program : Rules) (n : ℕ) (sets : List FieldSet) → IsPlain (length program.fields) (opening_of program) → All (IsPlain (length program.fields)) (openings_of program n sets)
 openings-plain program n sets plain u d inside k past =
     let names = names_of program in

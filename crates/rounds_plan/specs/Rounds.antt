@@ -17,6 +17,6 @@ nears_in network at u = map (near_at at) (row network u)
 abbrev pub round_from : Rules → Neighbours → ℕ → (ℕ → State) → ℕ → State
 round_from rules network round at u = next_state rules round u (at u) (nears_in network at u)
 
--- the words behind the fields are 0
+-- the words after the fields are 0
 abbrev pub IsPlain : ℕ → State → Type 0
 IsPlain fields state = (k : ℕ) → fields ≤ k → slice_index state.words k ≡ 0

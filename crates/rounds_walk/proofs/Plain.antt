@@ -1,4 +1,4 @@
--- States with no value behind their fields.
+-- States with no value after their fields.
 use Rattle.std.proofs.Common.{◌≡◌, ◌==◌, ◌<◌, ◌-◌, ◌+◌, ℕ, Bool, false, not, List, length, drop, get_or, All, sym, ap, ◌∙◌, arith, inl, inr, ◌≢◌, Some, map}
 use Rattle.std.specs.List.{list_any}
 use Rattle.std.proofs.lemmas.Bool.{cases_lt, false_from_ne_true, not-false, false≢true}
@@ -15,7 +15,7 @@ use Rattle.rounds_walk.specs.Starts.{is_stray}
 none_at : {X : Type 0} (p : X → Bool) (xs : List X) (k : ℕ) (d : X) → list_any p xs ≡ false → k < length xs → p (get_or xs k d) ≡ false
 none_at p xs k d none inside = false_from_ne_true (p (get_or xs k d)) (λ passes. false≢true (sym none ∙ list_any_at p xs k d inside passes))
 
--- a state whose words behind the fields are not other than 0
+-- a state whose words after the fields are not other than 0
 pub plain_of : (fields : ℕ) (state : State) → is_stray fields state ≡ false → IsPlain fields state
 plain_of fields state none k past =
     let words : List ℕ = state.words in
@@ -31,7 +31,7 @@ plain_of fields state none k past =
 pub all_plain : (fields : ℕ) (states : List State) → list_any (is_stray fields) states ≡ false → All (IsPlain fields) states
 all_plain fields states none u d inside = plain_of fields (get_or states u d) (none_at (is_stray fields) states u d none inside)
 
--- a value in a field leaves what stands behind the fields
+-- a value in a field leaves what stands after the fields
 pub plain_with : (fields field value : ℕ) (state : State) → field < fields → IsPlain fields state → IsPlain fields (with_value field (Some value) state)
 plain_with fields field value state low plain k past =
     let apart : k ≢ field = omega arith in

@@ -5,3 +5,4 @@ pub mod Starts
 pub mod Stays
 pub mod Values
 pub mod Walking
+pub mod part_rounds

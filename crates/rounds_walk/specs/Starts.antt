@@ -19,7 +19,7 @@ pub record IsStart (p : PlanView) : Type 0 where
   pub plain : All (IsPlain (length p.program.fields)) p.opening
   pub start : p.start ≤ most_rounds
 
--- some word behind the fields is not 0
+-- some word after the fields is not 0
 abbrev pub is_stray : ℕ → State → Bool
 is_stray fields state = list_any (λ w. not (w == 0)) (drop fields state.words)
 

@@ -11,7 +11,7 @@ pub enum StartFault {
     /// There are more or fewer states than nodes.
     #[error("there are more or fewer states than nodes")]
     StateCount,
-    /// A state has a word other than 0 behind the fields of the program.
+    /// A state has a word other than 0 after the fields of the program.
     #[error("a state has a value in a field that the program does not have")]
     NotPlain,
     /// The start is above 1,000,000,000.

@@ -7,6 +7,7 @@ mod counts;
 mod fault;
 mod initial;
 mod laws;
+pub mod part_rounds;
 mod parts;
 mod plan_ref;
 mod rounds;

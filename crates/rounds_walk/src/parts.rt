@@ -23,7 +23,7 @@ fn is_any_set(words: &[u32]) -> bool
     words.iter().any(|word| *word != 0)
 }
 
-/// Whether a word behind the fields is not 0.
+/// Whether a word after the fields is not 0.
 fn is_stray(fields: u32, state: &State) -> bool
     requires few { fields ≤ 8 }
     ensures exact { result ≡ is_stray fields state.now }
@@ -31,7 +31,7 @@ fn is_stray(fields: u32, state: &State) -> bool
     is_any_set(&state.words[fields as usize..])
 }
 
-/// Whether a word behind the fields of some state is not 0.
+/// Whether a word after the fields of some state is not 0.
 fn have_stray(fields: u32, states: &[State]) -> bool
     requires few { fields ≤ 8 }
     ensures exact { result ≡ list_any (is_stray fields) states.now }

@@ -79,7 +79,7 @@ pub fn packed_lockstep<'a>(
 
 /// The states of all nodes after a round, counted from round 0, by the textbook synchronous round: from the initial
 /// states on all nodes move at once, each by its own state and its neighbours' states before. Where the program doesn't
-/// read the number of the round, none is computed behind the first one that changes nothing.
+/// read the number of the round, none is computed after the first one that changes nothing.
 ///
 /// Each round that has enough to compute is shared among so many threads, and is made sequentially where they are fewer
 /// than two; the states are the same. A start made by `Start::to_share` is laid out for threads.

@@ -111,7 +111,7 @@ impl<'a> RoundWalk<'a> {
     }
 
     /// Moves on to a round in a way, one by one. Where the program doesn't read the number of the round, none is made
-    /// behind the first one that changes nothing.
+    /// after the first one that changes nothing.
     pub fn go_by<W: Way>(&mut self, way: &W, round: u32)
         requires way { W.serves way.now }
         requires late { self.old.round ≤ round }
@@ -121,7 +121,7 @@ impl<'a> RoundWalk<'a> {
         self.round = round;
     }
 
-    /// Moves on to a round, one by one. Where the program doesn't read the number of the round, none is made behind
+    /// Moves on to a round, one by one. Where the program doesn't read the number of the round, none is made after
     /// the first one that changes nothing.
     pub fn go_to(&mut self, round: u32)
         requires late { self.old.round ≤ round }

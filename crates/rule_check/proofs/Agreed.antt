@@ -10,12 +10,12 @@ use Rattle.rule_check.specs.Causes.{fault_of, is_next, IsNextWith, first_foreign
 use Rattle.rule_check.specs.Searches.{foreign_of}
 use Rattle.rule_check.proofs.Searches.{some_foreign}
 
--- a test that finds a cause finds the first fault of those behind it
+-- a test that finds a cause finds the first fault of those after it
 pub told : (test : Bool) (fault : CheckFault) (cause : Option CheckCause) (x : CheckCause) (rest : Option CheckFault) → option_map fault_of cause ≡ (if test then Some fault else None) → cause ≡ Some x → Some (fault_of x) ≡ (if test then Some fault else rest)
 told true fault cause x rest e some = sym (ap (option_map fault_of) some) ∙ e
 told false fault cause x rest e some = let no : Some (fault_of x) ≡ None = sym (ap (option_map fault_of) some) ∙ e in cc
 
--- a test that finds none leaves it to those behind it
+-- a test that finds none leaves it to those after it
 pub passed : (test : Bool) (fault : CheckFault) (cause : Option CheckCause) (found rest : Option CheckFault) → option_map fault_of cause ≡ (if test then Some fault else None) → cause ≡ None → found ≡ rest → found ≡ (if test then Some fault else rest)
 passed true fault cause found rest e none next = let no : None ≡ Some fault = sym (ap (option_map fault_of) none) ∙ e in cc
 passed false fault cause found rest e none next = next

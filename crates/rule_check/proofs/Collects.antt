@@ -1,4 +1,4 @@
--- Turns of the loops that collect code: what the item at a place adds to that of the items behind it.
+-- Turns of the loops that collect code: what the item at a place adds to that of the items after it.
 use Rattle.std.proofs.Common.{◌≡◌, ◌∙◌, ℕ, ◌+◌, ◌<◌, List, [], ◌∷◌, ◌++◌, length, get_or, drop, map, string_bytes, refl, sym, ap, append_assoc, String, Global}
 use Rattle.std.proofs.lemmas.List.{drop_more, map-append}
 use Rattle.rule_lang.specs.declared.tree.Agg.{Agg}

@@ -10,7 +10,7 @@ pub holds : (test : Bool) (fault : CheckFault) (rest : Option CheckFault) → te
 holds true fault rest e = refl
 holds false fault rest e = cc
 
--- a test that does not hold leaves it to those behind it
+-- a test that does not hold leaves it to those after it
 pub fails : (test : Bool) (fault : CheckFault) (rest found : Option CheckFault) → test ≡ false → rest ≡ found → (if test then Some fault else rest) ≡ found
 fails true fault rest found e next = cc
 fails false fault rest found e next = next

@@ -1,4 +1,4 @@
--- The items read so far, and the tokens behind them.
+-- The items read so far, and the tokens after them.
 use Rattle.std.proofs.Common.{◌≡◌, List, [], ◌∷◌, ◌++◌, Some, None, refl, sym, ap, ◌∙◌, arith, append_assoc, append-nil, flat_map, length, ◌<◌, length-append}
 use Rattle.rule_lang.specs.Tokens.{Tok}
 use Rattle.rule_lang.specs.Tree.{ItemTree, FieldTree, NextTree, spell_item, HasTree}
@@ -6,7 +6,7 @@ use Rattle.rule_lang.specs.Reading.{item_at}
 use Rattle.rule_lang.proofs.SingleTokens.{same_pair}
 use Rattle.rule_lang.proofs.ItemTrees.{item_sound, item_complete}
 
--- the items so far, and the tokens behind them: a program of the rest is a program of the whole, and no other is
+-- the items so far, and the tokens after them: a program of the rest is a program of the whole, and no other is
 pub record Leads (all : List Tok) (items : List ItemTree) (rest : List Tok) : Type 0 where
   pub on : (js : List ItemTree) → HasTree rest js → HasTree all (items ++ js)
   pub only : (js : List ItemTree) → HasTree all js → (ks : List ItemTree) × (js ≡ items ++ ks) × HasTree rest ks

@@ -1,5 +1,5 @@
 -- Internal: what the functions of the parser return, token by token: what they read at the front
--- of a token list, and the tokens behind it. No public clause cites it; what a tree's tokens are stands in Tree.
+-- of a token list, and the tokens after it. No public clause cites it; what a tree's tokens are stands in Tree.
 use Rattle.std.specs.Prelude.{ℕ, zero, suc, List, [], ◌∷◌, Option, Some, None}
 use Rattle.rule_lang.specs.declared.tree.Op.{Op}
 use Rattle.rule_lang.specs.declared.tree.Op.TheVariants.{Plus, Minus, Times, Quot, Rem, BitAnd, BitOr, BitXor, Equal, Differ, Less, LessEq, Greater, GreaterEq, Min, Max}
@@ -19,7 +19,7 @@ abbrev pub ◌>>=◌ : {A B : Type 0} → Option A → (A → Option B) → Opti
 None >>= f = None
 (Some x) >>= f = f x
 
--- something read, and the tokens behind it
+-- something read, and the tokens after it
 abbrev pub Reads : Type 0 → Type 0
 Reads A = List Tok → Option (A × List Tok)
 

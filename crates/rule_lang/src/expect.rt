@@ -1,4 +1,4 @@
-//! One token that has to stand first: what it is, and the tokens behind it.
+//! One token that has to stand first: what it is, and the tokens after it.
 
 ghost use Rattle.std.specs.Prelude.{◌≡◌, string_bytes};
 ghost use Rattle.rule_lang.specs.View.{tok_of, toks_of};

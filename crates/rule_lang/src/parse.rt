@@ -18,7 +18,7 @@ use std::alloc::Global;
 /// The greatest depth of an expression.
 const NESTING: u32 = 64;
 
-/// A form of a neighbour, by the word behind `n.` with which these tokens begin.
+/// A form of a neighbour, by the word after `n.` with which these tokens begin.
 #[tactic(auto, unfolding(crate::specs::Reading::near_of))]
 fn near(alloc: Global, tokens: &[Lexeme], word: &str) -> Result<Expr, Stuck>
     ensures { Gives tree_of result (near_of word.now) }
@@ -31,7 +31,7 @@ fn near(alloc: Global, tokens: &[Lexeme], word: &str) -> Result<Expr, Stuck>
     }
 }
 
-/// An expression of at most this depth, and the tokens behind it.
+/// An expression of at most this depth, and the tokens after it.
 #[cycle(expression)]
 #[tactic(auto, unfolding(crate::specs::Reading::expr_at, crate::specs::Reading::form_at))]
 fn expression<'t, 'a>(
@@ -59,7 +59,7 @@ fn expression<'t, 'a>(
     }
 }
 
-/// An expression of at most this depth, in a box, and the tokens behind it.
+/// An expression of at most this depth, in a box, and the tokens after it.
 #[cycle(expression)]
 fn part<'t, 'a>(
     alloc: Global,
@@ -189,7 +189,7 @@ fn next<'t, 'a>(alloc: Global, tokens: &'t [Lexeme<'a>]) -> Result<(Item, &'t [L
     Ok((Item::Next { name, body }, rest))
 }
 
-/// An item, and the tokens behind it.
+/// An item, and the tokens after it.
 #[tactic(auto, unfolding(crate::specs::Reading::item_at))]
 fn item<'t, 'a>(alloc: Global, tokens: &'t [Lexeme<'a>]) -> Result<(Item, &'t [Lexeme<'a>]), Stuck>
     ensures { Gives (λ x. (item_of x.0, toks_of x.1.now)) result (item_at (toks_of tokens.now)) }

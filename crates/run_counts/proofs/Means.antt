@@ -26,7 +26,7 @@ pub some_first : (xs : List ℕ) (x : ℕ) → slice_get xs 0 ≡ Some x → 1 �
 some_first [] x first = let none : None ≡ Some x = first in absurd cc
 some_first (y ∷ xs) x first = omega arith
 
--- what a line of means has behind its round
+-- what a line of means has after its round
 abbrev behind : CountFormat → List (String Global) → List (List ℕ) → List Column → Option Until → ℕ → List RowView → ℕ → List ℕ
 behind format labels names columns until total rows n =
     runs_cells format until total n ++ (flat_map (λ (c : Column). mean_cells format labels names c (map (number_in c) rows)) columns ++ line_end format)
@@ -85,7 +85,7 @@ as_many R [] (y ∷ ys) all = absurd all
 as_many R (x ∷ xs) [] all = absurd all
 as_many R (x ∷ xs) (y ∷ ys) all = ap suc (as_many R xs ys all.1)
 
--- parts that are put one behind the other are their text
+-- parts that are put one after the other are their text
 pub put_in_turn : (before a b c d : List ℕ) → (((before ++ a) ++ b) ++ c) ++ d ≡ before ++ (a ++ (b ++ (c ++ d)))
 put_in_turn before a b c d = append_assoc ((before ++ a) ++ b) c d ∙ append_assoc (before ++ a) b (c ++ d) ∙ append_assoc before a (b ++ (c ++ d))
 

@@ -37,7 +37,7 @@ no_comma text is k d inside =
     let other = (is k d inside).0 in
     grind (arith, nat_tests, other)
 
--- ---- cells behind commas
+-- ---- cells after commas
 
 abbrev texts : List (List ℕ) → List ℕ
 texts ts = flat_map (λ (t : List ℕ). codes "," ++ t) ts

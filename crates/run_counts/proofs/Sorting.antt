@@ -22,7 +22,7 @@ are_once keys sorted values moved rising left =
     } in
     subst (λ (xs : List ℕ). AreOnce keys xs) (sym left) whole
 
--- the values that occur in the rounds of all runs are those of one run behind the other
+-- the values that occur in the rounds of all runs are those of one run after the other
 pub keys_in_runs : (runs : List RunView) → flat_map (λ (r : RunView). flat_map keys_of r.rows) runs ≡ flat_map keys_of (rows_in runs)
 keys_in_runs [] = refl
 keys_in_runs (r ∷ runs) =

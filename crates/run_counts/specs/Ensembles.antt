@@ -24,7 +24,7 @@ pub record IsRunOf (span : SpanView) (counting : Counting) (variant : Variant) (
   pub value : run.value ≡ variant.value
   pub rows : AreRows variant.plan.now span counting run.rows
 
--- the rounds that are counted, of one run behind the other
+-- the rounds that are counted, of one run after the other
 abbrev pub rows_in : List RunView → List RowView
 rows_in runs = flat_map (λ run. run.rows) runs
 

@@ -104,7 +104,7 @@ means_opening Json labels names columns until = []
 abbrev pub line_at : CountFormat → List (String Global) → List (List ℕ) → List Column → Option Until → List RunView → ℕ → List ℕ
 line_at format labels names columns until runs k = mean_text format labels names columns until (length runs) (going_at k runs) (rows_at k runs)
 
--- the lines of all rounds behind the headings
+-- the lines of all rounds after the headings
 abbrev pub means_text : CountFormat → List (String Global) → List (List ℕ) → List Column → Option Until → List RunView → List ℕ
 means_text format labels names columns until runs =
     means_opening format labels names columns until ++ flat_map (line_at format labels names columns until runs) (range_with_len 0 (longest runs))

@@ -13,11 +13,11 @@ use Rattle.run_counts.specs.Tables.{figure_name, has_columns, long_text, opening
 abbrev pub figures_in : RowView → List ℕ
 figures_in row = map (λ f. f.1) row.figures
 
--- what stands in the line of a round behind its number: for each value how many nodes have it, and the figures
+-- what stands in the line of a round after its number: for each value how many nodes have it, and the figures
 abbrev pub wide_numbers : List ℕ → RowView → List ℕ
 wide_numbers values row = map (count_in row.counts) values ++ figures_in row
 
--- what stands in the line of a value behind the value: how many nodes have it, and the figures
+-- what stands in the line of a value after the value: how many nodes have it, and the figures
 abbrev pub long_numbers : RowView → ℕ × ℕ → List ℕ
 long_numbers row c = c.1 ∷ figures_in row
 

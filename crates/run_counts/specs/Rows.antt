@@ -26,12 +26,12 @@ abbrev pub is_held : Holders → ℕ → ℕ → List State → Bool
 is_held NoNode field value states = not (list_any (has_value field value) states)
 is_held EveryNode field value states = list_all (has_value field value) states
 
--- no round is counted behind one with these states: the value stands where rounds end by it
+-- no round is counted after one with these states: the value stands where rounds end by it
 abbrev pub is_over : Option Until → List State → Bool
 is_over None states = false
 is_over (Some until) states = is_held until.holders until.field until.value states
 
--- the rounds that are counted, of those that are asked for: up to the first behind which none is
+-- the rounds that are counted, of those that are asked for: up to the first after which none is
 abbrev pub rounds_until : PlanView → Option Until → List ℕ → List ℕ
 rounds_until p until [] = []
 rounds_until p until (t ∷ rounds) = t ∷ (if is_over until (lockstep_states p t (length p.network)) then [] else rounds_until p until rounds)

@@ -13,7 +13,7 @@ use Rattle.run_counts.specs.Ensembles.{IsRunOf, RunView, names_in, rows_in}
 use Rattle.run_counts.specs.Rows.{AreValues}
 use Rattle.run_counts.specs.Tables.{opening_text, row_text}
 
--- what stands before the round in the lines of a run: the value of what varies, in JSON behind its name
+-- what stands before the round in the lines of a run: the value of what varies, in JSON after its name
 abbrev pub head_text : CountFormat → List ℕ → ℕ → List ℕ
 head_text Csv name value = decimal value ++ codes ","
 head_text Json name value = codes "\"" ++ (name ++ (codes "\":" ++ (decimal value ++ codes ",")))
@@ -23,11 +23,11 @@ abbrev pub runs_opening : CountFormat → List (String Global) → List ℕ → 
 runs_opening Csv labels name names figures values = name ++ (codes "," ++ opening_text Csv labels names figures values)
 runs_opening Json labels name names figures values = []
 
--- the lines of a run: those of its rounds, each behind what the run has of what varies
+-- the lines of a run: those of its rounds, each after what the run has of what varies
 abbrev pub run_text : CountFormat → List (String Global) → List ℕ → List (List ℕ) → List ℕ → RunView → List ℕ
 run_text format labels name names values run = flat_map (row_text format labels (head_text format name run.value) names values) run.rows
 
--- the lines of all runs behind the headings
+-- the lines of all runs after the headings
 abbrev pub runs_text : CountFormat → List (String Global) → List ℕ → List (List ℕ) → List Figure → List ℕ → List RunView → List ℕ
 runs_text format labels name names figures values runs = runs_opening format labels name names figures values ++ flat_map (run_text format labels name names values) runs
 

@@ -41,6 +41,6 @@ DeviationsAreNearest =
     → ((2 * deviation_of numbers - 1) * (2 * deviation_of numbers - 1) * divisor_of numbers ≤ 400000000 * squares_off numbers)
     × (400000000 * squares_off numbers < (2 * deviation_of numbers + 1) * (2 * deviation_of numbers + 1) * divisor_of numbers)
 
--- a number of ten-thousandths as a decimal with four digits behind the point
+-- a number of ten-thousandths as a decimal with four digits after the point
 abbrev pub four_digits : ℕ → List ℕ
 four_digits n = decimal (n / 10000) ++ (codes "." ++ (decimal (n / 1000 % 10) ++ (decimal (n / 100 % 10) ++ (decimal (n / 10 % 10) ++ decimal (n % 10)))))

@@ -79,6 +79,6 @@ abbrev pub row_text : CountFormat → List (String Global) → List ℕ → List
 row_text format labels head names values row =
     if has_columns values then wide_text format labels head names values row else flat_map (long_text format labels head names row) row.counts
 
--- the lines of all rounds behind the headings
+-- the lines of all rounds after the headings
 abbrev pub table_text : CountFormat → List (String Global) → List (List ℕ) → List Figure → List ℕ → List RowView → List ℕ
 table_text format labels names figures values rows = opening_text format labels names figures values ++ flat_map (row_text format labels [] names values) rows

@@ -52,7 +52,7 @@ pub enum Holders {
     EveryNode,
 }
 
-/// When rounds end early: behind the first round that is shown in which the nodes that have this value in the field at
+/// When rounds end early: after the first round that is shown in which the nodes that have this value in the field at
 /// this place are these.
 #[derive(Clone, Copy)]
 pub struct Until {

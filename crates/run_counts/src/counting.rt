@@ -15,7 +15,7 @@ use crate::values::values_of;
 use rounds_plan::MOST_ROUNDS;
 use rounds_walk::PlanRef;
 use rule_check::Program;
-use run_watch::{Progress, Span, WatchFault};
+use run_watch::{Progress, Span, WatchFault, Workers};
 use std::alloc::{AllocError, Global};
 use std::thread::Threads;
 
@@ -86,27 +86,26 @@ fn table_with(
 }
 
 /// The text of the rounds, where nothing refuses them.
-fn text_of<P: Progress>(
-    rt: &(impl Threads + Sync),
+fn text_of<R: Threads + Sync, P: Progress>(
+    workers: &Workers<'_, R>,
     alloc: Global,
     plan: &PlanRef<'_>,
     span: &Span,
     counting: &Counting<'_>,
-    threads: usize,
     progress: &mut P,
 ) -> Result<Vec<u8>, AllocError>
     requires fits { refusal_of plan.now span.now counting.now ≡ None }
     ensures text { IfOk result (λ v. IsCounted plan.now span.now counting.now v.items) }
 {
-    let rows = counted_rows(rt, alloc, plan, span, counting, threads, progress)?;
+    let rows = counted_rows(workers, alloc, plan, span, counting, progress)?;
     let values = values_of(alloc, counting.states, &rows)?;
     let text = table_with(alloc, plan.program(), counting, &values, &rows)?;
     Ok(text)
 }
 
 /// How many nodes have each value of a field in each round of a span of a plan of any size, and further numbers of these
-/// rounds, in one pass over the rounds: none is computed twice. Each round is shared among so many threads where it has
-/// enough to compute for them. The rounds end behind the first of them that ends them, where one does.
+/// rounds, in one pass over the rounds: none is computed twice. Each round is shared among the workers where it has
+/// enough to compute for them. The rounds end after the first of them that ends them, where one does.
 ///
 /// Each state has a column, and each value that occurs in one of these rounds, by rising value, and each round a line,
 /// where that makes 64 columns at most; else each value that occurs in a round has a line of that round: `value`, and
@@ -116,13 +115,12 @@ fn text_of<P: Progress>(
 /// before the plan's start, and else `NoField` with the first place at which the program has no field, of the counted
 /// field, the one by which rounds end and those of the figures, all before anything is done; `Memory` only where none of
 /// them holds.
-pub fn counted<P: Progress>(
-    rt: &(impl Threads + Sync),
+pub fn counted<R: Threads + Sync, P: Progress>(
+    workers: &Workers<'_, R>,
     alloc: Global,
     plan: &PlanRef<'_>,
     span: &Span,
     counting: &Counting<'_>,
-    threads: usize,
     progress: &mut P,
 ) -> Result<Vec<u8>, WatchFault>
     ensures text { IfOk result (λ v. IsCounted plan.now span.now counting.now v.items) }
@@ -133,6 +131,6 @@ pub fn counted<P: Progress>(
     if let Some(fault) = refusal(plan, span, counting) {
         return Err(fault);
     }
-    let text = text_of(rt, alloc, plan, span, counting, threads, progress)?;
+    let text = text_of(workers, alloc, plan, span, counting, progress)?;
     Ok(text)
 }

@@ -11,7 +11,7 @@ pub fn cells_are_counts()
 
 /// A line of CSV, cut at its commas, is the decimals of its numbers: of the round, of the number of nodes for each value
 /// that has a column, or of the number of nodes that have the value of the line, and of the further numbers. They are to
-/// fit 64 bits. The value of a line stands behind the round, by its name where it has one. Where each value has a column,
+/// fit 64 bits. The value of a line stands after the round, by its name where it has one. Where each value has a column,
 /// the line of the headings is `round`, what the values are called and what the further numbers are called. Names of
 /// values are to be words, each once; then two values that are called the same are one.
 pub fn csv_is_read_back()

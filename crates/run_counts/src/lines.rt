@@ -217,7 +217,7 @@ fn put_row(
     }
 }
 
-/// The lines of rounds, each behind this head.
+/// The lines of rounds, each after this head.
 pub(crate) fn put_rows(
     out: &mut String,
     counting: &Counting<'_>,

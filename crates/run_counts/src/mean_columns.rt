@@ -79,7 +79,7 @@ fn value_columns(alloc: Global, values: &[u32]) -> Result<Vec<Column>, AllocErro
     Ok(columns)
 }
 
-/// Puts the columns of figures behind the others.
+/// Puts the columns of figures after the others.
 fn put_figure_columns(columns: &mut Vec<Column>, figures: &[Figure]) -> Result<(), AllocError>
     ensures columns { OnOk result (columns.new.items ≡ columns.old.items ++ map (λ f. Further f.0 f.1) (enumerate_from 0 figures.now)) }
 {

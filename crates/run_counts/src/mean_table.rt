@@ -14,7 +14,16 @@ use crate::spread::{deviation_of, mean_of, put_four_digits};
 use rule_check::Program;
 use std::alloc::{AllocError, Global};
 
-/// Puts the number that stands for a run in a column at a place behind the others: that of its last row where it has
+/// The means of columns of what is counted in runs of this program.
+#[derive(Clone, Copy)]
+pub(crate) struct Means<'a> {
+    pub(crate) counting: &'a Counting<'a>,
+    pub(crate) program: &'a Program,
+    pub(crate) columns: &'a [Column],
+    pub(crate) runs: &'a [Run],
+}
+
+/// Puts the number that stands for a run in a column at a place after the others: that of its last row where it has
 /// ended before.
 fn put_number(
     numbers: &mut Vec<u64>,
@@ -32,7 +41,7 @@ fn put_number(
     Ok(())
 }
 
-/// Puts the round that a run has at a place behind the others, where it has so many rows.
+/// Puts the round that a run has at a place after the others, where it has so many rows.
 fn put_round(rounds: &mut Vec<u32>, run: &Run, place: usize) -> Result<(), AllocError>
     ensures rounds { OnOk result (rounds.new.items ≡ rounds.old.items ++ map (λ row. row.round) (option_to_list (slice_get run.now.rows place))) }
     ensures few { OnOk result (length rounds.new.items ≤ length rounds.old.items + 1) }
@@ -126,36 +135,31 @@ fn put_cells(
 fn put_column(
     alloc: Global,
     out: &mut String,
-    counting: &Counting<'_>,
-    program: &Program,
+    means: &Means<'_>,
     column: Column,
-    runs: &[Run],
     place: usize,
 ) -> Result<(), AllocError>
-    requires some { 1 ≤ length (rows_at place runs.now) }
-    requires few { length runs.now ≤ most_runs }
-    ensures text { OnOk result (string_bytes out.new ≡ string_bytes out.old ++ mean_cells counting.now.format counting.now.names.now (names_of program.now) column (map (number_in column) (rows_at place runs.now))) }
+    requires some { 1 ≤ length (rows_at place means.now.runs.now) }
+    requires few { length means.now.runs.now ≤ most_runs }
+    ensures text { OnOk result (string_bytes out.new ≡ string_bytes out.old ++ mean_cells means.now.counting.now.format means.now.counting.now.names.now (names_of means.now.program.now) column (map (number_in column) (rows_at place means.now.runs.now))) }
 {
-    let numbers = numbers_at(alloc, runs, place, column)?;
-    put_cells(out, counting, program, column, &numbers)
+    let numbers = numbers_at(alloc, means.runs, place, column)?;
+    put_cells(out, means.counting, means.program, column, &numbers)
 }
 
 /// The means and deviations of all columns at a place.
 fn put_columns(
     alloc: Global,
     out: &mut String,
-    counting: &Counting<'_>,
-    program: &Program,
-    columns: &[Column],
-    runs: &[Run],
+    means: &Means<'_>,
     place: usize,
 ) -> Result<(), AllocError>
-    requires some { 1 ≤ length (rows_at place runs.now) }
-    requires few { length runs.now ≤ most_runs }
-    ensures text { OnOk result (string_bytes out.new ≡ string_bytes out.old ++ flat_map (λ c. mean_cells counting.now.format counting.now.names.now (names_of program.now) c (map (number_in c) (rows_at place runs.now))) columns.now) }
+    requires some { 1 ≤ length (rows_at place means.now.runs.now) }
+    requires few { length means.now.runs.now ≤ most_runs }
+    ensures text { OnOk result (string_bytes out.new ≡ string_bytes out.old ++ flat_map (λ c. mean_cells means.now.counting.now.format means.now.counting.now.names.now (names_of means.now.program.now) c (map (number_in c) (rows_at place means.now.runs.now))) means.now.columns.now) }
 {
-    for column in columns {
-        put_column(alloc, out, counting, program, *column, runs, place)?;
+    for column in means.columns {
+        put_column(alloc, out, means, *column, place)?;
     }
     Ok(())
 }
@@ -193,24 +197,22 @@ fn put_runs(
 fn put_line(
     alloc: Global,
     out: &mut String,
-    counting: &Counting<'_>,
-    program: &Program,
-    columns: &[Column],
-    runs: &[Run],
+    means: &Means<'_>,
     place: usize,
 ) -> Result<(), AllocError>
-    requires few { length runs.now ≤ most_runs }
-    ensures text { OnOk result (string_bytes out.new ≡ string_bytes out.old ++ line_at counting.now.format counting.now.names.now (names_of program.now) columns.now counting.now.until runs.now place) }
+    requires few { length means.now.runs.now ≤ most_runs }
+    ensures text { OnOk result (string_bytes out.new ≡ string_bytes out.old ++ line_at means.now.counting.now.format means.now.counting.now.names.now (names_of means.now.program.now) means.now.columns.now means.now.counting.now.until means.now.runs.now place) }
 {
-    let rounds = rounds_at(alloc, runs, place)?;
+    let counting = means.counting;
+    let rounds = rounds_at(alloc, means.runs, place)?;
     let Some(round) = rounds.first() else {
         return Ok(());
     };
-    let total = runs.len() as u64;
+    let total = means.runs.len() as u64;
     let going = rounds.len() as u64;
     put_start(out, counting.format, "", *round)?;
     put_runs(out, counting.format, counting.until, total, going)?;
-    put_columns(alloc, out, counting, program, columns, runs, place)?;
+    put_columns(alloc, out, means, place)?;
     out.push_str(end_of(counting.format))
 }
 
@@ -226,36 +228,23 @@ fn longest(runs: &[Run]) -> usize
 }
 
 /// The lines of all rounds.
-fn put_lines(
-    alloc: Global,
-    out: &mut String,
-    counting: &Counting<'_>,
-    program: &Program,
-    columns: &[Column],
-    runs: &[Run],
-) -> Result<(), AllocError>
-    requires few { length runs.now ≤ most_runs }
-    ensures text { OnOk result (string_bytes out.new ≡ string_bytes out.old ++ flat_map (line_at counting.now.format counting.now.names.now (names_of program.now) columns.now counting.now.until runs.now) (range_with_len 0 (longest runs.now))) }
+fn put_lines(alloc: Global, out: &mut String, means: &Means<'_>) -> Result<(), AllocError>
+    requires few { length means.now.runs.now ≤ most_runs }
+    ensures text { OnOk result (string_bytes out.new ≡ string_bytes out.old ++ flat_map (line_at means.now.counting.now.format means.now.counting.now.names.now (names_of means.now.program.now) means.now.columns.now means.now.counting.now.until means.now.runs.now) (range_with_len 0 (longest means.now.runs.now))) }
 {
-    for place in 0..longest(runs) {
-        put_line(alloc, out, counting, program, columns, runs, place)?;
+    for place in 0..longest(means.runs) {
+        put_line(alloc, out, means, place)?;
     }
     Ok(())
 }
 
 /// The text of the means of columns.
-pub(crate) fn means_table(
-    alloc: Global,
-    counting: &Counting<'_>,
-    program: &Program,
-    columns: &[Column],
-    runs: &[Run],
-) -> Result<Vec<u8>, AllocError>
-    requires few { length runs.now ≤ most_runs }
-    ensures text { IfOk result (λ v. v.items ≡ means_text counting.now.format counting.now.names.now (names_of program.now) columns.now counting.now.until runs.now) }
+pub(crate) fn means_table(alloc: Global, means: &Means<'_>) -> Result<Vec<u8>, AllocError>
+    requires few { length means.now.runs.now ≤ most_runs }
+    ensures text { IfOk result (λ v. v.items ≡ means_text means.now.counting.now.format means.now.counting.now.names.now (names_of means.now.program.now) means.now.columns.now means.now.counting.now.until means.now.runs.now) }
 {
     let mut out = String::new(alloc);
-    put_means_opening(&mut out, counting, program, columns)?;
-    put_lines(alloc, &mut out, counting, program, columns, runs)?;
+    put_means_opening(&mut out, means.counting, means.program, means.columns)?;
+    put_lines(alloc, &mut out, means)?;
     Ok(out.into_bytes())
 }

@@ -12,7 +12,7 @@ use crate::table::Row;
 use rounds_plan::RoundStates;
 use rounds_walk::{PlanRef, RoundWalk, Start, count_values};
 use rule_check::State;
-use run_watch::{Progress, Span};
+use run_watch::{Progress, Span, Workers};
 use std::alloc::{AllocError, Global};
 use std::thread::Threads;
 
@@ -50,7 +50,7 @@ fn is_held(holders: Holders, states: &[State], field: u32, value: u32) -> bool
     }
 }
 
-/// Whether no round is counted behind one in which the nodes have these states.
+/// Whether no round is counted after one in which the nodes have these states.
 fn is_over(until: Option<Until>, states: &[State]) -> bool
     ensures { result ≡ is_over until states.now }
 {
@@ -114,15 +114,14 @@ pub(crate) fn rows_of<P: Progress>(
 }
 
 /// The rounds of a span of a plan of any size, up to the one that ends them, as they are counted, in one pass over the
-/// rounds: none is computed twice. Each round is shared among so many threads where it has enough to compute for them. The
+/// rounds: none is computed twice. Each round is shared among the workers where it has enough to compute for them. The
 /// form that is asked for makes no difference, and a field that the program does not have is 0.
-pub fn counted_rows<P: Progress>(
-    rt: &(impl Threads + Sync),
+pub fn counted_rows<R: Threads + Sync, P: Progress>(
+    workers: &Workers<'_, R>,
     alloc: Global,
     plan: &PlanRef<'_>,
     span: &Span,
     counting: &Counting<'_>,
-    threads: usize,
     progress: &mut P,
 ) -> Result<Vec<Row>, AllocError>
     requires late { plan.now.start ≤ span.now.first }
@@ -130,6 +129,6 @@ pub fn counted_rows<P: Progress>(
     ensures rows { IfOk result (λ rows. AreRows plan.now span.now counting.now rows.items) }
 {
     let start = Start::new(alloc, plan)?;
-    let mut walk = start.shared_walk(alloc, threads)?;
-    rows_of(rt, alloc, &mut walk, span, counting, progress)
+    let mut walk = start.shared_walk(alloc, workers.count)?;
+    rows_of(workers.rt, alloc, &mut walk, span, counting, progress)
 }

@@ -115,7 +115,7 @@ pub(crate) fn deviation_of(numbers: &[u64]) -> u128
     (root_of(&squares, count * count * (count - 1)) + 1) / 2
 }
 
-/// A number of ten-thousandths as a decimal with four digits behind the point.
+/// A number of ten-thousandths as a decimal with four digits after the point.
 pub(crate) fn put_four_digits(out: &mut String, number: u128) -> Result<(), AllocError>
     ensures text { OnOk result (string_bytes out.new ≡ string_bytes out.old ++ four_digits number) }
 {

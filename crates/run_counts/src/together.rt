@@ -1,9 +1,7 @@
 //! The rounds of several runs, as they are counted together.
-ghost use Rattle.std.specs.Prelude.{◌≡◌, ◌≢◌, ◌≤◌, All, Err, IfErr, IfOk, MatchOption, None, Some, length};
-ghost use Rattle.std.specs.List.{AllZip};
+ghost use Rattle.std.specs.Prelude.{◌≡◌, ◌≢◌, ◌≤◌, Err, IfErr, IfOk, MatchOption, None, Some, length};
 ghost use Rattle.rule_check.specs.Value.{names_of};
 ghost use Rattle.run_watch.specs.declared.fault.WatchFault.TheVariants.{Memory};
-ghost use Rattle.run_counts.specs.Counts.{refusal_of};
 ghost use Rattle.run_counts.specs.Ensembles.{most_runs, names_in, refusal_in};
 ghost use Rattle.run_counts.specs.MeanTables.{AreMeans};
 ghost use Rattle.run_counts.specs.RunTables.{AreCounted};
@@ -12,8 +10,8 @@ use crate::asked::Counting;
 use crate::counting::refusal;
 use crate::ensemble::{Ensemble, Variant};
 use crate::mean_columns::columns_of;
-use crate::mean_table::means_table;
-use crate::run_table::runs_table;
+use crate::mean_table::{Means, means_table};
+use crate::run_table::{RunsTable, runs_table};
 use crate::runs::{RunsProgress, runs_of};
 use crate::values::values_in;
 use rule_check::Program;
@@ -60,7 +58,13 @@ fn counted_text<R: Threads + Sync, P: RunsProgress + Sync>(
     let runs = runs_of(rt, alloc, ensemble.variants, span, counting, progress)?;
     let values = values_in(alloc, counting.states, &runs)?;
     let program = first_program(ensemble.variants);
-    let text = runs_table(alloc, ensemble.name, program, counting, &values, &runs)?;
+    let table = RunsTable {
+        name: ensemble.name,
+        program,
+        counting,
+        values: &values,
+    };
+    let text = runs_table(alloc, &table, &runs)?;
     Ok(text)
 }
 
@@ -82,11 +86,17 @@ fn means_text<R: Threads + Sync, P: RunsProgress + Sync>(
     let values = values_in(alloc, counting.states, &runs)?;
     let columns = columns_of(alloc, &values, counting.figures)?;
     let program = first_program(ensemble.variants);
-    let text = means_table(alloc, counting, program, &columns, &runs)?;
+    let means = Means {
+        counting,
+        program,
+        columns: &columns,
+        runs: &runs,
+    };
+    let text = means_table(alloc, &means)?;
     Ok(text)
 }
 
-/// What `counted` gives of each of several runs, in one table: the lines of a run behind those of the run before, each
+/// What `counted` gives of each of several runs, in one table: the lines of a run after those of the run before, each
 /// with the run's value of what varies in a column in front. A column for each state, and for each value that occurs in
 /// one of the rounds of one of the runs, stands there where these are 64 at most. The runs are made side by side by as many threads as there are processors, and
 /// `progress` is told of each that is made.
@@ -117,7 +127,7 @@ pub fn counted_runs<R: Threads + Sync, P: RunsProgress + Sync>(
 /// The mean and the standard deviation, over several runs, of what `counted` gives of each of them: for each round to
 /// which a run goes on a line of the round, how many runs there are and, where runs may end early, how many go on to this
 /// round, and for each column the mean of its numbers in all runs and the standard deviation of the sample, both with
-/// four digits behind the point and rounded to the nearest. A run that has ended keeps the numbers of its last round.
+/// four digits after the point and rounded to the nearest. A run that has ended keeps the numbers of its last round.
 /// There is no deviation where there is one run. Where there are more than 64 states and values that occur in all rounds
 /// of all runs, there are columns for the further numbers alone. The runs are made, and told, as those of `counted_runs`.
 ///

@@ -8,7 +8,7 @@ use crate::runs::Run;
 use crate::table::Row;
 use std::alloc::{AllocError, Global};
 
-/// Puts the values that are counted behind the others.
+/// Puts the values that are counted after the others.
 fn put_keys(keys: &mut Vec<u32>, counts: &[(u32, u64)]) -> Result<(), AllocError>
     ensures keys { OnOk result (keys.new.items ≡ keys.old.items ++ map (λ c. c.0) counts.now) }
 {
@@ -18,7 +18,7 @@ fn put_keys(keys: &mut Vec<u32>, counts: &[(u32, u64)]) -> Result<(), AllocError
     Ok(())
 }
 
-/// Puts the values that occur in each of the rounds behind the others, one round behind the other.
+/// Puts the values that occur in each of the rounds after the others, one round after the other.
 fn put_all_keys(keys: &mut Vec<u32>, rows: &[Row]) -> Result<(), AllocError>
     ensures keys { OnOk result (keys.new.items ≡ keys.old.items ++ flat_map keys_of rows.now) }
 {
@@ -39,7 +39,7 @@ fn states_of(alloc: Global, states: u32) -> Result<Vec<u32>, AllocError>
     Ok(keys)
 }
 
-/// Puts the values that occur in the rounds of each of the runs behind the others, one run behind the other.
+/// Puts the values that occur in the rounds of each of the runs after the others, one run after the other.
 fn put_run_keys(keys: &mut Vec<u32>, runs: &[Run]) -> Result<(), AllocError>
     ensures keys { OnOk result (keys.new.items ≡ keys.old.items ++ flat_map (λ run. flat_map keys_of run.rows) runs.now) }
 {

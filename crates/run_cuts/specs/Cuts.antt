@@ -48,7 +48,7 @@ occasion t u = record { round = t + 1; node = u }
 abbrev pub step_occasions : PlanView → OperatorTree → ℕ → List Occasion
 step_occasions p op t = filter (λ o. is_cut (here_in p t o.node) op) (map (occasion t) (numbers_below (length p.network)))
 
--- where it is cut in all rounds behind the plan's start, up to round T, by rising round
+-- where it is cut in all rounds after the plan's start, up to round T, by rising round
 abbrev pub occasions : PlanView → ℕ → OperatorTree → List Occasion
 occasions p T op = flat_map (step_occasions p op) (range_with_len p.start (T - p.start))
 

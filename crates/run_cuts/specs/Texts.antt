@@ -87,7 +87,7 @@ count_member n = codes ",\"times\":" ++ (decimal n ++ codes "}")
 abbrev pub cut_member : Telling → Cut → List ℕ
 cut_member t c = site_members (site_at t.sites.now c.operator) ++ (symbol_of c.kind ++ (first_members t.labels.now c.round c.node ++ count_member c.times))
 
--- objects behind so many others, each but the first with a comma before it
+-- objects after so many others, each but the first with a comma before it
 abbrev pub members_text : Telling → ℕ → List Cut → List ℕ
 members_text t n [] = []
 members_text t n (c ∷ cuts) = (if n == 0 then [] else codes ",") ++ (cut_member t c ++ members_text t (n + 1) cuts)

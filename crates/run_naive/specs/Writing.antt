@@ -22,7 +22,7 @@ mover stop nodes (Write u) = mover_by stop u (slice_get nodes u)
 abbrev pub written : PlanView → ℕ → List NaiveNode → Step → Option State
 written p stop nodes step = option_map (state_now (after p stop nodes step)) (mover stop nodes step)
 
--- those of each step of a list, made one behind the other from these nodes on
+-- those of each step of a list, made one after the other from these nodes on
 abbrev pub written_from : PlanView → ℕ → List NaiveNode → List Step → List (Option State)
 written_from p stop nodes [] = []
 written_from p stop nodes (step ∷ steps) = written p stop nodes step ∷ written_from p stop (after p stop nodes step) steps

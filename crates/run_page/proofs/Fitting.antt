@@ -5,12 +5,13 @@ use Rattle.std.specs.Option.{option_map, option_or}
 use Rattle.std.specs.Prelude.{Option, Some, None}
 use Rattle.rounds_plan.specs.Configs.{most_rounds}
 use Rattle.rounds_plan.specs.Plans.{PlanView}
-use Rattle.run_watch.specs.Spans.{SpanView, count_of}
+use Rattle.run_watch.specs.Spans.{count_of}
 use Rattle.run_watch.specs.Watching.{missing_of}
 use Rattle.run_watch.proofs.Missing.{none_missing}
 use Rattle.run_page.specs.declared.fault.PageFault.{PageFault}
 use Rattle.run_page.specs.declared.fault.PageFault.TheVariants.{TooManyRounds, RoundsBelowStart, StopTooLarge, StopBelowStart, NoField}
 use Rattle.run_page.specs.declared.look.Look.{Look}
+use Rattle.run_page.specs.declared.look.PageRounds.{PageRounds}
 use Rattle.run_page.specs.Refusals.{field_refusal, opening_refusal, rounds_refusal, values_in, values_refusal}
 
 -- neither of two tests, and then nothing
@@ -34,10 +35,12 @@ not_below a b test = grind (arith, common_steps, test)
 pub fields_there : (p : PlanView) (look : Look) → field_refusal p look ≡ None → All (λ place. place < length p.program.fields) look.fields.now
 fields_there p look none = none_missing (length p.program.fields) look.fields.now (mapped_none (missing_of (length p.program.fields) look.fields.now) none)
 
-pub rounds_fit : (p : PlanView) (span : SpanView) (look : Look) → rounds_refusal p span look ≡ None
-    → (span.last ≤ most_rounds) × (p.start ≤ span.first) × All (λ place. place < length p.program.fields) look.fields.now
+pub rounds_fit : (p : PlanView) (rounds : PageRounds) → rounds_refusal p rounds ≡ None
+    → (rounds.span.now.last ≤ most_rounds) × (p.start ≤ rounds.span.now.first) × All (λ place. place < length p.program.fields) rounds.look.now.fields.now
 unfolding rounds_refusal
-rounds_fit p span look none =
+rounds_fit p rounds none =
+    let span = rounds.span.now in
+    let look = rounds.look.now in
     let parts = neither (nat_lt most_rounds span.last) (nat_lt span.first p.start) TooManyRounds RoundsBelowStart (option_or (field_refusal p look) (values_refusal (values_in p look (count_of span)))) none in (
       not_below most_rounds span.last parts.0,
       not_below span.first p.start parts.1,

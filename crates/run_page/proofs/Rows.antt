@@ -30,7 +30,7 @@ links_more u r k inside =
     let a = get_or r k (0, 0) in
     ap (links_up u) (drop_more r k (0, 0) inside) ∙ first_link u (nat_lt u a.0) a (filter (λ a. nat_lt u a.0) (drop (k + 1) r))
 
--- the first of so many numbers, and those behind it
+-- the first of so many numbers, and those after it
 pub flat_left : {X : Type 0} (f : ℕ → List X) (i n : ℕ) → i < n → flat_map f (range_with_len i (n - i)) ≡ f i ++ flat_map f (range_with_len (i + 1) (n - (i + 1)))
 flat_left f i n inside =
     let e : n - i ≡ suc (n - (i + 1)) = omega (arith, inside) in

@@ -7,13 +7,14 @@ use Rattle.rounds_plan.specs.Plans.{PlanView}
 use Rattle.rule_check.specs.declared.state.State.{State}
 use Rattle.run_settle.specs.declared.settling.Settling.{Settling}
 use Rattle.run_settle.specs.declared.settling.Settling.TheVariants.{Settles, Repeats, Open}
-use Rattle.run_watch.specs.Spans.{SpanView, rounds_in}
+use Rattle.run_watch.specs.Spans.{rounds_in}
 use Rattle.serde_json.specs.Data.{Data, object, Members, no_members, member, depth, items_depth, members_depth}
 use Rattle.serde_json.specs.Read.{max_depth}
 use Rattle.serde_json.specs.View.{items_of}
 use Rattle.unison_world.specs.declared.step.Step.{Step}
 use Rattle.unison_world.specs.declared.step.Step.TheVariants.{Read, Write}
 use Rattle.run_page.specs.declared.look.Look.{Look}
+use Rattle.run_page.specs.declared.look.PageRounds.{PageRounds}
 use Rattle.run_page.specs.Closed.{IsClosed, ItemsAreClosed, MembersAreClosed, is_closed}
 use Rattle.run_page.specs.Pages.{headed, legend_of, links_of, links_up, listed, numbers, rounds_members, rounds_page, settling_data, shown, shown_names, states_of, step_data, stepped, stepped_naively, texts, value_names, values_at, whole, writes_of, written_data}
 
@@ -93,9 +94,12 @@ headed_shaped p look manner rest closed others shallow =
     )
 
 -- a page of rounds
-pub rounds_shaped : (p : PlanView) (span : SpanView) (look : Look) (settling : Option Settling) → IsClosed (rounds_page p span look settling) × (depth (rounds_page p span look settling) ≤ max_depth)
+pub rounds_shaped : (p : PlanView) (shown : PageRounds) → IsClosed (rounds_page p shown) × (depth (rounds_page p shown) ≤ max_depth)
 unfolding rounds_page rounds_members
-rounds_shaped p span look settling =
+rounds_shaped p shown =
+    let span = shown.span.now in
+    let look = shown.look.now in
+    let settling = shown.settling in
     let rounds = numbers_shaped (rounds_in span) in
     let becomes = listed_shaped 0 (settling_data settling) (settling_shaped settling) in
     let states = states_shaped p look.fields.now (rounds_in span) in

@@ -19,6 +19,7 @@ use Rattle.unison_world.specs.declared.step.Step.TheVariants.{Read, Write}
 use Rattle.unison_world.specs.declared.step.Answer.{Answer}
 use Rattle.unison_world.specs.declared.step.Answer.TheVariants.{Taken, Moved, Behind, Already, NotReady, Stopped, NoNode, NoSlot}
 use Rattle.run_page.specs.declared.look.Look.{Look}
+use Rattle.run_page.specs.declared.look.PageRounds.{PageRounds}
 
 -- a number
 abbrev pub whole : ℕ → Data
@@ -91,17 +92,17 @@ settling_data (Some (Settles round)) = string (codes "settles") ∷ (whole round
 settling_data (Some (Repeats round period)) = string (codes "repeats") ∷ (whole round ∷ (whole period ∷ []))
 settling_data (Some (Open limit)) = string (codes "open") ∷ (whole limit ∷ [])
 
--- what a page says of the rounds of a span
-unfoldable pub rounds_members : PlanView → SpanView → Look → Option Settling → Members
-rounds_members p span look settling =
-    headed p look (codes "rounds")
-    (member (codes "rounds") (numbers (rounds_in span))
-    (member (codes "settling") (listed (settling_data settling))
-    (member (codes "states") (states_of p look.fields.now (rounds_in span)) no_members)))
+-- what a page says of the rounds that it shows
+unfoldable pub rounds_members : PlanView → PageRounds → Members
+rounds_members p rounds =
+    headed p rounds.look.now (codes "rounds")
+    (member (codes "rounds") (numbers (rounds_in rounds.span.now))
+    (member (codes "settling") (listed (settling_data rounds.settling))
+    (member (codes "states") (states_of p rounds.look.now.fields.now (rounds_in rounds.span.now)) no_members)))
 
--- the data of a page of the rounds of a span
-unfoldable pub rounds_page : PlanView → SpanView → Look → Option Settling → Data
-rounds_page p span look settling = object (rounds_members p span look settling)
+-- the data of a page of rounds
+unfoldable pub rounds_page : PlanView → PageRounds → Data
+rounds_page p rounds = object (rounds_members p rounds)
 
 -- a step: a read as its node and its slot, a write as its node
 abbrev pub step_data : Step → Data

@@ -3,7 +3,7 @@ use Rattle.std.specs.Prelude.{◌≡◌, ℕ, ◌+◌, ◌*◌, max, List, lengt
 use Rattle.std.specs.Option.{option_map, option_or}
 use Rattle.rounds_plan.specs.Configs.{most_rounds}
 use Rattle.rounds_plan.specs.Plans.{PlanView}
-use Rattle.run_watch.specs.Spans.{SpanView, count_of}
+use Rattle.run_watch.specs.Spans.{count_of}
 use Rattle.run_watch.specs.Watching.{missing_of}
 use Rattle.unison_world.specs.declared.fault.OpenFault.{OpenFault}
 use Rattle.unison_world.specs.declared.fault.OpenFault.TheVariants as opening
@@ -11,6 +11,7 @@ use Rattle.unison_world.specs.declared.step.Step.{Step}
 use Rattle.run_page.specs.declared.fault.PageFault.{PageFault}
 use Rattle.run_page.specs.declared.fault.PageFault.TheVariants.{TooManyRounds, RoundsBelowStart, StopTooLarge, StopBelowStart, NoField, TooManyValues, Memory}
 use Rattle.run_page.specs.declared.look.Look.{Look}
+use Rattle.run_page.specs.declared.look.PageRounds.{PageRounds}
 use Rattle.run_page.specs.Pages.{reached, reached_naively}
 
 -- the greatest number of values of a page
@@ -29,12 +30,12 @@ field_refusal p look = option_map NoField (missing_of (length p.program.fields) 
 abbrev pub values_refusal : ℕ → Option PageFault
 values_refusal values = if nat_lt most_values values then Some TooManyValues else None
 
--- why there is no data of the rounds of a span, whatever memory there is
-unfoldable pub rounds_refusal : PlanView → SpanView → Look → Option PageFault
-rounds_refusal p span look =
-    if nat_lt most_rounds span.last then Some TooManyRounds
-    else if nat_lt span.first p.start then Some RoundsBelowStart
-    else option_or (field_refusal p look) (values_refusal (values_in p look (count_of span)))
+-- why there is no data of rounds, whatever memory there is
+unfoldable pub rounds_refusal : PlanView → PageRounds → Option PageFault
+rounds_refusal p rounds =
+    if nat_lt most_rounds rounds.span.now.last then Some TooManyRounds
+    else if nat_lt rounds.span.now.first p.start then Some RoundsBelowStart
+    else option_or (field_refusal p rounds.look.now) (values_refusal (values_in p rounds.look.now (count_of rounds.span.now)))
 
 -- the same of steps, of what is known before the first
 unfoldable pub opening_refusal : PlanView → ℕ → Look → Option PageFault

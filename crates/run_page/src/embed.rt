@@ -67,7 +67,7 @@ fn mark_place(viewer: &[u8]) -> Result<usize, EmbedFault>
     }
 }
 
-/// The bytes before a mark at a place, the data, and the bytes behind the mark.
+/// The bytes before a mark at a place, the data, and the bytes after the mark.
 fn in_place(
     alloc: Global,
     viewer: &[u8],

@@ -17,7 +17,7 @@ mod text;
 
 pub use embed::{EmbedFault, MARK, embedded};
 pub use fault::PageFault;
-pub use look::{Look, MOST_VALUES};
+pub use look::{Look, MOST_VALUES, PageRounds};
 pub use naive::naive_data;
 pub use rounds::rounds_data;
 pub use steps::steps_data;

@@ -1,5 +1,9 @@
 //! What a page shows of a run.
 
+use run_settle::Settling;
+use run_watch::Span;
+use unison_world::Step;
+
 /// The greatest number of values of a page.
 pub const MOST_VALUES: u64 = 20_000_000;
 
@@ -14,4 +18,28 @@ pub struct Look<'a> {
     pub labels: &'a [String],
     /// How many nodes stand in a row, where the nodes are drawn as a grid.
     pub grid: Option<u32>,
+}
+
+/// What a page shows of rounds.
+#[derive(Clone, Copy)]
+pub struct PageRounds<'a> {
+    /// The rounds.
+    pub span: &'a Span,
+    /// What becomes of the rounds of the run, where it is known.
+    pub settling: Option<Settling>,
+    /// What is shown of them.
+    pub look: &'a Look<'a>,
+}
+
+/// What a page shows of steps.
+#[derive(Clone, Copy)]
+pub(crate) struct PageSteps<'a> {
+    /// The stop up to which nodes move.
+    pub(crate) stop: u32,
+    /// The steps, in order.
+    pub(crate) steps: &'a [Step],
+    /// The rounds that nodes reach by them.
+    pub(crate) span: &'a Span,
+    /// What is shown of them.
+    pub(crate) look: &'a Look<'a>,
 }

@@ -11,7 +11,7 @@ ghost use Rattle.run_page.specs.Pages.{naive_page, numbers as numbers_data, step
 ghost use Rattle.run_page.specs.Refusals.{IsFault, naive_refusal, opening_refusal};
 
 use crate::fault::PageFault;
-use crate::look::Look;
+use crate::look::{Look, PageSteps};
 use crate::parts::put_shown;
 use crate::refusals::naive_values_refusal;
 use crate::steps::{greatest_count, make, refusal, stepped};
@@ -63,27 +63,23 @@ fn reached_naively(world: &World, last: u32) -> Span
     Span::new(world.plan().start(), last, 1).unwrap()
 }
 
-/// The data of a plan's steps up to a stop, with these answers, the rounds of this span, and these states to which the steps
-/// move nodes that do not wait.
+/// The data of a plan's steps with these answers, and with these states to which they move nodes that do not wait.
 #[tactic(auto, unfolding(crate::specs::Pages::stepped_naively, crate::specs::Pages::stepped, crate::specs::Pages::headed))]
 fn page(
     rt: &(impl Threads + Sync),
     alloc: Global,
     plan: &Plan,
-    stop: u32,
-    steps: &[Step],
-    look: &Look<'_>,
+    shown: &PageSteps<'_>,
     answers: Value,
-    span: &Span,
     states: &[Option<State>],
 ) -> Result<Value, AllocError>
-    requires fields { All (λ place. place < length plan.now.program.fields) look.now.fields.now }
-    requires late { plan.now.start ≤ span.now.first }
-    requires few { span.now.last ≤ most_rounds }
-    ensures { IfOk result (λ v. (codes : List ℕ) → view answers ≡ numbers_data codes → view v ≡ stepped_naively plan.now stop steps.now look.now codes (rounds_in span.now) states.now) }
+    requires fields { All (λ place. place < length plan.now.program.fields) shown.now.look.now.fields.now }
+    requires late { plan.now.start ≤ shown.now.span.now.first }
+    requires few { shown.now.span.now.last ≤ most_rounds }
+    ensures { IfOk result (λ v. (codes : List ℕ) → view answers ≡ numbers_data codes → view v ≡ stepped_naively plan.now shown.now.stop shown.now.steps.now shown.now.look.now codes (rounds_in shown.now.span.now) states.now) }
 {
-    let mut members = stepped(rt, alloc, plan, stop, steps, look, answers, span)?;
-    let written = written_values(alloc, look.fields, states)?;
+    let mut members = stepped(rt, alloc, plan, shown, answers)?;
+    let written = written_values(alloc, shown.look.fields, states)?;
     put(&mut members, alloc, "written", written)?;
     Ok(Value::Object(members))
 }
@@ -112,17 +108,13 @@ fn text(
     if let Some(fault) = naive_values_refusal(world.plan(), look, rounds, steps.len()) {
         return Err(fault);
     }
-    let page = page(
-        rt,
-        alloc,
-        world.plan(),
-        world.stop(),
+    let shown = PageSteps {
+        stop: world.stop(),
         steps,
+        span: &span,
         look,
-        answers,
-        &span,
-        &writes.states,
-    )?;
+    };
+    let page = page(rt, alloc, world.plan(), &shown, answers, &writes.states)?;
     let text = text_of(alloc, &page)?;
     Ok(text)
 }

@@ -9,23 +9,23 @@ ghost use Rattle.run_page.specs.Refusals.{IsFault, rounds_refusal};
 
 use crate::fault::PageFault;
 use crate::head::put_head;
-use crate::look::Look;
+use crate::look::PageRounds;
 use crate::refusals::{field_refusal, values_refusal};
 use crate::settled::settled;
 use crate::states::{round_numbers, states};
 use crate::text::text_of;
 use rounds_plan::{MOST_ROUNDS, Plan};
-use run_settle::Settling;
-use run_watch::{Progress, Span};
+use run_watch::Progress;
 use serde_json::{Map, Value, put};
 use std::alloc::{AllocError, Global};
 use std::thread::Threads;
 
 /// Why there is no data, whatever memory there is.
 #[tactic(auto, unfolding(crate::specs::Refusals::rounds_refusal))]
-fn refusal(plan: &Plan, span: &Span, look: &Look<'_>) -> Option<PageFault>
-    ensures { result ≡ rounds_refusal plan.now span.now look.now }
+fn refusal(plan: &Plan, shown: &PageRounds<'_>) -> Option<PageFault>
+    ensures { result ≡ rounds_refusal plan.now shown.now }
 {
+    let (span, look) = (shown.span, shown.look);
     if span.last() > MOST_ROUNDS {
         return Some(PageFault::TooManyRounds);
     }
@@ -45,21 +45,19 @@ fn put_rounds<P: Progress>(
     members: &mut Map<String, Value>,
     alloc: Global,
     plan: &Plan,
-    span: &Span,
-    look: &Look<'_>,
-    settling: Option<Settling>,
+    shown: &PageRounds<'_>,
     progress: &mut P,
 ) -> Result<(), AllocError>
     requires blank { members_view members.old.entries ≡ no_members }
-    requires fits { rounds_refusal plan.now span.now look.now ≡ None }
-    ensures { OnOk result (members_view members.new.entries ≡ rounds_members plan.now span.now look.now settling) }
+    requires fits { rounds_refusal plan.now shown.now ≡ None }
+    ensures { OnOk result (members_view members.new.entries ≡ rounds_members plan.now shown.now) }
 {
-    put_head(members, alloc, plan, look, "rounds")?;
-    let rounds = round_numbers(alloc, span)?;
+    put_head(members, alloc, plan, shown.look, "rounds")?;
+    let rounds = round_numbers(alloc, shown.span)?;
     put(members, alloc, "rounds", rounds)?;
-    let settling = settled(alloc, settling)?;
+    let settling = settled(alloc, shown.settling)?;
     put(members, alloc, "settling", settling)?;
-    let states = states(rt, alloc, plan, span, look.fields, progress)?;
+    let states = states(rt, alloc, plan, shown.span, shown.look.fields, progress)?;
     put(members, alloc, "states", states)
 }
 
@@ -69,25 +67,14 @@ fn page<P: Progress>(
     rt: &(impl Threads + Sync),
     alloc: Global,
     plan: &Plan,
-    span: &Span,
-    look: &Look<'_>,
-    settling: Option<Settling>,
+    shown: &PageRounds<'_>,
     progress: &mut P,
 ) -> Result<Value, AllocError>
-    requires fits { rounds_refusal plan.now span.now look.now ≡ None }
-    ensures { IfOk result (λ v. view v ≡ rounds_page plan.now span.now look.now settling) }
+    requires fits { rounds_refusal plan.now shown.now ≡ None }
+    ensures { IfOk result (λ v. view v ≡ rounds_page plan.now shown.now) }
 {
     let mut members = Map::new(alloc);
-    put_rounds(
-        rt,
-        &mut members,
-        alloc,
-        plan,
-        span,
-        look,
-        settling,
-        progress,
-    )?;
+    put_rounds(rt, &mut members, alloc, plan, shown, progress)?;
     Ok(Value::Object(members))
 }
 
@@ -96,17 +83,15 @@ fn text<P: Progress>(
     rt: &(impl Threads + Sync),
     alloc: Global,
     plan: &Plan,
-    span: &Span,
-    look: &Look<'_>,
-    settling: Option<Settling>,
+    shown: &PageRounds<'_>,
     progress: &mut P,
 ) -> Result<Vec<u8>, AllocError>
-    requires fits { rounds_refusal plan.now span.now look.now ≡ None }
-    ensures text { IfOk result (λ v. v.items ≡ compact_text (rounds_page plan.now span.now look.now settling)) }
-    ensures reads_back { IfOk result (λ v. read v.items ≡ Some (rounds_page plan.now span.now look.now settling)) }
+    requires fits { rounds_refusal plan.now shown.now ≡ None }
+    ensures text { IfOk result (λ v. v.items ≡ compact_text (rounds_page plan.now shown.now)) }
+    ensures reads_back { IfOk result (λ v. read v.items ≡ Some (rounds_page plan.now shown.now)) }
     ensures closed { IfOk result (λ v. All (λ b. b ≢ 60) v.items) }
 {
-    let page = page(rt, alloc, plan, span, look, settling, progress)?;
+    let page = page(rt, alloc, plan, shown, progress)?;
     text_of(alloc, &page)
 }
 
@@ -130,20 +115,18 @@ pub fn rounds_data<P: Progress>(
     rt: &(impl Threads + Sync),
     alloc: Global,
     plan: &Plan,
-    span: &Span,
-    look: &Look<'_>,
-    settling: Option<Settling>,
+    shown: &PageRounds<'_>,
     progress: &mut P,
 ) -> Result<Vec<u8>, PageFault>
-    ensures text { IfOk result (λ v. v.items ≡ compact_text (rounds_page plan.now span.now look.now settling)) }
-    ensures reads_back { IfOk result (λ v. read v.items ≡ Some (rounds_page plan.now span.now look.now settling)) }
+    ensures text { IfOk result (λ v. v.items ≡ compact_text (rounds_page plan.now shown.now)) }
+    ensures reads_back { IfOk result (λ v. read v.items ≡ Some (rounds_page plan.now shown.now)) }
     ensures closed { IfOk result (λ v. All (λ b. b ≢ 60) v.items) }
-    ensures fits { IfOk result (λ _. rounds_refusal plan.now span.now look.now ≡ None) }
-    ensures refused { IfErr result (IsFault (rounds_refusal plan.now span.now look.now) (rounds_refusal plan.now span.now look.now)) }
+    ensures fits { IfOk result (λ _. rounds_refusal plan.now shown.now ≡ None) }
+    ensures refused { IfErr result (IsFault (rounds_refusal plan.now shown.now) (rounds_refusal plan.now shown.now)) }
 {
-    if let Some(fault) = refusal(plan, span, look) {
+    if let Some(fault) = refusal(plan, shown) {
         return Err(fault);
     }
-    let text = text(rt, alloc, plan, span, look, settling, progress)?;
+    let text = text(rt, alloc, plan, shown, progress)?;
     Ok(text)
 }

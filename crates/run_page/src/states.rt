@@ -35,26 +35,26 @@ fn put_round(
     Ok(())
 }
 
-/// Adds the shown values of the rounds of a span, in one pass.
-fn put_rounds<P: Progress>(
+/// The shown values of the rounds of a span, each round by itself, in one pass.
+fn round_values<P: Progress>(
     rt: &(impl Threads + Sync),
     alloc: Global,
-    items: &mut Vec<Value>,
     walk: &mut RoundWalk<'_>,
     span: &Span,
     fields: &[u32],
     progress: &mut P,
-) -> Result<(), AllocError>
+) -> Result<Vec<Value>, AllocError>
     requires late { walk.old.round ≤ span.now.first }
     requires few { span.now.last ≤ most_rounds }
-    ensures states { OnOk result (map view items.new.items ≡ map view items.old.items ++ map (λ t. numbers (values_at walk.old.plan fields.now t)) (rounds_in span.now)) }
+    ensures states { IfOk result (λ v. map view v.items ≡ map (λ t. numbers (values_at walk.old.plan fields.now t)) (rounds_in span.now)) }
 {
+    let mut items = Vec::with_capacity(alloc, span.steps() as usize + 1)?;
     for place in 0..span.steps() + 1 {
         let round = span.round_at(place);
-        put_round(rt, alloc, items, walk, round, fields)?;
+        put_round(rt, alloc, &mut items, walk, round, fields)?;
         progress.reached(round);
     }
-    Ok(())
+    Ok(items)
 }
 
 /// The shown values of the rounds of a span.
@@ -72,8 +72,7 @@ pub(crate) fn states<P: Progress>(
 {
     let start = Start::new(alloc, &PlanRef::of_plan(plan))?;
     let mut walk = start.shared_walk(alloc, current_num_threads(rt))?;
-    let mut items = Vec::with_capacity(alloc, span.steps() as usize + 1)?;
-    put_rounds(rt, alloc, &mut items, &mut walk, span, fields, progress)?;
+    let items = round_values(rt, alloc, &mut walk, span, fields, progress)?;
     Ok(Value::Array(items))
 }
 

@@ -7,14 +7,14 @@ ghost use Rattle.serde_json.specs.Data.{no_members, object};
 ghost use Rattle.serde_json.specs.Read.{read};
 ghost use Rattle.serde_json.specs.View.{members_view, view};
 ghost use Rattle.serde_json.specs.Written.{compact_text};
-ghost use Rattle.unison_world.specs.Counting.{answers, moves_of, run};
+ghost use Rattle.unison_world.specs.Counting.{answers, run};
 ghost use Rattle.unison_world.specs.View.{opened, with_counts};
 ghost use Rattle.run_page.specs.Pages.{code_of, listed, numbers as numbers_data, reached, step_data, stepped, steps_page};
 ghost use Rattle.run_page.specs.Refusals.{IsFault, opening_refusal, steps_refusal};
 
 use crate::fault::PageFault;
 use crate::head::put_head;
-use crate::look::Look;
+use crate::look::{Look, PageSteps};
 use crate::parts::numbers;
 use crate::refusals::{field_refusal, values_refusal};
 use crate::states::{round_numbers, states};
@@ -25,7 +25,7 @@ use serde_json::{Map, Value, put};
 use std::alloc::{AllocError, Global};
 use std::sync::Arc;
 use std::thread::Threads;
-use unison_world::{Answer, Step, World};
+use unison_world::{Answer, Step, World, moves};
 
 /// Nobody is told how far the rounds are.
 #[derive(Drop)]
@@ -78,17 +78,6 @@ pub(crate) fn make(alloc: Global, world: &mut World, steps: &[Step]) -> Result<V
     Ok(Value::Array(items))
 }
 
-/// How often a node has moved.
-fn moves(world: &World, node: u32) -> u32
-    ensures count { result ≡ moves_of world.now.counts node }
-    ensures limit { result ≤ most_rounds }
-{
-    // For the proof alone: the calls tell what holds of every world.
-    let _nodes = world.nodes();
-    let _stop = world.stop();
-    world.moves(node).unwrap_or(0)
-}
-
 /// The greatest count, from the plan's start on.
 pub(crate) fn greatest_count(world: &World) -> u32
     ensures count { result ≡ fold max world.now.plan.start world.now.counts.moves }
@@ -134,84 +123,66 @@ fn step_values(alloc: Global, steps: &[Step]) -> Result<Value, AllocError>
     Ok(Value::Array(items))
 }
 
-/// Puts what is said of a plan's steps up to a stop, with these answers and the rounds of this span, where nothing is said yet.
+/// Puts what is said of a plan's steps with these answers, where nothing is said yet.
 #[tactic(auto, unfolding(crate::specs::Pages::stepped, crate::specs::Pages::headed))]
 fn put_stepped(
     rt: &(impl Threads + Sync),
     members: &mut Map<String, Value>,
     alloc: Global,
     plan: &Plan,
-    stop: u32,
-    steps: &[Step],
-    look: &Look<'_>,
+    shown: &PageSteps<'_>,
     answers: Value,
-    span: &Span,
 ) -> Result<(), AllocError>
     requires blank { members_view members.old.entries ≡ no_members }
-    requires fields { All (λ place. place < length plan.now.program.fields) look.now.fields.now }
-    requires late { plan.now.start ≤ span.now.first }
-    requires few { span.now.last ≤ most_rounds }
-    ensures { OnOk result ((codes : List ℕ) → view answers ≡ numbers_data codes → members_view members.new.entries ≡ stepped plan.now stop steps.now look.now codes (rounds_in span.now) no_members) }
+    requires fields { All (λ place. place < length plan.now.program.fields) shown.now.look.now.fields.now }
+    requires late { plan.now.start ≤ shown.now.span.now.first }
+    requires few { shown.now.span.now.last ≤ most_rounds }
+    ensures { OnOk result ((codes : List ℕ) → view answers ≡ numbers_data codes → members_view members.new.entries ≡ stepped plan.now shown.now.stop shown.now.steps.now shown.now.look.now codes (rounds_in shown.now.span.now) no_members) }
 {
-    put_head(members, alloc, plan, look, "steps")?;
+    put_head(members, alloc, plan, shown.look, "steps")?;
     put(members, alloc, "answers", answers)?;
-    let rounds = round_numbers(alloc, span)?;
+    let rounds = round_numbers(alloc, shown.span)?;
     put(members, alloc, "rounds", rounds)?;
-    let states = states(rt, alloc, plan, span, look.fields, &mut Untold)?;
+    let fields = shown.look.fields;
+    let states = states(rt, alloc, plan, shown.span, fields, &mut Untold)?;
     put(members, alloc, "states", states)?;
-    let steps = step_values(alloc, steps)?;
+    let steps = step_values(alloc, shown.steps)?;
     put(members, alloc, "steps", steps)?;
-    put(members, alloc, "stop", Value::from(stop))
+    put(members, alloc, "stop", Value::from(shown.stop))
 }
 
-/// What is said of a plan's steps up to a stop, with these answers and the rounds of this span.
+/// What is said of a plan's steps with these answers.
 pub(crate) fn stepped(
     rt: &(impl Threads + Sync),
     alloc: Global,
     plan: &Plan,
-    stop: u32,
-    steps: &[Step],
-    look: &Look<'_>,
+    shown: &PageSteps<'_>,
     answers: Value,
-    span: &Span,
 ) -> Result<Map<String, Value>, AllocError>
-    requires fields { All (λ place. place < length plan.now.program.fields) look.now.fields.now }
-    requires late { plan.now.start ≤ span.now.first }
-    requires few { span.now.last ≤ most_rounds }
-    ensures { IfOk result (λ m. (codes : List ℕ) → view answers ≡ numbers_data codes → members_view m.entries ≡ stepped plan.now stop steps.now look.now codes (rounds_in span.now) no_members) }
+    requires fields { All (λ place. place < length plan.now.program.fields) shown.now.look.now.fields.now }
+    requires late { plan.now.start ≤ shown.now.span.now.first }
+    requires few { shown.now.span.now.last ≤ most_rounds }
+    ensures { IfOk result (λ m. (codes : List ℕ) → view answers ≡ numbers_data codes → members_view m.entries ≡ stepped plan.now shown.now.stop shown.now.steps.now shown.now.look.now codes (rounds_in shown.now.span.now) no_members) }
 {
     let mut members = Map::new(alloc);
-    put_stepped(
-        rt,
-        &mut members,
-        alloc,
-        plan,
-        stop,
-        steps,
-        look,
-        answers,
-        span,
-    )?;
+    put_stepped(rt, &mut members, alloc, plan, shown, answers)?;
     Ok(members)
 }
 
-/// The data of a plan's steps up to a stop, with these answers and the rounds of this span.
+/// The data of a plan's steps with these answers.
 fn page(
     rt: &(impl Threads + Sync),
     alloc: Global,
     plan: &Plan,
-    stop: u32,
-    steps: &[Step],
-    look: &Look<'_>,
+    shown: &PageSteps<'_>,
     answers: Value,
-    span: &Span,
 ) -> Result<Value, AllocError>
-    requires fields { All (λ place. place < length plan.now.program.fields) look.now.fields.now }
-    requires late { plan.now.start ≤ span.now.first }
-    requires few { span.now.last ≤ most_rounds }
-    ensures { IfOk result (λ v. (codes : List ℕ) → view answers ≡ numbers_data codes → view v ≡ object (stepped plan.now stop steps.now look.now codes (rounds_in span.now) no_members)) }
+    requires fields { All (λ place. place < length plan.now.program.fields) shown.now.look.now.fields.now }
+    requires late { plan.now.start ≤ shown.now.span.now.first }
+    requires few { shown.now.span.now.last ≤ most_rounds }
+    ensures { IfOk result (λ v. (codes : List ℕ) → view answers ≡ numbers_data codes → view v ≡ object (stepped plan.now shown.now.stop shown.now.steps.now shown.now.look.now codes (rounds_in shown.now.span.now) no_members)) }
 {
-    let members = stepped(rt, alloc, plan, stop, steps, look, answers, span)?;
+    let members = stepped(rt, alloc, plan, shown, answers)?;
     Ok(Value::Object(members))
 }
 
@@ -237,16 +208,13 @@ fn text(
     if let Some(fault) = values_refusal(world.plan(), look, span.steps() + 1, steps.len()) {
         return Err(fault);
     }
-    let page = page(
-        rt,
-        alloc,
-        world.plan(),
-        world.stop(),
+    let shown = PageSteps {
+        stop: world.stop(),
         steps,
+        span: &span,
         look,
-        answers,
-        &span,
-    )?;
+    };
+    let page = page(rt, alloc, world.plan(), &shown, answers)?;
     let text = text_of(alloc, &page)?;
     Ok(text)
 }

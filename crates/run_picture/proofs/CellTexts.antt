@@ -10,7 +10,7 @@ use Rattle.run_picture.specs.DrawnLinks.{FitsWords}
 use Rattle.run_picture.specs.Placed.{TextTellsCells, drawn}
 use Rattle.run_picture.specs.Sheets.{cell_text, outline}
 
--- what stands before the number of the colour, between it and the column, and behind the row
+-- what stands before the number of the colour, between it and the column, and after the row
 abbrev before_colour : List ℕ
 before_colour = codes "<path class=\"c"
 
@@ -20,7 +20,7 @@ before_column = codes "\" d=\"M"
 abbrev behind_row : CellShape → ℕ → List ℕ
 behind_row shape y = outline shape y ++ codes "\"/>\n"
 
--- the parts of a cell's text, and what stands behind it
+-- the parts of a cell's text, and what stands after it
 cell_apart : (shape : CellShape) (class x y : ℕ) (rest : List ℕ)
     → cell_text shape class x y ++ rest ≡ before_colour ++ (decimal class ++ (before_column ++ (decimal x ++ (codes " " ++ (decimal y ++ (behind_row shape y ++ rest))))))
 unfolding cell_text
@@ -30,7 +30,7 @@ cell_apart shape class x y rest =
     ∙ ap (λ (text : List ℕ). decimal class ++ (before_column ++ text))
     (append_assoc (decimal x) (codes " " ++ (decimal y ++ behind_row shape y)) rest ∙ ap (λ (text : List ℕ). decimal x ++ (codes " " ++ text)) (append_assoc (decimal y) (behind_row shape y) rest)))
 
--- what stands behind a row begins with no digit
+-- what stands after a row begins with no digit
 ends_by : (b : Bool) (rest : List ℕ)
     → Ends (((if b then codes "m1-.16667l.5 .33333v.66667l-.5 .33333-.5-.33333v-.66667z" else codes "m.5-.16667l.5 .33333v.66667l-.5 .33333-.5-.33333v-.66667z") ++ codes "\"/>\n") ++ rest)
 ends_by true rest = refl

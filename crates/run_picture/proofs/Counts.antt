@@ -10,9 +10,10 @@ use Rattle.std.specs.Prelude.{Option, Some, None}
 use Rattle.rounds_plan.specs.Lockstep.{lockstep, lockstep_states}
 use Rattle.rounds_plan.specs.Plans.{PlanView}
 use Rattle.run_watch.specs.Spans.{SpanView, count_of, round_at, rounds_in}
+use Rattle.run_picture.specs.declared.drawing.Drawing.{Drawing}
 use Rattle.run_picture.specs.declared.fault.PictureFault.{PictureFault}
 use Rattle.run_picture.specs.declared.fault.PictureFault.TheVariants.{NoWidth, TooManyCells, TooManyFrames}
-use Rattle.run_picture.specs.Frames.{grid_refusal, most_cells, refusal_of, time_refusal, values_after, values_in}
+use Rattle.run_picture.specs.Frames.{drawing_refusal, grid_refusal, most_cells, refusal_of, time_refusal, values_after, values_drawn, values_in}
 use Rattle.run_picture.specs.Moving.{most_frames, moving_refusal}
 
 -- one for each node
@@ -47,10 +48,11 @@ not_over true rest none = absurd (let e : Some TooManyCells ≡ None = none in c
 not_over false rest none = refl
 
 -- where nothing is refused, they are few
-pub cells_few : (p : PlanView) (s : SpanView) (field : ℕ) → time_refusal p s field ≡ None → length (values_in p s field) ≤ most_cells
-cells_few p s field fits =
-    let few = not_over (nat_lt most_cells (length p.network * count_of s)) None (neither (refusal_of p s.first s.last field) (if nat_lt most_cells (length p.network * count_of s) then Some TooManyCells else None) fits) in
-    let total = values_total p s field in
+pub cells_few : (p : PlanView) (drawing : Drawing) → time_refusal p drawing ≡ None → length (values_drawn p drawing) ≤ most_cells
+cells_few p drawing fits =
+    let cells = length p.network * count_of drawing.span.now in
+    let few = not_over (nat_lt most_cells cells) None (neither (drawing_refusal p drawing) (if nat_lt most_cells cells then Some TooManyCells else None) fits) in
+    let total = values_total p drawing.span.now drawing.colouring.field in
     grind (arith, nat_tests, few, total)
 
 -- where nothing refuses a picture of a round, they are few
@@ -68,11 +70,12 @@ fewer n k few =
     omega (arith, few, e)
 
 -- where nothing refuses a moving picture, the nodes are few
-pub moving_few : (p : PlanView) (s : SpanView) (field width : ℕ) → moving_refusal p s field width ≡ None → length p.network ≤ most_cells
-moving_few p s field width fits =
+pub moving_few : (p : PlanView) (drawing : Drawing) (width : ℕ) → moving_refusal p drawing width ≡ None → length p.network ≤ most_cells
+moving_few p drawing width fits =
+    let s = drawing.span.now in
     let cells = length p.network * count_of s in
     let long = if nat_lt most_frames (count_of s) then Some TooManyFrames else None in
     let over = if nat_lt most_cells cells then Some TooManyCells else long in
-    let is = not_over (nat_lt most_cells cells) long (behind (width == 0) NoWidth over (neither (refusal_of p s.first s.last field) (if width == 0 then Some NoWidth else over) fits)) in
+    let is = not_over (nat_lt most_cells cells) long (behind (width == 0) NoWidth over (neither (drawing_refusal p drawing) (if width == 0 then Some NoWidth else over) fits)) in
     let few : cells ≤ most_cells = grind (arith, nat_tests, is) in
     fewer (length p.network) ((s.last - s.first) / s.every) few

@@ -6,12 +6,12 @@ use Rattle.std.specs.Prelude.{Option, Some, None}
 use Rattle.rounds_plan.specs.Configs.{most_rounds}
 use Rattle.rounds_plan.specs.Plans.{PlanView}
 use Rattle.run_counts.specs.Rows.{AreValues, RowView}
-use Rattle.run_watch.specs.Spans.{SpanView, count_of}
+use Rattle.run_watch.specs.Spans.{count_of}
+use Rattle.run_picture.specs.declared.drawing.Drawing.{Drawing}
 use Rattle.run_picture.specs.declared.fault.PictureFault.{PictureFault}
 use Rattle.run_picture.specs.declared.fault.PictureFault.TheVariants.{NoField, OneRound, RoundsBelowStart, TooManyPoints, TooManyRounds}
-use Rattle.run_picture.specs.Chosen.{StylesView}
 use Rattle.run_picture.specs.Curves.{AreFieldRows, IsCountPicture, curves_refusal, most_curves, most_points, plotted, states_drawn}
-use Rattle.run_picture.specs.Frames.{refusal_of}
+use Rattle.run_picture.specs.Frames.{drawing_refusal}
 use Rattle.run_picture.specs.Keys.{key_of}
 use Rattle.run_picture.specs.Ticks.{ticks}
 use Rattle.run_picture.proofs.AxisTicks.{are_ticks}
@@ -25,25 +25,28 @@ not_over : (b : Bool) (rest : Option PictureFault) → (if b then Some TooManyRo
 not_over true rest none = absurd (let e : Some TooManyRounds ≡ None = none in cc)
 not_over false rest none = refl
 
-last_round : (p : PlanView) (span : SpanView) (field : ℕ) → curves_refusal p span field ≡ None → span.last ≤ most_rounds
-last_round p span field fits =
-    let alone = first_none (refusal_of p span.first span.last field)
+last_round : (p : PlanView) (drawing : Drawing) → curves_refusal p drawing ≡ None → drawing.span.now.last ≤ most_rounds
+last_round p drawing fits =
+    let span = drawing.span.now in
+    let field = drawing.colouring.field in
+    let alone = first_none (drawing_refusal p drawing)
     (if nat_le (count_of span) 1 then Some OneRound else if nat_lt most_points (count_of span) then Some TooManyPoints else None) fits in
     let below = not_over (nat_lt most_rounds span.last) (if nat_lt span.first p.start then Some RoundsBelowStart else if nat_lt field (length p.program.fields) then None else Some (NoField field)) alone in
     grind (arith, nat_tests, below)
 
-pub is_count_picture : (styles : StylesView) (p : PlanView) (span : SpanView) (field : ℕ) (rows : List RowView) (values text : List ℕ) → curves_refusal p span field ≡ None → length p.network < 2 ^ 32
-    → AreFieldRows p span field rows → AreValues (states_drawn styles) rows values → length values ≤ most_curves
-    → text ≡ plotted span (length p.network) (ticks span.first span.last) (ticks 0 (length p.network)) (key_of styles values) rows values → IsCountPicture styles p span field text
-is_count_picture styles p span field rows values text fits nodes counted once few spelled = record {
+pub is_count_picture : (p : PlanView) (drawing : Drawing) (rows : List RowView) (values text : List ℕ) → curves_refusal p drawing ≡ None → length p.network < 2 ^ 32
+    → AreFieldRows p drawing.span.now drawing.colouring.field rows → AreValues (states_drawn drawing.colouring.styles.now) rows values → length values ≤ most_curves
+    → text ≡ plotted drawing.span.now (length p.network) (ticks drawing.span.now.first drawing.span.now.last) (ticks 0 (length p.network)) (key_of drawing.colouring.styles.now values) rows values
+    → IsCountPicture p drawing text
+is_count_picture p drawing rows values text fits nodes counted once few spelled = record {
   rows = rows;
   values = values;
   counted = record { rows_are = counted; values_are = once };
   few = few;
-  key = key_of styles values;
-  is_key = is_key styles values;
-  rounds = ticks span.first span.last;
-  are_rounds = are_ticks span.first span.last (omega (arith, last_round p span field fits));
+  key = key_of drawing.colouring.styles.now values;
+  is_key = is_key drawing.colouring.styles.now values;
+  rounds = ticks drawing.span.now.first drawing.span.now.last;
+  are_rounds = are_ticks drawing.span.now.first drawing.span.now.last (omega (arith, last_round p drawing fits));
   numbers = ticks 0 (length p.network);
   are_numbers = are_ticks 0 (length p.network) (omega (arith, nodes));
   spelled = spelled;

@@ -40,7 +40,7 @@ colours_are : (key : KeyView) (width i : ℕ) (values : List ℕ) → map (λ (c
 colours_are key width i [] = refl
 colours_are key width i (v ∷ values) = ap (λ (classes : List ℕ). class_of key v ∷ classes) (colours_are key width (i + 1) values)
 
--- the cell that comes k behind the first stands at place i + k
+-- the cell that comes k after the first stands at place i + k
 pub record StandsAt (width place : ℕ) (c : ℕ × ℕ × ℕ) : Type 0 where
   pub column : c.1 ≡ place % width
   pub row : c.2 ≡ place / width

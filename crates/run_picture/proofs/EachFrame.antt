@@ -43,7 +43,7 @@ early : (class r s : ℕ) (classes : List ℕ) → s < r → shown_in class (cha
 early class r s [] before = refl
 early class r s (c ∷ classes) before = early_by (c == class) class c r s (changes_from c (r + 1) classes) refl before (early c (r + 1) s classes (omega (arith, before)))
 
--- the frame that comes k behind the first shows the colour at place k
+-- the frame that comes k after the first shows the colour at place k
 shown : (class r : ℕ) (classes : List ℕ) (k : ℕ) → k < length classes → shown_in class (changes_from class r classes) (r + k) ≡ get_or classes k 0
 shown class r [] k inside = absurd (omega (arith, inside))
 shown class r (c ∷ classes) zero inside =
@@ -61,7 +61,7 @@ shown_at classes r inside =
 
 -- ---- values
 
--- of lists of one length, one behind the other, place u of the r-th
+-- of lists of one length, one after the other, place u of the r-th
 slot : (nodes : ℕ) (f : ℕ → List ℕ) → ((t : ℕ) → length (f t) ≡ nodes) → (ts : List ℕ) (r u : ℕ) → u < nodes → r < length ts
     → get_or (flat_map f ts) (r * nodes + u) 0 ≡ get_or (f (get_or ts r 0)) u 0
 slot nodes f each [] r u low inside = absurd (omega (arith, inside))

@@ -72,7 +72,7 @@ pairs_if R false x = λ i j d less inside. absurd (omega (arith, inside))
 
 -- ---- the links
 
--- the texts of links, one behind the other
+-- the texts of links, one after the other
 texts_flat : (text : ℕ × ℕ × ℕ → List ℕ) (f : ℕ → List (ℕ × ℕ × ℕ)) (g : ℕ → List ℕ) (xs : List ℕ) → ((x : ℕ) → flat_map text (f x) ≡ g x) → flat_map text (flat_map f xs) ≡ flat_map g xs
 texts_flat text f g [] each = refl
 texts_flat text f g (x ∷ xs) each =

@@ -8,7 +8,7 @@ pub then_ok : {T E P Q : Type 0} (r : Result T E) → (P → Q) → OnOk r P →
 then_ok (Ok x) f p = f p
 then_ok (Err e) f p = p
 
--- what is put behind a text where a call succeeds
+-- what is put after a text where a call succeeds
 pub put_behind : {T E : Type 0} (r : Result T E) (text a tail : List ℕ) → text ≡ (if is_ok r then a ++ tail else a) → OnOk r (text ≡ a ++ tail)
 put_behind (Ok x) text a tail is = is
 put_behind (Err e) text a tail is = tt

@@ -12,7 +12,7 @@ use Rattle.run_picture.specs.DrawnLinks.{FitsWords, LinesTellLinks, lines_of}
 abbrev shown : Bool → ℕ → List ℕ
 shown one x = if one then [] else codes " [label=\"" ++ (decimal x ++ codes "\"]")
 
--- what stands behind the second node: the weight, and the line's end
+-- what stands after the second node: the weight, and the line's end
 abbrev tail_of : Bool → ℕ → List ℕ → List ℕ
 tail_of one x rest = shown one x ++ (codes ";\n" ++ rest)
 
@@ -35,7 +35,7 @@ tail_once false false x y rest more is are small tiny same =
     let parts = number_once x y (codes "\"];\n" ++ rest) (codes "\"];\n" ++ more) small tiny refl refl labels in
     (parts.0, append_cancel_left (codes "\"];\n") rest more parts.1)
 
--- the parts of a line, and what stands behind it
+-- the parts of a line, and what stands after it
 line_apart : (u w x : ℕ) (rest : List ℕ) → link_line u w x ++ rest ≡ codes "  " ++ (decimal u ++ (codes " -- " ++ (decimal w ++ tail_of (x == 1) x rest)))
 unfolding link_line
 line_apart u w x rest =

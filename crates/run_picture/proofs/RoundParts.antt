@@ -9,15 +9,15 @@ use Rattle.link_net.specs.Neighbours.{Neighbours, numbers_below}
 use Rattle.rounds_plan.specs.Plans.{PlanView}
 use Rattle.run_watch.specs.Spans.{SpanView, count_of, round_at, rounds_in}
 use Rattle.run_watch.proofs.Ranges.{range_left}
+use Rattle.run_picture.specs.declared.drawing.Drawing.{Drawing}
 use Rattle.run_picture.specs.declared.each_round.Layout.{Layout}
-use Rattle.run_picture.specs.Chosen.{StylesView}
-use Rattle.run_picture.specs.Frames.{values_after, values_in}
+use Rattle.run_picture.specs.Frames.{values_after, values_drawn, values_in}
 use Rattle.run_picture.specs.Keys.{key_of}
 use Rattle.run_picture.specs.Series.{round_sheet, round_sheets}
 use Rattle.run_picture.specs.Shades.{KeyView}
 use Rattle.run_picture.proofs.Counts.{values_count}
 
--- of lists of one length, one behind the other, the r-th
+-- of lists of one length, one after the other, the r-th
 part : (nodes : ℕ) (f : ℕ → List ℕ) → ((t : ℕ) → length (f t) ≡ nodes) → (ts : List ℕ) (r : ℕ) → r < length ts → take nodes (drop (r * nodes) (flat_map f ts)) ≡ f (get_or ts r 0)
 part nodes f each [] r inside = absurd (omega (arith, inside))
 part nodes f each (t ∷ ts) zero inside =
@@ -65,11 +65,13 @@ abbrev pub sheets_by : Layout → Neighbours → KeyView → List ℕ → ℕ �
 sheets_by layout network key values rounds = map (λ (r : ℕ). round_sheet layout key network (take (length network) (drop (r * length network) values))) (numbers_below rounds)
 
 -- those of all rounds of a span are the pictures of these rounds
-pub sheets_are : (styles : StylesView) (p : PlanView) (span : SpanView) (field : ℕ) (layout : Layout) (network : Neighbours) (key : KeyView) (values : List ℕ) (rounds : ℕ)
-    → network ≡ p.network → key ≡ key_of styles (values_in p span field) → values ≡ values_in p span field → rounds ≡ count_of span
-    → sheets_by layout network key values rounds ≡ round_sheets (key_of styles (values_in p span field)) p span field layout
-sheets_are styles p span field layout network key values rounds same_network same_key same_values same_count =
-    let own = key_of styles (values_in p span field) in
+pub sheets_are : (p : PlanView) (drawing : Drawing) (layout : Layout) (network : Neighbours) (key : KeyView) (values : List ℕ) (rounds : ℕ)
+    → network ≡ p.network → key ≡ key_of drawing.colouring.styles.now (values_drawn p drawing) → values ≡ values_drawn p drawing → rounds ≡ count_of drawing.span.now
+    → sheets_by layout network key values rounds ≡ round_sheets (key_of drawing.colouring.styles.now (values_drawn p drawing)) p drawing layout
+sheets_are p drawing layout network key values rounds same_network same_key same_values same_count =
+    let span = drawing.span.now in
+    let field = drawing.colouring.field in
+    let own = key_of drawing.colouring.styles.now (values_in p span field) in
     ap (λ (net : Neighbours). sheets_by layout net key values rounds) same_network
     ∙ ap (λ (k : KeyView). sheets_by layout p.network k values rounds) same_key
     ∙ ap (λ (vs : List ℕ). sheets_by layout p.network own vs rounds) same_values

@@ -9,9 +9,10 @@ use Rattle.rounds_plan.specs.Plans.{PlanView}
 use Rattle.run_watch.specs.Spans.{SpanView, count_of, rounds_in}
 use Rattle.run_counts.specs.declared.asked.Counting.{Counting}
 use Rattle.run_counts.specs.Rows.{AreRows, AreValues, RowView, count_in}
+use Rattle.run_picture.specs.declared.drawing.Drawing.{Drawing}
 use Rattle.run_picture.specs.declared.fault.PictureFault.{PictureFault}
 use Rattle.run_picture.specs.declared.fault.PictureFault.TheVariants.{OneRound, TooManyPoints, TooManyValues}
-use Rattle.run_picture.specs.Frames.{refusal_of}
+use Rattle.run_picture.specs.Frames.{drawing_refusal}
 use Rattle.run_picture.specs.Chosen.{StylesView}
 use Rattle.run_picture.specs.Shades.{IsKey, KeyView, class_of, fill_of}
 use Rattle.run_picture.specs.Sheets.{legend_lines, legend_text, opening_text, style_text, value_text}
@@ -43,10 +44,11 @@ most_curves = 64
 abbrev pub states_drawn : StylesView → ℕ
 states_drawn styles = if nat_le (length styles.names) most_curves then length styles.names else 0
 
--- why there are no curves of the rounds of a span, of what is known before they are counted
-abbrev pub curves_refusal : PlanView → SpanView → ℕ → Option PictureFault
-curves_refusal p span field =
-    option_or (refusal_of p span.first span.last field) (if nat_le (count_of span) 1 then Some OneRound else if nat_lt most_points (count_of span) then Some TooManyPoints else None)
+-- why there are no curves of the rounds that are drawn, of what is known before they are counted
+abbrev pub curves_refusal : PlanView → Drawing → Option PictureFault
+curves_refusal p drawing =
+    option_or (drawing_refusal p drawing)
+    (if nat_le (count_of drawing.span.now) 1 then Some OneRound else if nat_lt most_points (count_of drawing.span.now) then Some TooManyPoints else None)
 
 -- ---- the axes
 
@@ -137,31 +139,35 @@ unfoldable pub plotted : SpanView → ℕ → List ℕ → List ℕ → KeyView 
 plotted span nodes rounds numbers key rows values =
     opening_text 744 (curves_height key) ++ (styles_text key ++ (plot_text span nodes rounds numbers key rows values ++ (legend_text key curves_legend ++ codes "</svg>\n")))
 
--- the text is the picture of how many nodes have each value of a field, in each round of a span
-pub record IsCountPicture (styles : StylesView) (p : PlanView) (span : SpanView) (field : ℕ) (text : List ℕ) : Type 0 where
+-- the rows are those of the rounds that are drawn, and the values are those that have curves, by rising number
+abbrev pub AreDrawnCounts : PlanView → Drawing → List RowView → List ℕ → Type 0
+AreDrawnCounts p drawing rows values = AreCounted p drawing.span.now drawing.colouring.field (states_drawn drawing.colouring.styles.now) rows values
+
+-- the text is the picture of how many nodes have each value, in each of the rounds that are drawn
+pub record IsCountPicture (p : PlanView) (drawing : Drawing) (text : List ℕ) : Type 0 where
   pub rows : List RowView
   pub values : List ℕ
-  pub counted : AreCounted p span field (states_drawn styles) rows values
+  pub counted : AreDrawnCounts p drawing rows values
   pub few : length values ≤ most_curves
   pub key : KeyView
-  pub is_key : IsKey styles values key
+  pub is_key : IsKey drawing.colouring.styles.now values key
   -- what stands at the axes
   pub rounds : List ℕ
-  pub are_rounds : AreTicks span.first span.last rounds
+  pub are_rounds : AreTicks drawing.span.now.first drawing.span.now.last rounds
   pub numbers : List ℕ
   pub are_numbers : AreTicks 0 (length p.network) numbers
-  pub spelled : text ≡ plotted span (length p.network) rounds numbers key rows values
+  pub spelled : text ≡ plotted drawing.span.now (length p.network) rounds numbers key rows values
 
--- more values of a field are drawn in the rounds of a span than there may be curves
-pub record HasManyValues (styles : StylesView) (p : PlanView) (span : SpanView) (field : ℕ) : Type 0 where
+-- more values have curves in the rounds that are drawn than there may be
+pub record HasManyValues (p : PlanView) (drawing : Drawing) : Type 0 where
   pub rows : List RowView
   pub values : List ℕ
-  pub counted : AreCounted p span field (states_drawn styles) rows values
+  pub counted : AreDrawnCounts p drawing rows values
   pub many : most_curves < length values
 
 -- why there is no picture, memory aside: what is known before rounds are counted, or else that too many values occur
-abbrev pub IsCurveFault : StylesView → PlanView → SpanView → ℕ → PictureFault → Type 0
-IsCurveFault styles p span field fault = (curves_refusal p span field ≡ Some fault) ⊎ ((fault ≡ TooManyValues) × (curves_refusal p span field ≡ None) × HasManyValues styles p span field)
+abbrev pub IsCurveFault : PlanView → Drawing → PictureFault → Type 0
+IsCurveFault p drawing fault = (curves_refusal p drawing ≡ Some fault) ⊎ ((fault ≡ TooManyValues) × (curves_refusal p drawing ≡ None) × HasManyValues p drawing)
 
 -- ---- laws
 

@@ -6,8 +6,8 @@ use Rattle.std.specs.List.{flat_map}
 use Rattle.std.specs.Str.{chars}
 use Rattle.link_net.specs.Neighbours.{Neighbours, degree, neighbour, numbers_below, weight}
 use Rattle.rounds_plan.specs.Plans.{PlanView}
+use Rattle.run_picture.specs.declared.drawing.Colouring.{Colouring}
 use Rattle.run_picture.specs.Frames.{values_after}
-use Rattle.run_picture.specs.Chosen.{StylesView}
 use Rattle.run_picture.specs.Shades.{IsKey, KeyView, class_of, fill_of, ink_of, no_value}
 
 -- a character in a quoted label: `"`, `\` and `&` mean something there
@@ -76,7 +76,7 @@ head_text t = codes "graph run {\n  label=\"round " ++ (decimal t ++ codes "\";\
 abbrev pub graph_text : KeyView → Neighbours → List (List ℕ) → ℕ → List ℕ → List ℕ
 graph_text key network names t values = head_text t ++ (node_lines key names 0 values ++ (link_lines network ++ codes "}\n"))
 
--- the text is the network of a plan with the values of a field after round t
-abbrev pub IsNetworkText : StylesView → PlanView → List (List ℕ) → ℕ → ℕ → List ℕ → Type 0
-IsNetworkText styles p names t field text =
-    (key : KeyView) × IsKey styles (values_after p field t) key × (text ≡ graph_text key p.network names t (values_after p field t))
+-- the text is the network of a plan with the values after round t, coloured by them
+abbrev pub IsNetworkText : PlanView → ℕ → Colouring → List (List ℕ) → List ℕ → Type 0
+IsNetworkText p t colouring names text =
+    (key : KeyView) × IsKey colouring.styles.now (values_after p colouring.field t) key × (text ≡ graph_text key p.network names t (values_after p colouring.field t))

@@ -8,7 +8,7 @@ use Rattle.run_picture.specs.Drawn.{link_line, link_lines}
 abbrev pub HasLink : Neighbours → ℕ → ℕ → ℕ → Type 0
 HasLink network u w x = (j : ℕ) × (j < degree network u) × (neighbour network u j ≡ w) × (weight network u j ≡ x)
 
--- the lines of links, one behind the other
+-- the lines of links, one after the other
 abbrev pub lines_of : List (ℕ × ℕ × ℕ) → List ℕ
 lines_of links = flat_map (λ l. link_line l.0 l.1 l.2) links
 

@@ -6,6 +6,7 @@ use Rattle.rounds_plan.specs.Configs.{most_rounds}
 use Rattle.rounds_plan.specs.Lockstep.{lockstep_states}
 use Rattle.rounds_plan.specs.Plans.{PlanView}
 use Rattle.run_watch.specs.Spans.{SpanView, count_of, rounds_in}
+use Rattle.run_picture.specs.declared.drawing.Drawing.{Drawing}
 use Rattle.run_picture.specs.declared.fault.PictureFault.{PictureFault}
 use Rattle.run_picture.specs.declared.fault.PictureFault.TheVariants.{TooManyRounds, RoundsBelowStart, NoField, NoWidth, TooManyCells}
 
@@ -16,6 +17,10 @@ values_after p field t = map (λ state. slice_index state.words field) (lockstep
 -- the same, round by round
 abbrev pub values_in : PlanView → SpanView → ℕ → List ℕ
 values_in p span field = flat_map (values_after p field) (rounds_in span)
+
+-- the values that are drawn
+abbrev pub values_drawn : PlanView → Drawing → List ℕ
+values_drawn p drawing = values_in p drawing.span.now drawing.colouring.field
 
 -- the most cells of a picture
 abbrev pub most_cells : ℕ
@@ -29,9 +34,13 @@ refusal_of p first last field =
     else if nat_lt field (length p.program.fields) then None
     else Some (NoField field)
 
--- why there is no picture of the rounds of a span
-abbrev pub time_refusal : PlanView → SpanView → ℕ → Option PictureFault
-time_refusal p span field = option_or (refusal_of p span.first span.last field) (if nat_lt most_cells (length p.network * count_of span) then Some TooManyCells else None)
+-- why no values are drawn
+abbrev pub drawing_refusal : PlanView → Drawing → Option PictureFault
+drawing_refusal p drawing = refusal_of p drawing.span.now.first drawing.span.now.last drawing.colouring.field
+
+-- why there is no picture of the rounds that are drawn, one below the other
+abbrev pub time_refusal : PlanView → Drawing → Option PictureFault
+time_refusal p drawing = option_or (drawing_refusal p drawing) (if nat_lt most_cells (length p.network * count_of drawing.span.now) then Some TooManyCells else None)
 
 -- why there is no picture of a round in rows of a width
 abbrev pub grid_refusal : PlanView → ℕ → ℕ → ℕ → Option PictureFault

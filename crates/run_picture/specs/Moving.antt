@@ -7,10 +7,11 @@ use Rattle.link_net.specs.Neighbours.{numbers_below}
 use Rattle.rounds_plan.specs.Plans.{PlanView}
 use Rattle.run_watch.specs.Spans.{SpanView, count_of, round_at}
 use Rattle.run_picture.specs.declared.changes.Change.{Change}
+use Rattle.run_picture.specs.declared.drawing.Drawing.{Drawing}
+use Rattle.run_picture.specs.declared.drawing.MovingGrid.{MovingGrid}
 use Rattle.run_picture.specs.declared.fault.PictureFault.{PictureFault}
 use Rattle.run_picture.specs.declared.fault.PictureFault.TheVariants.{NoWidth, TooManyCells, TooManyFrames}
-use Rattle.run_picture.specs.Chosen.{StylesView}
-use Rattle.run_picture.specs.Frames.{most_cells, refusal_of, values_after, values_in}
+use Rattle.run_picture.specs.Frames.{drawing_refusal, most_cells, values_after, values_drawn, values_in}
 use Rattle.run_picture.specs.Shades.{IsKey, KeyView, class_of, fill_of}
 use Rattle.run_picture.specs.declared.chosen.CellShape.{CellShape}
 use Rattle.run_picture.specs.Sheets.{cell_text, lattice, legend_text, legend_top, opening_text, outline, sheet_height, sheet_width, side_of, style_text}
@@ -52,12 +53,12 @@ fraction_text n =
 
 -- ---- the text
 
--- the colours of changes, each behind a semicolon
+-- the colours of changes, each after a semicolon
 abbrev pub fills_text : KeyView → List Change → List ℕ
 fills_text key [] = []
 fills_text key (change ∷ changes) = codes ";" ++ (fill_of key change.class ++ fills_text key changes)
 
--- when changes come, each behind a semicolon
+-- when changes come, each after a semicolon
 abbrev pub times_text : ℕ → List Change → List ℕ
 times_text frames [] = []
 times_text frames (change ∷ changes) = codes ";" ++ (fraction_text (begins frames change.frame) ++ times_text frames changes)
@@ -75,7 +76,7 @@ last_text frames changes = times_text frames changes ++ codes "\"/>"
 unfoldable pub clock_text : ℕ → List Change → List ℕ
 clock_text frames changes = codes "\" keyTimes=\"0" ++ last_text frames changes
 
--- behind the first colour those of the changes, and when they come
+-- after the first colour those of the changes, and when they come
 unfoldable pub course_text : KeyView → ℕ → List Change → List ℕ
 course_text key frames changes = fills_text key changes ++ clock_text frames changes
 
@@ -121,18 +122,19 @@ moving_sheet key frames time width nodes values =
     opening_text (sheet_width key width nodes) (sheet_height key width nodes)
     ++ (style_text key ++ (moving_group key frames time width nodes values ++ (legend_text key (legend_top width nodes) ++ codes "</svg>\n")))
 
--- the text is the moving picture of a field in the rounds of a span: a frame for each, which is seen for so many milliseconds
-abbrev pub IsMovingPicture : StylesView → PlanView → SpanView → ℕ → ℕ → ℕ → List ℕ → Type 0
-IsMovingPicture styles p span field width time text =
-    (key : KeyView) × IsKey styles (values_in p span field) key × (text ≡ moving_sheet key (count_of span) time width (length p.network) (values_in p span field))
+-- the text is the picture of the rounds that are drawn as a grid that moves: a frame for each
+abbrev pub IsMovingPicture : PlanView → Drawing → MovingGrid → List ℕ → Type 0
+IsMovingPicture p drawing grid text =
+    (key : KeyView) × IsKey drawing.colouring.styles.now (values_drawn p drawing) key
+    × (text ≡ moving_sheet key (count_of drawing.span.now) grid.time grid.width (length p.network) (values_drawn p drawing))
 
--- why there is none
-abbrev pub moving_refusal : PlanView → SpanView → ℕ → ℕ → Option PictureFault
-moving_refusal p span field width =
-    option_or (refusal_of p span.first span.last field)
+-- why there is none, in rows of a width
+abbrev pub moving_refusal : PlanView → Drawing → ℕ → Option PictureFault
+moving_refusal p drawing width =
+    option_or (drawing_refusal p drawing)
     (if width == 0 then Some NoWidth
-    else if nat_lt most_cells (length p.network * count_of span) then Some TooManyCells
-    else if nat_lt most_frames (count_of span) then Some TooManyFrames
+    else if nat_lt most_cells (length p.network * count_of drawing.span.now) then Some TooManyCells
+    else if nat_lt most_frames (count_of drawing.span.now) then Some TooManyFrames
     else None)
 
 -- ---- laws

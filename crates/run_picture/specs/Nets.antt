@@ -5,14 +5,14 @@ use Rattle.std.specs.List.{flat_map}
 use Rattle.std.specs.Option.{option_or}
 use Rattle.link_net.specs.Neighbours.{IsNetwork, Neighbours, degree, neighbour, numbers_below}
 use Rattle.rounds_plan.specs.Plans.{PlanView}
-use Rattle.run_watch.specs.Spans.{SpanView, count_of}
+use Rattle.run_watch.specs.Spans.{count_of}
 use Rattle.run_picture.specs.declared.changes.Change.{Change}
+use Rattle.run_picture.specs.declared.drawing.Drawing.{Drawing}
 use Rattle.run_picture.specs.declared.fault.PictureFault.{PictureFault}
 use Rattle.run_picture.specs.declared.fault.PictureFault.TheVariants.{TooManyCells, TooManyFrames}
 use Rattle.run_picture.specs.declared.places.Place.{Place}
-use Rattle.run_picture.specs.Chosen.{StylesView}
 use Rattle.run_picture.specs.DrawnLinks.{AreAllLinks}
-use Rattle.run_picture.specs.Frames.{most_cells, refusal_of, values_in}
+use Rattle.run_picture.specs.Frames.{drawing_refusal, most_cells, values_drawn}
 use Rattle.run_picture.specs.Moving.{animate_text, changes_of, classes_of, most_frames}
 use Rattle.run_picture.specs.Shades.{IsKey, KeyView}
 use Rattle.run_picture.specs.Sheets.{legend_lines, legend_text, legend_width, opening_text, style_text}
@@ -102,22 +102,23 @@ net_sheet key frames time network values =
     ++ (style_text key
     ++ (strokes_group network ++ (circles_group key frames time (length network) values ++ (legend_text key (net_legend (length network)) ++ codes "</svg>\n"))))
 
--- the text is the picture of a plan's network in the rounds of a span, coloured by a field: a frame for each, which is seen for so many milliseconds
-abbrev pub IsNetPicture : StylesView → PlanView → SpanView → ℕ → ℕ → List ℕ → Type 0
-IsNetPicture styles p span field time text =
-    (key : KeyView) × IsKey styles (values_in p span field) key × (text ≡ net_sheet key (count_of span) time p.network (values_in p span field))
+-- the text is the picture of a plan's network in the rounds that are drawn: a frame for each, which is seen for so many milliseconds
+abbrev pub IsNetPicture : PlanView → Drawing → ℕ → List ℕ → Type 0
+IsNetPicture p drawing time text =
+    (key : KeyView) × IsKey drawing.colouring.styles.now (values_drawn p drawing) key
+    × (text ≡ net_sheet key (count_of drawing.span.now) time p.network (values_drawn p drawing))
 
 -- why there is none
-abbrev pub net_refusal : PlanView → SpanView → ℕ → Option PictureFault
-net_refusal p span field =
-    option_or (refusal_of p span.first span.last field)
-    (if nat_lt most_cells (length p.network * count_of span) then Some TooManyCells
-    else if nat_lt most_frames (count_of span) then Some TooManyFrames
+abbrev pub net_refusal : PlanView → Drawing → Option PictureFault
+net_refusal p drawing =
+    option_or (drawing_refusal p drawing)
+    (if nat_lt most_cells (length p.network * count_of drawing.span.now) then Some TooManyCells
+    else if nat_lt most_frames (count_of drawing.span.now) then Some TooManyFrames
     else None)
 
 -- ---- a law
 
--- the lines of these links, one behind the other
+-- the lines of these links, one after the other
 abbrev pub strokes_of : ℕ → List (ℕ × ℕ × ℕ) → List ℕ
 strokes_of nodes links = flat_map (λ l. link_stroke nodes l.0 l.1) links
 

@@ -6,7 +6,7 @@ use Rattle.run_picture.specs.DrawnLinks.{FitsWords}
 use Rattle.run_picture.specs.Shades.{KeyView, class_of}
 use Rattle.run_picture.specs.Sheets.{cell_text, columns_of, rows_of, rows_text}
 
--- the text of cells of a shape, one behind the other
+-- the text of cells of a shape, one after the other
 abbrev pub drawn : CellShape → List (ℕ × ℕ × ℕ) → List ℕ
 drawn shape cells = flat_map (λ c. cell_text shape c.0 c.1 c.2) cells
 

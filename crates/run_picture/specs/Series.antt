@@ -3,13 +3,13 @@ use Rattle.std.specs.Prelude.{◌≡◌, ℕ, ◌*◌, ◌/◌, ◌==◌, ◌≤
 use Rattle.std.specs.Option.{option_or}
 use Rattle.link_net.specs.Neighbours.{Neighbours}
 use Rattle.rounds_plan.specs.Plans.{PlanView}
-use Rattle.run_watch.specs.Spans.{SpanView, count_of, rounds_in}
+use Rattle.run_watch.specs.Spans.{count_of, rounds_in}
+use Rattle.run_picture.specs.declared.drawing.Drawing.{Drawing}
 use Rattle.run_picture.specs.declared.each_round.Layout.{Layout}
 use Rattle.run_picture.specs.declared.each_round.Layout.TheVariants.{Cells, Network}
 use Rattle.run_picture.specs.declared.fault.PictureFault.{PictureFault}
 use Rattle.run_picture.specs.declared.fault.PictureFault.TheVariants.{NoWidth, TooManyCells, TooManyFrames, TooManyLinks}
-use Rattle.run_picture.specs.Chosen.{StylesView}
-use Rattle.run_picture.specs.Frames.{most_cells, refusal_of, values_after, values_in}
+use Rattle.run_picture.specs.Frames.{drawing_refusal, most_cells, values_after, values_drawn}
 use Rattle.run_picture.specs.Moving.{most_frames}
 use Rattle.run_picture.specs.Nets.{net_sheet}
 use Rattle.run_picture.specs.Shades.{IsKey, KeyView}
@@ -20,13 +20,13 @@ abbrev pub round_sheet : Layout → KeyView → Neighbours → List ℕ → List
 round_sheet (Cells width) key network values = sheet_text key width values
 round_sheet Network key network values = net_sheet key 1 1 network values
 
--- the pictures of the rounds of a span, in order, all coloured by one key
-abbrev pub round_sheets : KeyView → PlanView → SpanView → ℕ → Layout → List (List ℕ)
-round_sheets key p span field layout = map (λ t. round_sheet layout key p.network (values_after p field t)) (rounds_in span)
+-- the pictures of the rounds that are drawn, in order, all coloured by one key
+abbrev pub round_sheets : KeyView → PlanView → Drawing → Layout → List (List ℕ)
+round_sheets key p drawing layout = map (λ t. round_sheet layout key p.network (values_after p drawing.colouring.field t)) (rounds_in drawing.span.now)
 
 -- The texts are these pictures. The colours follow from the values in all of these rounds, so that a value has the same one in each.
-abbrev pub AreRoundPictures : StylesView → PlanView → SpanView → ℕ → Layout → List (List ℕ) → Type 0
-AreRoundPictures styles p span field layout texts = (key : KeyView) × IsKey styles (values_in p span field) key × (texts ≡ round_sheets key p span field layout)
+abbrev pub AreRoundPictures : PlanView → Drawing → Layout → List (List ℕ) → Type 0
+AreRoundPictures p drawing layout texts = (key : KeyView) × IsKey drawing.colouring.styles.now (values_drawn p drawing) key × (texts ≡ round_sheets key p drawing layout)
 
 -- the most lines of links in all pictures together
 abbrev pub most_strokes : ℕ
@@ -47,9 +47,9 @@ HasCells (Cells width) = 1 ≤ width
 HasCells Network = Unit {0}
 
 -- why there are none
-abbrev pub series_refusal : PlanView → SpanView → ℕ → Layout → Option PictureFault
-series_refusal p span field layout =
-    option_or (refusal_of p span.first span.last field)
-    (if nat_lt most_cells (length p.network * count_of span) then Some TooManyCells
-    else if nat_lt most_frames (count_of span) then Some TooManyFrames
-    else layout_refusal layout (link_count p.network) (count_of span))
+abbrev pub series_refusal : PlanView → Drawing → Layout → Option PictureFault
+series_refusal p drawing layout =
+    option_or (drawing_refusal p drawing)
+    (if nat_lt most_cells (length p.network * count_of drawing.span.now) then Some TooManyCells
+    else if nat_lt most_frames (count_of drawing.span.now) then Some TooManyFrames
+    else layout_refusal layout (link_count p.network) (count_of drawing.span.now))

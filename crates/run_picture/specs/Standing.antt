@@ -29,7 +29,7 @@ swing_between n parts = (swing (parts / n % 360) * (n - parts % n) + swing ((par
 abbrev pub across : ℕ → ℕ
 across nodes = max 120 (min 920 (10 * nodes))
 
--- how far a node stands from the left or from the top, in pixels, at an angle of this many parts of a degree, as many to a degree as there are nodes; to the nearest, behind 20 that are left free
+-- how far a node stands from the left or from the top, in pixels, at an angle of this many parts of a degree, as many to a degree as there are nodes; to the nearest, after 20 that are left free
 abbrev pub distance_at : ℕ → ℕ → ℕ
 distance_at nodes parts = 20 + (across nodes * swing_between nodes parts + 10000) / 20000
 

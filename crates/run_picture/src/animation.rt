@@ -1,35 +1,36 @@
 //! Moving pictures of rounds.
 ghost use Rattle.std.specs.Prelude.{◌≡◌, ◌≢◌, Err, IfOk, IfErr, MatchOption, None, Some, length};
 ghost use Rattle.run_picture.specs.declared.fault.PictureFault.TheVariants.{Memory};
-ghost use Rattle.run_picture.specs.Frames.{values_in};
+ghost use Rattle.run_picture.specs.Frames.{values_drawn};
 ghost use Rattle.run_picture.specs.Keys.{key_of};
 ghost use Rattle.run_picture.specs.Moving.{IsMovingPicture, moving_refusal, moving_sheet};
 ghost use Rattle.run_watch.specs.Spans.{count_of};
 
+use crate::drawing::{Drawing, MovingGrid};
 use crate::fault::PictureFault;
-use crate::moving::{Pace, moving_of};
+use crate::film::Pace;
+use crate::moving::moving_of;
 use crate::picture::MOST_CELLS;
-use crate::styles::ValueStyles;
-use crate::values::{refusal, values_in};
+use crate::values::{drawing_refusal, values_drawn};
 use rounds_walk::PlanRef;
-use run_watch::{Progress, Span};
+use run_watch::Progress;
 use std::alloc::{AllocError, Global};
 use std::thread::Threads;
 
 /// The most frames of a moving picture, and the most pictures of single rounds.
 pub const MOST_FRAMES: u64 = 10_000;
 
-/// Why there is no moving picture of the rounds of a span in rows of a width, whatever memory there is.
-fn moving_refusal(plan: &PlanRef<'_>, span: &Span, field: u32, width: u32) -> Option<PictureFault>
-    ensures { result ≡ moving_refusal plan.now span.now field width }
+/// Why there is no moving picture in rows of a width, whatever memory there is.
+fn moving_refusal(plan: &PlanRef<'_>, drawing: &Drawing<'_>, width: u32) -> Option<PictureFault>
+    ensures { result ≡ moving_refusal plan.now drawing.now width }
 {
-    if let Some(fault) = refusal(plan, span.first(), span.last(), field) {
+    if let Some(fault) = drawing_refusal(plan, drawing) {
         return Some(fault);
     }
     if width == 0 {
         return Some(PictureFault::NoWidth);
     }
-    let rounds = span.steps() as u64 + 1;
+    let rounds = drawing.span.steps() as u64 + 1;
     if plan.nodes() as u64 * rounds > MOST_CELLS {
         return Some(PictureFault::TooManyCells);
     }
@@ -39,25 +40,24 @@ fn moving_refusal(plan: &PlanRef<'_>, span: &Span, field: u32, width: u32) -> Op
     None
 }
 
-/// The moving picture of the rounds of a span, where nothing refuses it.
+/// The moving picture, where nothing refuses it.
 fn moving_text<P: Progress>(
     rt: &(impl Threads + Sync),
     alloc: Global,
     plan: &PlanRef<'_>,
-    span: &Span,
-    field: u32,
-    width: u32,
-    time: u32,
-    styles: &ValueStyles<'_>,
+    drawing: &Drawing<'_>,
+    grid: MovingGrid,
     progress: &mut P,
 ) -> Result<Vec<u8>, AllocError>
-    requires fits { moving_refusal plan.now span.now field width ≡ None }
-    ensures text { IfOk result (λ v. v.items ≡ moving_sheet (key_of styles.now (values_in plan.now span.now field)) (count_of span.now) time width (length plan.now.network) (values_in plan.now span.now field)) }
+    requires fits { moving_refusal plan.now drawing.now grid.width ≡ None }
+    ensures text { IfOk result (λ v. v.items ≡ moving_sheet (key_of drawing.now.colouring.styles.now (values_drawn plan.now drawing.now)) (count_of drawing.now.span.now) grid.time grid.width (length plan.now.network) (values_drawn plan.now drawing.now)) }
 {
-    let values = values_in(rt, alloc, plan, span, field, progress)?;
-    let frames = span.steps() + 1;
+    let values = values_drawn(rt, alloc, plan, drawing, progress)?;
+    let frames = drawing.span.steps() + 1;
+    let time = grid.time;
     let pace = Pace { frames, time };
-    moving_of(alloc, styles, pace, width, plan.nodes(), &values)
+    let styles = drawing.colouring.styles;
+    moving_of(alloc, styles, pace, grid.width, plan.nodes(), &values)
 }
 
 /// The moving picture of a field as SVG that plays by itself, without a script: the nodes by rising number in rows of so many
@@ -75,22 +75,19 @@ pub fn moving_picture<P: Progress>(
     rt: &(impl Threads + Sync),
     alloc: Global,
     plan: &PlanRef<'_>,
-    span: &Span,
-    field: u32,
-    width: u32,
-    time: u32,
-    styles: &ValueStyles<'_>,
+    drawing: &Drawing<'_>,
+    grid: MovingGrid,
     progress: &mut P,
 ) -> Result<Vec<u8>, PictureFault>
-    ensures text { IfOk result (λ v. IsMovingPicture styles.now plan.now span.now field width time v.items) }
-    ensures fits { IfOk result (λ _. moving_refusal plan.now span.now field width ≡ None) }
-    ensures refused { IfErr result (λ fault. fault ≢ Memory → moving_refusal plan.now span.now field width ≡ Some fault) }
-    ensures memory { IfErr result (λ fault. fault ≡ Memory → moving_refusal plan.now span.now field width ≡ None) }
-    ensures at_once { MatchOption (moving_refusal plan.now span.now field width) (Unit {0}) (λ fault. result ≡ Err fault) }
+    ensures text { IfOk result (λ v. IsMovingPicture plan.now drawing.now grid v.items) }
+    ensures fits { IfOk result (λ _. moving_refusal plan.now drawing.now grid.width ≡ None) }
+    ensures refused { IfErr result (λ fault. fault ≢ Memory → moving_refusal plan.now drawing.now grid.width ≡ Some fault) }
+    ensures memory { IfErr result (λ fault. fault ≡ Memory → moving_refusal plan.now drawing.now grid.width ≡ None) }
+    ensures at_once { MatchOption (moving_refusal plan.now drawing.now grid.width) (Unit {0}) (λ fault. result ≡ Err fault) }
 {
-    if let Some(fault) = moving_refusal(plan, span, field, width) {
+    if let Some(fault) = moving_refusal(plan, drawing, grid.width) {
         return Err(fault);
     }
-    let text = moving_text(rt, alloc, plan, span, field, width, time, styles, progress)?;
+    let text = moving_text(rt, alloc, plan, drawing, grid, progress)?;
     Ok(text)
 }

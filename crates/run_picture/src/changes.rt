@@ -3,7 +3,7 @@ ghost use Rattle.std.specs.Prelude.{◌≡◌, ◌≤◌, ◌++◌, ◌+◌, ◌
 ghost use Rattle.run_picture.specs.Moving.{change_at, changes_of, classes_of, most_frames};
 
 use crate::colour::class_of;
-use crate::key::Key;
+use crate::film::Film;
 use std::alloc::{AllocError, Global};
 
 /// A frame in which a cell has another colour than in the one before, and the number of this colour.
@@ -13,28 +13,25 @@ pub(crate) struct Change {
     pub(crate) class: usize,
 }
 
-/// The value of a node in a frame, of the values of so many nodes frame by frame; 0 past the last.
-fn value_in(values: &[u32], nodes: u32, frame: u32, node: u32) -> u32
-    ensures { result ≡ slice_index values.now (frame * nodes + node) }
+/// The value of a node in a frame; 0 past the last.
+fn value_in(film: &Film<'_>, frame: u32, node: u32) -> u32
+    ensures { result ≡ slice_index film.now.values.now (frame * film.now.nodes + node) }
 {
-    let place = frame as usize * nodes as usize + node as usize;
-    values.get(place).copied().unwrap_or(0)
+    let place = frame as usize * film.nodes as usize + node as usize;
+    film.values.get(place).copied().unwrap_or(0)
 }
 
 /// The numbers of a node's colours, frame by frame.
 pub(crate) fn classes_of(
     alloc: Global,
-    key: &Key<'_>,
-    values: &[u32],
-    nodes: u32,
-    frames: u32,
+    film: &Film<'_>,
     node: u32,
 ) -> Result<Vec<usize>, AllocError>
-    ensures classes { IfOk result (λ v. v.items ≡ classes_of key.now values.now nodes frames node) }
+    ensures classes { IfOk result (λ v. v.items ≡ classes_of film.now.key.now film.now.values.now film.now.nodes film.now.pace.frames node) }
 {
     let mut classes = Vec::new(alloc);
-    for frame in 0..frames {
-        classes.push(class_of(key, value_in(values, nodes, frame, node)))?;
+    for frame in 0..film.pace.frames {
+        classes.push(class_of(film.key, value_in(film, frame, node)))?;
     }
     Ok(classes)
 }

@@ -4,8 +4,9 @@ ghost use Rattle.run_picture.specs.Moving.{most_frames};
 ghost use Rattle.run_picture.specs.Nets.{changing_circle, circle_of, circle_text, circles_group, circles_text, node_circle, turns_text};
 
 use crate::changes::{Change, changes_of, classes_of};
+use crate::film::{Film, Pace};
 use crate::key::Key;
-use crate::moving::{Pace, put_animate};
+use crate::moving::put_animate;
 use crate::places::{Place, place_of, radius_of};
 use std::alloc::{AllocError, Global};
 
@@ -44,84 +45,66 @@ fn put_turns(
     }
 }
 
-/// A node of so many, with this first colour and these changes.
+/// A node, with this first colour and these changes.
 #[tactic(auto, unfolding(crate::specs::Nets::changing_circle))]
 fn put_changing(
     out: &mut String,
-    key: &Key<'_>,
-    pace: Pace,
-    nodes: u32,
+    film: &Film<'_>,
     node: u32,
     class: usize,
     changes: &[Change],
 ) -> Result<(), AllocError>
-    requires node { node < nodes }
-    requires nodes { nodes ≤ 65536 }
-    requires some { 1 ≤ pace.frames }
-    ensures text { OnOk result (string_bytes out.new ≡ string_bytes out.old ++ changing_circle key.now pace.frames pace.time nodes node class changes.now) }
+    requires node { node < film.now.nodes }
+    requires nodes { film.now.nodes ≤ 65536 }
+    requires some { 1 ≤ film.now.pace.frames }
+    ensures text { OnOk result (string_bytes out.new ≡ string_bytes out.old ++ changing_circle film.now.key.now film.now.pace.frames film.now.pace.time film.now.nodes node class changes.now) }
 {
+    let nodes = film.nodes;
     put_circle(out, class, place_of(nodes, node), radius_of(nodes), node)?;
-    put_turns(out, key, pace, class, changes)?;
+    put_turns(out, film.key, film.pace, class, changes)?;
     out.push_str("</circle>\n")
 }
 
-/// A node of so many, with these colours frame by frame.
+/// A node, with these colours frame by frame.
 fn put_colours(
     out: &mut String,
     alloc: Global,
-    key: &Key<'_>,
-    pace: Pace,
-    nodes: u32,
+    film: &Film<'_>,
     node: u32,
     classes: &[usize],
 ) -> Result<(), AllocError>
-    requires node { node < nodes }
-    requires nodes { nodes ≤ 65536 }
-    requires some { 1 ≤ pace.frames }
+    requires node { node < film.now.nodes }
+    requires nodes { film.now.nodes ≤ 65536 }
+    requires some { 1 ≤ film.now.pace.frames }
     requires few { length classes.now ≤ most_frames }
-    ensures text { OnOk result (string_bytes out.new ≡ string_bytes out.old ++ node_circle key.now pace.frames pace.time nodes node classes.now) }
+    ensures text { OnOk result (string_bytes out.new ≡ string_bytes out.old ++ node_circle film.now.key.now film.now.pace.frames film.now.pace.time film.now.nodes node classes.now) }
 {
     let changes = changes_of(alloc, classes)?;
     let class = classes.first().copied().unwrap_or(0);
-    put_changing(out, key, pace, nodes, node, class, &changes)
+    put_changing(out, film, node, class, &changes)
 }
 
-/// A node, of the values of so many nodes frame by frame.
-fn put_node(
-    out: &mut String,
-    alloc: Global,
-    key: &Key<'_>,
-    pace: Pace,
-    nodes: u32,
-    node: u32,
-    values: &[u32],
-) -> Result<(), AllocError>
-    requires node { node < nodes }
-    requires nodes { nodes ≤ 65536 }
-    requires some { 1 ≤ pace.frames }
-    requires few { pace.frames ≤ most_frames }
-    ensures text { OnOk result (string_bytes out.new ≡ string_bytes out.old ++ circle_of key.now pace.frames pace.time nodes values.now node) }
+/// A node, in the colours of its values.
+fn put_node(out: &mut String, alloc: Global, film: &Film<'_>, node: u32) -> Result<(), AllocError>
+    requires node { node < film.now.nodes }
+    requires nodes { film.now.nodes ≤ 65536 }
+    requires some { 1 ≤ film.now.pace.frames }
+    requires few { film.now.pace.frames ≤ most_frames }
+    ensures text { OnOk result (string_bytes out.new ≡ string_bytes out.old ++ circle_of film.now.key.now film.now.pace.frames film.now.pace.time film.now.nodes film.now.values.now node) }
 {
-    let classes = classes_of(alloc, key, values, nodes, pace.frames, node)?;
-    put_colours(out, alloc, key, pace, nodes, node, &classes)
+    let classes = classes_of(alloc, film, node)?;
+    put_colours(out, alloc, film, node, &classes)
 }
 
 /// All nodes.
-fn put_nodes(
-    out: &mut String,
-    alloc: Global,
-    key: &Key<'_>,
-    pace: Pace,
-    nodes: u32,
-    values: &[u32],
-) -> Result<(), AllocError>
-    requires nodes { nodes ≤ 65536 }
-    requires some { 1 ≤ pace.frames }
-    requires few { pace.frames ≤ most_frames }
-    ensures text { OnOk result (string_bytes out.new ≡ string_bytes out.old ++ circles_text key.now pace.frames pace.time nodes values.now) }
+fn put_nodes(out: &mut String, alloc: Global, film: &Film<'_>) -> Result<(), AllocError>
+    requires nodes { film.now.nodes ≤ 65536 }
+    requires some { 1 ≤ film.now.pace.frames }
+    requires few { film.now.pace.frames ≤ most_frames }
+    ensures text { OnOk result (string_bytes out.new ≡ string_bytes out.old ++ circles_text film.now.key.now film.now.pace.frames film.now.pace.time film.now.nodes film.now.values.now) }
 {
-    for node in 0..nodes {
-        put_node(out, alloc, key, pace, nodes, node, values)?;
+    for node in 0..film.nodes {
+        put_node(out, alloc, film, node)?;
     }
     Ok(())
 }
@@ -131,17 +114,14 @@ fn put_nodes(
 pub(crate) fn put_circles(
     out: &mut String,
     alloc: Global,
-    key: &Key<'_>,
-    pace: Pace,
-    nodes: u32,
-    values: &[u32],
+    film: &Film<'_>,
 ) -> Result<(), AllocError>
-    requires nodes { nodes ≤ 65536 }
-    requires some { 1 ≤ pace.frames }
-    requires few { pace.frames ≤ most_frames }
-    ensures text { OnOk result (string_bytes out.new ≡ string_bytes out.old ++ circles_group key.now pace.frames pace.time nodes values.now) }
+    requires nodes { film.now.nodes ≤ 65536 }
+    requires some { 1 ≤ film.now.pace.frames }
+    requires few { film.now.pace.frames ≤ most_frames }
+    ensures text { OnOk result (string_bytes out.new ≡ string_bytes out.old ++ circles_group film.now.key.now film.now.pace.frames film.now.pace.time film.now.nodes film.now.values.now) }
 {
     out.push_str("<g stroke=\"#555555\" stroke-width=\"0.5\" shape-rendering=\"auto\">\n")?;
-    put_nodes(out, alloc, key, pace, nodes, values)?;
+    put_nodes(out, alloc, film)?;
     out.push_str("</g>\n")
 }

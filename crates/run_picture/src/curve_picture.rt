@@ -4,13 +4,14 @@ ghost use Rattle.run_picture.specs.declared.fault.PictureFault.TheVariants.{Memo
 ghost use Rattle.run_picture.specs.Curves.{AreFieldRows, HasManyValues, IsCountPicture, IsCurveFault, curves_refusal, states_drawn};
 
 use crate::curves::curves_picture;
+use crate::drawing::Drawing;
 use crate::fault::PictureFault;
 use crate::styles::ValueStyles;
-use crate::values::refusal;
+use crate::values::drawing_refusal;
 use rayon::current_num_threads;
 use rounds_walk::PlanRef;
 use run_counts::{CountFormat, Counting, Row, counted_rows, values_of};
-use run_watch::{Progress, Span};
+use run_watch::{Progress, Workers};
 use std::alloc::{AllocError, Global};
 use std::thread::Threads;
 
@@ -20,44 +21,46 @@ pub const MOST_POINTS: u32 = 10_000;
 /// The most curves of a picture.
 pub const MOST_CURVES: usize = 64;
 
-/// Why there are no curves of the rounds of a span, of what is known before they are counted.
-fn curves_refusal(plan: &PlanRef<'_>, span: &Span, field: u32) -> Option<PictureFault>
-    ensures { result ≡ curves_refusal plan.now span.now field }
+/// Why there are no curves of some rounds, of what is known before they are counted.
+fn curves_refusal(plan: &PlanRef<'_>, drawing: &Drawing<'_>) -> Option<PictureFault>
+    ensures { result ≡ curves_refusal plan.now drawing.now }
 {
-    if let Some(fault) = refusal(plan, span.first(), span.last(), field) {
+    if let Some(fault) = drawing_refusal(plan, drawing) {
         return Some(fault);
     }
-    if span.steps() == 0 {
+    if drawing.span.steps() == 0 {
         return Some(PictureFault::OneRound);
     }
-    if span.steps() >= MOST_POINTS {
+    if drawing.span.steps() >= MOST_POINTS {
         return Some(PictureFault::TooManyPoints);
     }
     None
 }
 
-/// The rounds of a span, counted by a field.
+/// The rounds that are drawn, counted by the field.
 fn field_rows<P: Progress>(
     rt: &(impl Threads + Sync),
     alloc: Global,
     plan: &PlanRef<'_>,
-    span: &Span,
-    field: u32,
+    drawing: &Drawing<'_>,
     progress: &mut P,
 ) -> Result<Vec<Row>, AllocError>
-    requires fits { curves_refusal plan.now span.now field ≡ None }
-    ensures rows { IfOk result (λ rows. AreFieldRows plan.now span.now field rows.items) }
+    requires fits { curves_refusal plan.now drawing.now ≡ None }
+    ensures rows { IfOk result (λ rows. AreFieldRows plan.now drawing.now.span.now drawing.now.colouring.field rows.items) }
 {
     let counting = Counting {
         format: CountFormat::Csv,
-        field,
+        field: drawing.colouring.field,
         states: 0,
         names: &[],
         figures: &[],
         until: None,
     };
-    let threads = current_num_threads(rt);
-    counted_rows(rt, alloc, plan, span, &counting, threads, progress)
+    let workers = Workers {
+        rt,
+        count: current_num_threads(rt),
+    };
+    counted_rows(&workers, alloc, plan, drawing.span, &counting, progress)
 }
 
 /// How many states have a curve, whether or not they occur.
@@ -75,40 +78,37 @@ fn states_drawn(styles: &ValueStyles<'_>) -> u32
 fn picture_of(
     alloc: Global,
     plan: &PlanRef<'_>,
-    span: &Span,
-    field: u32,
-    styles: &ValueStyles<'_>,
+    drawing: &Drawing<'_>,
     rows: &[Row],
 ) -> Result<Vec<u8>, PictureFault>
-    requires fits { curves_refusal plan.now span.now field ≡ None }
-    requires rows { AreFieldRows plan.now span.now field rows.now }
-    ensures text { IfOk result (λ v. IsCountPicture styles.now plan.now span.now field v.items) }
-    ensures refused { IfErr result (λ fault. fault ≢ Memory → (fault ≡ TooManyValues) × HasManyValues styles.now plan.now span.now field) }
+    requires fits { curves_refusal plan.now drawing.now ≡ None }
+    requires rows { AreFieldRows plan.now drawing.now.span.now drawing.now.colouring.field rows.now }
+    ensures text { IfOk result (λ v. IsCountPicture plan.now drawing.now v.items) }
+    ensures refused { IfErr result (λ fault. fault ≢ Memory → (fault ≡ TooManyValues) × HasManyValues plan.now drawing.now) }
 {
+    let styles = drawing.colouring.styles;
     let values = values_of(alloc, states_drawn(styles), rows)?;
     if values.len() > MOST_CURVES {
         return Err(PictureFault::TooManyValues);
     }
-    let text = curves_picture(alloc, styles, span, plan.nodes(), rows, &values)?;
+    let text = curves_picture(alloc, styles, drawing.span, plan.nodes(), rows, &values)?;
     Ok(text)
 }
 
-/// The picture of the rounds of a span, where nothing that is known before they are counted refuses it.
+/// The picture of some rounds, where nothing that is known before they are counted refuses it.
 fn count_text<P: Progress>(
     rt: &(impl Threads + Sync),
     alloc: Global,
     plan: &PlanRef<'_>,
-    span: &Span,
-    field: u32,
-    styles: &ValueStyles<'_>,
+    drawing: &Drawing<'_>,
     progress: &mut P,
 ) -> Result<Vec<u8>, PictureFault>
-    requires fits { curves_refusal plan.now span.now field ≡ None }
-    ensures text { IfOk result (λ v. IsCountPicture styles.now plan.now span.now field v.items) }
-    ensures refused { IfErr result (λ fault. fault ≢ Memory → (fault ≡ TooManyValues) × HasManyValues styles.now plan.now span.now field) }
+    requires fits { curves_refusal plan.now drawing.now ≡ None }
+    ensures text { IfOk result (λ v. IsCountPicture plan.now drawing.now v.items) }
+    ensures refused { IfErr result (λ fault. fault ≢ Memory → (fault ≡ TooManyValues) × HasManyValues plan.now drawing.now) }
 {
-    let rows = field_rows(rt, alloc, plan, span, field, progress)?;
-    picture_of(alloc, plan, span, field, styles, &rows)
+    let rows = field_rows(rt, alloc, plan, drawing, progress)?;
+    picture_of(alloc, plan, drawing, &rows)
 }
 
 /// The curves of a field as SVG: how many nodes have each value in each round of a span of a plan of any size, the rounds
@@ -127,20 +127,18 @@ pub fn count_picture<P: Progress>(
     rt: &(impl Threads + Sync),
     alloc: Global,
     plan: &PlanRef<'_>,
-    span: &Span,
-    field: u32,
-    styles: &ValueStyles<'_>,
+    drawing: &Drawing<'_>,
     progress: &mut P,
 ) -> Result<Vec<u8>, PictureFault>
-    ensures text { IfOk result (λ v. IsCountPicture styles.now plan.now span.now field v.items) }
-    ensures fits { IfOk result (λ _. curves_refusal plan.now span.now field ≡ None) }
-    ensures refused { IfErr result (λ fault. fault ≢ Memory → IsCurveFault styles.now plan.now span.now field fault) }
-    ensures memory { IfErr result (λ fault. fault ≡ Memory → curves_refusal plan.now span.now field ≡ None) }
-    ensures at_once { MatchOption (curves_refusal plan.now span.now field) (Unit {0}) (λ fault. result ≡ Err fault) }
+    ensures text { IfOk result (λ v. IsCountPicture plan.now drawing.now v.items) }
+    ensures fits { IfOk result (λ _. curves_refusal plan.now drawing.now ≡ None) }
+    ensures refused { IfErr result (λ fault. fault ≢ Memory → IsCurveFault plan.now drawing.now fault) }
+    ensures memory { IfErr result (λ fault. fault ≡ Memory → curves_refusal plan.now drawing.now ≡ None) }
+    ensures at_once { MatchOption (curves_refusal plan.now drawing.now) (Unit {0}) (λ fault. result ≡ Err fault) }
 {
-    if let Some(fault) = curves_refusal(plan, span, field) {
+    if let Some(fault) = curves_refusal(plan, drawing) {
         return Err(fault);
     }
-    let text = count_text(rt, alloc, plan, span, field, styles, progress)?;
+    let text = count_text(rt, alloc, plan, drawing, progress)?;
     Ok(text)
 }

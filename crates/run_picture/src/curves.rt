@@ -81,7 +81,7 @@ fn put_curve(
     out.push_str("</g>\n")
 }
 
-/// The curves of values, one behind the other.
+/// The curves of values, one after the other.
 fn put_each(
     out: &mut String,
     alloc: Global,
@@ -108,20 +108,25 @@ fn put_view(out: &mut String, first: u32, across: u32, nodes: u32) -> Result<(),
     )
 }
 
-/// The curves of values, over the plot.
-fn put_curves(
-    out: &mut String,
-    alloc: Global,
-    span: &Span,
+/// What a plot shows: the curves of these values in counted rounds, in the colours of a key.
+#[derive(Clone, Copy)]
+struct Plot<'a> {
+    /// The rounds, which go to the right.
+    span: &'a Span,
+    /// How many nodes there are, which go upwards.
     nodes: u32,
-    key: &Key<'_>,
-    rows: &[Row],
-    values: &[u32],
-) -> Result<(), AllocError>
-    ensures text { OnOk result (string_bytes out.new ≡ string_bytes out.old ++ curves_text span.now nodes key.now rows.now values.now) }
+    key: &'a Key<'a>,
+    rows: &'a [Row],
+    values: &'a [u32],
+}
+
+/// The curves of values, over the plot.
+fn put_curves(out: &mut String, alloc: Global, plot: &Plot<'_>) -> Result<(), AllocError>
+    ensures text { OnOk result (string_bytes out.new ≡ string_bytes out.old ++ curves_text plot.now.span.now plot.now.nodes plot.now.key.now plot.now.rows.now plot.now.values.now) }
 {
-    put_view(out, span.first(), span.last() - span.first(), nodes)?;
-    put_each(out, alloc, key, rows, values)?;
+    let span = plot.span;
+    put_view(out, span.first(), span.last() - span.first(), plot.nodes)?;
+    put_each(out, alloc, plot.key, plot.rows, plot.values)?;
     out.push_str("</g></svg>\n")
 }
 
@@ -136,23 +141,15 @@ fn put_axes(out: &mut String) -> Result<(), AllocError>
 
 /// The plot: its axes, and the curves.
 #[tactic(auto, unfolding(crate::specs::Curves::plot_text))]
-fn put_plot(
-    out: &mut String,
-    alloc: Global,
-    span: &Span,
-    nodes: u32,
-    key: &Key<'_>,
-    rows: &[Row],
-    values: &[u32],
-) -> Result<(), AllocError>
-    requires wide { span.now.first < span.now.last }
-    requires some { 1 ≤ nodes }
-    ensures text { OnOk result (string_bytes out.new ≡ string_bytes out.old ++ plot_text span.now nodes (ticks span.now.first span.now.last) (ticks 0 nodes) key.now rows.now values.now) }
+fn put_plot(out: &mut String, alloc: Global, plot: &Plot<'_>) -> Result<(), AllocError>
+    requires wide { plot.now.span.now.first < plot.now.span.now.last }
+    requires some { 1 ≤ plot.now.nodes }
+    ensures text { OnOk result (string_bytes out.new ≡ string_bytes out.old ++ plot_text plot.now.span.now plot.now.nodes (ticks plot.now.span.now.first plot.now.span.now.last) (ticks 0 plot.now.nodes) plot.now.key.now plot.now.rows.now plot.now.values.now) }
 {
-    put_round_lines(out, alloc, span)?;
-    put_count_lines(out, alloc, nodes)?;
+    put_round_lines(out, alloc, plot.span)?;
+    put_count_lines(out, alloc, plot.nodes)?;
     put_axes(out)?;
-    put_curves(out, alloc, span, nodes, key, rows, values)
+    put_curves(out, alloc, plot)
 }
 
 /// The styles of all that is drawn.
@@ -175,23 +172,15 @@ fn curves_height(key: &Key<'_>) -> u32
 
 /// The plot in the colours of a key, and the legend of the key.
 #[tactic(auto, unfolding(crate::specs::Curves::plotted))]
-fn put_sheet(
-    out: &mut String,
-    alloc: Global,
-    span: &Span,
-    nodes: u32,
-    key: &Key<'_>,
-    rows: &[Row],
-    values: &[u32],
-) -> Result<(), AllocError>
-    requires wide { span.now.first < span.now.last }
-    requires some { 1 ≤ nodes }
-    ensures text { OnOk result (string_bytes out.new ≡ string_bytes out.old ++ plotted span.now nodes (ticks span.now.first span.now.last) (ticks 0 nodes) key.now rows.now values.now) }
+fn put_sheet(out: &mut String, alloc: Global, plot: &Plot<'_>) -> Result<(), AllocError>
+    requires wide { plot.now.span.now.first < plot.now.span.now.last }
+    requires some { 1 ≤ plot.now.nodes }
+    ensures text { OnOk result (string_bytes out.new ≡ string_bytes out.old ++ plotted plot.now.span.now plot.now.nodes (ticks plot.now.span.now.first plot.now.span.now.last) (ticks 0 plot.now.nodes) plot.now.key.now plot.now.rows.now plot.now.values.now) }
 {
-    put_opening(out, 744, curves_height(key))?;
-    put_styles(out, key)?;
-    put_plot(out, alloc, span, nodes, key, rows, values)?;
-    put_legend(out, key, LEGEND_TOP)?;
+    put_opening(out, 744, curves_height(plot.key))?;
+    put_styles(out, plot.key)?;
+    put_plot(out, alloc, plot)?;
+    put_legend(out, plot.key, LEGEND_TOP)?;
     out.push_str("</svg>\n")
 }
 
@@ -209,7 +198,14 @@ pub(crate) fn curves_picture(
     ensures text { IfOk result (λ v. v.items ≡ plotted span.now nodes (ticks span.now.first span.now.last) (ticks 0 nodes) (key_of styles.now values.now) rows.now values.now) }
 {
     let key = key_of(alloc, styles, values)?;
+    let plot = Plot {
+        span,
+        nodes,
+        key: &key,
+        rows,
+        values,
+    };
     let mut out = String::new(alloc);
-    put_sheet(&mut out, alloc, span, nodes, &key, rows, values)?;
+    put_sheet(&mut out, alloc, &plot)?;
     Ok(out.into_bytes())
 }

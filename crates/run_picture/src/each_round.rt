@@ -2,23 +2,23 @@
 ghost use Rattle.std.specs.Prelude.{◌≡◌, ◌≢◌, ◌≤◌, ◌+◌, ◌*◌, Err, IfOk, IfErr, MatchOption, None, Some, drop, length, map, take};
 ghost use Rattle.link_net.specs.Neighbours.{numbers_below};
 ghost use Rattle.run_picture.specs.declared.fault.PictureFault.TheVariants.{Memory};
-ghost use Rattle.run_picture.specs.Frames.{values_in};
+ghost use Rattle.run_picture.specs.Frames.{values_drawn};
 ghost use Rattle.run_picture.specs.Keys.{key_of};
 ghost use Rattle.run_picture.specs.Series.{AreRoundPictures, HasCells, layout_refusal, round_sheet, round_sheets, series_refusal};
 
 use crate::animation::MOST_FRAMES;
+use crate::drawing::Drawing;
 use crate::fault::PictureFault;
+use crate::film::Pace;
 use crate::key::{Key, key_of};
-use crate::moving::Pace;
 use crate::net_sheet::net_sheet;
 use crate::picture::MOST_CELLS;
 use crate::sheet::sheet_of;
-use crate::styles::ValueStyles;
-use crate::values::{refusal, values_in};
+use crate::values::{drawing_refusal, values_drawn};
 use link_net::Network;
 use rounds_plan::Plan;
 use rounds_walk::PlanRef;
-use run_watch::{Progress, Span};
+use run_watch::Progress;
 use std::alloc::{AllocError, Global};
 use std::thread::Threads;
 
@@ -50,15 +50,15 @@ impl Layout {
     }
 }
 
-/// Why there are no pictures of the rounds of a span, whatever memory there is.
-fn series_refusal(plan: &Plan, span: &Span, field: u32, layout: Layout) -> Option<PictureFault>
-    ensures { result ≡ series_refusal plan.now span.now field layout }
+/// Why there are no pictures of single rounds, whatever memory there is.
+fn series_refusal(plan: &Plan, drawing: &Drawing<'_>, layout: Layout) -> Option<PictureFault>
+    ensures { result ≡ series_refusal plan.now drawing.now layout }
 {
     let lent = PlanRef::of_plan(plan);
-    if let Some(fault) = refusal(&lent, span.first(), span.last(), field) {
+    if let Some(fault) = drawing_refusal(&lent, drawing) {
         return Some(fault);
     }
-    let rounds = span.steps() as u64 + 1;
+    let rounds = drawing.span.steps() as u64 + 1;
     if plan.network().nodes() as u64 * rounds > MOST_CELLS {
         return Some(PictureFault::TooManyCells);
     }
@@ -125,24 +125,23 @@ fn sheets_of(
     Ok(texts)
 }
 
-/// The pictures of the rounds of a span, where nothing refuses them.
+/// The pictures of single rounds, where nothing refuses them.
 fn series_texts<P: Progress>(
     rt: &(impl Threads + Sync),
     alloc: Global,
     plan: &Plan,
-    span: &Span,
-    field: u32,
+    drawing: &Drawing<'_>,
     layout: Layout,
-    styles: &ValueStyles<'_>,
     progress: &mut P,
 ) -> Result<Vec<Vec<u8>>, AllocError>
-    requires fits { series_refusal plan.now span.now field layout ≡ None }
-    ensures texts { IfOk result (λ v. map (λ text. text.items) v.items ≡ round_sheets (key_of styles.now (values_in plan.now span.now field)) plan.now span.now field layout) }
+    requires fits { series_refusal plan.now drawing.now layout ≡ None }
+    ensures texts { IfOk result (λ v. map (λ text. text.items) v.items ≡ round_sheets (key_of drawing.now.colouring.styles.now (values_drawn plan.now drawing.now)) plan.now drawing.now layout) }
 {
     let lent = PlanRef::of_plan(plan);
-    let values = values_in(rt, alloc, &lent, span, field, progress)?;
-    let key = key_of(alloc, styles, &values)?;
+    let values = values_drawn(rt, alloc, &lent, drawing, progress)?;
+    let key = key_of(alloc, drawing.colouring.styles, &values)?;
     let network = plan.network();
+    let span = drawing.span;
     let texts = sheets_of(alloc, &key, layout, network, &values, span.steps() + 1)?;
     Ok(texts)
 }
@@ -161,21 +160,19 @@ pub fn round_pictures<P: Progress>(
     rt: &(impl Threads + Sync),
     alloc: Global,
     plan: &Plan,
-    span: &Span,
-    field: u32,
+    drawing: &Drawing<'_>,
     layout: Layout,
-    styles: &ValueStyles<'_>,
     progress: &mut P,
 ) -> Result<Vec<Vec<u8>>, PictureFault>
-    ensures texts { IfOk result (λ v. AreRoundPictures styles.now plan.now span.now field layout (map (λ text. text.items) v.items)) }
-    ensures fits { IfOk result (λ _. series_refusal plan.now span.now field layout ≡ None) }
-    ensures refused { IfErr result (λ fault. fault ≢ Memory → series_refusal plan.now span.now field layout ≡ Some fault) }
-    ensures memory { IfErr result (λ fault. fault ≡ Memory → series_refusal plan.now span.now field layout ≡ None) }
-    ensures at_once { MatchOption (series_refusal plan.now span.now field layout) (Unit {0}) (λ fault. result ≡ Err fault) }
+    ensures texts { IfOk result (λ v. AreRoundPictures plan.now drawing.now layout (map (λ text. text.items) v.items)) }
+    ensures fits { IfOk result (λ _. series_refusal plan.now drawing.now layout ≡ None) }
+    ensures refused { IfErr result (λ fault. fault ≢ Memory → series_refusal plan.now drawing.now layout ≡ Some fault) }
+    ensures memory { IfErr result (λ fault. fault ≡ Memory → series_refusal plan.now drawing.now layout ≡ None) }
+    ensures at_once { MatchOption (series_refusal plan.now drawing.now layout) (Unit {0}) (λ fault. result ≡ Err fault) }
 {
-    if let Some(fault) = series_refusal(plan, span, field, layout) {
+    if let Some(fault) = series_refusal(plan, drawing, layout) {
         return Err(fault);
     }
-    let texts = series_texts(rt, alloc, plan, span, field, layout, styles, progress)?;
+    let texts = series_texts(rt, alloc, plan, drawing, layout, progress)?;
     Ok(texts)
 }

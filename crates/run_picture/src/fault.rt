@@ -6,7 +6,7 @@ use std::alloc::{AllocError, AllocFailed};
 use thiserror::Error;
 
 /// Why there is no picture. Where several hold, the first in this order, but that of pictures for each round `NoWidth` comes
-/// behind `TooManyFrames`; `Memory` comes only where no other holds, but for `TooManyValues`, which is known only after the
+/// after `TooManyFrames`; `Memory` comes only where no other holds, but for `TooManyValues`, which is known only after the
 /// rounds.
 #[derive(Clone, Copy, Debug, PartialEq, Eq, Error)]
 pub enum PictureFault {

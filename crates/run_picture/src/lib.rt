@@ -10,8 +10,10 @@ mod circles;
 mod colour;
 mod curve_picture;
 mod curves;
+mod drawing;
 mod each_round;
 mod fault;
+mod film;
 mod graph;
 mod key;
 mod laws;
@@ -32,6 +34,7 @@ pub use animation::{MOST_FRAMES, moving_picture};
 pub use chosen::{CellShape, Colour, ValueColour};
 pub use colour::is_in_palette;
 pub use curve_picture::{MOST_CURVES, MOST_POINTS, count_picture};
+pub use drawing::{Colouring, Drawing, MovingGrid};
 pub use each_round::{Layout, MOST_STROKES, round_pictures};
 pub use fault::PictureFault;
 pub use laws::{

@@ -6,21 +6,15 @@ ghost use Rattle.run_picture.specs.Moving.{animate_text, begins, changing_text, 
 use crate::changes::{Change, changes_of, classes_of};
 use crate::chosen::CellShape;
 use crate::colour::put_fill;
+use crate::film::{Film, Pace};
 use crate::key::{Key, key_of};
 use crate::legend::put_legend;
 use crate::sheet::{
-    lattice, legend_top, outline, put_cell, put_opening, put_style, sheet_height, sheet_width,
-    side_of,
+    Cell, lattice, legend_top, outline, put_cell, put_opening, put_style, sheet_height,
+    sheet_width, side_of,
 };
 use crate::styles::ValueStyles;
 use std::alloc::{AllocError, Global};
-
-/// How many frames there are, and for how many milliseconds each is seen.
-#[derive(Clone, Copy)]
-pub(crate) struct Pace {
-    pub(crate) frames: u32,
-    pub(crate) time: u32,
-}
 
 /// When a frame begins, in millionths of the whole.
 fn begins(frames: u32, frame: u32) -> u64
@@ -132,15 +126,10 @@ pub(crate) fn put_animate(
 
 /// What stands first in a cell that changes.
 #[tactic(auto, unfolding(crate::specs::Moving::place_text))]
-fn put_place(
-    out: &mut String,
-    shape: CellShape,
-    class: usize,
-    column: u32,
-    row: u32,
-) -> Result<(), AllocError>
-    ensures text { OnOk result (string_bytes out.new ≡ string_bytes out.old ++ place_text shape class column row) }
+fn put_place(out: &mut String, shape: CellShape, cell: Cell) -> Result<(), AllocError>
+    ensures text { OnOk result (string_bytes out.new ≡ string_bytes out.old ++ place_text shape cell.class cell.column cell.row) }
 {
+    let Cell { class, column, row } = cell;
     let outline = outline(shape, row);
     write!(
         out,
@@ -154,119 +143,97 @@ fn put_changing(
     out: &mut String,
     key: &Key<'_>,
     pace: Pace,
-    class: usize,
-    column: u32,
-    row: u32,
+    cell: Cell,
     changes: &[Change],
 ) -> Result<(), AllocError>
     requires some { 1 ≤ pace.frames }
-    ensures text { OnOk result (string_bytes out.new ≡ string_bytes out.old ++ changing_text key.now pace.frames pace.time class column row changes.now) }
+    ensures text { OnOk result (string_bytes out.new ≡ string_bytes out.old ++ changing_text key.now pace.frames pace.time cell.class cell.column cell.row changes.now) }
 {
-    put_place(out, key.styles().shape(), class, column, row)?;
-    put_animate(out, key, pace, class, changes)?;
+    put_place(out, key.styles().shape(), cell)?;
+    put_animate(out, key, pace, cell.class, changes)?;
     out.push_str("</path>\n")
 }
 
-/// A cell at a column and a row, with its changes.
+/// A cell with its changes.
 fn put_moving(
     out: &mut String,
     key: &Key<'_>,
     pace: Pace,
-    class: usize,
-    column: u32,
-    row: u32,
+    cell: Cell,
     changes: &[Change],
 ) -> Result<(), AllocError>
     requires some { 1 ≤ pace.frames }
-    ensures text { OnOk result (string_bytes out.new ≡ string_bytes out.old ++ moving_text key.now pace.frames pace.time class column row changes.now) }
+    ensures text { OnOk result (string_bytes out.new ≡ string_bytes out.old ++ moving_text key.now pace.frames pace.time cell.class cell.column cell.row changes.now) }
 {
     match changes {
-        [] => put_cell(out, key.styles().shape(), class, column, row),
-        _ => put_changing(out, key, pace, class, column, row, changes),
+        [] => put_cell(out, key.styles().shape(), cell),
+        _ => put_changing(out, key, pace, cell, changes),
     }
 }
 
-/// The cell of a node, with these colours frame by frame.
+/// The cell of a node in rows of a width, with these colours frame by frame.
 fn put_colours(
     out: &mut String,
     alloc: Global,
-    key: &Key<'_>,
-    pace: Pace,
+    film: &Film<'_>,
     width: u32,
     node: u32,
     classes: &[usize],
 ) -> Result<(), AllocError>
     requires width { 1 ≤ width }
-    requires some { 1 ≤ pace.frames }
+    requires some { 1 ≤ film.now.pace.frames }
     requires few { length classes.now ≤ most_frames }
-    ensures text { OnOk result (string_bytes out.new ≡ string_bytes out.old ++ node_cell key.now pace.frames pace.time width node classes.now) }
+    ensures text { OnOk result (string_bytes out.new ≡ string_bytes out.old ++ node_cell film.now.key.now film.now.pace.frames film.now.pace.time width node classes.now) }
 {
     let changes = changes_of(alloc, classes)?;
     let class = classes.first().copied().unwrap_or(0);
-    put_moving(out, key, pace, class, node % width, node / width, &changes)
+    let (column, row) = (node % width, node / width);
+    let cell = Cell { class, column, row };
+    put_moving(out, film.key, film.pace, cell, &changes)
 }
 
-/// The cell of a node, of the values of so many nodes frame by frame.
+/// The cell of a node in rows of a width.
 fn put_node(
     out: &mut String,
     alloc: Global,
-    key: &Key<'_>,
-    pace: Pace,
+    film: &Film<'_>,
     width: u32,
-    nodes: u32,
     node: u32,
-    values: &[u32],
 ) -> Result<(), AllocError>
     requires width { 1 ≤ width }
-    requires some { 1 ≤ pace.frames }
-    requires few { pace.frames ≤ most_frames }
-    ensures text { OnOk result (string_bytes out.new ≡ string_bytes out.old ++ node_text key.now pace.frames pace.time width nodes values.now node) }
+    requires some { 1 ≤ film.now.pace.frames }
+    requires few { film.now.pace.frames ≤ most_frames }
+    ensures text { OnOk result (string_bytes out.new ≡ string_bytes out.old ++ node_text film.now.key.now film.now.pace.frames film.now.pace.time width film.now.nodes film.now.values.now node) }
 {
-    let classes = classes_of(alloc, key, values, nodes, pace.frames, node)?;
-    put_colours(out, alloc, key, pace, width, node, &classes)
+    let classes = classes_of(alloc, film, node)?;
+    put_colours(out, alloc, film, width, node, &classes)
 }
 
 /// All cells, in rows of a width.
-fn put_cells(
-    out: &mut String,
-    alloc: Global,
-    key: &Key<'_>,
-    pace: Pace,
-    width: u32,
-    nodes: u32,
-    values: &[u32],
-) -> Result<(), AllocError>
+fn put_cells(out: &mut String, alloc: Global, film: &Film<'_>, width: u32) -> Result<(), AllocError>
     requires width { 1 ≤ width }
-    requires some { 1 ≤ pace.frames }
-    requires few { pace.frames ≤ most_frames }
-    ensures text { OnOk result (string_bytes out.new ≡ string_bytes out.old ++ moving_cells key.now pace.frames pace.time width nodes values.now) }
+    requires some { 1 ≤ film.now.pace.frames }
+    requires few { film.now.pace.frames ≤ most_frames }
+    ensures text { OnOk result (string_bytes out.new ≡ string_bytes out.old ++ moving_cells film.now.key.now film.now.pace.frames film.now.pace.time width film.now.nodes film.now.values.now) }
 {
-    for node in 0..nodes {
-        put_node(out, alloc, key, pace, width, nodes, node, values)?;
+    for node in 0..film.nodes {
+        put_node(out, alloc, film, width, node)?;
     }
     Ok(())
 }
 
 /// The same, as large as they are to be.
 #[tactic(auto, unfolding(crate::specs::Moving::moving_group))]
-fn put_group(
-    out: &mut String,
-    alloc: Global,
-    key: &Key<'_>,
-    pace: Pace,
-    width: u32,
-    nodes: u32,
-    values: &[u32],
-) -> Result<(), AllocError>
+fn put_group(out: &mut String, alloc: Global, film: &Film<'_>, width: u32) -> Result<(), AllocError>
     requires width { 1 ≤ width }
-    requires some { 1 ≤ pace.frames }
-    requires few { pace.frames ≤ most_frames }
-    ensures text { OnOk result (string_bytes out.new ≡ string_bytes out.old ++ moving_group key.now pace.frames pace.time width nodes values.now) }
+    requires some { 1 ≤ film.now.pace.frames }
+    requires few { film.now.pace.frames ≤ most_frames }
+    ensures text { OnOk result (string_bytes out.new ≡ string_bytes out.old ++ moving_group film.now.key.now film.now.pace.frames film.now.pace.time width film.now.nodes film.now.values.now) }
 {
-    let side = side_of(width, nodes);
-    let lattice = lattice(key.styles().shape());
+    let side = side_of(width, film.nodes);
+    let lattice = lattice(film.key.styles().shape());
     write!(out, "<g transform=\"scale({side}){lattice}\">\n")?;
-    put_cells(out, alloc, key, pace, width, nodes, values)?;
+    put_cells(out, alloc, film, width)?;
     out.push_str("</g>\n")
 }
 
@@ -286,6 +253,12 @@ pub(crate) fn moving_of(
     ensures text { IfOk result (λ v. v.items ≡ moving_sheet (key_of styles.now values.now) pace.frames pace.time width nodes values.now) }
 {
     let key = key_of(alloc, styles, values)?;
+    let film = Film {
+        key: &key,
+        pace,
+        nodes,
+        values,
+    };
     let mut out = String::new(alloc);
     put_opening(
         &mut out,
@@ -293,7 +266,7 @@ pub(crate) fn moving_of(
         sheet_height(&key, width, nodes),
     )?;
     put_style(&mut out, &key)?;
-    put_group(&mut out, alloc, &key, pace, width, nodes, values)?;
+    put_group(&mut out, alloc, &film, width)?;
     put_legend(&mut out, &key, legend_top(width, nodes))?;
     out.push_str("</svg>\n")?;
     Ok(out.into_bytes())

@@ -1,34 +1,34 @@
 //! Pictures of a network in the rounds of a plan.
 ghost use Rattle.std.specs.Prelude.{◌≡◌, ◌≢◌, Err, IfOk, IfErr, MatchOption, None, Some};
 ghost use Rattle.run_picture.specs.declared.fault.PictureFault.TheVariants.{Memory};
-ghost use Rattle.run_picture.specs.Frames.{values_in};
+ghost use Rattle.run_picture.specs.Frames.{values_drawn};
 ghost use Rattle.run_picture.specs.Keys.{key_of};
 ghost use Rattle.run_picture.specs.Nets.{IsNetPicture, net_refusal, net_sheet};
 ghost use Rattle.run_watch.specs.Spans.{count_of};
 
 use crate::animation::MOST_FRAMES;
+use crate::drawing::Drawing;
 use crate::fault::PictureFault;
+use crate::film::Pace;
 use crate::key::key_of;
-use crate::moving::Pace;
 use crate::net_sheet::net_sheet;
 use crate::picture::MOST_CELLS;
-use crate::styles::ValueStyles;
-use crate::values::{refusal, values_in};
+use crate::values::{drawing_refusal, values_drawn};
 use rounds_plan::Plan;
 use rounds_walk::PlanRef;
-use run_watch::{Progress, Span};
+use run_watch::Progress;
 use std::alloc::{AllocError, Global};
 use std::thread::Threads;
 
-/// Why there is no picture of the network in the rounds of a span, whatever memory there is.
-fn net_refusal(plan: &Plan, span: &Span, field: u32) -> Option<PictureFault>
-    ensures { result ≡ net_refusal plan.now span.now field }
+/// Why there is no picture of the network in some rounds, whatever memory there is.
+fn net_refusal(plan: &Plan, drawing: &Drawing<'_>) -> Option<PictureFault>
+    ensures { result ≡ net_refusal plan.now drawing.now }
 {
     let lent = PlanRef::of_plan(plan);
-    if let Some(fault) = refusal(&lent, span.first(), span.last(), field) {
+    if let Some(fault) = drawing_refusal(&lent, drawing) {
         return Some(fault);
     }
-    let rounds = span.steps() as u64 + 1;
+    let rounds = drawing.span.steps() as u64 + 1;
     if plan.network().nodes() as u64 * rounds > MOST_CELLS {
         return Some(PictureFault::TooManyCells);
     }
@@ -38,24 +38,22 @@ fn net_refusal(plan: &Plan, span: &Span, field: u32) -> Option<PictureFault>
     None
 }
 
-/// The picture of the network in the rounds of a span, where nothing refuses it.
+/// The picture of the network in some rounds, where nothing refuses it.
 fn net_text<P: Progress>(
     rt: &(impl Threads + Sync),
     alloc: Global,
     plan: &Plan,
-    span: &Span,
-    field: u32,
+    drawing: &Drawing<'_>,
     time: u32,
-    styles: &ValueStyles<'_>,
     progress: &mut P,
 ) -> Result<Vec<u8>, AllocError>
-    requires fits { net_refusal plan.now span.now field ≡ None }
-    ensures text { IfOk result (λ v. v.items ≡ net_sheet (key_of styles.now (values_in plan.now span.now field)) (count_of span.now) time plan.now.network (values_in plan.now span.now field)) }
+    requires fits { net_refusal plan.now drawing.now ≡ None }
+    ensures text { IfOk result (λ v. v.items ≡ net_sheet (key_of drawing.now.colouring.styles.now (values_drawn plan.now drawing.now)) (count_of drawing.now.span.now) time plan.now.network (values_drawn plan.now drawing.now)) }
 {
     let lent = PlanRef::of_plan(plan);
-    let values = values_in(rt, alloc, &lent, span, field, progress)?;
-    let key = key_of(alloc, styles, &values)?;
-    let frames = span.steps() + 1;
+    let values = values_drawn(rt, alloc, &lent, drawing, progress)?;
+    let key = key_of(alloc, drawing.colouring.styles, &values)?;
+    let frames = drawing.span.steps() + 1;
     net_sheet(alloc, &key, Pace { frames, time }, plan.network(), &values)
 }
 
@@ -74,21 +72,19 @@ pub fn network_picture<P: Progress>(
     rt: &(impl Threads + Sync),
     alloc: Global,
     plan: &Plan,
-    span: &Span,
-    field: u32,
+    drawing: &Drawing<'_>,
     time: u32,
-    styles: &ValueStyles<'_>,
     progress: &mut P,
 ) -> Result<Vec<u8>, PictureFault>
-    ensures text { IfOk result (λ v. IsNetPicture styles.now plan.now span.now field time v.items) }
-    ensures fits { IfOk result (λ _. net_refusal plan.now span.now field ≡ None) }
-    ensures refused { IfErr result (λ fault. fault ≢ Memory → net_refusal plan.now span.now field ≡ Some fault) }
-    ensures memory { IfErr result (λ fault. fault ≡ Memory → net_refusal plan.now span.now field ≡ None) }
-    ensures at_once { MatchOption (net_refusal plan.now span.now field) (Unit {0}) (λ fault. result ≡ Err fault) }
+    ensures text { IfOk result (λ v. IsNetPicture plan.now drawing.now time v.items) }
+    ensures fits { IfOk result (λ _. net_refusal plan.now drawing.now ≡ None) }
+    ensures refused { IfErr result (λ fault. fault ≢ Memory → net_refusal plan.now drawing.now ≡ Some fault) }
+    ensures memory { IfErr result (λ fault. fault ≡ Memory → net_refusal plan.now drawing.now ≡ None) }
+    ensures at_once { MatchOption (net_refusal plan.now drawing.now) (Unit {0}) (λ fault. result ≡ Err fault) }
 {
-    if let Some(fault) = net_refusal(plan, span, field) {
+    if let Some(fault) = net_refusal(plan, drawing) {
         return Err(fault);
     }
-    let text = net_text(rt, alloc, plan, span, field, time, styles, progress)?;
+    let text = net_text(rt, alloc, plan, drawing, time, progress)?;
     Ok(text)
 }

@@ -4,9 +4,9 @@ ghost use Rattle.run_picture.specs.Moving.{most_frames};
 ghost use Rattle.run_picture.specs.Nets.{net_height, net_legend, net_sheet, net_width};
 
 use crate::circles::put_circles;
+use crate::film::{Film, Pace};
 use crate::key::Key;
 use crate::legend::{legend_lines, legend_width, put_legend};
-use crate::moving::Pace;
 use crate::places::across;
 use crate::sheet::{put_opening, put_style};
 use crate::strokes::put_strokes;
@@ -51,11 +51,17 @@ pub(crate) fn net_sheet(
     ensures text { IfOk result (λ v. v.items ≡ net_sheet key.now pace.frames pace.time network.now values.now) }
 {
     let nodes = network.nodes();
+    let film = Film {
+        key,
+        pace,
+        nodes,
+        values,
+    };
     let mut out = String::new(alloc);
     put_opening(&mut out, net_width(key, nodes), net_height(key, nodes))?;
     put_style(&mut out, key)?;
     put_strokes(&mut out, network)?;
-    put_circles(&mut out, alloc, key, pace, nodes, values)?;
+    put_circles(&mut out, alloc, &film)?;
     put_legend(&mut out, key, net_legend(nodes))?;
     out.push_str("</svg>\n")?;
     Ok(out.into_bytes())

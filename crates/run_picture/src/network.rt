@@ -5,6 +5,7 @@ ghost use Rattle.run_picture.specs.Drawn.{IsNetworkText, graph_text, head_text};
 ghost use Rattle.run_picture.specs.Frames.{refusal_of, values_after};
 ghost use Rattle.run_picture.specs.Keys.{key_of};
 
+use crate::drawing::Colouring;
 use crate::fault::PictureFault;
 use crate::graph::put_nodes;
 use crate::key::key_of;
@@ -55,17 +56,17 @@ fn text_of(
     alloc: Global,
     plan: &Plan,
     round: u32,
-    field: u32,
+    colouring: &Colouring<'_>,
     labels: &[String],
-    styles: &ValueStyles<'_>,
 ) -> Result<Vec<u8>, AllocError>
-    requires fits { refusal_of plan.now round round field ≡ None }
-    ensures text { IfOk result (λ v. v.items ≡ graph_text (key_of styles.now (values_after plan.now field round)) plan.now.network (map string_bytes labels.now) round (values_after plan.now field round)) }
+    requires fits { refusal_of plan.now round round colouring.now.field ≡ None }
+    ensures text { IfOk result (λ v. v.items ≡ graph_text (key_of colouring.now.styles.now (values_after plan.now colouring.now.field round)) plan.now.network (map string_bytes labels.now) round (values_after plan.now colouring.now.field round)) }
 {
     // For the proof: how many nodes a plan may have.
     let _phase = plan.phase();
     let lent = PlanRef::of_plan(plan);
-    let values = values_after(rt, alloc, &lent, round, field)?;
+    let values = values_after(rt, alloc, &lent, round, colouring.field)?;
+    let styles = colouring.styles;
     graph_of(alloc, styles, plan.network(), labels, round, &values)
 }
 
@@ -83,20 +84,19 @@ pub fn network_dot(
     alloc: Global,
     plan: &Plan,
     round: u32,
-    field: u32,
+    colouring: &Colouring<'_>,
     labels: &[String],
-    styles: &ValueStyles<'_>,
 ) -> Result<Vec<u8>, PictureFault>
-    ensures text { IfOk result (λ v. IsNetworkText styles.now plan.now (map string_bytes labels.now) round field v.items) }
-    ensures fits { IfOk result (λ _. refusal_of plan.now round round field ≡ None) }
-    ensures refused { IfErr result (λ fault. fault ≢ Memory → refusal_of plan.now round round field ≡ Some fault) }
-    ensures memory { IfErr result (λ fault. fault ≡ Memory → refusal_of plan.now round round field ≡ None) }
-    ensures at_once { MatchOption (refusal_of plan.now round round field) (Unit {0}) (λ fault. result ≡ Err fault) }
+    ensures text { IfOk result (λ v. IsNetworkText plan.now round colouring.now (map string_bytes labels.now) v.items) }
+    ensures fits { IfOk result (λ _. refusal_of plan.now round round colouring.now.field ≡ None) }
+    ensures refused { IfErr result (λ fault. fault ≢ Memory → refusal_of plan.now round round colouring.now.field ≡ Some fault) }
+    ensures memory { IfErr result (λ fault. fault ≡ Memory → refusal_of plan.now round round colouring.now.field ≡ None) }
+    ensures at_once { MatchOption (refusal_of plan.now round round colouring.now.field) (Unit {0}) (λ fault. result ≡ Err fault) }
 {
     let lent = PlanRef::of_plan(plan);
-    if let Some(fault) = refusal(&lent, round, round, field) {
+    if let Some(fault) = refusal(&lent, round, round, colouring.field) {
         return Err(fault);
     }
-    let text = text_of(rt, alloc, plan, round, field, labels, styles)?;
+    let text = text_of(rt, alloc, plan, round, colouring, labels)?;
     Ok(text)
 }

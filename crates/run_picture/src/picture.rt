@@ -1,30 +1,30 @@
 //! Pictures of rounds.
 ghost use Rattle.std.specs.Prelude.{◌≡◌, ◌≢◌, Err, IfOk, IfErr, MatchOption, None, Some, length};
 ghost use Rattle.run_picture.specs.declared.fault.PictureFault.TheVariants.{Memory};
-ghost use Rattle.run_picture.specs.Frames.{grid_refusal, time_refusal, values_after, values_in};
+ghost use Rattle.run_picture.specs.Frames.{grid_refusal, time_refusal, values_after, values_drawn};
 ghost use Rattle.run_picture.specs.Keys.{key_of};
 ghost use Rattle.run_picture.specs.Sheets.{IsPicture, sheet_text};
 
+use crate::drawing::{Colouring, Drawing};
 use crate::fault::PictureFault;
 use crate::sheet::picture_of;
-use crate::styles::ValueStyles;
-use crate::values::{refusal, values_after, values_in};
+use crate::values::{drawing_refusal, refusal, values_after, values_drawn};
 use rounds_walk::PlanRef;
-use run_watch::{Progress, Span};
+use run_watch::Progress;
 use std::alloc::{AllocError, Global};
 use std::thread::Threads;
 
 /// The most cells of a picture.
 pub const MOST_CELLS: u64 = 1_000_000;
 
-/// Why there is no picture of the rounds of a span, whatever memory there is.
-fn time_refusal(plan: &PlanRef<'_>, span: &Span, field: u32) -> Option<PictureFault>
-    ensures { result ≡ time_refusal plan.now span.now field }
+/// Why there is no picture of rounds, whatever memory there is.
+fn time_refusal(plan: &PlanRef<'_>, drawing: &Drawing<'_>) -> Option<PictureFault>
+    ensures { result ≡ time_refusal plan.now drawing.now }
 {
-    if let Some(fault) = refusal(plan, span.first(), span.last(), field) {
+    if let Some(fault) = drawing_refusal(plan, drawing) {
         return Some(fault);
     }
-    let rounds = span.steps() as u64 + 1;
+    let rounds = drawing.span.steps() as u64 + 1;
     if plan.nodes() as u64 * rounds > MOST_CELLS {
         return Some(PictureFault::TooManyCells);
     }
@@ -47,21 +47,19 @@ fn grid_refusal(plan: &PlanRef<'_>, round: u32, field: u32, width: u32) -> Optio
     None
 }
 
-/// The picture of the rounds of a span, where nothing refuses it.
+/// The picture of rounds, where nothing refuses it.
 fn time_text<P: Progress>(
     rt: &(impl Threads + Sync),
     alloc: Global,
     plan: &PlanRef<'_>,
-    span: &Span,
-    field: u32,
-    styles: &ValueStyles<'_>,
+    drawing: &Drawing<'_>,
     progress: &mut P,
 ) -> Result<Vec<u8>, AllocError>
-    requires fits { time_refusal plan.now span.now field ≡ None }
-    ensures text { IfOk result (λ v. v.items ≡ sheet_text (key_of styles.now (values_in plan.now span.now field)) (length plan.now.network) (values_in plan.now span.now field)) }
+    requires fits { time_refusal plan.now drawing.now ≡ None }
+    ensures text { IfOk result (λ v. v.items ≡ sheet_text (key_of drawing.now.colouring.styles.now (values_drawn plan.now drawing.now)) (length plan.now.network) (values_drawn plan.now drawing.now)) }
 {
-    let values = values_in(rt, alloc, plan, span, field, progress)?;
-    picture_of(alloc, styles, plan.nodes(), &values)
+    let values = values_drawn(rt, alloc, plan, drawing, progress)?;
+    picture_of(alloc, drawing.colouring.styles, plan.nodes(), &values)
 }
 
 /// The picture of a round, where nothing refuses it.
@@ -70,15 +68,14 @@ fn grid_text(
     alloc: Global,
     plan: &PlanRef<'_>,
     round: u32,
-    field: u32,
+    colouring: &Colouring<'_>,
     width: u32,
-    styles: &ValueStyles<'_>,
 ) -> Result<Vec<u8>, AllocError>
-    requires fits { grid_refusal plan.now round field width ≡ None }
-    ensures text { IfOk result (λ v. v.items ≡ sheet_text (key_of styles.now (values_after plan.now field round)) width (values_after plan.now field round)) }
+    requires fits { grid_refusal plan.now round colouring.now.field width ≡ None }
+    ensures text { IfOk result (λ v. v.items ≡ sheet_text (key_of colouring.now.styles.now (values_after plan.now colouring.now.field round)) width (values_after plan.now colouring.now.field round)) }
 {
-    let values = values_after(rt, alloc, plan, round, field)?;
-    picture_of(alloc, styles, width, &values)
+    let values = values_after(rt, alloc, plan, round, colouring.field)?;
+    picture_of(alloc, colouring.styles, width, &values)
 }
 
 /// The time picture of a field as SVG: the rounds of a span of a plan down the page, one below the other, the nodes
@@ -97,21 +94,19 @@ pub fn time_picture<P: Progress>(
     rt: &(impl Threads + Sync),
     alloc: Global,
     plan: &PlanRef<'_>,
-    span: &Span,
-    field: u32,
-    styles: &ValueStyles<'_>,
+    drawing: &Drawing<'_>,
     progress: &mut P,
 ) -> Result<Vec<u8>, PictureFault>
-    ensures text { IfOk result (λ v. IsPicture styles.now (length plan.now.network) (values_in plan.now span.now field) v.items) }
-    ensures fits { IfOk result (λ _. time_refusal plan.now span.now field ≡ None) }
-    ensures refused { IfErr result (λ fault. fault ≢ Memory → time_refusal plan.now span.now field ≡ Some fault) }
-    ensures memory { IfErr result (λ fault. fault ≡ Memory → time_refusal plan.now span.now field ≡ None) }
-    ensures at_once { MatchOption (time_refusal plan.now span.now field) (Unit {0}) (λ fault. result ≡ Err fault) }
+    ensures text { IfOk result (λ v. IsPicture drawing.now.colouring.styles.now (length plan.now.network) (values_drawn plan.now drawing.now) v.items) }
+    ensures fits { IfOk result (λ _. time_refusal plan.now drawing.now ≡ None) }
+    ensures refused { IfErr result (λ fault. fault ≢ Memory → time_refusal plan.now drawing.now ≡ Some fault) }
+    ensures memory { IfErr result (λ fault. fault ≡ Memory → time_refusal plan.now drawing.now ≡ None) }
+    ensures at_once { MatchOption (time_refusal plan.now drawing.now) (Unit {0}) (λ fault. result ≡ Err fault) }
 {
-    if let Some(fault) = time_refusal(plan, span, field) {
+    if let Some(fault) = time_refusal(plan, drawing) {
         return Err(fault);
     }
-    let text = time_text(rt, alloc, plan, span, field, styles, progress)?;
+    let text = time_text(rt, alloc, plan, drawing, progress)?;
     Ok(text)
 }
 
@@ -127,19 +122,18 @@ pub fn grid_picture(
     alloc: Global,
     plan: &PlanRef<'_>,
     round: u32,
-    field: u32,
+    colouring: &Colouring<'_>,
     width: u32,
-    styles: &ValueStyles<'_>,
 ) -> Result<Vec<u8>, PictureFault>
-    ensures text { IfOk result (λ v. IsPicture styles.now width (values_after plan.now field round) v.items) }
-    ensures fits { IfOk result (λ _. grid_refusal plan.now round field width ≡ None) }
-    ensures refused { IfErr result (λ fault. fault ≢ Memory → grid_refusal plan.now round field width ≡ Some fault) }
-    ensures memory { IfErr result (λ fault. fault ≡ Memory → grid_refusal plan.now round field width ≡ None) }
-    ensures at_once { MatchOption (grid_refusal plan.now round field width) (Unit {0}) (λ fault. result ≡ Err fault) }
+    ensures text { IfOk result (λ v. IsPicture colouring.now.styles.now width (values_after plan.now colouring.now.field round) v.items) }
+    ensures fits { IfOk result (λ _. grid_refusal plan.now round colouring.now.field width ≡ None) }
+    ensures refused { IfErr result (λ fault. fault ≢ Memory → grid_refusal plan.now round colouring.now.field width ≡ Some fault) }
+    ensures memory { IfErr result (λ fault. fault ≡ Memory → grid_refusal plan.now round colouring.now.field width ≡ None) }
+    ensures at_once { MatchOption (grid_refusal plan.now round colouring.now.field width) (Unit {0}) (λ fault. result ≡ Err fault) }
 {
-    if let Some(fault) = grid_refusal(plan, round, field, width) {
+    if let Some(fault) = grid_refusal(plan, round, colouring.field, width) {
         return Err(fault);
     }
-    let text = grid_text(rt, alloc, plan, round, field, width, styles)?;
+    let text = grid_text(rt, alloc, plan, round, colouring, width)?;
     Ok(text)
 }

@@ -154,17 +154,20 @@ pub(crate) fn lattice(shape: CellShape) -> &'static str
     }
 }
 
-/// A cell.
+/// A cell: the number of its colour, and where it stands.
+#[derive(Clone, Copy)]
+pub(crate) struct Cell {
+    pub(crate) class: usize,
+    pub(crate) column: u32,
+    pub(crate) row: u32,
+}
+
+/// A cell of a shape.
 #[tactic(auto, unfolding(crate::specs::Sheets::cell_text))]
-pub(crate) fn put_cell(
-    out: &mut String,
-    shape: CellShape,
-    class: usize,
-    column: u32,
-    row: u32,
-) -> Result<(), AllocError>
-    ensures text { OnOk result (string_bytes out.new ≡ string_bytes out.old ++ cell_text shape class column row) }
+pub(crate) fn put_cell(out: &mut String, shape: CellShape, cell: Cell) -> Result<(), AllocError>
+    ensures text { OnOk result (string_bytes out.new ≡ string_bytes out.old ++ cell_text shape cell.class cell.column cell.row) }
 {
+    let Cell { class, column, row } = cell;
     let outline = outline(shape, row);
     write!(
         out,
@@ -181,13 +184,8 @@ fn put_rows(out: &mut String, key: &Key<'_>, width: u32, cells: &[u32]) -> Resul
     for (place, value) in cells.iter().enumerate() {
         let place = place as u32;
         let class = class_of(key, *value);
-        put_cell(
-            out,
-            key.styles().shape(),
-            class,
-            place % width,
-            place / width,
-        )?;
+        let (column, row) = (place % width, place / width);
+        put_cell(out, key.styles().shape(), Cell { class, column, row })?;
     }
     Ok(())
 }

@@ -49,7 +49,7 @@ read-leaves network stop u a (suc n) c f none done fit =
     } in
     subst (λ (x : Answer). LeavesRead network u c (run network stop (change c (Read u a) x) (map (λ j. Read u j) (range_with_len (a + 1) n)))) (sym taken) all
 
--- each number is below those behind it
+-- each number is below those after it
 abbrev Rises : List ℕ → Type 0
 Rises [] = Unit {0}
 Rises (u ∷ us) = ((v : ℕ) → Has v us → u < v) × Rises us

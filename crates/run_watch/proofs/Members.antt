@@ -100,7 +100,7 @@ name_word show k v words =
 
 -- ---- members
 
--- the members of fields, each behind a comma
+-- the members of fields, each after a comma
 abbrev members_behind : Show → List (List ℕ) → State → List ℕ → List ℕ
 members_behind show names state fields =
     flat_map (λ (k : ℕ). codes ",\"" ++ (slice_index_or names k [] ++ (codes "\":" ++ json_label (value_name show k (slice_index state.words k)) (slice_index state.words k)))) fields

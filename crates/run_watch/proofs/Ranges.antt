@@ -4,7 +4,7 @@ use Rattle.std.proofs.lemmas.Grind.{common_steps}
 use Rattle.std.specs.List.{filter, flat_map, range_with_len}
 use Rattle.run_watch.specs.Spans.{SpanView, round_at}
 
--- the first of them, and those behind it
+-- the first of them, and those after it
 pub range_left : (i n : ℕ) → i < n → range_with_len i (n - i) ≡ i ∷ range_with_len (i + 1) (n - (i + 1))
 range_left i n inside =
     let e : n - i ≡ suc (n - (i + 1)) = omega (arith, inside) in

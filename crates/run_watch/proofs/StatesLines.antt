@@ -36,7 +36,7 @@ taken P zero xs all k d inside = absurd (omega (arith, inside))
 taken P (suc n) [] all k d inside = absurd (omega (arith, inside))
 taken P (suc n) (x ∷ xs) all k d inside = joined P x (take n xs) (first_of P x xs all) (taken P n xs (behind P x xs all)) k d inside
 
--- ---- cells behind commas
+-- ---- cells after commas
 
 no_comma : (text : List ℕ) → IsPlain text → All (λ b. is_comma b ≡ false) text
 no_comma text plain k d inside =

@@ -7,7 +7,7 @@ use Rattle.std.specs.Option.{option_map}
 use Rattle.rule_check.specs.declared.state.State.{State}
 use Rattle.run_watch.specs.Watching.{label_of, names_in}
 
--- a comma and what stands behind it
+-- a comma and what stands after it
 abbrev pub cell : List ℕ → List ℕ
 cell text = codes "," ++ text
 

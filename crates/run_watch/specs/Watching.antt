@@ -71,7 +71,7 @@ row_start Report t = []
 row_start Csv t = decimal t ++ codes ","
 row_start Json t = codes "{\"round\":" ++ (decimal t ++ codes ",\"node\":")
 
--- what stands behind the fields
+-- what stands after the fields
 abbrev pub row_end : Format → List ℕ
 row_end Report = codes "\n"
 row_end Csv = codes "\n"
@@ -109,7 +109,7 @@ part_text show names before c =
     head_text show.format show.changes c.rounds (length (shown_nodes show before c.states))
     ++ flat_map (node_text show names before c) (numbers_below (length c.states))
 
--- the rounds of a plan, one behind the other
+-- the rounds of a plan, one after the other
 abbrev pub parts_text : PlanView → Show → List State → List ℕ → List ℕ
 parts_text p show before [] = []
 parts_text p show before (t ∷ rounds) = part_text show (names_of p.program) before (lockstep_config p t) ++ parts_text p show (lockstep_states p t (length p.network)) rounds

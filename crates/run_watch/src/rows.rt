@@ -52,7 +52,7 @@ pub fn put_json_label(out: &mut String, labels: &[String], number: u32) -> Resul
     }
 }
 
-/// The value of a field behind the field's name, in JSON.
+/// The value of a field after the field's name, in JSON.
 fn put_member(out: &mut String, field: &str, names: &[String], value: u32) -> Result<(), AllocError>
     ensures text { OnOk result (string_bytes out.new ≡ string_bytes out.old ++ cell_text Json field.now (option_map string_bytes (slice_get names.now value)) value) }
 {
@@ -112,7 +112,7 @@ fn put_start(out: &mut String, format: Format, round: u32) -> Result<(), AllocEr
     }
 }
 
-/// What stands behind the fields.
+/// What stands after the fields.
 fn end_of(format: Format) -> &'static str
     ensures text { result.now ≡ row_end format }
 {

@@ -3,7 +3,7 @@
 /// The form of the text.
 #[derive(Clone, Copy)]
 pub enum Format {
-    /// Reports, one behind the other.
+    /// Reports, one after the other.
     Report,
     /// CSV: a record of headings, `round`, `node` and the fields, and a record for each node in each round.
     Csv,

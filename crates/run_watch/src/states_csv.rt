@@ -10,7 +10,7 @@ use report_text::field_names;
 use rule_check::{Program, State};
 use std::alloc::{AllocError, Global};
 
-/// Puts names, each behind a comma.
+/// Puts names, each after a comma.
 fn put_names(out: &mut String, names: &[&str]) -> Result<(), AllocError>
     ensures text { OnOk result (string_bytes out.new ≡ string_bytes out.old ++ flat_map cell (map (λ name. name.now) names.now)) }
 {
@@ -30,7 +30,7 @@ fn put_headings(out: &mut String, program: &Program) -> Result<(), AllocError>
     out.push_str("\n")
 }
 
-/// Puts what stands for a value, which has one of these names where there are so many, behind a comma.
+/// Puts what stands for a value, which has one of these names where there are so many, after a comma.
 fn put_value(out: &mut String, names: &[String], value: u32) -> Result<(), AllocError>
     ensures text { OnOk result (string_bytes out.new ≡ string_bytes out.old ++ cell (value_text names.now value)) }
 {
@@ -38,7 +38,7 @@ fn put_value(out: &mut String, names: &[String], value: u32) -> Result<(), Alloc
     put_label(out, names, value)
 }
 
-/// Puts what stands for the values of the first fields, each behind a comma.
+/// Puts what stands for the values of the first fields, each after a comma.
 fn put_values(out: &mut String, names: &[Vec<String>], values: &[u32]) -> Result<(), AllocError>
     requires few { length values.now ≤ 8 }
     ensures text { OnOk result (string_bytes out.new ≡ string_bytes out.old ++ flat_map cell (value_texts names.now 0 values.now)) }

@@ -13,6 +13,7 @@ use crate::parts::put_part;
 use crate::rows::name_at;
 use crate::show::{Format, Show};
 use crate::span::Span;
+use crate::workers::Workers;
 use rounds_plan::{MOST_ROUNDS, RoundStates};
 use rounds_walk::{PlanRef, RoundWalk, Start};
 use rule_check::{Program, State};
@@ -86,7 +87,7 @@ fn states_in(config: &Option<RoundStates>) -> &[State]
     }
 }
 
-/// Goes on to a round, and puts it as it is shown behind what stands in the text. Its configuration.
+/// Goes on to a round, and puts it as it is shown after what stands in the text. Its configuration.
 fn put_round(
     rt: &(impl Threads + Sync),
     alloc: Global,
@@ -111,7 +112,7 @@ fn put_round(
     Ok(config)
 }
 
-/// Puts the rounds of a span behind what stands in the text, in one pass.
+/// Puts the rounds of a span after what stands in the text, in one pass.
 fn put_rounds<P: Progress>(
     rt: &(impl Threads + Sync),
     alloc: Global,
@@ -139,40 +140,40 @@ fn put_rounds<P: Progress>(
 }
 
 /// The text of the rounds, where nothing refuses them.
-fn text_of<P: Progress>(
-    rt: &(impl Threads + Sync),
+fn text_of<R: Threads + Sync, P: Progress>(
+    workers: &Workers<'_, R>,
     alloc: Global,
     plan: &PlanRef<'_>,
     span: &Span,
     show: &Show<'_>,
-    threads: usize,
     progress: &mut P,
 ) -> Result<Vec<u8>, AllocError>
     requires fits { refusal_of plan.now span.now show.now ≡ None }
     ensures text { IfOk result (λ v. v.items ≡ watch_text plan.now span.now show.now) }
 {
     let start = Start::new(alloc, plan)?;
-    let mut walk = start.shared_walk(alloc, threads)?;
+    let mut walk = start.shared_walk(alloc, workers.count)?;
     let mut out = String::new(alloc);
     put_opening(&mut out, show, plan.program())?;
-    put_rounds(rt, alloc, &mut out, plan, &mut walk, span, show, progress)?;
+    put_rounds(
+        workers.rt, alloc, &mut out, plan, &mut walk, span, show, progress,
+    )?;
     Ok(out.into_bytes())
 }
 
 /// The text of the rounds of a span of a plan, however many nodes it has, in one pass over the rounds: none is computed
-/// twice. Each round is shared among so many threads where it has enough to compute for them. What a reader of a line gets back, `csv_is_read_back` and `json_is_read_back` say, and of a report
-/// `whole_parts_are_reports`.
+/// twice. Each round is shared among the workers where it has enough to compute for them. What a reader of a line gets back,
+/// `csv_is_read_back` and `json_is_read_back` say, and of a report `whole_parts_are_reports`.
 ///
 /// `TooManyRounds` comes where the last round is above 1,000,000,000, else `RoundsBelowStart` where the first lies
 /// before the plan's start, and else `NoField` with the first place of those that are to be shown at which the program
 /// has no field, all before anything is done; `Memory` only where none of them holds.
-pub fn watched<P: Progress>(
-    rt: &(impl Threads + Sync),
+pub fn watched<R: Threads + Sync, P: Progress>(
+    workers: &Workers<'_, R>,
     alloc: Global,
     plan: &PlanRef<'_>,
     span: &Span,
     show: &Show<'_>,
-    threads: usize,
     progress: &mut P,
 ) -> Result<Vec<u8>, WatchFault>
     ensures text { IfOk result (λ v. v.items ≡ watch_text plan.now span.now show.now) }
@@ -183,6 +184,6 @@ pub fn watched<P: Progress>(
     if let Some(fault) = refusal(plan, span, show) {
         return Err(fault);
     }
-    let text = text_of(rt, alloc, plan, span, show, threads, progress)?;
+    let text = text_of(workers, alloc, plan, span, show, progress)?;
     Ok(text)
 }

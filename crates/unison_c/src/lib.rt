@@ -15,11 +15,13 @@ ghost use Rattle.app_calls.specs.PartAnswers.{HasPartRound, IsRefusedPart};
 ghost use Rattle.app_calls.specs.WatchAnswers.{HaveLargeRounds, IsRefusedWatch};
 ghost use Rattle.app_calls.specs.Lists.{given_weights, lists_fault};
 ghost use Rattle.app_calls.specs.ListNumbers.{IsLargeNumberOf, IsToldLists};
+ghost use Rattle.app_calls.specs.ModelAnswers.{IsExpansion, IsUnexpanded};
+ghost use Rattle.app_calls.specs.ModelNumbers.{IsModelNumberOf};
 
 use app_calls::{
-    check_lists, reason_for, write_large_counts, write_large_rounds, write_large_watch,
-    write_part_round, write_reason, write_replay, write_round, write_rounds, write_settling,
-    write_spelling,
+    check_lists, reason_for, write_expansion, write_large_counts, write_large_rounds,
+    write_large_watch, write_part_round, write_reason, write_replay, write_round, write_rounds,
+    write_settling, write_spelling,
 };
 use std::alloc::Global;
 
@@ -56,6 +58,30 @@ pub extern "C" fn unison_check(
     }
 }
 
+/// Writes the text of the program that a model is expanded to, where constants are set, to the front of the text, and how long
+/// it is; where there is too little room, how long it is alone. The names of the constants stand in a text, an LF after each,
+/// and their values in a list in the same order. A model of more than 65,536 bytes takes no memory.
+#[unsafe(no_mangle)]
+pub extern "C" fn unison_expand(
+    alloc: Global,
+    model: &[u8],
+    names: &[u8],
+    values: &[u32],
+    text: &mut [u8],
+    text_len: &mut usize,
+) -> u32
+    ensures written { result ≡ 0 → IsExpansion model.now names.now values.now text.old text.new text_len.new }
+    ensures kept { result ≢ 0 → text.new ≡ text.old }
+    ensures sized { result ≢ 0 → result ≢ ROOM → text_len.new ≡ text_len.old }
+    ensures refused { result ≢ 0 → IsModelNumberOf (IsUnexpanded model.now names.now values.now (length text.old) text_len.new) result }
+    ensures long { 65536 < length model.now → result ≡ 160 }
+{
+    match write_expansion(alloc, model, names, values, text, text_len) {
+        Ok(()) => 0,
+        Err(fault) => fault.number(),
+    }
+}
+
 /// Writes the words of all fields of all nodes after a round, node by node, to the front of the words, and how many nodes and
 /// fields there are; where there is too little room, these numbers alone, and then no round is computed.
 #[unsafe(no_mangle)]
@@ -80,7 +106,7 @@ pub extern "C" fn unison_lockstep(
     }
 }
 
-/// Writes the words after each of the rounds, of which each is above the one before it, one round behind the other, to the
+/// Writes the words after each of the rounds, of which each is above the one before it, one round after the other, to the
 /// front of the words, and how many nodes and fields there are; where there is too little room, these numbers alone, and then
 /// no round is computed. All is done in one pass over the rounds.
 #[unsafe(no_mangle)]
@@ -252,7 +278,7 @@ pub extern "C" fn unison_large_rounds(
     }
 }
 
-/// Writes the words after each of the rounds, of which each is above the one before it, one round behind the other, to the front
+/// Writes the words after each of the rounds, of which each is above the one before it, one round after the other, to the front
 /// of the words, on a network of any size whose nodes have the words `from` after the start, and how many fields there are; where
 /// there is not one word in `from` for each field of each node, or too little room, how many fields there are alone, and then no
 /// round is computed. All is done in one pass over the rounds.
@@ -285,7 +311,7 @@ pub extern "C" fn unison_large_watch(
 }
 
 /// Writes how many nodes have each of the values in a field after each of the rounds, and last in each round how many have none of
-/// them, to the front of the counts, one round behind the other, on a network of any size whose nodes have the words `from` after
+/// them, to the front of the counts, one round after the other, on a network of any size whose nodes have the words `from` after
 /// the start, and how many fields there are; where there is not one word in `from` for each field of each node, no such field, too
 /// many values or too little room, how many fields there are alone, and then no round is computed. All is done in one pass over
 /// the rounds, each of which is above the one before it.

@@ -26,7 +26,7 @@ static EXPAND: Command = Command {
     aliases: &[],
     called: "unison expand",
     about: "Expand a model to the program that it stands for",
-    notes: "Prints the program text, each field and each next value behind a comment with its line of the model. Where a command reads a program, a model may stand too, in a file whose name ends in .model.\nAn example: unison expand examples/models/majority.model\n",
+    notes: "Prints the program text, each field and each next value after a comment with its line of the model. Where a command reads a program, a model may stand too, in a file whose name ends in .model.\nAn example: unison expand examples/models/majority.model\n",
     arguments: &[MODEL, MODEL_CONSTANT],
     subcommands: &[],
 };

@@ -93,7 +93,7 @@ fn run_words(
     }
 }
 
-/// The words behind the first one.
+/// The words after the first one.
 fn behind_first(words: &[String]) -> &[String] {
     if words.is_empty() { words } else { &words[1..] }
 }

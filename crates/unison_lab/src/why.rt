@@ -11,7 +11,7 @@ use app_words::{Request, UsageFault, command_as, job_by};
 use model_rules::{Given, ModelProgramFault, expanded};
 use std::alloc::{AllocError, Global};
 
-/// What stands behind the help of `why`.
+/// What stands after the help of `why`.
 const EXAMPLE: &str =
     "The words are those of the command; - is standard input where a file is read.\nAn example: unison why lockstep examples/distance.rules examples/path.toml --rounds 2\n";
 
@@ -26,7 +26,7 @@ fn allowed(option: &str) -> &'static str {
     }
 }
 
-/// The value that the words give to an option: the word behind `--OPTION`, or what stands behind `--OPTION=`.
+/// The value that the words give to an option: the word after `--OPTION`, or what stands after `--OPTION=`.
 pub(crate) fn value_of<'w>(words: &'w [String], option: &str) -> Option<&'w str> {
     for (index, word) in words.iter().enumerate() {
         let Some(named) = word.as_str().strip_prefix("--") else {
@@ -347,7 +347,7 @@ fn without_notes(words: &[String]) -> Option<&[String]> {
     }
 }
 
-/// Tells why a command refuses its texts. The status with which that command would end. Behind `--notes`, which no help
+/// Tells why a command refuses its texts. The status with which that command would end. After `--notes`, which no help
 /// lists, the notes on what the command accepts are printed alone: so `./unison` tells them of the five commands.
 pub(crate) fn why_command(rt: &HostRuntime, words: &[String]) -> Result<u8, Ending> {
     let (constants, words) = asked_by(constants_among(rt.alloc(), words))?;

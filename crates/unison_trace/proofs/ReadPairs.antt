@@ -12,7 +12,7 @@ use Rattle.unison_trace.specs.ReadLines.{AreSmall, number_line, pair_line}
 abbrev Small : ℕ → Type 0
 Small n = n < 2 ^ 32
 
--- the blank between two numbers, and what stands behind it
+-- the blank between two numbers, and what stands after it
 abbrev blank_and : List ℕ → List ℕ
 blank_and rest = codes " " ++ rest
 
@@ -25,16 +25,16 @@ module _ (bytes : List ℕ) where
   pair-no_first h = λ p behind fits any e. h p.0 (blank_and (number_line p.1 ++ behind)) fits.0 refl (e ∙ pair_apart p behind)
 
   module _ (n : ℕ) (rest : List ℕ) (is : bytes ≡ decimal n ++ rest) (small : n < 2 ^ 32) (ends : Ends rest) where
-    -- what stands behind the first number of a pair
+    -- what stands after the first number of a pair
     behind_first : (p : ℕ × ℕ) (behind : List ℕ) → AreSmall p → bytes ≡ pair_line p ++ behind → rest ≡ blank_and (number_line p.1 ++ behind)
     behind_first p behind fits e = (number_once n p.0 rest (blank_and (number_line p.1 ++ behind)) small fits.0 ends refl (sym is ∙ e ∙ pair_apart p behind)).1
 
-    -- no blank stands behind the first number
+    -- no blank stands after the first number
     pub pair-no_blank : ((more : List ℕ) → rest ≢ blank_and more) → IsFront pair_line AreSmall Anything bytes None
     pair-no_blank none = λ p behind fits any e. none (number_line p.1 ++ behind) (behind_first p behind fits e)
 
     module _ (second : List ℕ) (blank : rest ≡ blank_and second) where
-      -- no number that ends a line stands behind the blank
+      -- no number that ends a line stands after the blank
       pub pair-no_second : IsFront number_line Small Anything second None → IsFront pair_line AreSmall Anything bytes None
       pair-no_second h = λ p behind fits any e.
           h p.1 behind fits.1 tt (append_cancel_left (codes " ") second (number_line p.1 ++ behind) (sym blank ∙ behind_first p behind fits e))
@@ -48,12 +48,12 @@ apart : (left right : List ℕ) → codes "read " ++ left ≢ codes "write " ++ 
 apart left right e = (let first : ◌≡◌ {A = ℕ} 114 119 = ap (λ bs. get_or bs 0 0) e in absurd (omega arith))
 
 module _ (bytes rest : List ℕ) where
-  -- where no pair stands behind the word of a read, no line of a step does at the front
+  -- where no pair stands after the word of a read, no line of a step does at the front
   pub step-no_pair : bytes ≡ codes "read " ++ rest → IsFront pair_line AreSmall Anything rest None → (step : Step) (behind : List ℕ) → IsStep step → Anything behind → bytes ≢ line_of step ++ behind
   step-no_pair is h (Read n s) behind fits any e = h (n, s) behind fits tt (append_cancel_left (codes "read ") rest (pair_line (n, s) ++ behind) (sym is ∙ e))
   step-no_pair is h (Write n) behind fits any e = apart rest (number_line n ++ behind) (sym is ∙ e)
 
-  -- where no number stands behind the word of a write, no line of a step does at the front
+  -- where no number stands after the word of a write, no line of a step does at the front
   pub step-no_number : bytes ≡ codes "write " ++ rest → IsFront number_line Small Anything rest None → (step : Step) (behind : List ℕ) → IsStep step → Anything behind → bytes ≢ line_of step ++ behind
   step-no_number is h (Read n s) behind fits any e = apart (pair_line (n, s) ++ behind) rest (sym e ∙ is)
   step-no_number is h (Write n) behind fits any e = h n behind fits tt (append_cancel_left (codes "write ") rest (number_line n ++ behind) (sym is ∙ e))

@@ -52,13 +52,13 @@ body_inline (Read n s) fits = (
 body_inline (Write n) fits =
     ((λ e. absurd (omega arith)), ((λ e. absurd (omega arith)), ((λ e. absurd (omega arith)), ((λ e. absurd (omega arith)), ((λ e. absurd (omega arith)), ((λ e. absurd (omega arith)), number_inline n fits))))))
 
--- the line of a step, and what stands behind it
+-- the line of a step, and what stands after it
 pub step_split : (step : Step) (rest : List ℕ) → IsStep step → lines_of (line_of step ++ rest) ≡ line_of step ∷ lines_of rest
 step_split step rest fits =
     ap (λ l. lines_of (l ++ rest)) (line_is step) ∙ ap lines_of (append_assoc (body_of step) (10 ∷ []) rest)
     ∙ line_split (body_of step) rest (body_inline step fits) ∙ ap (λ l. l ∷ lines_of rest) (sym (line_is step))
 
--- the lines of steps, one behind the other
+-- the lines of steps, one after the other
 abbrev pub text_of : List Step → List ℕ
 text_of [] = []
 text_of (step ∷ steps) = line_of step ++ text_of steps
@@ -135,7 +135,7 @@ first_bad text good rest number cut each some place none =
           none step begins.rest fits tt begins.cut;
     }
 
--- the text begins with the lines of so many steps, the first of which are kept, as many as may be, and the rest stands behind them
+-- the text begins with the lines of so many steps, the first of which are kept, as many as may be, and the rest stands after them
 pub record IsReadTo (text rest : List ℕ) (count : ℕ) (kept : List Step) : Type 0 where
   pub good : List Step
   pub cut : text ≡ text_of good ++ rest
@@ -163,7 +163,7 @@ module _ (text rest : List ℕ) (count : ℕ) (kept : List Step) (r : IsReadTo t
   pub kept_length : length kept ≡ min count most_steps
   kept_length = (let long = ap length r.first ∙ length-take most_steps r.good in let many = r.many in omega arith)
 
-  -- where nothing stands behind them, these are the steps of the text
+  -- where nothing stands after them, these are the steps of the text
   pub read_all : rest ≡ [] → HasSteps text r.good
   read_all e = steps_whole text r.good (r.cut ∙ ap (λ t. text_of r.good ++ t) e ∙ append-nil (text_of r.good)) r.numbers
 
@@ -171,7 +171,7 @@ module _ (text rest : List ℕ) (count : ℕ) (kept : List Step) (r : IsReadTo t
   pub kept_all : count ≤ most_steps → kept ≡ r.good
   kept_all few = r.first ∙ take_all most_steps r.good (let many = r.many in omega arith)
 
-  -- where something stands behind them that is no step's line, that is the first bad line
+  -- where something stands after them that is no step's line, that is the first bad line
   pub read_bad : rest ≢ [] → IsFront line_of IsStep Anything rest None → IsFirstBadLine text (count + 1)
   read_bad some none = first_bad text r.good rest (count + 1) r.cut r.numbers some (let many = r.many in omega arith) none
 

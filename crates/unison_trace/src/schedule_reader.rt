@@ -17,7 +17,7 @@ use unison_world::Step;
 /// The greatest number of steps in a schedule.
 const MOST_STEPS: u64 = stored::MOST_STEPS as u64;
 
-/// The number that ends the line at the front, and what stands behind the line.
+/// The number that ends the line at the front, and what stands after the line.
 fn read_last(bytes: &[u8]) -> Option<(u32, &[u8])>
     ensures { IsFront number_line (λ n. n < 2 ^ 32) Anything bytes.now (option_map (λ x. (x.0, x.1.now)) result) }
 {
@@ -26,7 +26,7 @@ fn read_last(bytes: &[u8]) -> Option<(u32, &[u8])>
     Some((number, more))
 }
 
-/// The two numbers, one space between, that end the line at the front, and what stands behind the line.
+/// The two numbers, one space between, that end the line at the front, and what stands after the line.
 fn read_pair(bytes: &[u8]) -> Option<((u32, u32), &[u8])>
     ensures { IsFront pair_line AreSmall Anything bytes.now (option_map (λ x. (x.0, x.1.now)) result) }
 {
@@ -36,7 +36,7 @@ fn read_pair(bytes: &[u8]) -> Option<((u32, u32), &[u8])>
     Some(((first, second), more))
 }
 
-/// The step whose line stands at the front, and what stands behind the line.
+/// The step whose line stands at the front, and what stands after the line.
 fn read_step(bytes: &[u8]) -> Option<(Step, &[u8])>
     ensures { IsFront line_of IsStep Anything bytes.now (option_map (λ x. (x.0, x.1.now)) result) }
 {

@@ -1,4 +1,4 @@
--- The words behind the fields are 0 in every lockstep state.
+-- The words after the fields are 0 in every lockstep state.
 use Rattle.std.proofs.Common.{◌≡◌, ℕ, zero, suc, ◌+◌, ◌-◌, ◌<◌, ◌≤◌, All, List, [], ◌∷◌, ◌++◌, length, map, take, replicate, get_or, sym, refl, ap, ◌∙◌, ⊎_elim, arith, zero-add, subst}
 use Rattle.std.proofs.lemmas.List.{length-map, get_or_past, get_or-map, ext_get_or}
 use Rattle.std.proofs.lemmas.List.FromFn.{get_or-map-range_with_len, length-map-range_with_len}

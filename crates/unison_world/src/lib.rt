@@ -5,6 +5,7 @@ mod events;
 mod fault;
 mod finishing;
 mod laws;
+mod looks;
 mod node;
 mod opening;
 mod results;
@@ -15,6 +16,7 @@ mod world;
 
 pub use fault::{FinishFault, OpenFault};
 pub use laws::{counts_changes, stays_in_step, steps_from_start, sweeps_rise};
+pub use looks::{moves, state_of};
 pub use step::{Answer, Step, TurnAnswer, WriteAnswer};
 pub use work::{Done, Work};
 pub use world::World;

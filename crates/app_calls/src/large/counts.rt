@@ -14,7 +14,7 @@ use crate::large::lists::check_lists;
 use crate::large::telling::Telling;
 use crate::large::told::{check_rounds, told_of_each};
 use app_jobs::program_of;
-use large_parts::put_words;
+use rounds_walk::part_rounds::put_words;
 use rule_check::Program;
 use std::alloc::Global;
 
@@ -98,7 +98,7 @@ fn put_counts(
 }
 
 /// Writes how many nodes have each of the values in a field after each of the rounds, of which each is above the one before
-/// it, one round behind the other, to the front of the counts, and how many fields the program has. In each round there is a
+/// it, one round after the other, to the front of the counts, and how many fields the program has. In each round there is a
 /// number for each value, in their order, and last one for the nodes that have none of them. Fields are counted from 0 in
 /// order of declaration. The rounds are those of the plan whose nodes have the words `from` at the start, made in one pass; the
 /// word of field k of node u stands at u times the number of fields, and k more. Each weight is 1 where there are none. Without

@@ -7,8 +7,8 @@ ghost use Rattle.app_calls.specs.ListNumbers.{large_number_of, lists_number, par
 use crate::Fault;
 use app_jobs::ServeFault;
 use large_net::LargeFault;
-use large_parts::PartFault;
 use rounds_plan::RoundFault;
+use rounds_walk::part_rounds::PartFault;
 use std::alloc::AllocError;
 
 /// Why the lists of a network are refused.

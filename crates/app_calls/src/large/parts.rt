@@ -9,8 +9,8 @@ ghost use Rattle.app_calls.specs.PartAnswers.{HasPartRound, IsNoPart, IsPartRoun
 use crate::large::fault::LargeCallFault;
 use crate::large::lists::check_lists;
 use app_jobs::program_of;
-use large_parts::part_round;
 use link_net::NetRows;
+use rounds_walk::part_rounds::part_round;
 use rule_check::Program;
 use std::alloc::Global;
 
@@ -50,7 +50,7 @@ fn put_part(
 /// u times the number of fields, and k more. Each weight is 1 where there are none.
 ///
 /// The first fault is answered, in this order: of the program, of the lists as [`check_lists`] tells it, and of what does
-/// not fit as [`large_parts::PartFault`] tells it. After a fault `to` is as it was.
+/// not fit as [`rounds_walk::part_rounds::PartFault`] tells it. After a fault `to` is as it was.
 pub fn write_part_round(
     alloc: Global,
     program: &[u8],

@@ -1,10 +1,10 @@
 //! States, and the words of their fields, node by node.
 ghost use Rattle.std.specs.Prelude.{◌≡◌, ◌+◌, ◌*◌, ◌++◌, ◌≤◌, length, IfOk, OnOk};
 ghost use Rattle.app_calls.specs.Words.{words_in};
-ghost use Rattle.large_parts.specs.States.{state_of, states_of};
+ghost use Rattle.rounds_walk.specs.part_rounds.States.{state_of, states_of};
 
 use crate::add_words;
-use large_parts::{put_state, state_of};
+use rounds_walk::part_rounds::{put_state, state_of};
 use rule_check::State;
 use std::alloc::{AllocError, Global};
 

@@ -167,7 +167,7 @@ fn told_on_lists(
     Ok(words)
 }
 
-/// What is told of each of the rounds on the lists of a network, one round behind the other; of no rounds nothing, and then no
+/// What is told of each of the rounds on the lists of a network, one round after the other; of no rounds nothing, and then no
 /// plan is made.
 pub(crate) fn told_of_each(
     alloc: Global,

@@ -14,7 +14,7 @@ use crate::large::lists::check_lists;
 use crate::large::telling::Telling;
 use crate::large::told::{check_rounds, told_of_each};
 use app_jobs::program_of;
-use large_parts::put_words;
+use rounds_walk::part_rounds::put_words;
 use rule_check::Program;
 use std::alloc::Global;
 
@@ -59,7 +59,7 @@ fn put_watch(
 }
 
 /// Writes the words of all fields of all nodes after each of the rounds, of which each is above the one before it, one round
-/// behind the other, to the front of the words, and how many fields the program has. They are those of the rounds of the
+/// after the other, to the front of the words, and how many fields the program has. They are those of the rounds of the
 /// plan whose nodes have the words `from` at the start, made in one pass. The word of field k of node u stands at u times
 /// the number of fields, and k more, in each round's words as in `from`. Each weight is 1 where there are none. Without
 /// rounds nothing is written but the number of fields.

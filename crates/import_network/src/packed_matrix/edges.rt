@@ -1,7 +1,7 @@
 //! The edges of a matrix.
 ghost use Rattle.std.specs.Prelude.{◌≡◌, ◌≢◌, ◌+◌, ◌<◌, ◌≤◌, ◌^◌, length, IfOk, Ok, Err, MatchResult};
-ghost use Rattle.import_matrix.specs.Steps.{and_then, told_as};
-ghost use Rattle.import_matrix.specs.Matrices.{links_left};
+ghost use Rattle.import_formats.specs.matrix_market.Steps.{and_then, told_as};
+ghost use Rattle.import_formats.specs.matrix_market.Matrices.{links_left};
 ghost use Rattle.large_pack.specs.Ranks.{LinesRise, RankedWithin};
 ghost use Rattle.large_pack.specs.Sound.{loop_fault, first_fault};
 ghost use Rattle.import_network.specs.declared.packed_matrix.fault.MatrixPackFault.TheVariants.{Memory};
@@ -10,8 +10,8 @@ ghost use Rattle.import_network.specs.Entries.{edge_of, edges_of};
 ghost use Rattle.import_network.specs.MatrixSteps.{ranked_in};
 
 use crate::packed_matrix::fault::MatrixPackFault;
+use import_formats::matrix_market::{Entries, MatrixFault};
 use import_links::PlacedLink;
-use import_matrix::{Entries, MatrixFault};
 use large_pack::{EdgeLine, PackFault, PackOptions, Ranked, SelfLoops, loop_fault, rank_edge};
 use std::alloc::Global;
 

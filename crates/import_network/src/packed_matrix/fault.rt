@@ -3,7 +3,7 @@ ghost use Rattle.std.specs.Prelude.{◌≡◌};
 ghost use Rattle.import_network.specs.declared.packed_matrix.fault.MatrixPackFault.TheVariants.{Memory};
 ghost use Rattle.import_network.specs.MatrixFaults.{matrix_fault, edges_fault};
 
-use import_matrix::MatrixFault;
+use import_formats::matrix_market::MatrixFault;
 use large_pack::PackFault;
 use std::alloc::{AllocError, AllocFailed};
 use thiserror::Error;

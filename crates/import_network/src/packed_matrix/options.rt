@@ -2,7 +2,7 @@
 ghost use Rattle.std.specs.Prelude.{◌≡◌};
 ghost use Rattle.import_network.specs.Entries.{reading_of, packing_options};
 
-use import_matrix::{Direction, EntryReading};
+use import_formats::matrix_market::{Direction, EntryReading};
 use large_pack::{PackOptions, Parallel, SelfLoops};
 
 /// How a matrix is read and packed.

@@ -1,7 +1,7 @@
 //! Matrices packed into networks.
 ghost use Rattle.std.specs.Prelude.{◌≡◌, ◌+◌, ◌<◌, ◌≤◌, ◌^◌, List, length, IfOk, IfErr, Ok, Err, MatchResult};
 ghost use Rattle.import_links.specs.declared.placed.PlacedLink.{PlacedLink};
-ghost use Rattle.import_matrix.specs.Matrices.{links_left, matrix_links};
+ghost use Rattle.import_formats.specs.matrix_market.Matrices.{links_left, matrix_links};
 ghost use Rattle.large_pack.specs.Packing.{IsAnswerOr};
 ghost use Rattle.import_network.specs.declared.packed_matrix.fault.MatrixPackFault.TheVariants.{Memory};
 ghost use Rattle.import_network.specs.Entries.{sound_of, packing_of};
@@ -9,7 +9,7 @@ ghost use Rattle.import_network.specs.Entries.{sound_of, packing_of};
 use crate::packed_matrix::edges::{first_loop, ranked_entries};
 use crate::packed_matrix::fault::MatrixPackFault;
 use crate::packed_matrix::options::MatrixOptions;
-use import_matrix::{Entries, find_entries};
+use import_formats::matrix_market::{Entries, find_entries};
 use large_pack::{Packed, pack_ranked};
 use std::alloc::Global;
 

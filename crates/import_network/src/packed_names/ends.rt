@@ -3,7 +3,7 @@ ghost use Rattle.std.specs.Prelude.{◌≡◌, ◌≢◌, ◌+◌, ◌++◌, ◌
 ghost use Rattle.link_net.specs.Limits.{most_rows};
 ghost use Rattle.import_lines.specs.Named.{NamedEdge};
 ghost use Rattle.import_lines.specs.Texts.{told_from};
-ghost use Rattle.import_edges.specs.Edges.{edges_in};
+ghost use Rattle.import_formats.specs.edges.Edges.{edges_in};
 ghost use Rattle.import_links.specs.Joining.{with_ends, names_with};
 ghost use Rattle.net_names.specs.declared.fault.NameListFault.TheVariants.{Memory as NoMemory};
 ghost use Rattle.large_pack.specs.Lines.{turned};

@@ -3,7 +3,7 @@ ghost use Rattle.std.specs.Prelude.{◌≡◌};
 ghost use Rattle.import_network.specs.declared.packed_names.fault.NamesPackFault.TheVariants.{Memory};
 ghost use Rattle.import_network.specs.NamesFaults.{lines_fault, names_fault, edges_fault};
 
-use import_edges::EdgeFault;
+use import_formats::edges::EdgeFault;
 use large_pack::PackFault;
 use net_names::NameListFault;
 use std::alloc::{AllocError, AllocFailed};

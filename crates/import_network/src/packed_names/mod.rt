@@ -7,4 +7,5 @@ mod pack;
 mod survey;
 
 pub use fault::NamesPackFault;
+pub(crate) use options::named_options;
 pub use pack::{NamedNetwork, pack_names};

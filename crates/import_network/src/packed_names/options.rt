@@ -1,9 +1,9 @@
 //! How edges between named nodes are packed.
 ghost use Rattle.std.specs.Prelude.{◌≡◌, IfOk};
-ghost use Rattle.import_edges.specs.Edges.{edge_of};
+ghost use Rattle.import_formats.specs.edges.Edges.{edge_of};
 ghost use Rattle.import_network.specs.PackNaming.{named_options, reading_of};
 
-use import_edges::{EdgeFault, Reading, read_line};
+use import_formats::edges::{EdgeFault, Reading, read_line};
 use import_lines::Edge;
 use large_pack::PackOptions;
 

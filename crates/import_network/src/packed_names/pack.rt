@@ -9,7 +9,7 @@ use crate::packed_names::ends::named_edges;
 use crate::packed_names::fault::NamesPackFault;
 use crate::packed_names::options::named_options;
 use crate::packed_names::survey::check_edges;
-use import_edges::edge_lines;
+use import_formats::edges::edge_lines;
 use large_pack::{PackOptions, Packed, pack_ranked};
 use net_names::NameList;
 use std::alloc::Global;

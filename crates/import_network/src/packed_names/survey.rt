@@ -1,13 +1,13 @@
 //! What a list of edges tells before it is kept.
 ghost use Rattle.std.specs.Prelude.{◌≡◌, ◌+◌, ◌<◌, ◌^◌, length, Ok};
-ghost use Rattle.import_edges.specs.Edges.{and_then, edges_in};
+ghost use Rattle.import_formats.specs.edges.Edges.{and_then, edges_in};
 ghost use Rattle.import_lines.specs.Texts.{told_from};
 ghost use Rattle.import_network.specs.PackNaming.{loop_of, reading_of, sound_of};
 ghost use Rattle.import_network.specs.NameSurveys.{survey_of};
 
 use crate::packed_names::fault::NamesPackFault;
 use crate::packed_names::options::read_edge;
-use import_edges::{EdgeFault, edge_lines};
+use import_formats::edges::{EdgeFault, edge_lines};
 use import_lines::{Edge, Lines};
 use large_pack::{PackFault, PackOptions, SelfLoops};
 

@@ -13,6 +13,10 @@ pub enum LargeRandom {
         nodes: u32,
         links: u32,
     },
+    /// Each node but node 0 is linked with one before it, all of which are equally likely.
+    Tree {
+        nodes: u32,
+    },
     /// Preferential attachment: each node is linked with so many different ones before it, or with all of them while they
     /// are fewer, each drawn in proportion to the links that it has.
     Preferential {
@@ -37,6 +41,7 @@ impl LargeRandom {
     {
         match self {
             LargeRandom::Random { nodes, links } => RandomNetwork::Random { nodes, links },
+            LargeRandom::Tree { nodes } => RandomNetwork::Tree { nodes },
             LargeRandom::Preferential { nodes, each } => RandomNetwork::Preferential {
                 nodes,
                 each,
@@ -61,6 +66,7 @@ impl LargeRandom {
     {
         match self {
             LargeRandom::Random { nodes, .. } => nodes,
+            LargeRandom::Tree { nodes } => nodes,
             LargeRandom::Preferential { nodes, .. } => nodes,
             LargeRandom::SmallWorld { nodes, .. } => nodes,
         }

@@ -1,6 +1,5 @@
 //! Networks of any size that memory holds, drawn at random. The same seed gives the same network on every machine.
 
-mod arcs;
 mod fault;
 mod kind;
 mod network;

@@ -4,12 +4,11 @@ ghost use Rattle.net_random.specs.RandomNetworks.{node_count, IsOutcome};
 ghost use Rattle.net_random.specs.LargeDrawn.{IsDrawn, random_of};
 ghost use Rattle.net_random.specs.LargeSizes.{large_bounds, refusal_of, refused_by};
 
-use crate::large::arcs::both_ways;
 use crate::large::fault::fault_as;
 use crate::{LargeRandom, LargeRandomFault, NetworkBounds, drawn_links};
 use large_net::LargeNetwork;
 use large_pack::network_of_arcs;
-use link_net::Link;
+use link_net::{Link, arcs};
 use std::alloc::{AllocError, Global};
 
 /// The bounds of a network of any size: each link has two ends, of which there are 4,294,967,295 at most.
@@ -36,7 +35,7 @@ fn linked(alloc: Global, wanted: LargeRandom, links: Vec<Link>) -> Result<LargeN
     requires fits { refusal_of wanted ≡ None }
     ensures { IfOk result (IsDrawn (random_of wanted)) }
 {
-    let arcs = both_ways(alloc, links.as_slice())?;
+    let arcs = arcs(alloc, links.as_slice())?;
     drop(links);
     network_of_arcs(alloc, wanted.nodes(), arcs)
 }

@@ -8,7 +8,8 @@ use thiserror::Error;
 /// Why a shape has no network. Where several hold, the first in this order; `Memory` comes only where no other holds.
 #[derive(Clone, Copy, Debug, PartialEq, Eq, Error)]
 pub enum LargeShapeFault {
-    /// The shape has no node, or is a ring of fewer than three nodes, or a torus with a side of fewer than three.
+    /// The shape has no node, or is a ring of fewer than three nodes, a torus with a side of fewer than three, a bipartite
+    /// network with an empty side, or a tree of arity 0.
     #[error("the shape has too few nodes")]
     TooFewNodes,
     /// The shape has more than 4,294,967,295 nodes.

@@ -2,78 +2,72 @@
 ghost use Rattle.std.specs.Prelude.{◌≡◌, ◌*◌, ◌<◌, ◌≤◌, ◌++◌, OnOk};
 ghost use Rattle.net_shapes.specs.Frames.{IsFrame, frame_neighbours, frame_nodes, frame_of};
 
-use crate::LargeShape;
+use crate::Shape;
 use crate::large::axis::Axis;
+use crate::large::slant::Slant;
 use crate::large::spot::Spot;
 use std::alloc::AllocError;
 
 /// Nodes in rows and columns, each of them a line or a ring. A node's neighbours are beside it in its row and in its
-/// column, and, where that is wanted, diagonally.
+/// column, and, where that is wanted, beside its corners.
 #[derive(Clone, Copy)]
 pub(crate) struct Frame {
     /// The places in each row.
     columns: Axis,
     /// The places in each column.
     rows: Axis,
-    diagonals: bool,
+    slant: Slant,
 }
 
 impl Frame {
-    /// The frame of a shape. Paths and rings are one row.
-    pub(crate) fn of(shape: LargeShape) -> Frame
-        ensures { result ≡ frame_of shape }
+    /// The frame of a shape, where it is one of rows and columns. Paths and rings are one row.
+    pub(crate) fn of(shape: &Shape) -> Option<Frame>
+        ensures { result ≡ frame_of shape.now }
     {
-        match shape {
-            LargeShape::Path { nodes } => Frame {
+        match *shape {
+            Shape::Path { nodes } => Some(Frame {
                 columns: Axis::line(nodes),
                 rows: Axis::line(1),
-                diagonals: false,
-            },
-            LargeShape::Ring { nodes } => Frame {
+                slant: Slant::Straight,
+            }),
+            Shape::Ring { nodes } => Some(Frame {
                 columns: Axis::ring(nodes),
                 rows: Axis::line(1),
-                diagonals: false,
-            },
-            LargeShape::Grid { width, height } => Frame {
+                slant: Slant::Straight,
+            }),
+            Shape::Grid { width, height } => Some(Frame {
                 columns: Axis::line(width),
                 rows: Axis::line(height),
-                diagonals: false,
-            },
-            LargeShape::Torus {
+                slant: Slant::Straight,
+            }),
+            Shape::DiagonalGrid {
+                width,
+                height,
+                hexagons,
+            } => Some(Frame {
+                columns: Axis::line(width),
+                rows: Axis::line(height),
+                slant: if hexagons {
+                    Slant::Hexagonal
+                } else {
+                    Slant::Diagonal
+                },
+            }),
+            Shape::Torus {
                 width,
                 height,
                 diagonals,
-            } => Frame {
+            } => Some(Frame {
                 columns: Axis::ring(width),
                 rows: Axis::ring(height),
-                diagonals,
-            },
+                slant: Slant::of(diagonals),
+            }),
+            Shape::Star { .. }
+            | Shape::Complete { .. }
+            | Shape::Bipartite { .. }
+            | Shape::Tree { .. }
+            | Shape::Hypercube { .. } => None,
         }
-    }
-
-    /// How many nodes there are.
-    pub(crate) fn nodes(&self) -> u32
-        requires frame { IsFrame self.now }
-        ensures { result ≡ frame_nodes self.now }
-    {
-        self.columns.places * self.rows.places
-    }
-
-    /// How many neighbours the nodes have together, or somewhat more: 2 for each node in its row and 2 in its column, where
-    /// there are others, and 4 diagonally.
-    pub(crate) fn room(&self) -> usize
-        requires frame { IsFrame self.now }
-        ensures { result ≤ 8 * frame_nodes self.now }
-    {
-        let nodes = self.nodes() as usize;
-        let in_rows = if self.columns.places > 1 {
-            2 * nodes
-        } else {
-            0
-        };
-        let in_columns = if self.rows.places > 1 { 2 * nodes } else { 0 };
-        let diagonally = if self.diagonals { 4 * nodes } else { 0 };
-        in_rows + in_columns + diagonally
     }
 
     /// Puts the neighbours of a node, by rising number.
@@ -91,7 +85,7 @@ impl Frame {
             width,
             column: node % width,
             row: node / width,
-            diagonals: self.diagonals,
+            slant: self.slant,
         };
         let columns = self.columns.near(spot.column);
         let rows = self.rows.near(spot.row);

@@ -3,12 +3,16 @@
 mod axis;
 mod fault;
 mod frame;
+mod hypercube;
+mod listed;
 mod near;
+mod neighbours;
 mod network;
-mod shape;
+mod put;
 mod sizes;
+mod slant;
 mod spot;
 
 pub use fault::LargeShapeFault;
 pub use network::large_shape;
-pub use shape::LargeShape;
+pub use sizes::large_refusal;

@@ -3,15 +3,16 @@ ghost use Rattle.std.specs.Prelude.{◌≡◌, ◌+◌, ◌*◌, ◌<◌, ◌≤
 ghost use Rattle.link_net.specs.Limits.{most_rows};
 ghost use Rattle.net_shapes.specs.Frames.{is_kept, in_row, around};
 
+use crate::large::slant::Slant;
 use std::alloc::AllocError;
 
-/// Where a node stands: in rows of so many nodes, and whether nodes that are diagonally beside it are its neighbours.
+/// Where a node stands: in rows of so many nodes, and which nodes beside its corners are its neighbours.
 #[derive(Clone, Copy)]
 pub(crate) struct Spot {
     pub(crate) width: u32,
     pub(crate) column: u32,
     pub(crate) row: u32,
-    pub(crate) diagonals: bool,
+    pub(crate) slant: Slant,
 }
 
 impl Spot {
@@ -22,7 +23,7 @@ impl Spot {
         if row == self.row {
             column != self.column
         } else {
-            self.diagonals || column == self.column
+            self.slant.keeps(self.row, self.column, column) || column == self.column
         }
     }
 

@@ -10,7 +10,7 @@ returns-in_err-link-clause-refused c =
     let edges = c.args.edges.now in
     let i = c.loop-edge.edge-index in
     let p = err_from_is_err_and c.from_residual-in_err-link.result c.from_residual-in_err-link.ensures.1 in
-    let bad : IsFirstBadEdge c.args.names edges c.in_err-link.field-0.0 = record {
+    let bad : IsFirstBadEdge c.args.most c.args.names edges c.in_err-link.field-0.0 = record {
       earlier = take i edges;
       here = c.edge-item.result;
       later = drop (i + 1) edges;
@@ -18,7 +18,7 @@ returns-in_err-link-clause-refused c =
       are_names = rw c.loop-edge.invariant.names at c.loop-edge.invariant.are;
       why = rw c.loop-edge.invariant.names at c.in_err-link.ensures.refused;
     } in
-    rw (p.1, p.2) (refused_edge c.args.names edges c.in_err-link.field-0.0 bad)
+    rw (p.1, p.2) (refused_edge c.args.most c.args.names edges c.in_err-link.field-0.0 bad)
 
 pub loop-edge-preserved : goal.loop-edge-preserved
 loop-edge-preserved c =
@@ -35,6 +35,7 @@ loop-edge-preserved c =
       rest = rest_next edges i e low at names new _ c.loop-edge.invariant.rest is;
       links = links_next edges i e low at names new c.loop-edge.links.items c.push.new.self.items _ c.in_ok-link.link c.loop-edge.invariant.links is c.in_ok-link.ensures.link c.in_ok-push.ensures.items;
       are = c.in_ok-link.ensures.are_names;
+      few = λ given. c.in_ok-link.ensures.few (c.loop-edge.invariant.few given);
     }
 
 pub returns-clause-links : goal.returns-clause-links

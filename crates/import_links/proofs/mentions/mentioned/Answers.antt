@@ -10,7 +10,7 @@ returns-in_err-number-clause-refused c =
     let mentions = c.args.mentions.now in
     let i = c.loop-mention.mention-index in
     let p = err_from_is_err_and c.from_residual.result c.from_residual.ensures.1 in
-    let bad : IsFirstBadMention mentions c.in_err-number.field-0.0 = record {
+    let bad : IsFirstBadMention c.args.most mentions c.in_err-number.field-0.0 = record {
       earlier = take i mentions;
       here = _;
       later = drop (i + 1) mentions;
@@ -18,7 +18,7 @@ returns-in_err-number-clause-refused c =
       are_names = rw c.loop-mention.invariant.names at c.loop-mention.invariant.are;
       why = rw c.loop-mention.invariant.names at c.in_err-number.ensures.refused;
     } in
-    rw (p.1, p.2) (refused_mention mentions c.in_err-number.field-0.0 bad)
+    rw (p.1, p.2) (refused_mention c.args.most mentions c.in_err-number.field-0.0 bad)
 
 pub loop-mention-preserved : goal.loop-mention-preserved
 loop-mention-preserved c =
@@ -32,4 +32,5 @@ loop-mention-preserved c =
       names = mention_named mentions i _ _ low refl names new c.loop-mention.invariant.names is;
       rest = mention_left mentions i _ _ low refl names new _ c.loop-mention.invariant.rest is;
       are = c.in_ok-number.ensures.are_names;
+      few = c.in_ok-number.ensures.few c.loop-mention.invariant.few;
     }

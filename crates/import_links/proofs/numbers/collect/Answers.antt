@@ -20,7 +20,7 @@ loop-edge-preserved c =
     let front = c.loop-edge.links.items in
     let put = c.in_ok-push.ensures.items in
     record {
-      read = links_more front c.push.new.self.items c.in_ok-placed.placed edge (drop i edges) rest put shape (sym c.in_ok-placed.ensures.link) ∙ c.loop-edge.invariant.read;
+      read = links_more c.args.most front c.push.new.self.items c.in_ok-placed.placed edge (drop i edges) rest put shape (sym c.in_ok-placed.ensures.link) ∙ c.loop-edge.invariant.read;
       nodes =
           let more = nodes_more front c.push.new.self.items c.in_ok-placed.placed put in
           c.max-nodes.ensures ∙ ap (λ n. max n (c.in_ok-placed.placed.link.1 + 1)) (c.max.ensures ∙ larger _ _ ∙ ap (λ n. max n (c.in_ok-placed.placed.link.0 + 1)) c.loop-edge.invariant.nodes) ∙ sym more;
@@ -29,4 +29,4 @@ loop-edge-preserved c =
 pub returns-clause-links : goal.returns-clause-links
 returns-clause-links c =
     let edges = c.args.edges.now in
-    links_all c.loop-edge.links.items (drop c.loop-edge.edge-index edges) (links_in edges) (drop_all c.loop-edge.edge-index edges c.loop-edge-test.false) c.loop-edge.invariant.read
+    links_all c.args.most c.loop-edge.links.items (drop c.loop-edge.edge-index edges) (links_in c.args.most edges) (drop_all c.loop-edge.edge-index edges c.loop-edge-test.false) c.loop-edge.invariant.read

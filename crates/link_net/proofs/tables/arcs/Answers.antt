@@ -1,6 +1,6 @@
 use Rattle.std.proofs.Common.{◌∙◌}
 use Rattle.std.proofs.lemmas.List.{drop_more}
-use Rattle.link_net.proofs.Arcs.{two_more}
+use Rattle.link_net.proofs.ArcLaws.{two_more}
 use Rattle.link_net.proofs.tables.arcs.Goals as goal
 
 pub loop-link-preserved : goal.loop-link-preserved

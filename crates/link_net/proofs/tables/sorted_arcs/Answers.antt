@@ -1,6 +1,6 @@
 use Rattle.std.proofs.Common.{◌≡◌, true, false, refl, rules}
 use Rattle.link_net.specs.Arcs.{repeats}
-use Rattle.link_net.proofs.Arcs.{once, rising, twice, sorted_by_ends}
+use Rattle.link_net.proofs.ArcLaws.{once, rising, twice, sorted_by_ends}
 use Rattle.link_net.proofs.tables.sorted_arcs.Goals as goal
 
 pub returns-then-has_repeat-clause-twice : goal.returns-then-has_repeat-clause-twice

@@ -7,5 +7,5 @@ use Rattle.run_counts.proofs.mean_table.put_columns.Given as goal
 
 abbrev pub invariant-loop-column : goal.invariant-loop-column
 invariant-loop-column l =
-    string_bytes l.out ++ flat_map (λ (c : Column). mean_cells l.counting.format l.counting.names.now (names_of l.program) c (map (number_in c) (rows_at l.place l.runs))) (drop l.column-index l.columns)
-    ≡ string_bytes l.initial.out ++ flat_map (λ (c : Column). mean_cells l.counting.format l.counting.names.now (names_of l.program) c (map (number_in c) (rows_at l.place l.runs))) l.columns
+    string_bytes l.out ++ flat_map (λ (c : Column). mean_cells l.means.counting.now.format l.means.counting.now.names.now (names_of l.means.program.now) c (map (number_in c) (rows_at l.place l.means.runs.now))) (drop l.column-index l.means.columns.now)
+    ≡ string_bytes l.initial.out ++ flat_map (λ (c : Column). mean_cells l.means.counting.now.format l.means.counting.now.names.now (names_of l.means.program.now) c (map (number_in c) (rows_at l.place l.means.runs.now))) l.means.columns.now

@@ -1,4 +1,4 @@
-use Rattle.std.proofs.Common.{◌≡◌, ◌≤◌, ◌∙◌, ◌++◌, ℕ, List, [], Some, ap, arith, length, map, slice_get, string_bytes, subst, sym}
+use Rattle.std.proofs.Common.{◌≡◌, ◌∙◌, ◌++◌, ℕ, List, [], Some, ap, arith, length, map, slice_get, string_bytes, sym}
 use Rattle.std.proofs.lemmas.Result.{on_ok_weaker}
 use Rattle.std.specs.List.{flat_map}
 use Rattle.rule_check.specs.Value.{names_of}
@@ -11,7 +11,7 @@ use Rattle.run_counts.proofs.mean_table.put_line.Goals as goal
 
 pub put_columns-requires : goal.put_columns-requires
 put_columns-requires c =
-    let runs = c.args.runs.now in
+    let runs = c.args.means.now.runs.now in
     let going = going_at c.args.place runs in
     let rounds_are = c.in_ok-rounds.ensures.rounds in
     let first = sym (ap (λ (xs : List ℕ). slice_get xs 0) (c.deref.ensures.value ∙ rounds_are)) ∙ sym c.in-Some.ensures.value in
@@ -22,18 +22,18 @@ put_columns-requires c =
 
 pub returns : goal.returns
 returns c =
-    let format = c.args.counting.now.format in
-    let labels = c.args.counting.now.names.now in
-    let until = c.args.counting.now.until in
-    let names = names_of c.args.program.now in
-    let runs = c.args.runs.now in
+    let format = c.args.means.now.counting.now.format in
+    let labels = c.args.means.now.counting.now.names.now in
+    let until = c.args.means.now.counting.now.until in
+    let names = names_of c.args.means.now.program.now in
+    let runs = c.args.means.now.runs.now in
     let going = going_at c.args.place runs in
     let rows = rows_at c.args.place runs in
     let rounds = map (λ (row : RowView). row.round) going in
     let round = c.in-Some.round.now in
     let before = string_bytes c.args.out.now in
     let start = line_start format [] round in
-    let cells = flat_map (λ (column : Column). mean_cells format labels names column (map (number_in column) rows)) c.args.columns.now in
+    let cells = flat_map (λ (column : Column). mean_cells format labels names column (map (number_in column) rows)) c.args.means.now.columns.now in
     let last = c.end_of.result.now in
     let total = length runs in
     let number = c.len-going.result in
@@ -55,6 +55,6 @@ returns c =
           ∙ ap (λ (text : List ℕ). text ++ last) put
           ∙ put_in_turn before start counts cells last
           ∙ line
-          ∙ sym (ap (λ (text : List ℕ). before ++ text) (line_is format labels names c.args.columns.now until (length runs) going rows round first)))
+          ∙ sym (ap (λ (text : List ℕ). before ++ text) (line_is format labels names c.args.means.now.columns.now until (length runs) going rows round first)))
           (put_last c.push_str.result (string_bytes c.put_columns.new.out) last (string_bytes c.push_str.new.self) c.push_str.ensures.bytes);
     }

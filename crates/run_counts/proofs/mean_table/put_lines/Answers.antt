@@ -7,11 +7,11 @@ use Rattle.run_counts.proofs.mean_table.put_lines.Goals as goal
 
 pub loop-place-preserved : goal.loop-place-preserved
 loop-place-preserved c =
-    let runs = c.args.runs.now in
+    let runs = c.args.means.now.runs.now in
     let l = c.loop-place in
     let k = l.place in
     let n = longest runs in
-    let line = line_at c.args.counting.now.format c.args.counting.now.names.now (names_of c.args.program.now) c.args.columns.now c.args.counting.now.until runs in
+    let line = line_at c.args.means.now.counting.now.format c.args.means.now.counting.now.names.now (names_of c.args.means.now.program.now) c.args.means.now.columns.now c.args.means.now.counting.now.until runs in
     let rest = flat_map line (range_with_len (k + 1) (n - (k + 1))) in
     let inside : k < n = omega (arith, c.loop-place-test.true, c.longest-place-end.ensures.longest) in
     ap (λ (text : List ℕ). text ++ rest) c.in_ok-put_line.ensures.text

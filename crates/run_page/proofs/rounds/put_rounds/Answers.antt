@@ -2,10 +2,10 @@ use Rattle.run_page.proofs.Fitting.{rounds_fit}
 use Rattle.run_page.proofs.rounds.put_rounds.Goals as goal
 
 pub put_head-requires-clause-fields : goal.put_head-requires-clause-fields
-put_head-requires-clause-fields g c = (rounds_fit c.args.plan.now c.args.span.now c.args.look.now c.requires.fits).2
+put_head-requires-clause-fields g c = (rounds_fit c.args.plan.now c.args.shown.now c.requires.fits).2
 
 pub states-requires-clause-late : goal.states-requires-clause-late
-states-requires-clause-late g c κs within = (rounds_fit c.args.plan.now c.args.span.now c.args.look.now c.requires.fits).1
+states-requires-clause-late g c κs within = (rounds_fit c.args.plan.now c.args.shown.now c.requires.fits).1
 
 pub states-requires-clause-few : goal.states-requires-clause-few
-states-requires-clause-few g c κs within = (rounds_fit c.args.plan.now c.args.span.now c.args.look.now c.requires.fits).0
+states-requires-clause-few g c κs within = (rounds_fit c.args.plan.now c.args.shown.now c.requires.fits).0

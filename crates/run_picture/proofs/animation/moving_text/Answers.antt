@@ -4,4 +4,4 @@ use Rattle.run_picture.proofs.animation.moving_text.Goals as goal
 
 pub moving_of-requires-clause-nodes : goal.moving_of-requires-clause-nodes
 moving_of-requires-clause-nodes g c =
-    omega (arith, c.nodes.ensures.count, moving_few c.args.plan.now c.args.span.now c.args.field c.args.width c.requires.fits)
+    omega (arith, c.nodes.ensures.count, moving_few c.args.plan.now c.args.drawing.now c.args.grid.width c.requires.fits)

@@ -6,7 +6,8 @@ use Rattle.run_picture.proofs.changes.classes_of.Goals as goal
 
 pub loop-frame-preserved : goal.loop-frame-preserved
 loop-frame-preserved c =
+    let film = c.args.film.now in
     let r = c.loop-frame.frame in
-    let inside : r < c.args.frames = omega (arith, c.loop-frame-test.true) in
-    let more = map_left (λ (s : ℕ). class_of c.args.key.now (slice_index c.args.values.now (s * c.args.nodes + c.args.node))) r c.args.frames inside in
+    let inside : r < film.pace.frames = omega (arith, c.loop-frame-test.true) in
+    let more = map_left (λ (s : ℕ). class_of film.key.now (slice_index film.values.now (s * film.nodes + c.args.node))) r film.pace.frames inside in
     grind (arith, common_steps, more, append_assoc)

@@ -6,5 +6,6 @@ use Rattle.run_picture.proofs.changes.classes_of.Given as goal
 
 abbrev pub invariant-loop-frame : goal.invariant-loop-frame
 invariant-loop-frame l =
-    l.classes.items ++ map (λ (r : ℕ). class_of l.key (slice_index l.values (r * l.nodes + l.node))) (range_with_len l.frame (l.frames - l.frame))
-    ≡ classes_of l.key l.values l.nodes l.frames l.node
+    let film = l.film in
+    l.classes.items ++ map (λ (r : ℕ). class_of film.key.now (slice_index film.values.now (r * film.nodes + l.node))) (range_with_len l.frame (film.pace.frames - l.frame))
+    ≡ classes_of film.key.now film.values.now film.nodes film.pace.frames l.node

@@ -8,7 +8,8 @@ unfolding circles_group
 returns c =
     let head = codes "<g stroke=\"#555555\" stroke-width=\"0.5\" shape-rendering=\"auto\">\n" in
     let tail = codes "</g>\n" in
-    let text = circles_text c.args.key.now c.args.pace.frames c.args.pace.time c.args.nodes c.args.values.now in
+    let film = c.args.film.now in
+    let text = circles_text film.key.now film.pace.frames film.pace.time film.nodes film.values.now in
     let f : string_bytes c.push_str-2.new.self ≡ string_bytes c.put_nodes.new.out ++ tail → string_bytes c.push_str-2.new.self ≡ string_bytes c.args.out.now ++ (head ++ (text ++ tail)) =
     joined (string_bytes c.args.out.now) (string_bytes c.push_str.new.self) (string_bytes c.put_nodes.new.out) (string_bytes c.push_str-2.new.self) head text tail c.in_ok-push_str.ensures.bytes c.in_ok-put_nodes.ensures.text in
     record { text = then_ok c.push_str-2.result f (put_behind c.push_str-2.result (string_bytes c.push_str-2.new.self) (string_bytes c.put_nodes.new.out) tail c.push_str-2.ensures.bytes) }

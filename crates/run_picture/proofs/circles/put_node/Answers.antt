@@ -5,5 +5,6 @@ use Rattle.run_picture.proofs.circles.put_node.Goals as goal
 
 pub put_colours-requires-clause-few : goal.put_colours-requires-clause-few
 put_colours-requires-clause-few c =
-    let count = length-map-range_with_len (λ (r : ℕ). class_of c.args.key.now (slice_index c.args.values.now (r * c.args.nodes + c.args.node))) 0 c.args.pace.frames in
+    let film = c.args.film.now in
+    let count = length-map-range_with_len (λ (r : ℕ). class_of film.key.now (slice_index film.values.now (r * film.nodes + c.args.node))) 0 film.pace.frames in
     omega (arith, ap length c.deref.ensures.value, ap length c.in_ok-classes.ensures.classes, count, c.requires.few)

@@ -5,5 +5,6 @@ use Rattle.run_picture.proofs.circles.put_nodes.Given as goal
 
 abbrev pub invariant-loop-node : goal.invariant-loop-node
 invariant-loop-node l =
-    string_bytes l.out ++ flat_map (circle_of l.key l.pace.frames l.pace.time l.nodes l.values) (range_with_len l.node (l.nodes - l.node))
-    ≡ string_bytes l.initial.out ++ circles_text l.key l.pace.frames l.pace.time l.nodes l.values
+    let film = l.film in
+    string_bytes l.out ++ flat_map (circle_of film.key.now film.pace.frames film.pace.time film.nodes film.values.now) (range_with_len l.node (film.nodes - l.node))
+    ≡ string_bytes l.initial.out ++ circles_text film.key.now film.pace.frames film.pace.time film.nodes film.values.now

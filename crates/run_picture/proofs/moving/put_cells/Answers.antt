@@ -6,7 +6,8 @@ use Rattle.run_picture.proofs.moving.put_cells.Goals as goal
 
 pub loop-node-preserved : goal.loop-node-preserved
 loop-node-preserved c =
+    let film = c.args.film.now in
     let u = c.loop-node.node in
-    let inside : u < c.args.nodes = omega (arith, c.loop-node-test.true) in
-    let more = flat_left (node_text c.args.key.now c.args.pace.frames c.args.pace.time c.args.width c.args.nodes c.args.values.now) u c.args.nodes inside in
+    let inside : u < film.nodes = omega (arith, c.loop-node-test.true) in
+    let more = flat_left (node_text film.key.now film.pace.frames film.pace.time c.args.width film.nodes film.values.now) u film.nodes inside in
     grind (arith, common_steps, more, append_assoc)

@@ -5,5 +5,6 @@ use Rattle.run_picture.proofs.moving.put_cells.Given as goal
 
 abbrev pub invariant-loop-node : goal.invariant-loop-node
 invariant-loop-node l =
-    string_bytes l.out ++ flat_map (node_text l.key l.pace.frames l.pace.time l.width l.nodes l.values) (range_with_len l.node (l.nodes - l.node))
-    ≡ string_bytes l.initial.out ++ moving_cells l.key l.pace.frames l.pace.time l.width l.nodes l.values
+    let film = l.film in
+    string_bytes l.out ++ flat_map (node_text film.key.now film.pace.frames film.pace.time l.width film.nodes film.values.now) (range_with_len l.node (film.nodes - l.node))
+    ≡ string_bytes l.initial.out ++ moving_cells film.key.now film.pace.frames film.pace.time l.width film.nodes film.values.now

@@ -5,6 +5,6 @@ use Rattle.run_picture.proofs.picture.grid_picture.Goals as goal
 
 pub returns-clause-text : goal.returns-clause-text
 returns-clause-text g c =
-    let values = values_after c.args.plan.now c.args.field c.args.round in
-    let styles = c.args.styles.now in
+    let values = values_after c.args.plan.now c.args.colouring.now.field c.args.round in
+    let styles = c.args.colouring.now.styles.now in
     (key_of styles values, is_key styles values, c.in_ok-text.ensures.text)

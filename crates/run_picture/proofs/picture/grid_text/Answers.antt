@@ -4,4 +4,4 @@ use Rattle.run_picture.proofs.picture.grid_text.Goals as goal
 
 pub picture_of-requires-clause-count : goal.picture_of-requires-clause-count
 picture_of-requires-clause-count g c =
-    omega (arith, ap length c.deref.ensures.value, ap length c.in_ok-values.ensures.values, grid_few c.args.plan.now c.args.field c.args.round c.args.width c.requires.fits)
+    omega (arith, ap length c.deref.ensures.value, ap length c.in_ok-values.ensures.values, grid_few c.args.plan.now c.args.colouring.now.field c.args.round c.args.width c.requires.fits)

@@ -1,10 +1,10 @@
-use Rattle.run_picture.specs.Frames.{values_in}
+use Rattle.run_picture.specs.Frames.{values_drawn}
 use Rattle.run_picture.specs.Keys.{key_of}
 use Rattle.run_picture.proofs.OneKey.{is_key}
 use Rattle.run_picture.proofs.picture.time_picture.Goals as goal
 
 pub returns-clause-text : goal.returns-clause-text
 returns-clause-text g c =
-    let values = values_in c.args.plan.now c.args.span.now c.args.field in
-    let styles = c.args.styles.now in
+    let values = values_drawn c.args.plan.now c.args.drawing.now in
+    let styles = c.args.drawing.now.colouring.styles.now in
     (key_of styles values, is_key styles values, c.in_ok-text.ensures.text)

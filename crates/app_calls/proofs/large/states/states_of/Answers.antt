@@ -1,6 +1,6 @@
 use Rattle.std.proofs.Common.{◌≡◌, ◌∙◌, ◌++◌, ◌∷◌, [], ◌<◌, ℕ, List, ap, arith, drop, length, take, sym}
 use Rattle.rule_check.specs.declared.state.State.{State}
-use Rattle.large_parts.specs.States.{node_words, state_of}
+use Rattle.rounds_walk.specs.part_rounds.States.{node_words, state_of}
 use Rattle.app_calls.proofs.StateWords.{behind_node, left_more, states_more}
 use Rattle.app_calls.proofs.large.states.states_of.Goals as goal
 

@@ -1,5 +1,5 @@
 use Rattle.std.proofs.Common.{◌≡◌, ◌-◌, ◌*◌, drop, length}
-use Rattle.large_parts.specs.States.{states_of}
+use Rattle.rounds_walk.specs.part_rounds.States.{states_of}
 use Rattle.app_calls.proofs.large.states.states_of.Given as goal
 
 abbrev pub invariant-loop-node : goal.invariant-loop-node

@@ -1,5 +1,5 @@
 use Rattle.std.proofs.Common.{◌≡◌, ◌+◌, ◌<◌, ◌≤◌, ◌^◌, length, None}
-use Rattle.import_matrix.specs.Matrices.{lines_left, links_left}
+use Rattle.import_formats.specs.matrix_market.Matrices.{lines_left, links_left}
 use Rattle.import_network.proofs.EntrySteps.{loops_after}
 use Rattle.import_network.proofs.packed_matrix.edges.first_loop.Given as goal
 

@@ -1,5 +1,5 @@
 use Rattle.std.proofs.Common.{◌+◌}
-use Rattle.import_matrix.specs.Matrices.{lines_left}
+use Rattle.import_formats.specs.matrix_market.Matrices.{lines_left}
 use Rattle.large_pack.proofs.Rising.{told_rise, front_rise}
 use Rattle.import_network.proofs.packed_matrix.edges.ranked_entries.Goals as goal
 

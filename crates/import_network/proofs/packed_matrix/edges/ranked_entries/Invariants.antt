@@ -1,5 +1,5 @@
 use Rattle.std.proofs.Common.{◌≡◌, ◌++◌, ◌+◌, ◌<◌, ◌≤◌, ◌^◌, length}
-use Rattle.import_matrix.specs.Matrices.{lines_left, links_left}
+use Rattle.import_formats.specs.matrix_market.Matrices.{lines_left, links_left}
 use Rattle.large_pack.specs.Ranks.{RankedWithin}
 use Rattle.large_pack.proofs.Rising.{numbers, lines_of}
 use Rattle.import_network.specs.MatrixSteps.{ranked_in}

@@ -1,4 +1,4 @@
-use Rattle.import_matrix.specs.Matrices.{links_left}
+use Rattle.import_formats.specs.matrix_market.Matrices.{links_left}
 use Rattle.import_network.proofs.EntrySteps.{tied}
 use Rattle.import_network.proofs.packed_matrix.pack.pack_matrix.Goals as goal
 

@@ -1,6 +1,6 @@
 use Rattle.std.proofs.Common.{◌≡◌, ◌+◌, ◌++◌, [], ◌<◌, ◌^◌, length}
 use Rattle.import_lines.specs.Texts.{told_from}
-use Rattle.import_edges.specs.Edges.{edges_in}
+use Rattle.import_formats.specs.edges.Edges.{edges_in}
 use Rattle.large_pack.proofs.Rising.{numbers, lines_of}
 use Rattle.import_network.specs.PackNaming.{reading_of}
 use Rattle.import_network.proofs.Numbering.{numbered_after}

@@ -1,7 +1,7 @@
 use Rattle.std.proofs.Common.{◌≡◌, ◌∙◌, ℕ, ◌+◌, ◌≤◌, List, [], length, map, Ok, Err, ap, sym, subst}
 use Rattle.link_net.specs.Limits.{most_rows}
 use Rattle.import_lines.specs.Texts.{edge_lines, told_from}
-use Rattle.import_edges.specs.Edges.{edges_in}
+use Rattle.import_formats.specs.edges.Edges.{edges_in}
 use Rattle.import_links.specs.Joining.{names_with}
 use Rattle.large_pack.specs.declared.ranked.Ranked.{Ranked}
 use Rattle.large_pack.specs.Ranks.{ranked, RankedWithin}

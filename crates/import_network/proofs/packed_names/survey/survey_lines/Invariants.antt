@@ -1,6 +1,6 @@
 use Rattle.std.proofs.Common.{◌≡◌, ◌+◌, ◌<◌, ◌^◌, length, Ok}
 use Rattle.import_lines.specs.Texts.{told_from}
-use Rattle.import_edges.specs.Edges.{and_then, edges_in}
+use Rattle.import_formats.specs.edges.Edges.{and_then, edges_in}
 use Rattle.import_network.specs.PackNaming.{reading_of}
 use Rattle.import_network.specs.NameSurveys.{survey_of}
 use Rattle.import_network.proofs.Surveying.{survey_after}

@@ -1,8 +1,6 @@
-use Rattle.std.proofs.Common.{arith, subst}
+use Rattle.std.proofs.Common.{arith}
 use Rattle.std.proofs.lemmas.Result.{IfOk-weaker}
 use Rattle.net_random.specs.RandomNetworks.{node_count}
-use Rattle.large_pack.specs.Rows.{HasArcs}
-use Rattle.link_net.specs.Arcs.{arcs_of}
 use Rattle.net_random.specs.LargeDrawn.{random_of}
 use Rattle.net_random.proofs.Directions.{arcs_count, arcs_within}
 use Rattle.net_random.proofs.Exact.{network_is}

@@ -1,5 +1,0 @@
-use Rattle.import_dot.proofs.Chains.{chain_ends}
-use Rattle.import_dot.proofs.builder.push_chain.Goals as goal
-
-pub returns : goal.returns
-returns c = chain_ends c.loop-rest.edges.items _ c.args.weight c.loop-rest.rest.now c.in_default.len_below c.loop-rest.invariant

@@ -1,7 +1,0 @@
-use Rattle.std.proofs.Common.{◌≡◌, drop}
-use Rattle.std.specs.List.{list_any}
-use Rattle.import_dot.specs.Graphs.{is_backslash}
-use Rattle.import_dot.proofs.events.has_backslash.Given as goal
-
-abbrev pub invariant-loop-byte : goal.invariant-loop-byte
-invariant-loop-byte l = list_any is_backslash (drop l.byte-index l.bytes) ≡ list_any is_backslash l.bytes

@@ -1,6 +1,0 @@
-use Rattle.std.proofs.Common.{◌≡◌, ◌+◌, drop, false}
-use Rattle.import_dot.specs.Runs.{slash_place}
-use Rattle.import_dot.proofs.runs.slash_place.Given as goal
-
-abbrev pub invariant-loop-place : goal.invariant-loop-place
-invariant-loop-place l = l.place + slash_place l.starred (drop l.place l.bytes) ≡ slash_place false l.bytes

@@ -1,4 +1,0 @@
-mod EdgeSteps
-mod PlaceCuts
-mod FieldParts
-mod RowSteps

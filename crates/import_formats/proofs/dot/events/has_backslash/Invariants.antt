@@ -1,0 +1,7 @@
+use Rattle.std.proofs.Common.{◌≡◌, drop}
+use Rattle.std.specs.List.{list_any}
+use Rattle.import_formats.specs.dot.Graphs.{is_backslash}
+use Rattle.import_formats.proofs.dot.events.has_backslash.Given as goal
+
+abbrev pub invariant-loop-byte : goal.invariant-loop-byte
+invariant-loop-byte l = list_any is_backslash (drop l.byte-index l.bytes) ≡ list_any is_backslash l.bytes

@@ -1,0 +1,4 @@
+pub mod EdgeSteps
+pub mod PlaceCuts
+pub mod FieldParts
+pub mod RowSteps

@@ -1,0 +1,8 @@
+use Rattle.std.proofs.Common.{◌≡◌, drop, map}
+use Rattle.import_formats.specs.edges.Tables.{edges_in}
+use Rattle.import_formats.specs.edges.View.{row_of}
+use Rattle.import_formats.proofs.edges.RowSteps.{with_front}
+use Rattle.import_formats.proofs.edges.row_reader.collect.Given as goal
+
+abbrev pub invariant-loop-row : goal.invariant-loop-row
+invariant-loop-row l = with_front l.edges.items (edges_in l.reading (map row_of (drop l.row-index l.rows))) ≡ edges_in l.fn.reading (map row_of l.rows)

@@ -1,0 +1,4 @@
+pub mod dot
+pub mod edges
+pub mod json
+pub mod matrix_market

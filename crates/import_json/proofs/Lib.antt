@@ -1,3 +1,0 @@
-mod Values
-mod Steps
-mod Plain

@@ -1,7 +1,0 @@
--- What functions return, as the definitions speak of it.
-use Rattle.import_json.specs.declared.reader.JsonGraph.{JsonGraph}
-use Rattle.import_json.specs.Graphs.{NodeLinks}
-
--- a graph
-abbrev pub graph_view : JsonGraph → NodeLinks
-graph_view g = record { names = g.names; links = g.links.items }

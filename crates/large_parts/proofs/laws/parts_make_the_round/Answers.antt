@@ -1,5 +1,0 @@
-use Rattle.large_parts.proofs.Whole.{parts_make_the_round}
-use Rattle.large_parts.proofs.laws.parts_make_the_round.Goals as goal
-
-pub returns : goal.returns
-returns c = record { law = parts_make_the_round c.order_of_neighbours.ensures.order }

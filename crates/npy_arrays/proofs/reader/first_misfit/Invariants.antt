@@ -1,9 +1,0 @@
-use Rattle.std.proofs.Common.{◌≡◌, ◌-◌}
-use Rattle.std.specs.List.{find, range_with_len}
-use Rattle.npy_arrays.specs.Arrays.{is_misfit}
-use Rattle.npy_arrays.proofs.reader.first_misfit.Given as goal
-
--- the first of those that are left is the first of all
-abbrev pub invariant-loop-place : goal.invariant-loop-place
-invariant-loop-place l =
-    find (is_misfit l.element l.body) (range_with_len l.place (l.count - l.place)) ≡ find (is_misfit l.element l.body) (range_with_len 0 l.count)

@@ -1,7 +1,0 @@
-//! Laws of tables.
-ghost use Rattle.report_table.specs.Reports.{ReportsAreTables};
-
-/// The text of the table of a configuration is its report.
-pub fn reports_are_tables()
-    ensures report { ReportsAreTables }
-{}

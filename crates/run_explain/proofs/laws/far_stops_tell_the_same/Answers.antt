@@ -1,5 +1,0 @@
-use Rattle.run_explain.proofs.Stopping.{far_stops_tell_the_same}
-use Rattle.run_explain.proofs.laws.far_stops_tell_the_same.Goals as goal
-
-pub returns : goal.returns
-returns c = record { same = far_stops_tell_the_same }

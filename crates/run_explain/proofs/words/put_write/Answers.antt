@@ -1,4 +1,0 @@
-use Rattle.run_explain.proofs.words.put_write.Goals as goal
-
-pub returns-in-NoNode : goal.returns-in-NoNode
-returns-in-NoNode c = record { words = rw (c.in-NoNode.is, ← c.nodes-nodes.ensures.count) c.write-in-NoNode.ensures.bytes }

@@ -1,5 +1,0 @@
-use Rattle.run_script.proofs.Pushes.{reads-push}
-use Rattle.run_script.proofs.put.push_reads.Goals as goal
-
-pub loop-slot-preserved : goal.loop-slot-preserved
-loop-slot-preserved c = reads-push c.args.steps.now.items c.loop-slot.steps.items c.push.new.self.items c.args.node c.loop-slot.slot c.loop-slot.invariant c.in_ok-push.ensures.items

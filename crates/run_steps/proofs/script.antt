@@ -1,0 +1,16 @@
+pub mod Numbers
+pub mod Places
+pub mod Slots
+pub mod Callings
+pub mod Shapes
+pub mod Spellings
+pub mod Reasons
+pub mod Tellings
+pub mod Following
+pub mod Endings
+pub mod Choosing
+pub mod Readings
+pub mod Wholes
+pub mod Saids
+pub mod Pushes
+pub mod Answering

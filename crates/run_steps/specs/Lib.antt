@@ -1,0 +1,3 @@
+pub mod explain
+pub mod script
+pub mod verify

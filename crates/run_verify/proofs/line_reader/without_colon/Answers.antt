@@ -1,8 +1,0 @@
-use Rattle.std.proofs.Common.{lit<, ◌∙◌, ap}
-use Rattle.std.proofs.lemmas.Str.Pattern.{strip_suffix_char}
-use Rattle.run_verify.proofs.Words.{colon}
-use Rattle.run_verify.proofs.line_reader.without_colon.Goals as goal
-
-pub returns : goal.returns
-returns c =
-    ap (λ b. b.now) c.unwrap_or.ensures ∙ colon c.args.word c.strip_suffix.result (strip_suffix_char 58 c.args.word.now c.strip_suffix.result c.strip_suffix.ensures.cases (lit< tt))

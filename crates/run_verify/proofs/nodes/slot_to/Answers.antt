@@ -1,9 +1,0 @@
-use Rattle.std.proofs.Common.{sym}
-use Rattle.run_verify.proofs.Slots.{slot-is, slot-few}
-use Rattle.run_verify.proofs.nodes.slot_to.Goals as goal
-
-pub returns-clause-exact : goal.returns-clause-exact
-returns-clause-exact c = sym (slot-is c.args.network.now c.args.node c.args.neighbour c.slot_of.result c.slot_of.ensures.exact)
-
-pub returns-clause-slot : goal.returns-clause-slot
-returns-clause-slot c = slot-few c.args.network.now c.args.node c.args.neighbour c.slot_of.result c.slot_of.ensures.exact

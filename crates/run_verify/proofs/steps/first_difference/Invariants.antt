@@ -1,6 +1,0 @@
-use Rattle.std.proofs.Common.{◌≡◌, ◌<◌, ℕ, slice_index, Some}
-use Rattle.run_verify.specs.Given.{value_given}
-use Rattle.run_verify.proofs.steps.first_difference.Given as goal
-
-abbrev pub invariant-loop-field : goal.invariant-loop-field
-invariant-loop-field l = (k v : ℕ) → k < l.field → value_given l.given k ≡ Some v → slice_index l.state.words k ≡ v
