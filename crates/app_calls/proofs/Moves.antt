@@ -9,7 +9,7 @@ use Rattle.std.proofs.lemmas.List.FromFn.{get_or-map-range_with_len, length-map-
 use Rattle.rule_check.specs.declared.state.State.{State}
 use Rattle.rule_check.specs.Value.{Rules}
 use Rattle.link_net.specs.Neighbours.{Neighbours}
-use Rattle.rounds_walk.specs.Starts.{is_stray, start_of}
+use Rattle.rounds_plan.specs.Starts.{is_stray, start_of}
 use Rattle.rounds_plan.specs.declared.fault.RoundFault.TheVariants.{RoundsBelowStart, TooManyRounds}
 use Rattle.rounds_plan.specs.Configs.{most_rounds}
 use Rattle.rounds_plan.specs.Lockstep.{lockstep, lockstep_config, lockstep_states, rounds_of}

@@ -17,7 +17,8 @@ use Rattle.large_net.specs.Large.{AreLaidOut}
 use Rattle.large_net.specs.File.{is_bad_offset, is_wide, rows_fault}
 use Rattle.large_net.specs.declared.fault.LargeFault.TheVariants.{Offsets, TooManyNeighbours, Neighbour}
 use Rattle.large_net.proofs.Parts.{rows_count, paired_length, length_part, offset_within}
-use Rattle.large_net.proofs.Searches.{neither, none_mapped, none_found, none_placed}
+use Rattle.link_net.proofs.Searches.{neither, none_mapped, none_found}
+use Rattle.large_net.proofs.Searches.{none_placed}
 
 module _ (offsets : List ℕ) (ends : ℕ) (some : 2 ≤ length offsets) (good : (u : ℕ) → u < length offsets → is_bad_offset offsets ends u ≡ false) where
   -- what is false of a place that is not the last

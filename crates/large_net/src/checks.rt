@@ -23,7 +23,7 @@ fn is_bad_offset(offsets: &[[u8; 8]], ends: u64, node: usize) -> bool
 }
 
 /// The first bad offset.
-#[tactic(auto, using(crate::proofs::Searches::find_next, crate::proofs::Searches::find_last))]
+#[tactic(auto, using(link_net::proofs::Searches::find_next, link_net::proofs::Searches::find_last))]
 fn first_bad_offset(offsets: &[[u8; 8]], ends: u64) -> Option<u64>
     ensures { result ≡ find (is_bad_offset (map (from_le_bytes w64) offsets.now) ends) (numbers_below (length offsets.now)) }
 {
@@ -44,7 +44,7 @@ fn is_wide(offsets: &[[u8; 8]], node: usize) -> bool
 }
 
 /// The first node with too many neighbours.
-#[tactic(auto, using(crate::proofs::Searches::find_next, crate::proofs::Searches::find_last))]
+#[tactic(auto, using(link_net::proofs::Searches::find_next, link_net::proofs::Searches::find_last))]
 fn first_wide_row(offsets: &[[u8; 8]]) -> Option<u64>
     requires some { 1 ≤ length offsets.now }
     ensures { result ≡ find (is_wide (map (from_le_bytes w64) offsets.now)) (numbers_below (length offsets.now - 1)) }

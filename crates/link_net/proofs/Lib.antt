@@ -23,3 +23,5 @@ mod ShapeRefusals
 mod Documents
 mod LentRows
 mod Finds
+pub mod Searches
+pub mod Simples

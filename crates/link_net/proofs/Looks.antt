@@ -9,7 +9,7 @@ use Rattle.std.proofs.lemmas.List.{length-map, get_or-map}
 use Rattle.std.proofs.lemmas.List.FromFn.{length-map-range_with_len}
 use Rattle.std.proofs.lemmas.List.Sorted.{searched}
 use Rattle.std.proofs.lemmas.Option.{slice_get-map, slice_get_within, slice_get-get_or, get_or_from_slice_get}
-use Rattle.link_net.specs.Neighbours.{Neighbours, IsNetwork, neighbour_at}
+use Rattle.link_net.specs.Neighbours.{Neighbours, IsNetwork, degree, neighbour, neighbour_at}
 use Rattle.link_net.specs.Layout.{part, rows_of, AreOffsets, IsLaidOut}
 use Rattle.link_net.proofs.Parts.{length_zip, sum_parts}
 
@@ -52,18 +52,21 @@ column_short (Some s) f net u whole is =
 ends_at : (row : List (ℕ × ℕ)) (k : ℕ) → k < length row → get_or (map (λ a. a.0) row) k 0 ≡ (get_or row k (0, 0)).0
 ends_at row k low = get_or-map (λ a. a.0) row k (0, 0) 0 low
 
-row_rises : (net : Neighbours) (u : ℕ) (row : List (ℕ × ℕ)) → IsNetwork net → slice_get net u ≡ Some row → IsStrictlyIncreasing (map (λ a. a.0) row)
-row_rises net u row whole e k low =
+abbrev RisesAt : Neighbours → ℕ → Type 0
+RisesAt net u = (i j : ℕ) → i < j → j < degree net u → neighbour net u i < neighbour net u j
+
+row_rises : (net : Neighbours) (u : ℕ) (row : List (ℕ × ℕ)) → RisesAt net u → slice_get net u ≡ Some row → IsStrictlyIncreasing (map (λ a. a.0) row)
+row_rises net u row rising e k low =
     let is : get_or net u [] ≡ row = get_or_from_slice_get net u row [] e in
     let short : k + 1 < length row = omega (arith, length-map row (λ (a : ℕ × ℕ). a.0)) in
-    let up = subst (λ (r : List (ℕ × ℕ)). k + 1 < length r → (get_or r k (0, 0)).0 < (get_or r (k + 1) (0, 0)).0) is (whole.rising u k (k + 1) (omega arith)) in
+    let up = subst (λ (r : List (ℕ × ℕ)). k + 1 < length r → (get_or r k (0, 0)).0 < (get_or r (k + 1) (0, 0)).0) is (rising k (k + 1) (omega arith)) in
     let less = up short in
     omega (arith, less, ends_at row k (omega arith), ends_at row (k + 1) short)
 
-pub column_rises : (r : Option (Bor (List ℕ))) (net : Neighbours) (u : ℕ) → IsNetwork net
+pub column_rises : (r : Option (Bor (List ℕ))) (net : Neighbours) (u : ℕ) → RisesAt net u
     → option_map (λ s. s.now) r ≡ option_map (λ row. map (λ a. a.0) row) (slice_get net u) → IfSome r (λ s. IsStrictlyIncreasing s.now)
-column_rises None net u whole is = tt
-column_rises (Some s) net u whole is = column (λ a. a.0) s.now net u is (λ row e same. rw same (row_rises net u row whole e))
+column_rises None net u rising is = tt
+column_rises (Some s) net u rising is = column (λ a. a.0) s.now net u is (λ row e same. rw same (row_rises net u row rising e))
 
 -- lists that rise from place to place rise
 rises_to : (xs : List ℕ) (i j : ℕ) → IsStrictlyIncreasing xs → i < j → j < length xs → get_or xs i 0 < get_or xs j 0

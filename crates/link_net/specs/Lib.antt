@@ -8,3 +8,4 @@ pub mod Arcs
 pub mod Layout
 pub mod Tables
 pub mod Causes
+pub mod Simple

@@ -1,5 +1,5 @@
 //! The rows of a network, lent.
-ghost use Rattle.std.specs.Prelude.{◌≡◌, ◌↔◌, ◌≤◌, length, map, zip, slice_get, option_map, IfSome, IsTrue};
+ghost use Rattle.std.specs.Prelude.{◌≡◌, ◌↔◌, ◌<◌, ◌≤◌, ℕ, length, map, zip, slice_get, option_map, IfSome, IsTrue, Some};
 ghost use Rattle.link_net.specs.Neighbours.{AreRows, degree, neighbour, neighbour_at, row, weight, weight_at};
 ghost use Rattle.link_net.specs.Layout.{rows_of, HoldRows};
 
@@ -153,6 +153,17 @@ impl<'a> NetRows<'a> {
         ensures exact { result ≡ weight self.now node slot }
     {
         self.weight(node, slot).unwrap_or(0)
+    }
+
+    /// The slot of a node at which another one stands, or `None` where it is no neighbour of the node, whose neighbours
+    /// stand by rising number.
+    pub fn slot_of(&self, node: u32, other: u32) -> Option<u32>
+        requires rising { (i j : ℕ) → i < j → j < degree self.now node → neighbour self.now node i < neighbour self.now node j }
+        ensures exact { (j : ℕ) → (result ≡ Some j) ↔ (neighbour_at self.now node j ≡ Some other) }
+    {
+        let neighbours = self.neighbours(node)?;
+        let slot = neighbours.binary_search(&other).ok()?;
+        Some(slot as u32)
     }
 
     /// Whether the two are the same rows: as many nodes, and of each the same neighbours with the same weights, in the

@@ -20,6 +20,7 @@ mod network;
 mod number_causes;
 mod numbers;
 mod shape_causes;
+mod simple;
 mod tables;
 
 pub use cause::NetCause;
@@ -30,6 +31,7 @@ pub use lent::NetRows;
 pub use net_file::NetFile;
 pub use network::Network;
 pub use numbers::MOST_NODES;
+pub use simple::{SimpleFault, check_simple};
 use std::alloc::Global;
 pub use tables::{Arc, Link, MOST_LINKS, MOST_NEIGHBOURS, arcs, link_network, targets, weights};
 use toml::Table;

@@ -165,9 +165,9 @@ impl Network {
     pub fn slot_of(&self, node: u32, neighbour: u32) -> Option<u32>
         ensures exact { (j : ℕ) → (result ≡ Some j) ↔ (neighbour_at self.now node j ≡ Some neighbour) }
     {
-        let neighbours = self.neighbours(node)?;
-        let slot = neighbours.binary_search(&neighbour).ok()?;
-        Some(slot as u32)
+        // For the proof: what holds of every network.
+        let _nodes = self.nodes();
+        self.rows().slot_of(node, neighbour)
     }
 
     /// Whether the two are the same network: the same nodes, links and weights.

@@ -8,3 +8,5 @@ pub mod Nears
 pub mod Resumed
 pub mod Names
 pub mod Entries
+pub mod Plain
+pub mod SimplePlans

@@ -7,3 +7,4 @@ pub mod Resume
 pub mod Answer
 pub mod Opening
 pub mod PlanCauses
+pub mod Starts

@@ -100,3 +100,20 @@ impl<T: Drop> From<AllocFailed<T>> for RoundFault {
         RoundFault::Memory
     }
 }
+
+/// Why a program, rows and states make no plan: the first of these that holds.
+#[derive(Clone, Copy, Debug, PartialEq, Eq, Error)]
+pub enum StartFault {
+    /// There is no node.
+    #[error("the network has no node")]
+    NoNodes,
+    /// There are more or fewer states than nodes.
+    #[error("there are more or fewer states than nodes")]
+    StateCount,
+    /// A state has a word other than 0 after the fields of the program.
+    #[error("a state has a value in a field that the program does not have")]
+    NotPlain,
+    /// The start is above 1,000,000,000.
+    #[error("the start is above round 1000000000")]
+    TooManyRounds,
+}

@@ -2,7 +2,7 @@
 use Rattle.std.specs.Prelude.{◌≡◌, ◌≤◌, ℕ, length}
 use Rattle.rounds_plan.specs.Lockstep.{lockstep_states}
 use Rattle.rounds_plan.specs.Plans.{PlanView}
-use Rattle.rounds_walk.specs.Starts.{IsStart}
+use Rattle.rounds_plan.specs.Starts.{IsStart}
 
 -- Where a plan has the program and the rows of another, and opens with the states that this one has after a round, at this round, both have the same states after every later round.
 abbrev pub GoesOnFromStates : Type 0

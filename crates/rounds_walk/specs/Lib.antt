@@ -1,7 +1,6 @@
 pub mod Columns
 pub mod Counts
 pub mod GoingOn
-pub mod Starts
 pub mod Stays
 pub mod Values
 pub mod Walking

@@ -5,7 +5,7 @@ use Rattle.link_net.specs.Neighbours.{degree, neighbour}
 use Rattle.rounds_blocks.specs.Walks.{Walked, state_by}
 use Rattle.rounds_plan.specs.Plans.{PlanView}
 use Rattle.rounds_plan.specs.Lockstep.{lockstep, lockstep_states}
-use Rattle.rounds_walk.specs.Starts.{IsStart}
+use Rattle.rounds_plan.specs.Starts.{IsStart}
 
 -- the states of all nodes of the plan after round t
 pub record HasRound (p : PlanView) (t : ℕ) (walk : Walked) : Type 0 where

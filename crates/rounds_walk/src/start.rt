@@ -1,15 +1,24 @@
 //! What rounds begin with.
 ghost use Rattle.std.specs.Prelude.{◌≡◌, length, IfOk};
-ghost use Rattle.rounds_walk.specs.Starts.{IsStart};
+ghost use Rattle.rounds_plan.specs.Starts.{IsStart};
 
-use crate::parts::{Opening, ends_of};
-use crate::plan_ref::PlanRef;
 use crate::walk::RoundWalk;
+use link_net::NetRows;
 use rounds_blocks::{Layout, MOST_ENDS, Walk, costs_of, is_worth_sharing, most_ends_to_share};
 use rounds_code::RowCode;
+use rounds_plan::{Opening, PlanRef};
 use rule_check::{Program, State};
 use std::alloc::{AllocError, Global};
 use std::marker::Model;
+
+/// How many neighbours all nodes have together, stopped at the type's end.
+fn ends_of(rows: &NetRows<'_>) -> u64 {
+    let mut ends: u64 = 0;
+    for node in 0..rows.nodes() {
+        ends = ends.saturating_add(rows.degree(node).unwrap_or(0) as u64);
+    }
+    ends
+}
 
 /// A plan, lent, and all that walks over its rounds share. A contract sees it as a plan.
 #[derive(Drop)]
@@ -27,7 +36,7 @@ impl<'a> Model for Start<'a> {
     ghost use Rattle.std.specs.Coded.{codes};
     ghost use Rattle.rule_lang.specs.TreeCode.{coded_tree};
     ghost use Rattle.rounds_plan.specs.Plans.{PlanView};
-    ghost use Rattle.rounds_walk.specs.Starts.{opened_by};
+    ghost use Rattle.rounds_plan.specs.Starts.{opened_by};
     ghost use Rattle.rounds_walk.specs.Walking.{IsPrepared};
 
     ghost Value = { PlanView };

@@ -5,7 +5,7 @@ ghost use Rattle.rule_check.specs.Rounds.{reads_round};
 ghost use Rattle.rounds_plan.specs.Configs.{IsPlain, most_rounds};
 ghost use Rattle.rounds_plan.specs.Lockstep.{lockstep_config, lockstep_states};
 ghost use Rattle.rounds_blocks.specs.Walks.{state_by};
-ghost use Rattle.rounds_walk.specs.Starts.{IsStart};
+ghost use Rattle.rounds_plan.specs.Starts.{IsStart};
 ghost use Rattle.rounds_walk.specs.Walking.{AreAlike};
 
 use crate::start::Start;

@@ -6,7 +6,8 @@ use Rattle.std.proofs.lemmas.Bool.{cases_lt}
 use Rattle.rule_check.specs.declared.state.State.{State}
 use Rattle.rule_check.specs.Value.{Rules, Here, here_at, updated, cleared, next_at, next_word, names_of}
 use Rattle.rounds_plan.specs.Configs.{blank, IsPlain}
-use Rattle.rounds_plan.specs.Plans.{PlanView, IsPlan}
+use Rattle.rounds_plan.specs.Plans.{PlanView}
+use Rattle.rounds_plan.specs.Starts.{IsSimplePlan}
 use Rattle.rounds_plan.specs.Lockstep.{after, lockstep, lockstep_states, nears_in}
 use Rattle.unison_world.specs.declared.node.Node.{Node}
 use Rattle.unison_world.specs.Counting.{moves_of}
@@ -37,7 +38,7 @@ plain_next rules here k h =
     updated_past (next_word rules here) (names_of rules) (cleared (length rules.fields) here.own.words) k (omega (arith, h, length-map rules.fields (λ f. f.name)))
     ∙ cleared_past (length rules.fields) (8 - length rules.fields) here.own.words k h
 
-plain_after : (p : PlanView) (n u : ℕ) → IsPlan p → IsPlain (length p.program.fields) (after p n u)
+plain_after : (p : PlanView) (n u : ℕ) → IsSimplePlan p → IsPlain (length p.program.fields) (after p n u)
 unfolding after
 plain_after p zero u whole =
     ⊎_elim
@@ -47,7 +48,7 @@ plain_after p zero u whole =
 plain_after p (suc n) u whole =
     plain_next p.program (here_at p.program (p.start + n) u (length (nears_in p.network (after p n) u)) (after p n u) (nears_in p.network (after p n) u))
 
-pub plain_lockstep : (p : PlanView) (t u : ℕ) → IsPlan p → IsPlain (length p.program.fields) (lockstep p t u)
+pub plain_lockstep : (p : PlanView) (t u : ℕ) → IsSimplePlan p → IsPlain (length p.program.fields) (lockstep p t u)
 unfolding lockstep
 plain_lockstep p t u whole = plain_after p (t - p.start) u whole
 
@@ -70,7 +71,7 @@ states_at_stop plan stop nodes d at_stop =
     ∙ ap (λ t. lockstep plan t u) m
     ∙ sym (get_or-map-range_with_len (lockstep plan stop) 0 (length plan.network) u u blank (omega (arith, inside, d.one_each)) (zero-add u)))
 
-pub plain_states : (plan : PlanView) (stop : ℕ) (states : List State) → IsPlan plan → states ≡ lockstep_states plan stop (length plan.network) → All (IsPlain (length plan.program.fields)) states
+pub plain_states : (plan : PlanView) (stop : ℕ) (states : List State) → IsSimplePlan plan → states ≡ lockstep_states plan stop (length plan.network) → All (IsPlain (length plan.program.fields)) states
 plain_states plan stop states whole e k d h =
     let n = length plan.network in
     let inside : k < n = omega (arith, h, ap length e, length-map-range_with_len (lockstep plan stop) 0 n) in

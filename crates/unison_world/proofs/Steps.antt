@@ -3,7 +3,9 @@ use Rattle.std.proofs.Common.{◌≡◌, ◌≢◌, ◌⊎◌, ℕ, zero, suc, �
 use Rattle.std.proofs.lemmas.List.{get_or-set_same, get_or-set_other, get_or-map, get_or_past, length-set, length-map, set_past}
 use Rattle.std.proofs.lemmas.Bool.{cases_eq, cases_lt, false≢true}
 use Rattle.std.proofs.lemmas.Bool.Decides.{nat_tests, Decides-below_and}
-use Rattle.link_net.specs.Neighbours.{Neighbours, row, degree, neighbour, IsNetwork}
+use Rattle.link_net.specs.Neighbours.{Neighbours, row, degree, neighbour}
+use Rattle.link_net.specs.Simple.{IsSimple}
+use Rattle.link_net.proofs.Simples.{network_simple}
 use Rattle.unison_world.specs.declared.step.Step.{Step}
 use Rattle.unison_world.specs.declared.step.Step.TheVariants.{Read, Write}
 use Rattle.unison_world.specs.declared.step.Answer.{Answer}
@@ -81,7 +83,7 @@ module _ (network : Neighbours) (stop : ℕ) (c : Counts) (u : ℕ) (shape : Has
         unstopped = λ v i e. ⊎_elim (λ w. rw w.0 (omega (arith, is.within u))) (λ m. is.unstopped v i m) (marked-marked c u j v i has e);
       }
 
-  pub in_step-moved : IsNetwork network → ((k : ℕ) → k < degree network u → is_marked c u k ≡ true) → InStep network stop (moved c u)
+  pub in_step-moved : IsSimple network → ((k : ℕ) → k < degree network u → is_marked c u k ≡ true) → InStep network stop (moved c u)
   in_step-moved net ready =
       let has : u < length c.marks = omega (arith, shape.marks) in
       let counts : u < length c.moves = omega (arith, shape.moves) in
@@ -126,7 +128,7 @@ shape-after network stop c (Read u j) s =
 shape-after network stop c (Write u) s =
     elim (answer_of network stop c (Write u)) as (λ a. HasShape network (change c (Write u) a)) [ Moved ↦ shape-moved network c u s | _ ↦ s ]
 
-pub in_step-after : (network : Neighbours) (stop : ℕ) (c : Counts) (step : Step) → IsNetwork network → HasShape network c → InStep network stop c → InStep network stop (after network stop c step)
+pub in_step-after : (network : Neighbours) (stop : ℕ) (c : Counts) (step : Step) → IsSimple network → HasShape network c → InStep network stop c → InStep network stop (after network stop c step)
 in_step-after network stop c (Read u j) net shape is =
     let cases : (a : Answer) → (a ≡ Taken → (u < length network) × (j < degree network u) × (moves_of c u ≢ stop) × (moves_of c u ≤ moves_of c (neighbour network u j))) → InStep network stop (change c (Read u j) a) =
     λ a. elim a as (λ a. (a ≡ Taken → (u < length network) × (j < degree network u) × (moves_of c u ≢ stop) × (moves_of c u ≤ moves_of c (neighbour network u j))) → InStep network stop (change c (Read u j) a))
@@ -167,7 +169,7 @@ node_of_slot : (network : Neighbours) (u j : ℕ) → j < degree network u → u
 node_of_slot network u j h =
     ⊎_elim (λ a. a) (λ a. (let e : degree network u ≡ 0 = ap length (get_or_past network u [] a) in absurd (omega arith))) (cases_lt u (length network))
 
-pub in_step-at_start : (network : Neighbours) (start stop : ℕ) → IsNetwork network → start ≤ stop → InStep network stop (at_start network start)
+pub in_step-at_start : (network : Neighbours) (start stop : ℕ) → IsSimple network → start ≤ stop → InStep network stop (at_start network start)
 in_step-at_start network start stop net late =
     record {
       near = λ u j h.
@@ -177,11 +179,12 @@ in_step-at_start network start stop net late =
       unstopped = λ u j e. absurd (false≢true (sym (marked-at_start network start u j) ∙ e));
     }
 
-pub in_step-run : (network : Neighbours) (stop : ℕ) (c : Counts) (steps : List Step) → IsNetwork network → HasShape network c → InStep network stop c → InStep network stop (run network stop c steps)
+pub in_step-run : (network : Neighbours) (stop : ℕ) (c : Counts) (steps : List Step) → IsSimple network → HasShape network c → InStep network stop c → InStep network stop (run network stop c steps)
 in_step-run network stop c [] net shape is = is
 in_step-run network stop c (step ∷ steps) net shape is =
     in_step-run network stop (after network stop c step) steps net (shape-after network stop c step shape) (in_step-after network stop c step net shape is)
 
 pub stays_in_step : StaysInStep
 stays_in_step network start stop steps net late =
-    in_step-run network stop (at_start network start) steps net (shape-at_start network start) (in_step-at_start network start stop net late)
+    let simple : IsSimple network = network_simple network net in
+    in_step-run network stop (at_start network start) steps simple (shape-at_start network start) (in_step-at_start network start stop simple late)

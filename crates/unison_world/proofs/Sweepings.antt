@@ -4,7 +4,9 @@ use Rattle.std.specs.List.{range_with_len, sum_by}
 use Rattle.std.proofs.lemmas.List.{length-map, ext_get_or}
 use Rattle.std.proofs.lemmas.List.Sums.{sum_by-cons}
 use Rattle.std.proofs.lemmas.Bool.{cases_eq, cases_lt, false≢true}
-use Rattle.link_net.specs.Neighbours.{Neighbours, IsNetwork, row, degree, neighbour, numbers_below}
+use Rattle.link_net.specs.Neighbours.{Neighbours, row, degree, neighbour, numbers_below}
+use Rattle.link_net.specs.Simple.{IsSimple}
+use Rattle.link_net.proofs.Simples.{network_simple}
 use Rattle.unison_world.specs.declared.step.TurnAnswer.{TurnAnswer}
 use Rattle.unison_world.specs.declared.step.TurnAnswer.TheVariants.{Moved}
 use Rattle.unison_world.specs.Counting.{Counts, moves_of, marks_of, is_marked, moved, at_start, HasShape, InStep}
@@ -41,7 +43,7 @@ turn-grows network stop c u v shape =
     (turn_either network stop c u shape)
 
 -- where all nodes have moved m times, a node has moved once more after its turn, or stands at the stop
-turn-rises : (network : Neighbours) (stop : ℕ) (c : Counts) (u m t : ℕ) → IsNetwork network → HasShape network c → u < length network → t ≤ m + 1 → t ≤ stop
+turn-rises : (network : Neighbours) (stop : ℕ) (c : Counts) (u m t : ℕ) → IsSimple network → HasShape network c → u < length network → t ≤ m + 1 → t ≤ stop
     → ((v : ℕ) → v < length network → m ≤ moves_of c v) → t ≤ moves_of (after_turn network stop c u) u
 turn-rises network stop c u m t net shape h more most all =
     let grows = turn-grows network stop c u u shape in
@@ -70,7 +72,7 @@ pub turns-shape : (network : Neighbours) (stop : ℕ) (us : List ℕ) (c : Count
 turns-shape network stop [] c shape = shape
 turns-shape network stop (u ∷ us) c shape = turns-shape network stop us (after_turn network stop c u) (turn-shape network stop c u shape)
 
-turns-rise : (network : Neighbours) (stop m t : ℕ) (us : List ℕ) (c : Counts) (v : ℕ) → IsNetwork network → HasShape network c → t ≤ m + 1 → t ≤ stop → ((w : ℕ) → w < length network → m ≤ moves_of c w)
+turns-rise : (network : Neighbours) (stop m t : ℕ) (us : List ℕ) (c : Counts) (v : ℕ) → IsSimple network → HasShape network c → t ≤ m + 1 → t ≤ stop → ((w : ℕ) → w < length network → m ≤ moves_of c w)
     → v < length network → Has v us ⊎ (t ≤ moves_of c v) → t ≤ moves_of (after_turns network stop c us) v
 turns-rise network stop m t [] c v net shape more most all h has = ⊎_elim (λ x. absurd x) (λ x. x) has
 turns-rise network stop m t (u ∷ us) c v net shape more most all h has =
@@ -83,7 +85,7 @@ turns-rise network stop m t (u ∷ us) c v net shape more most all h has =
     has)
 
 -- the least count rises in a sweep
-pub sweep-rises : (network : Neighbours) (stop : ℕ) (c : Counts) (m : ℕ) → IsNetwork network → HasShape network c → ((u : ℕ) → u < length network → m ≤ moves_of c u)
+pub sweep-rises : (network : Neighbours) (stop : ℕ) (c : Counts) (m : ℕ) → IsSimple network → HasShape network c → ((u : ℕ) → u < length network → m ≤ moves_of c u)
     → (u : ℕ) → u < length network → min (m + 1) stop ≤ moves_of (after_turns network stop c (numbers_below (length network))) u
 sweep-rises network stop c m net shape all u h =
     turns-rise network stop m (min (m + 1) stop) (numbers_below (length network)) c u net shape (omega arith) (omega arith) all h (inl (has_range 0 (length network) u (omega arith) (omega arith)))
@@ -96,7 +98,7 @@ pub sweeps_rise : SweepsRise
 sweeps_rise network start stop zero u net late h = (let e = moves-at_start network start u h in omega arith)
 sweeps_rise network start stop (suc s) u net late h =
     let c = after_sweeps network stop s (at_start network start) in
-    let r = sweep-rises network stop c (min (start + s) stop) net (sweeps-shape network stop s (at_start network start) (shape-at_start network start)) (λ v l. sweeps_rise network start stop s v net late l) u h in
+    let r = sweep-rises network stop c (min (start + s) stop) (network_simple network net) (sweeps-shape network stop s (at_start network start) (shape-at_start network start)) (λ v l. sweeps_rise network start stop s v net late l) u h in
     omega arith
 
 -- one turn more, and the turns that are left

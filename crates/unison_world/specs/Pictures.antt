@@ -4,7 +4,8 @@ use Rattle.rule_check.specs.declared.state.State.{State}
 use Rattle.rule_check.specs.Value.{Rules}
 use Rattle.link_net.specs.Neighbours.{degree}
 use Rattle.rounds_plan.specs.Configs.{most_rounds}
-use Rattle.rounds_plan.specs.Plans.{PlanView, IsPlan}
+use Rattle.rounds_plan.specs.Plans.{PlanView}
+use Rattle.rounds_plan.specs.Starts.{IsSimplePlan}
 use Rattle.rounds_plan.specs.Lockstep.{lockstep}
 use Rattle.unison_node.specs.declared.desk.Seat.{Seat}
 use Rattle.unison_node.specs.Desks.{cleared}
@@ -37,7 +38,7 @@ pub record IsNodePicture (plan : PlanView) (u : ℕ) (node : Node) : Type 0 wher
 
 -- one node for each of the plan, each the picture of its count
 pub record IsDrawn (plan : PlanView) (nodes : List Node) : Type 0 where
-  pub well_formed : IsPlan plan
+  pub well_formed : IsSimplePlan plan
   pub one_each : length nodes ≡ length plan.network
   pub each : (u : ℕ) (node : Node) → slice_get nodes u ≡ Some node → IsNodePicture plan u node
 

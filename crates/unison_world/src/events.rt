@@ -1,6 +1,5 @@
 //! Single reads and writes.
-ghost use Rattle.std.specs.Prelude.{◌≡◌, ℕ, ◌≤◌, slice_get};
-ghost use Rattle.link_net.specs.Neighbours.{row};
+ghost use Rattle.std.specs.Prelude.{◌≡◌, ℕ, ◌≤◌};
 ghost use Rattle.rounds_plan.specs.Configs.{most_rounds};
 ghost use Rattle.unison_world.specs.Answers.{answer_from};
 ghost use Rattle.unison_world.specs.Counting.{answer_of, after, InStep};
@@ -8,10 +7,9 @@ ghost use Rattle.unison_world.specs.Pictures.{IsDrawn, counts_of};
 ghost use Rattle.unison_world.specs.declared.step.Step.TheVariants.{Read, Write};
 
 use crate::node::Node;
-use crate::step::Answer;
-use link_net::Network;
+use crate::step::{Answer, Step};
 use phase_register::Look;
-use rounds_plan::Plan;
+use rounds_plan::SimplePlan;
 use unison_node::Offer;
 
 /// The answer of a world, by that of a desk.
@@ -26,17 +24,8 @@ fn answer_from(offer: Offer) -> Answer
     }
 }
 
-/// The neighbour at a slot of a node, and the weight of the link to it.
-fn link_at(network: &Network, node: u32, slot: u32) -> Option<(u32, u32)>
-    ensures { result ≡ slice_get (row network.now node) slot }
-{
-    network
-        .neighbour(node, slot)
-        .zip(network.weight(node, slot))
-}
-
 /// A node reads the register at one of its slots.
-pub fn read(plan: &Plan, stop: u32, nodes: &mut Vec<Node>, node: u32, slot: u32) -> Answer
+pub fn read(plan: &SimplePlan<'_>, stop: u32, nodes: &mut Vec<Node>, node: u32, slot: u32) -> Answer
     requires drawn { IsDrawn plan.now nodes.old.items }
     requires in_step { InStep plan.now.network stop (counts_of nodes.old.items) }
     ensures answer { result ≡ answer_of plan.now.network stop (counts_of nodes.old.items) (Read node slot) }
@@ -47,7 +36,7 @@ pub fn read(plan: &Plan, stop: u32, nodes: &mut Vec<Node>, node: u32, slot: u32)
     if reader >= nodes.len() {
         return Answer::NoNode;
     }
-    let Some((neighbour, weight)) = link_at(plan.network(), node, slot) else {
+    let Some((neighbour, weight)) = plan.link(node, slot) else {
         return Answer::NoSlot;
     };
     let this = &nodes[reader];
@@ -64,7 +53,7 @@ pub fn read(plan: &Plan, stop: u32, nodes: &mut Vec<Node>, node: u32, slot: u32)
 }
 
 /// The answer to a read, with nothing changed.
-pub fn ask_read(plan: &Plan, stop: u32, nodes: &Vec<Node>, node: u32, slot: u32) -> Answer
+pub fn ask_read(plan: &SimplePlan<'_>, stop: u32, nodes: &Vec<Node>, node: u32, slot: u32) -> Answer
     requires drawn { IsDrawn plan.now nodes.now.items }
     requires in_step { InStep plan.now.network stop (counts_of nodes.now.items) }
     ensures answer { result ≡ answer_of plan.now.network stop (counts_of nodes.now.items) (Read node slot) }
@@ -73,7 +62,7 @@ pub fn ask_read(plan: &Plan, stop: u32, nodes: &Vec<Node>, node: u32, slot: u32)
     if reader >= nodes.len() {
         return Answer::NoNode;
     }
-    let Some((neighbour, _)) = link_at(plan.network(), node, slot) else {
+    let Some((neighbour, _)) = plan.link(node, slot) else {
         return Answer::NoSlot;
     };
     let this = &nodes[reader];
@@ -93,7 +82,7 @@ pub fn ask_read(plan: &Plan, stop: u32, nodes: &Vec<Node>, node: u32, slot: u32)
 }
 
 /// The answer to a write, with nothing changed.
-pub fn ask_write(plan: &Plan, stop: u32, nodes: &Vec<Node>, node: u32) -> Answer
+pub fn ask_write(plan: &SimplePlan<'_>, stop: u32, nodes: &Vec<Node>, node: u32) -> Answer
     requires drawn { IsDrawn plan.now nodes.now.items }
     ensures answer { result ≡ answer_of plan.now.network stop (counts_of nodes.now.items) (Write node) }
 {
@@ -113,7 +102,7 @@ pub fn ask_write(plan: &Plan, stop: u32, nodes: &Vec<Node>, node: u32) -> Answer
 }
 
 /// A node moves to its next state, where all its slots are marked.
-pub fn write(plan: &Plan, stop: u32, nodes: &mut Vec<Node>, node: u32) -> Answer
+pub fn write(plan: &SimplePlan<'_>, stop: u32, nodes: &mut Vec<Node>, node: u32) -> Answer
     requires drawn { IsDrawn plan.now nodes.old.items }
     requires in_step { InStep plan.now.network stop (counts_of nodes.old.items) }
     requires limit { stop ≤ most_rounds }
@@ -136,4 +125,31 @@ pub fn write(plan: &Plan, stop: u32, nodes: &mut Vec<Node>, node: u32) -> Answer
     let state = mover.next(program, node);
     nodes[writer].advance(program, state);
     Answer::Moved
+}
+
+/// The answer that a step would have, with nothing changed.
+pub fn ask(plan: &SimplePlan<'_>, stop: u32, nodes: &Vec<Node>, step: Step) -> Answer
+    requires drawn { IsDrawn plan.now nodes.now.items }
+    requires in_step { InStep plan.now.network stop (counts_of nodes.now.items) }
+    ensures answer { result ≡ answer_of plan.now.network stop (counts_of nodes.now.items) step }
+{
+    match step {
+        Step::Read { node, slot } => ask_read(plan, stop, nodes, node, slot),
+        Step::Write { node } => ask_write(plan, stop, nodes, node),
+    }
+}
+
+/// A step, with its answer.
+pub fn make(plan: &SimplePlan<'_>, stop: u32, nodes: &mut Vec<Node>, step: Step) -> Answer
+    requires drawn { IsDrawn plan.now nodes.old.items }
+    requires in_step { InStep plan.now.network stop (counts_of nodes.old.items) }
+    requires limit { stop ≤ most_rounds }
+    ensures answer { result ≡ answer_of plan.now.network stop (counts_of nodes.old.items) step }
+    ensures counts { counts_of nodes.new.items ≡ after plan.now.network stop (counts_of nodes.old.items) step }
+    ensures drawn { IsDrawn plan.now nodes.new.items }
+{
+    match step {
+        Step::Read { node, slot } => read(plan, stop, nodes, node, slot),
+        Step::Write { node } => write(plan, stop, nodes, node),
+    }
 }

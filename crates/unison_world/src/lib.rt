@@ -13,6 +13,7 @@ mod step;
 mod turns;
 mod work;
 mod world;
+mod world_ref;
 
 pub use fault::{FinishFault, OpenFault};
 pub use laws::{counts_changes, stays_in_step, steps_from_start, sweeps_rise};
@@ -20,3 +21,4 @@ pub use looks::{moves, state_of};
 pub use step::{Answer, Step, TurnAnswer, WriteAnswer};
 pub use work::{Done, Work};
 pub use world::World;
+pub use world_ref::WorldRef;

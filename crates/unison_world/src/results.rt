@@ -10,7 +10,7 @@ use crate::events::ask_write;
 use crate::node::Node;
 use crate::step::{Answer, WriteAnswer};
 use crate::work::{Done, Work};
-use rounds_plan::Plan;
+use rounds_plan::SimplePlan;
 use rule_check::{State, Sums};
 
 /// Whether two states are equal.
@@ -28,7 +28,7 @@ fn sums_same(left: &Sums, right: &Sums) -> bool
 }
 
 /// Whether a result was computed from what stands here for its node.
-fn fits(plan: &Plan, nodes: &Vec<Node>, work: &Work) -> bool
+fn fits(plan: &SimplePlan<'_>, nodes: &Vec<Node>, work: &Work) -> bool
     requires drawn { IsDrawn plan.now nodes.now.items }
     requires node { work.now.node < length nodes.now.items }
     ensures fits { (stop : ℕ) → IsTrue result ↔ Fits (view_of plan.now stop nodes.now.items) work.now }
@@ -50,7 +50,7 @@ fn fits(plan: &Plan, nodes: &Vec<Node>, work: &Work) -> bool
 }
 
 /// The answer to a result, with nothing changed.
-pub fn ask_put(plan: &Plan, stop: u32, nodes: &Vec<Node>, done: &Done) -> WriteAnswer
+pub fn ask_put(plan: &SimplePlan<'_>, stop: u32, nodes: &Vec<Node>, done: &Done) -> WriteAnswer
     requires drawn { IsDrawn plan.now nodes.now.items }
     ensures answer { IsPutAnswer (view_of plan.now stop nodes.now.items) done.now.work result }
 {
@@ -69,7 +69,7 @@ pub fn ask_put(plan: &Plan, stop: u32, nodes: &Vec<Node>, done: &Done) -> WriteA
 }
 
 /// A node moves to a result, where it fits.
-pub fn put(plan: &Plan, stop: u32, nodes: &mut Vec<Node>, done: &Done) -> WriteAnswer
+pub fn put(plan: &SimplePlan<'_>, stop: u32, nodes: &mut Vec<Node>, done: &Done) -> WriteAnswer
     requires drawn { IsDrawn plan.now nodes.old.items }
     requires in_step { InStep plan.now.network stop (counts_of nodes.old.items) }
     requires limit { stop ≤ most_rounds }

@@ -1,6 +1,6 @@
 //! Whole turns and sweeps.
 ghost use Rattle.std.specs.Prelude.{◌≡◌, ℕ, ◌+◌, ◌<◌, ◌≤◌, length, map, min};
-ghost use Rattle.link_net.specs.Neighbours.{degree, numbers_below};
+ghost use Rattle.link_net.specs.Neighbours.{IsNetwork, degree, numbers_below};
 ghost use Rattle.rounds_plan.specs.Configs.{most_rounds};
 ghost use Rattle.unison_world.specs.Counting.{moves_of, run, InStep};
 ghost use Rattle.unison_world.specs.Pictures.{IsDrawn, counts_of};
@@ -11,19 +11,19 @@ ghost use Rattle.unison_world.specs.declared.step.Step.TheVariants.{Read};
 use crate::events::{read, write};
 use crate::node::Node;
 use crate::step::{Answer, TurnAnswer};
-use link_net::Network;
 use phase_register::Look;
-use rounds_plan::Plan;
+use rounds_plan::SimplePlan;
 
 /// Whether some neighbour has moved less often than the node: whether its register looks behind.
-fn some_behind(plan: &Plan, stop: u32, nodes: &Vec<Node>, node: u32) -> bool
+fn some_behind(plan: &SimplePlan<'_>, stop: u32, nodes: &Vec<Node>, node: u32) -> bool
     requires drawn { IsDrawn plan.now nodes.now.items }
     requires in_step { InStep plan.now.network stop (counts_of nodes.now.items) }
     requires node { node < length nodes.now.items }
     ensures behind { result ≡ any_behind plan.now.network (counts_of nodes.now.items) node }
 {
     let own = nodes[node as usize].register.phase();
-    let neighbours = plan.network().neighbours_of(node);
+    let rows = plan.rows();
+    let neighbours = rows.neighbours_of(node);
     for slot in 0..neighbours.len() {
         let look = nodes[neighbours[slot] as usize].register.seen_from(own);
         if let Look::Behind = look {
@@ -45,7 +45,7 @@ fn steps_in(answer: Answer) -> u32
 }
 
 /// A node reads the register at each of its slots; how many of the reads were taken.
-fn read_all(plan: &Plan, stop: u32, nodes: &mut Vec<Node>, node: u32) -> u32
+fn read_all(plan: &SimplePlan<'_>, stop: u32, nodes: &mut Vec<Node>, node: u32) -> u32
     requires drawn { IsDrawn plan.now nodes.old.items }
     requires in_step { InStep plan.now.network stop (counts_of nodes.old.items) }
     requires node { node < length nodes.old.items }
@@ -66,11 +66,11 @@ fn read_all(plan: &Plan, stop: u32, nodes: &mut Vec<Node>, node: u32) -> u32
 #[derive(Clone, Copy)]
 pub struct Turned {
     pub answer: TurnAnswer,
-    pub steps: u32,
+    pub steps: u64,
 }
 
 /// A whole turn of a node: where no neighbour looks behind, every slot is read and the node moves.
-pub fn turn(plan: &Plan, stop: u32, nodes: &mut Vec<Node>, node: u32) -> Turned
+pub fn turn(plan: &SimplePlan<'_>, stop: u32, nodes: &mut Vec<Node>, node: u32) -> Turned
     requires drawn { IsDrawn plan.now nodes.old.items }
     requires in_step { InStep plan.now.network stop (counts_of nodes.old.items) }
     requires limit { stop ≤ most_rounds }
@@ -79,7 +79,7 @@ pub fn turn(plan: &Plan, stop: u32, nodes: &mut Vec<Node>, node: u32) -> Turned
     ensures drawn { IsDrawn plan.now nodes.new.items }
     ensures in_step { InStep plan.now.network stop (counts_of nodes.new.items) }
     ensures steps { steps_done plan.now.network (counts_of nodes.new.items) ≡ steps_done plan.now.network (counts_of nodes.old.items) + result.steps }
-    ensures few { result.steps ≤ 4097 }
+    ensures few { result.steps ≤ degree plan.now.network node + 1 }
 {
     let mover = node as usize;
     if mover >= nodes.len() {
@@ -95,7 +95,7 @@ pub fn turn(plan: &Plan, stop: u32, nodes: &mut Vec<Node>, node: u32) -> Turned
     let made = steps_in(write(plan, stop, nodes, node));
     Turned {
         answer: TurnAnswer::Moved,
-        steps: taken + made,
+        steps: taken as u64 + made as u64,
     }
 }
 
@@ -110,7 +110,7 @@ fn unturned(answer: TurnAnswer) -> Turned
 #[derive(Clone, Copy)]
 pub struct Swept {
     pub moves: u32,
-    pub steps: u32,
+    pub steps: u64,
 }
 
 /// One for a turn that moves.
@@ -125,10 +125,11 @@ fn moves_in(answer: TurnAnswer) -> u32
 }
 
 /// A sweep: a turn of each node by rising number.
-pub fn sweep(plan: &Plan, stop: u32, nodes: &mut Vec<Node>) -> Swept
+pub fn sweep(plan: &SimplePlan<'_>, stop: u32, nodes: &mut Vec<Node>) -> Swept
     requires drawn { IsDrawn plan.now nodes.old.items }
     requires in_step { InStep plan.now.network stop (counts_of nodes.old.items) }
     requires limit { stop ≤ most_rounds }
+    requires network { IsNetwork plan.now.network }
     ensures moves { result.moves ≡ moves_in_turns plan.now.network stop (counts_of nodes.old.items) (numbers_below (length plan.now.network)) }
     ensures counts { counts_of nodes.new.items ≡ after_turns plan.now.network stop (counts_of nodes.old.items) (numbers_below (length plan.now.network)) }
     ensures drawn { IsDrawn plan.now nodes.new.items }
@@ -139,8 +140,8 @@ pub fn sweep(plan: &Plan, stop: u32, nodes: &mut Vec<Node>) -> Swept
         → (u : ℕ) → u < length plan.now.network → min (m + 1) stop ≤ moves_of (counts_of nodes.new.items) u }
 {
     let mut moves = 0;
-    let mut steps = 0;
-    for node in 0..plan.network().nodes() {
+    let mut steps: u64 = 0;
+    for node in 0..plan.nodes() {
         let turned = turn(plan, stop, nodes, node);
         moves += moves_in(turned.answer);
         steps += turned.steps;
@@ -161,10 +162,11 @@ fn least_count(stop: u32, nodes: &Vec<Node>) -> u32
 }
 
 /// Sweeps until every node stands at the stop; how many reads were taken and moves made.
-pub fn run_sweeps(plan: &Plan, stop: u32, nodes: &mut Vec<Node>) -> u64
+pub fn run_sweeps(plan: &SimplePlan<'_>, stop: u32, nodes: &mut Vec<Node>) -> u64
     requires drawn { IsDrawn plan.now nodes.old.items }
     requires in_step { InStep plan.now.network stop (counts_of nodes.old.items) }
     requires limit { stop ≤ most_rounds }
+    requires network { IsNetwork plan.now.network }
     ensures at_stop { (u : ℕ) → u < length plan.now.network → moves_of (counts_of nodes.new.items) u ≡ stop }
     ensures drawn { IsDrawn plan.now nodes.new.items }
     ensures in_step { InStep plan.now.network stop (counts_of nodes.new.items) }
@@ -174,7 +176,7 @@ pub fn run_sweeps(plan: &Plan, stop: u32, nodes: &mut Vec<Node>) -> u64
     let mut steps = 0;
     for _round in least..stop {
         let swept = sweep(plan, stop, nodes);
-        steps += swept.steps as u64;
+        steps += swept.steps;
     }
     steps
 }

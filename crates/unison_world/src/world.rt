@@ -12,7 +12,7 @@ ghost use Rattle.unison_world.specs.Turns.{AtLeast, moves_in_sweep, turn_answer,
 ghost use Rattle.unison_world.specs.View.{answer_in, with_counts, world_after, is_node, state_of, opened};
 ghost use Rattle.unison_world.specs.Work.{GivesNextState, IsPutAnswer, after_put, work_in};
 
-use crate::events::{ask_read, ask_write, read, write};
+use crate::events::{ask, make};
 use crate::fault::{FinishFault, OpenFault};
 use crate::finishing::{first_below, states_of};
 use crate::node::Node;
@@ -22,7 +22,7 @@ use crate::step::{Answer, Step, TurnAnswer, WriteAnswer};
 use crate::turns::{run_sweeps, sweep, turn};
 use crate::work::{Done, Work};
 use phase_register::Phase;
-use rounds_plan::{Config, MOST_ROUNDS, Plan};
+use rounds_plan::{Config, MOST_ROUNDS, Plan, SimplePlan};
 use rule_check::State;
 use std::alloc::{AllocError, Global};
 use std::marker::Model;
@@ -69,7 +69,8 @@ impl World {
         if stop < plan.start() {
             return Err(OpenFault::StopBelowStart);
         }
-        let nodes = opening_nodes(alloc, &plan)?;
+        let lent = SimplePlan::of_plan(&plan);
+        let nodes = opening_nodes(alloc, &lent)?;
         Ok(World { plan, stop, nodes })
     }
 
@@ -77,10 +78,8 @@ impl World {
     pub fn ask(&self, step: Step) -> Answer
         ensures answer { result ≡ answer_in self.now step }
     {
-        match step {
-            Step::Read { node, slot } => ask_read(&self.plan, self.stop, &self.nodes, node, slot),
-            Step::Write { node } => ask_write(&self.plan, self.stop, &self.nodes, node),
-        }
+        let plan = SimplePlan::of_plan(&self.plan);
+        ask(&plan, self.stop, &self.nodes, step)
     }
 
     /// One event, with its answer.
@@ -88,10 +87,8 @@ impl World {
         ensures answer { result ≡ answer_in self.old step }
         ensures after { self.new ≡ world_after self.old step }
     {
-        match step {
-            Step::Read { node, slot } => read(&self.plan, self.stop, &mut self.nodes, node, slot),
-            Step::Write { node } => write(&self.plan, self.stop, &mut self.nodes, node),
-        }
+        let plan = SimplePlan::of_plan(&self.plan);
+        make(&plan, self.stop, &mut self.nodes, step)
     }
 
     /// A whole turn of a node. `NoNode` comes where there is no such node, else `Stopped` where it stands at the stop,
@@ -101,7 +98,8 @@ impl World {
         ensures answer { result ≡ turn_answer self.old.plan.network self.old.stop self.old.counts node }
         ensures after { self.new ≡ world_after_turn self.old node }
     {
-        turn(&self.plan, self.stop, &mut self.nodes, node).answer
+        let plan = SimplePlan::of_plan(&self.plan);
+        turn(&plan, self.stop, &mut self.nodes, node).answer
     }
 
     /// A sweep: a turn of each node by rising number; how many nodes moved.
@@ -110,7 +108,10 @@ impl World {
         ensures after { self.new ≡ world_after_sweep self.old }
         ensures rises { (m : ℕ) → AtLeast self.old m → AtLeast self.new (min (m + 1) self.old.stop) }
     {
-        sweep(&self.plan, self.stop, &mut self.nodes).moves
+        // For the proof: what holds of every plan.
+        let _phase = self.plan.phase();
+        let plan = SimplePlan::of_plan(&self.plan);
+        sweep(&plan, self.stop, &mut self.nodes).moves
     }
 
     /// Sweeps until every node stands at the stop; how many reads were taken and moves made.
@@ -118,7 +119,10 @@ impl World {
         ensures after { self.new ≡ with_counts self.old (at_start self.old.plan.network self.old.stop) }
         ensures steps { result ≡ steps_left self.old.plan.network self.old.stop self.old.counts }
     {
-        run_sweeps(&self.plan, self.stop, &mut self.nodes)
+        // For the proof: what holds of every plan.
+        let _phase = self.plan.phase();
+        let plan = SimplePlan::of_plan(&self.plan);
+        run_sweeps(&plan, self.stop, &mut self.nodes)
     }
 
     /// What a node's next state is computed from; none where there is no such node, it stands at the stop or it
@@ -149,14 +153,16 @@ impl World {
         ensures answer { IsPutAnswer self.old done.now.work result }
         ensures after { self.new ≡ after_put self.old done.now.work result }
     {
-        put(&self.plan, self.stop, &mut self.nodes, done)
+        let plan = SimplePlan::of_plan(&self.plan);
+        put(&plan, self.stop, &mut self.nodes, done)
     }
 
     /// The answer that `put` would give now.
     pub fn ask_put(&self, done: &Done) -> WriteAnswer
         ensures answer { IsPutAnswer self.now done.now.work result }
     {
-        ask_put(&self.plan, self.stop, &self.nodes, done)
+        let plan = SimplePlan::of_plan(&self.plan);
+        ask_put(&plan, self.stop, &self.nodes, done)
     }
 
     /// How many nodes there are.
@@ -167,6 +173,8 @@ impl World {
         ensures in_step { InStep self.now.plan.network self.now.stop self.now.counts }
         ensures started { (u : ℕ) → u < length self.now.plan.network → self.now.plan.start ≤ moves_of self.now.counts u }
     {
+        // For the proof: what holds of every plan.
+        let _phase = self.plan.phase();
         self.plan.network().nodes()
     }
 

@@ -25,7 +25,7 @@ fn is_bad_offset(offsets: &[usize], ends: usize, node: usize) -> bool
 }
 
 /// The first bad offset.
-#[tactic(auto, using(large_net::proofs::Searches::find_next, large_net::proofs::Searches::find_last))]
+#[tactic(auto, using(link_net::proofs::Searches::find_next, link_net::proofs::Searches::find_last))]
 fn first_bad_offset(offsets: &[usize], ends: usize) -> Option<u64>
     ensures { result ≡ find (is_bad_offset offsets.now ends) (numbers_below (length offsets.now)) }
 {
@@ -46,7 +46,7 @@ fn is_wide(offsets: &[usize], node: usize) -> bool
 }
 
 /// The first node with too many neighbours.
-#[tactic(auto, using(large_net::proofs::Searches::find_next, large_net::proofs::Searches::find_last))]
+#[tactic(auto, using(link_net::proofs::Searches::find_next, link_net::proofs::Searches::find_last))]
 fn first_wide_row(offsets: &[usize]) -> Option<u64>
     requires some { 1 ≤ length offsets.now }
     ensures { result ≡ find (is_wide offsets.now) (numbers_below (length offsets.now - 1)) }

@@ -3,7 +3,7 @@ ghost use Rattle.std.specs.Prelude.{◌≡◌, ◌≢◌, ◌-◌, ◌*◌, ◌�
 ghost use Rattle.rounds_plan.specs.Configs.{most_rounds};
 ghost use Rattle.rounds_plan.specs.Lockstep.{lockstep_states, rounds_of};
 ghost use Rattle.rounds_plan.specs.Plans.{PlanView};
-ghost use Rattle.rounds_walk.specs.Starts.{start_of};
+ghost use Rattle.rounds_plan.specs.Starts.{start_of};
 ghost use Rattle.link_net.specs.Layout.{rows_of};
 ghost use Rattle.large_net.specs.Large.{AreLaidOut};
 ghost use Rattle.app_calls.specs.declared.fault.Fault.TheVariants as call;

@@ -4,7 +4,7 @@ ghost use Rattle.rounds_plan.specs.Configs.{most_rounds};
 ghost use Rattle.rounds_plan.specs.Lockstep.{lockstep_config};
 ghost use Rattle.link_net.specs.Layout.{rows_of};
 ghost use Rattle.large_net.specs.Large.{AreLaidOut};
-ghost use Rattle.rounds_walk.specs.Starts.{start_of};
+ghost use Rattle.rounds_plan.specs.Starts.{start_of};
 ghost use Rattle.app_calls.specs.Refusals.{word_count};
 ghost use Rattle.app_calls.specs.Words.{entry_fault, list_fault};
 ghost use Rattle.app_calls.specs.Lists.{given_weights};

@@ -9,7 +9,7 @@ use Rattle.unison_world.proofs.events.ask_read.Goals as goal
 pub returns-then-this-stop : goal.returns-then-this-stop
 returns-then-this-stop c =
     let items = c.args.nodes.now.items in
-    let e = rw c.network.ensures.network at c.in-Some.ensures in
+    let e = c.in-Some.ensures.exact in
     let at : slice_get items c.args.node ≡ Some c.index-this.result.now = slice_get_read items (length items) c.args.node c.index-this.result.now refl (omega arith) c.index-this.ensures in
     record {
       answer = answer-stopped c.args.plan.now.network c.args.stop (counts_of items) c.args.node c.args.slot (omega (arith, c.requires.drawn.one_each))
@@ -20,7 +20,7 @@ pub returns-then-has : goal.returns-then-has
 returns-then-has c =
     let items = c.args.nodes.now.items in
     let this = c.index-this.result.now in
-    let e = rw c.network.ensures.network at c.in-Some.ensures in
+    let e = c.in-Some.ensures.exact in
     let at : slice_get items c.args.node ≡ Some this = slice_get_read items (length items) c.args.node this refl (omega arith) c.index-this.ensures in
     let ne : moves_of (counts_of items) c.args.node ≢ c.args.stop = rw (moves_at items c.args.node this at) c.if-this-stop.false in
     record {
@@ -31,7 +31,7 @@ returns-then-has c =
 
 pub index-requires : goal.index-requires
 index-requires c =
-    let e = rw c.network.ensures.network at c.in-Some.ensures in
+    let e = c.in-Some.ensures.exact in
     let s = slot_within c.args.plan.now.network c.args.node c.args.slot c.in-Some.neighbour c.in-Some.field-0-1 e in
     let near = c.requires.drawn.well_formed.network.within c.args.node c.args.slot s.0 in
     let here = s.1 in
@@ -42,7 +42,7 @@ returns-in-Behind c =
     let items = c.args.nodes.now.items in
     let this = c.index-this.result.now in
     let theirs = c.index.result.now in
-    let e = rw c.network.ensures.network at c.in-Some.ensures in
+    let e = c.in-Some.ensures.exact in
     let f = found c.args.plan.now c.args.stop items c.args.node c.args.slot c.in-Some.neighbour c.in-Some.field-0-1 this theirs c.requires.drawn (omega arith) e c.index-this.ensures c.index.ensures c.if-this-stop.false in
     let shows = sees c.args.plan.now c.args.stop items c.args.node c.args.slot c.phase-own.result this theirs c.requires.drawn c.requires.in_step f c.phase-own.ensures.phase in
     record { answer = answer-behind c.args.plan.now c.args.stop items c.requires.drawn c.args.node c.args.slot this theirs f _ shows (sym c.has.ensures.mark ∙ c.if-has.false) (sym c.seen_from-look.ensures.by_phases ∙ c.in-Behind.is) }
@@ -52,7 +52,7 @@ returns-in_default-look c =
     let items = c.args.nodes.now.items in
     let this = c.index-this.result.now in
     let theirs = c.index.result.now in
-    let e = rw c.network.ensures.network at c.in-Some.ensures in
+    let e = c.in-Some.ensures.exact in
     let f = found c.args.plan.now c.args.stop items c.args.node c.args.slot c.in-Some.neighbour c.in-Some.field-0-1 this theirs c.requires.drawn (omega arith) e c.index-this.ensures c.index.ensures c.if-this-stop.false in
     let shows = sees c.args.plan.now c.args.stop items c.args.node c.args.slot c.phase-own.result this theirs c.requires.drawn c.requires.in_step f c.phase-own.ensures.phase in
     record { answer = answer-not_behind c.args.plan.now c.args.stop items c.requires.drawn c.args.node c.args.slot this theirs f _ shows (sym c.has.ensures.mark ∙ c.if-has.false) (λ x. c.in_default-look.not-Behind (c.seen_from-look.ensures.by_phases ∙ x)) }

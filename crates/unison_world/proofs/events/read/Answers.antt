@@ -15,14 +15,14 @@ use Rattle.unison_world.proofs.events.read.Goals.{After-answer_from}
 pub returns-then-this-stop-clause-answer : goal.returns-then-this-stop-clause-answer
 returns-then-this-stop-clause-answer c =
     let items = c.args.nodes.now.items in
-    let e = rw c.network.ensures.network at c.in-Some.ensures in
+    let e = c.in-Some.ensures.exact in
     let at : slice_get items c.args.node ≡ Some c.index-this.result.now = slice_get_read items (length items) c.args.node c.index-this.result.now refl (omega arith) c.index-this.ensures in
     answer-stopped c.args.plan.now.network c.args.stop (counts_of items) c.args.node c.args.slot (omega (arith, c.requires.drawn.one_each))
     (slot_within c.args.plan.now.network c.args.node c.args.slot c.in-Some.neighbour c.in-Some.weight e).0 (moves_at items c.args.node c.index-this.result.now at ∙ c.if-this-stop.true)
 
 pub index-requires : goal.index-requires
 index-requires c =
-    let e = rw c.network.ensures.network at c.in-Some.ensures in
+    let e = c.in-Some.ensures.exact in
     let s = slot_within c.args.plan.now.network c.args.node c.args.slot c.in-Some.neighbour c.in-Some.weight e in
     let near = c.requires.drawn.well_formed.network.within c.args.node c.args.slot s.0 in
     let here = s.1 in
@@ -33,7 +33,7 @@ same_here c = same_node c.args.nodes.now.items c.args.node c.index-this.result.n
 
 here : (c : After-answer_from) → Found c.args.plan.now c.args.stop c.args.nodes.now.items c.args.node c.args.slot c.index_mut.result.now c.index.result.now
 here c =
-    let e = rw c.network.ensures.network at c.in-Some.ensures in
+    let e = c.in-Some.ensures.exact in
     found c.args.plan.now c.args.stop c.args.nodes.now.items c.args.node c.args.slot c.in-Some.neighbour c.in-Some.weight c.index_mut.result.now c.index.result.now
     c.requires.drawn (omega arith) e c.index_mut.ensures.value c.index.ensures (rw (same_here c) at c.if-this-stop.false)
 
@@ -47,7 +47,7 @@ seen_here c =
 offered_here : (c : After-answer_from) → IsOffered c.args.plan.now.program (seat_of c.args.node c.index_mut.result.now) c.args.slot (neighbour c.args.plan.now.network c.args.node c.args.slot) (weight c.args.plan.now.network c.args.node c.args.slot)
     c.index_mut.result.now.desk (look_by_phases c.seat-seat.result.phase c.index.result.now.register) c.offer-offer.new.self c.offer-offer.result
 offered_here c =
-    let e = rw c.network.ensures.network at c.in-Some.ensures in
+    let e = c.in-Some.ensures.exact in
     let s = slot_within c.args.plan.now.network c.args.node c.args.slot c.in-Some.neighbour c.in-Some.weight e in
     let o : IsOffered c.program-program.result.now c.seat-seat.result c.args.slot c.in-Some.neighbour c.in-Some.weight c.index_mut.result.now.desk (look_by_phases c.seat-seat.result.phase c.index.result.now.register) c.offer-offer.new.self c.offer-offer.result =
     record { answered = c.offer-offer.ensures.answer; changed = c.offer-offer.ensures.after; summed = c.offer-offer.ensures.sums } in
@@ -69,7 +69,7 @@ returns-clause-drawn c =
 pub returns-in_default-clause-answer : goal.returns-in_default-clause-answer
 returns-in_default-clause-answer c =
     let network = c.args.plan.now.network in
-    let none : slice_get (row network c.args.node) c.args.slot ≡ None = sym (rw c.network.ensures.network at c.link_at.ensures) ∙ c.in_default.is in
+    let none : slice_get (row network c.args.node) c.args.slot ≡ None = sym c.link.ensures.exact ∙ c.in_default.is in
     answer-no_slot network c.args.stop (counts_of c.args.nodes.now.items) c.args.node c.args.slot (omega (arith, c.requires.drawn.one_each))
     (⊎_elim (λ a. absurd (none-some a.0 (sym none ∙ a.2))) (λ b. b.0) (slice_get_cases (row network c.args.node) c.args.slot).1)
 

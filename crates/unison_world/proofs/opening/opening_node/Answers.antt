@@ -10,7 +10,7 @@ use Rattle.unison_world.proofs.opening.opening_node.Goals.{After-start}
 
 degree_here : (c : After-start) → c.unwrap-degree.result ≡ degree c.args.plan.now.network c.args.node
 degree_here c =
-    let value = rw c.network.ensures.network at c.degree.ensures.value in
+    let value = rw c.rows.ensures.rows at c.degree.ensures.value in
     degree_known c.args.plan.now.network c.args.node c.unwrap-degree.result (sym c.unwrap-degree.ensures ∙ value)
 
 pub returns-clause-picture : goal.returns-clause-picture

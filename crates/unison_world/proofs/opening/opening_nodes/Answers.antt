@@ -10,7 +10,7 @@ loop-node-preserved c =
     let node = c.in_ok-opening_node.field-0 in
     let fresh = c.in_ok-opening_node.ensures in
     let test = c.loop-node-test.true in
-    let many = rw c.network.ensures.network at c.nodes-node-end.ensures.count in
+    let many = c.nodes-node-end.ensures.count in
     let pushed = c.in_ok-push.ensures.items in
     rw pushed (record {
       count = length_push items node ∙ ap (λ n. n + 1) i.count;

@@ -40,7 +40,7 @@ module _ (plan : PlanView) (stop : ℕ) (nodes : List Node) (u j own : ℕ) (ids
 
 pub index-requires-in-loop-slot : goal.index-requires-in-loop-slot
 index-requires-in-loop-slot c =
-    let same = rw c.network.ensures.network at c.neighbours_of-neighbours.ensures.exact in
+    let same = rw c.rows-rows.ensures.rows at c.neighbours_of-neighbours.ensures.exact in
     let low = within c.args.plan.now c.args.stop c.args.nodes.now.items c.args.node c.loop-slot.slot c.phase-own.result c.neighbours_of-neighbours.result.now c.index.result.now c.requires.drawn c.requires.in_step c.requires.node same c.loop-slot-test.true c.index.ensures c.phase-own.ensures.phase in
     omega (arith, low)
 
@@ -49,7 +49,7 @@ returns-in-Behind c =
     let items = c.args.nodes.now.items in
     let ids = c.neighbours_of-neighbours.result.now in
     let cs = counts_of items in
-    let same = rw c.network.ensures.network at c.neighbours_of-neighbours.ensures.exact in
+    let same = rw c.rows-rows.ensures.rows at c.neighbours_of-neighbours.ensures.exact in
     let k = told c.args.plan.now c.args.stop items c.args.node c.loop-slot.slot c.phase-own.result ids c.index.result.now c.requires.drawn c.requires.in_step c.requires.node same c.loop-slot-test.true c.index.ensures c.phase-own.ensures.phase c.index-in-loop-slot.result.now c.index-in-loop-slot.ensures in
     let less : moves_of cs (get_or ids c.loop-slot.slot 0) < moves_of cs c.args.node = ⊎_elim (λ a. a.1) (λ a. absurd (a.0 (sym c.seen_from-look.ensures.by_phases ∙ c.in-Behind.is))) k in
     record {
@@ -62,7 +62,7 @@ loop-slot-preserved c k h =
     let items = c.args.nodes.now.items in
     let ids = c.neighbours_of-neighbours.result.now in
     let cs = counts_of items in
-    let same = rw c.network.ensures.network at c.neighbours_of-neighbours.ensures.exact in
+    let same = rw c.rows-rows.ensures.rows at c.neighbours_of-neighbours.ensures.exact in
     let t = told c.args.plan.now c.args.stop items c.args.node c.loop-slot.slot c.phase-own.result ids c.index.result.now c.requires.drawn c.requires.in_step c.requires.node same c.loop-slot-test.true c.index.ensures c.phase-own.ensures.phase c.index-in-loop-slot.result.now c.index-in-loop-slot.ensures in
     let most : moves_of cs c.args.node ≤ moves_of cs (get_or ids c.loop-slot.slot 0) = ⊎_elim (λ a. absurd (c.in_default.not-Behind (c.seen_from-look.ensures.by_phases ∙ a.0))) (λ a. a.1) t in
     ⊎_elim (λ l. c.loop-slot.invariant k l) (λ l. (let e : c.loop-slot.slot ≡ k = omega arith in rw e at most)) (cases_lt k c.loop-slot.slot)
@@ -72,7 +72,7 @@ returns c =
     let items = c.args.nodes.now.items in
     let ids = c.neighbours_of-neighbours.result.now in
     let cs = counts_of items in
-    let same = rw c.network.ensures.network at c.neighbours_of-neighbours.ensures.exact in
+    let same = rw c.rows-rows.ensures.rows at c.neighbours_of-neighbours.ensures.exact in
     let long : length ids ≤ c.loop-slot.slot = omega arith in
     record {
       behind = sym (ap (list_any (λ w. nat_lt (moves_of cs w) (moves_of cs c.args.node))) (sym same)

@@ -17,7 +17,7 @@ loop-node-preserved c =
     let u = c.loop-node.node in
     let cs = counts_of c.loop-node.nodes.items in
     let rest = range_with_len (u + 1) (n - (u + 1)) in
-    let many = rw c.network.ensures.network at c.nodes-node-end.ensures.count in
+    let many = c.nodes-node-end.ensures.count in
     let inside : u < n = omega (arith, many, c.loop-node-test.true) in
     let turned = c.turn-turned.ensures in
     let one : c.moves_in-moves.result ≡ one_if_moved (turn_answer network stop cs u) = c.moves_in-moves.ensures.count ∙ ap one_if_moved turned.answer in
@@ -29,7 +29,7 @@ loop-node-preserved c =
       moves = omega (arith, one, next, left, i.moves);
       steps = omega (arith, turned.steps, i.steps);
       some = omega (arith, i.some, c.moves_in-moves.ensures.most);
-      few = omega (arith, i.few, turned.few);
+      few = omega (arith, i.few, turned.few, c.requires.network.degrees u);
       drawn = turned.drawn;
       in_step = turned.in_step;
     }
@@ -40,7 +40,7 @@ returns-clause-rises c m all u h =
     let network = plan.network in
     let cs = counts_of c.args.nodes.now.items in
     let last = counts_of c.loop-node.nodes.items in
-    let many = rw c.network.ensures.network at c.nodes-node-end.ensures.count in
+    let many = c.nodes-node-end.ensures.count in
     let none : length network - c.loop-node.node ≡ 0 = omega (arith, many, c.loop-node-test.false) in
     let e : last ≡ after_turns network c.args.stop cs (numbers_below (length network)) =
     sym (ap (λ k. after_turns network c.args.stop last (range_with_len c.loop-node.node k)) none) ∙ c.loop-node.invariant.counts in

@@ -2,7 +2,7 @@ use Rattle.std.proofs.Common.{◌≡◌, ◌∙◌, ◌≤◌, ◌*◌, ℕ, Lis
 use Rattle.rule_check.specs.declared.state.State.{State}
 use Rattle.rounds_plan.specs.Configs.{most_rounds}
 use Rattle.rounds_plan.specs.Lockstep.{lockstep_config, lockstep_states}
-use Rattle.rounds_walk.specs.Starts.{start_of}
+use Rattle.rounds_plan.specs.Starts.{start_of}
 use Rattle.app_calls.specs.Words.{words_in}
 use Rattle.app_calls.specs.LargeAnswers.{given_plan, words_plan}
 use Rattle.app_calls.proofs.Moves.{as_opening, plan_there, round_count, round_there}

@@ -1,6 +1,6 @@
 use Rattle.std.proofs.Common.{◌≡◌, ◌∙◌, ◌*◌, ℕ, List, Ok, ap, length, subst, sym}
 use Rattle.rule_check.specs.declared.state.State.{State}
-use Rattle.rounds_walk.specs.Starts.{start_of}
+use Rattle.rounds_plan.specs.Starts.{start_of}
 use Rattle.app_calls.specs.Tellings.{told_at, told_count}
 use Rattle.app_calls.specs.LargeAnswers.{given_plan}
 use Rattle.app_calls.proofs.Moves.{as_opening, plan_there}

@@ -17,4 +17,4 @@ pub returns-clause-bound : goal.returns-clause-bound
 returns-clause-bound c = column_short c.part_of.result (λ a. a.0) c.args.self.now c.args.node (whole c) (returns-clause-value c)
 
 pub returns-clause-rising : goal.returns-clause-rising
-returns-clause-rising c = column_rises c.part_of.result c.args.self.now c.args.node (whole c) (returns-clause-value c)
+returns-clause-rising c = column_rises c.part_of.result c.args.self.now c.args.node ((whole c).rising c.args.node) (returns-clause-value c)

@@ -1,19 +1,20 @@
 //! The parts of a start.
 ghost use Rattle.std.specs.Prelude.{◌≡◌, ◌≤◌, ◌==◌, not, length, IfErr, IfOk, OnOk, Ok, Err};
 ghost use Rattle.std.specs.List.{list_any};
-ghost use Rattle.rounds_walk.specs.Starts.{IsStart, is_stray, start_of};
+ghost use Rattle.rounds_plan.specs.Starts.{IsStart, is_stray, start_of};
 
+use crate::config::MOST_ROUNDS;
 use crate::fault::StartFault;
+use crate::plan::Plan;
 use link_net::NetRows;
-use rounds_plan::{MOST_ROUNDS, Plan};
 use rule_check::{Program, State};
 
 /// How nodes open: with this phase and these states, at this round.
 #[derive(Clone, Copy)]
-pub(crate) struct Opening<'a> {
-    pub(crate) phase: u8,
-    pub(crate) states: &'a [State],
-    pub(crate) round: u32,
+pub struct Opening<'a> {
+    pub phase: u8,
+    pub states: &'a [State],
+    pub round: u32,
 }
 
 /// Whether a word is not 0.
@@ -80,13 +81,4 @@ pub fn begun_with(plan: Plan, states: Vec<State>) -> Result<Plan, StartFault>
         plan.start(),
     )?;
     Ok(plan.with_openings(states))
-}
-
-/// How many neighbours all nodes have together, stopped at the type's end.
-pub(crate) fn ends_of(rows: &NetRows<'_>) -> u64 {
-    let mut ends: u64 = 0;
-    for node in 0..rows.nodes() {
-        ends = ends.saturating_add(rows.degree(node).unwrap_or(0) as u64);
-    }
-    ends
 }

@@ -1,11 +1,11 @@
 //! Plans as they are lent, of networks of any size.
 ghost use Rattle.std.specs.Prelude.{◌≡◌, length, IfOk, IfErr, Ok, Err};
-ghost use Rattle.rounds_walk.specs.Starts.{IsStart, opened_by, start_of};
+ghost use Rattle.rounds_plan.specs.Starts.{IsStart, opened_by, start_of};
 
 use crate::fault::StartFault;
 use crate::parts::{Opening, check_parts};
+use crate::plan::Plan;
 use link_net::NetRows;
-use rounds_plan::Plan;
 use rule_check::{Program, State};
 use std::marker::Model;
 
@@ -22,7 +22,7 @@ impl<'a> Model for PlanRef<'a> {
     ghost use Rattle.std.specs.Coded.{codes};
     ghost use Rattle.rule_lang.specs.TreeCode.{coded_tree};
     ghost use Rattle.rounds_plan.specs.Plans.{PlanView};
-    ghost use Rattle.rounds_walk.specs.Starts.{IsStart, opened_by};
+    ghost use Rattle.rounds_plan.specs.Starts.{IsStart, opened_by};
 
     ghost Value = { PlanView };
 
@@ -99,6 +99,13 @@ impl<'a> PlanRef<'a> {
         self.rows.nodes()
     }
 
+    /// The phase at which all nodes open before round 0.
+    pub fn phase(&self) -> u8
+        ensures phase { result ≡ self.now.phase }
+    {
+        self.opening.phase
+    }
+
     /// The round of the initial states, counted from round 0.
     pub fn start(&self) -> u32
         ensures start { result ≡ self.now.start }
@@ -114,7 +121,7 @@ impl<'a> PlanRef<'a> {
     }
 
     /// How the nodes open.
-    pub(crate) fn opening(&self) -> Opening<'a>
+    pub fn opening(&self) -> Opening<'a>
         ensures plan { opened_by self.now.program self.now.network result ≡ self.now }
     {
         self.opening

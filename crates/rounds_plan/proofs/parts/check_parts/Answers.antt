@@ -1,8 +1,8 @@
 use Rattle.std.proofs.Common.{◌∙◌, ℕ, arith, length, sym, ap}
 use Rattle.std.specs.List.{list_any}
-use Rattle.rounds_walk.specs.Starts.{is_stray}
-use Rattle.rounds_walk.proofs.Plain.{all_plain}
-use Rattle.rounds_walk.proofs.parts.check_parts.Goals as goal
+use Rattle.rounds_plan.specs.Starts.{is_stray}
+use Rattle.rounds_plan.proofs.Plain.{all_plain}
+use Rattle.rounds_plan.proofs.parts.check_parts.Goals as goal
 
 pub returns-clause-whole : goal.returns-clause-whole
 returns-clause-whole c = record {

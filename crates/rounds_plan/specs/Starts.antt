@@ -4,15 +4,25 @@ use Rattle.std.specs.List.{list_any}
 use Rattle.rule_check.specs.declared.state.State.{State}
 use Rattle.rule_check.specs.Value.{Rules}
 use Rattle.link_net.specs.Neighbours.{Neighbours, AreRows}
+use Rattle.link_net.specs.Simple.{IsSimple}
 use Rattle.rounds_plan.specs.Configs.{IsPlain, most_rounds}
 use Rattle.rounds_plan.specs.Plans.{PlanView}
-use Rattle.rounds_walk.specs.declared.fault.StartFault.{StartFault}
-use Rattle.rounds_walk.specs.declared.fault.StartFault.TheVariants.{NoNodes, StateCount, NotPlain, TooManyRounds}
-use Rattle.rounds_walk.specs.declared.parts.Opening.{Opening}
+use Rattle.rounds_plan.specs.declared.fault.StartFault.{StartFault}
+use Rattle.rounds_plan.specs.declared.fault.StartFault.TheVariants.{NoNodes, StateCount, NotPlain, TooManyRounds}
+use Rattle.rounds_plan.specs.declared.parts.Opening.{Opening}
 
 -- what holds of every start
 pub record IsStart (p : PlanView) : Type 0 where
   pub network : AreRows p.network
+  pub some : 1 ≤ length p.network
+  pub fields : length p.program.fields ≤ 8
+  pub opening : length p.opening ≡ length p.network
+  pub plain : All (IsPlain (length p.program.fields)) p.opening
+  pub start : p.start ≤ most_rounds
+
+-- what holds of every plan on a simple network, whatever its size
+pub record IsSimplePlan (p : PlanView) : Type 0 where
+  pub network : IsSimple p.network
   pub some : 1 ≤ length p.network
   pub fields : length p.program.fields ≤ 8
   pub opening : length p.opening ≡ length p.network

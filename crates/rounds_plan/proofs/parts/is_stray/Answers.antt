@@ -2,7 +2,7 @@ use Rattle.std.proofs.Common.{◌≡◌, ◌-◌, ◌==◌, ◌∙◌, ap, arith
 use Rattle.std.specs.List.{list_any}
 use Rattle.std.proofs.lemmas.List.{length-drop, take_all}
 use Rattle.std.proofs.lemmas.Grind.{common_steps}
-use Rattle.rounds_walk.proofs.parts.is_stray.Goals as goal
+use Rattle.rounds_plan.proofs.parts.is_stray.Goals as goal
 
 pub returns : goal.returns
 returns c =
