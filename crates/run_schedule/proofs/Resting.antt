@@ -4,6 +4,7 @@ use Rattle.std.proofs.lemmas.Bool.{cases_lt, false≢true}
 use Rattle.std.proofs.lemmas.Bool.Decides.{nat_tests, Decides-below_and}
 use Rattle.link_net.specs.Neighbours.{Neighbours, IsNetwork, degree, neighbour}
 use Rattle.rounds_plan.specs.Plans.{PlanView, IsPlan}
+use Rattle.link_net.proofs.Simples.{network_simple}
 use Rattle.unison_world.specs.declared.step.Step.{Step}
 use Rattle.unison_world.specs.declared.step.Step.TheVariants.{Read, Write}
 use Rattle.unison_world.specs.declared.step.Answer.TheVariants.{Taken}
@@ -66,7 +67,7 @@ pub more-needed : (plan : PlanView) (stop : ℕ) (c : Counts) (steps : List Step
 more-needed plan stop c steps step is late shape in_step h e =
     let network = plan.network in
     let more = lead-more plan stop c steps step h e in
-    let many = length-lead plan stop (after network stop c step) (steps ++ step ∷ []) is late (shape-after network stop c step shape) (in_step-after network stop c step is.network shape in_step) more in
+    let many = length-lead plan stop (after network stop c step) (steps ++ step ∷ []) is late (shape-after network stop c step shape) (in_step-after network stop c step (network_simple network is.network) shape in_step) more in
     omega (arith, many, length-append steps (step ∷ []))
 
 -- a list that ends where nothing changes any more, or at the limit before a step that would change something

@@ -6,6 +6,7 @@ use Rattle.std.proofs.lemmas.List.Elements.{All-nil, All-cons, All-append, All-t
 use Rattle.std.proofs.lemmas.Bool.{cases_eq, cases_lt, false≢true}
 use Rattle.link_net.specs.Neighbours.{Neighbours, IsNetwork, degree, neighbour, numbers_below}
 use Rattle.rounds_plan.specs.Plans.{PlanView, IsPlan}
+use Rattle.link_net.proofs.Simples.{network_simple}
 use Rattle.unison_world.specs.declared.step.Step.{Step}
 use Rattle.unison_world.specs.declared.step.Step.TheVariants.{Read, Write}
 use Rattle.unison_world.specs.declared.step.Answer.{Answer}
@@ -171,7 +172,7 @@ sweeps-whole plan stop is late =
     let first = at_start network start in
     let all = sweeps-change network stop start (stop - start) first is.network (mid-at_start network start) (omega arith) in
     let c = run_of plan stop (sweeps_of plan stop) in
-    let in_step : InStep network stop c = in_step-run network stop first (sweeps_of plan stop) is.network (shape-at_start network start) (in_step-at_start network start stop is.network late) in
+    let in_step : InStep network stop c = in_step-run network stop first (sweeps_of plan stop) (network_simple network is.network) (shape-at_start network start) (in_step-at_start network start stop (network_simple network is.network) late) in
     let last : (u : ℕ) → u < length network → moves_of c u ≡ stop = λ u h. (let e = all.1.from u (omega arith) h in omega arith) in
     whole-trace plan stop c (sweeps_of plan stop) is late all.1.shape in_step last (record { arrive = refl; each_changes = all.0 })
 

@@ -5,6 +5,7 @@ use Rattle.std.proofs.lemmas.List.Elements.{All-push, All-head, All-tail}
 use Rattle.std.proofs.lemmas.List.Sums.{sum_by-cons}
 use Rattle.link_net.specs.Neighbours.{Neighbours}
 use Rattle.rounds_plan.specs.Plans.{PlanView, IsPlan}
+use Rattle.link_net.proofs.Simples.{network_simple}
 use Rattle.unison_world.specs.declared.step.Step.{Step}
 use Rattle.unison_world.specs.declared.step.Step.TheVariants.{Read, Write}
 use Rattle.unison_world.specs.declared.step.Answer.{Answer}
@@ -95,7 +96,7 @@ length-lead plan stop c steps is late shape in_step h =
     let many = length-answers network stop first steps in
     let arrived = ap (steps_done network) h.arrive in
     let here = done-left network stop c shape in_step in
-    let whole = done-left network stop first (shape-at_start network plan.start) (in_step-at_start network plan.start stop is.network late) in
+    let whole = done-left network stop first (shape-at_start network plan.start) (in_step-at_start network plan.start stop (network_simple network is.network) late) in
     let all = steps_from_start network plan.start stop in
     omega arith
 

@@ -184,7 +184,9 @@ in_step-run network stop c [] net shape is = is
 in_step-run network stop c (step ∷ steps) net shape is =
     in_step-run network stop (after network stop c step) steps net (shape-after network stop c step shape) (in_step-after network stop c step net shape is)
 
+pub in_step-from_start : (network : Neighbours) (start stop : ℕ) (steps : List Step) → IsSimple network → start ≤ stop → InStep network stop (run network stop (at_start network start) steps)
+in_step-from_start network start stop steps net late =
+    in_step-run network stop (at_start network start) steps net (shape-at_start network start) (in_step-at_start network start stop net late)
+
 pub stays_in_step : StaysInStep
-stays_in_step network start stop steps net late =
-    let simple : IsSimple network = network_simple network net in
-    in_step-run network stop (at_start network start) steps simple (shape-at_start network start) (in_step-at_start network start stop simple late)
+stays_in_step network start stop steps net late = in_step-from_start network start stop steps (network_simple network net) late

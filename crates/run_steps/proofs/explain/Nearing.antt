@@ -2,7 +2,8 @@
 use Rattle.std.proofs.Common.{ℕ, suc, ◌<◌, ◌≤◌, max, List, [], ◌∷◌, length, map, get_or, arith}
 use Rattle.std.specs.Int.{abs_diff}
 use Rattle.std.specs.List.{fold}
-use Rattle.link_net.specs.Neighbours.{Neighbours, row, IsNetwork}
+use Rattle.link_net.specs.Neighbours.{Neighbours, row}
+use Rattle.link_net.specs.Simple.{IsSimple}
 use Rattle.unison_world.specs.declared.step.Step.{Step}
 use Rattle.unison_world.specs.declared.step.Step.TheVariants.{Read, Write}
 use Rattle.unison_world.specs.declared.step.Answer.{Answer}
@@ -32,7 +33,7 @@ difference-within network stop c (Write u) answer is =
       | _ ↦ omega arith
     ]
 
-way-within : (network : Neighbours) (stop : ℕ) (c : Counts) (steps : List Step) → IsNetwork network → HasShape network c → InStep network stop c → AreWithin 1 (differences_after network stop c steps)
+way-within : (network : Neighbours) (stop : ℕ) (c : Counts) (steps : List Step) → IsSimple network → HasShape network c → InStep network stop c → AreWithin 1 (differences_after network stop c steps)
 way-within network stop c [] net shape is = tt
 way-within network stop c (step ∷ steps) net shape is =
     let s = shape-after network stop c step shape in

@@ -2,7 +2,7 @@
 use Rattle.std.proofs.Common.{◌≡◌, ◌∙◌, ◌-◌, List, length, slice_index_or, sym, ap}
 use Rattle.rule_check.specs.declared.state.State.{State}
 use Rattle.rounds_plan.specs.Configs.{blank}
-use Rattle.rounds_plan.specs.Plans.{IsPlan}
+use Rattle.rounds_plan.specs.Starts.{IsSimplePlan}
 use Rattle.rounds_plan.specs.Lockstep.{lockstep, lockstep-start}
 use Rattle.unison_world.specs.Counting.{moves_of}
 use Rattle.unison_world.specs.View.{WorldView, opened}
@@ -11,7 +11,7 @@ use Rattle.unison_world.proofs.Steps.{moves-at_start}
 use Rattle.run_steps.specs.explain.Registers.{HasPrevious}
 
 -- before any step the previous states are the initial ones
-pub previous-opened : (w : WorldView) (states : List State) → w ≡ opened w.plan w.stop → IsPlan w.plan → states ≡ w.plan.opening → HasPrevious w states
+pub previous-opened : (w : WorldView) (states : List State) → w ≡ opened w.plan w.stop → IsSimplePlan w.plan → states ≡ w.plan.opening → HasPrevious w states
 previous-opened w states is plan same =
     let p = w.plan in
     record {

@@ -6,13 +6,14 @@ use Rattle.link_net.specs.Neighbours.{neighbour}
 use Rattle.phase_register.specs.Looks.{RegisterView, look_by_counts, look_by_phases}
 use Rattle.phase_register.specs.Phases.{next_phase}
 use Rattle.phase_register.specs.declared.register.Look.TheVariants.{Level, Ahead}
-use Rattle.rounds_plan.specs.Plans.{PlanView, IsPlan}
+use Rattle.rounds_plan.specs.Plans.{PlanView}
+use Rattle.rounds_plan.specs.Starts.{IsSimplePlan}
 use Rattle.rounds_plan.specs.Lockstep.{lockstep}
 use Rattle.unison_world.specs.declared.step.Step.{Step}
 use Rattle.unison_world.specs.declared.step.Step.TheVariants.{Read}
 use Rattle.unison_world.specs.declared.step.Answer.TheVariants.{Taken}
 use Rattle.unison_world.specs.Counting.{Counts, moves_of, answer_of}
-use Rattle.unison_world.proofs.Steps.{answer-taken, stays_in_step}
+use Rattle.unison_world.proofs.Steps.{answer-taken, in_step-from_start}
 use Rattle.unison_trace.specs.Histories.{run_of}
 use Rattle.run_steps.specs.explain.Registers.{register_of, look_of, SeesOwnRound, ReadsOwnRound}
 
@@ -54,14 +55,14 @@ by_phases o m t r e low high =
     rw (a, p) refl) (cases_lt t m))
     (cases_lt m t)
 
-own_round : (plan : PlanView) (stop : ℕ) (steps : List Step) (u j : ℕ) → IsPlan plan → plan.start ≤ stop
+own_round : (plan : PlanView) (stop : ℕ) (steps : List Step) (u j : ℕ) → IsSimplePlan plan → plan.start ≤ stop
     → answer_of plan.network stop (run_of plan stop steps) (Read u j) ≡ Taken → SeesOwnRound plan (run_of plan stop steps) u (neighbour plan.network u j)
 own_round plan stop steps u j is late taken =
     let c = run_of plan stop steps in
     let v = neighbour plan.network u j in
     let t = answer-taken plan.network stop c u j taken in
     let least = t.3 in
-    let near = (stays_in_step plan.network plan.start stop steps is.network late).near u j t.1 in
+    let near = (in_step-from_start plan.network plan.start stop steps is.network late).near u j t.1 in
     let most = near.1 in
     ⊎_elim
     (λ less. (let e : moves_of c v ≡ moves_of c u + 1 = omega arith in inr (e, look-ahead plan c u v e)))
@@ -75,6 +76,6 @@ reads_own_round =
       phases = λ plan stop steps u j is late slot.
           let c = run_of plan stop steps in
           let v = neighbour plan.network u j in
-          let near = (stays_in_step plan.network plan.start stop steps is.network late).near u j slot in
+          let near = (in_step-from_start plan.network plan.start stop steps is.network late).near u j slot in
           by_phases plan.phase (moves_of c u) (moves_of c v) (register_of plan c v) refl near.0 near.1;
     }

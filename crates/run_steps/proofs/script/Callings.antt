@@ -8,7 +8,8 @@ use Rattle.std.proofs.lemmas.Bool.Decides.{nat_tests, Decides-eqb}
 use Rattle.std.proofs.lemmas.Option.{slice_get_within, get_or_from_slice_get}
 use Rattle.std.proofs.lemmas.Slice.Eq.{bytes_eq-Decides}
 use Rattle.std.proofs.lemmas.List.{length-map, get_or-map}
-use Rattle.link_net.specs.Neighbours.{Neighbours, IsNetwork, row, degree, neighbour, neighbour_at}
+use Rattle.link_net.specs.Neighbours.{Neighbours, row, degree, neighbour, neighbour_at}
+use Rattle.link_net.specs.Simple.{IsSimple}
 use Rattle.run_steps.specs.declared.script.fault.StepTextFault.{StepTextFault}
 use Rattle.run_steps.specs.declared.script.fault.StepTextFault.TheVariants.{BadCount, NoNode, NotNeighbour}
 use Rattle.run_steps.specs.script.Words.{most_repeats, number_in, within, node_of, node_called, node_at, slot_at, count_at}
@@ -60,13 +61,12 @@ module _ (network : Neighbours) where
       let f = found-first word [] (bytes_eq word) (bytes_eq-Decides word) names u place in
       (omega (arith, n.1), f.0, f.1)
 
-  module _ (whole : IsNetwork network) where
+  module _ (few : length network ≤ 4294967295) where
     -- and a word that calls a node is read as it
     pub calls : (names : Option (List (List ℕ))) (word : List ℕ) (u : ℕ) → Calls network names word u → node_called network names word ≡ Some u
     calls None word u h =
-        let many = whole.nodes in
         let low = h.0 in
-        let small : u < 2 ^ 32 = omega arith in
+        let small : u < 2 ^ 32 = omega (arith, few) in
         ap (option_and_then (node_of network)) (ap number_in h.1 ∙ number-of u small) ∙ within-node network u h.0
     calls (Some names) word u h = ap (option_and_then (node_of network)) (first-found word [] (bytes_eq word) (bytes_eq-Decides word) names u h.1 h.2) ∙ within-node network u h.0
 
@@ -113,13 +113,13 @@ module _ (network : Neighbours) where
       let less : j < degree network u = omega arith in
       (less, sym (get_or-map (λ (a : ℕ × ℕ). a.0) (row network u) j (0, 0) 0 less) ∙ get_or_from_slice_get (neighbours_of network u) j v 0 h)
 
-  pub stands-place : IsNetwork network → (u v j : ℕ) → neighbour_at network u j ≡ Some v → position (λ w. v == w) (neighbours_of network u) ≡ Some j
+  pub stands-place : IsSimple network → (u v j : ℕ) → neighbour_at network u j ≡ Some v → position (λ w. v == w) (neighbours_of network u) ≡ Some j
   stands-place whole u v j h =
       let here : slice_get (neighbours_of network u) j ≡ Some v = sym (neighbour-is network u j) ∙ h in
       let at = there u v j here in
       first-found v 0 (λ w. v == w) (Decides-eqb v) (neighbours_of network u) j here (λ k less is. (let also = there u v k is in let rise = whole.rising u k j less at.0 in omega (arith, at.1, also.1)))
 
-  pub slot-read : IsNetwork network → (line u v j : ℕ) → neighbour_at network u j ≡ Some v → slot_at network line u v ≡ Ok j
+  pub slot-read : IsSimple network → (line u v j : ℕ) → neighbour_at network u j ≡ Some v → slot_at network line u v ≡ Ok j
   slot-read whole line u v j h = ap (λ o. ok_or o (NotNeighbour line)) (stands-place whole u v j h)
 
 -- ---- counts

@@ -2,7 +2,8 @@
 use Rattle.std.proofs.Common.{◌≡◌, ◌≢◌, All, ℕ, zero, suc, ◌+◌, ◌<◌, ◌&&◌, List, [], ◌∷◌, codes, slice_get, subst, refl, ap, Option, Some, Result, Ok, Err, inl, inr, arith}
 use Rattle.std.specs.Str.{bytes_eq}
 use Rattle.std.proofs.lemmas.Bool.{cases_Bool}
-use Rattle.link_net.specs.Neighbours.{Neighbours, IsNetwork}
+use Rattle.link_net.specs.Neighbours.{Neighbours}
+use Rattle.link_net.specs.Simple.{IsSimple}
 use Rattle.import_lines.specs.Parts.{shown}
 use Rattle.run_steps.specs.declared.script.action.Action.{Action}
 use Rattle.run_steps.specs.declared.script.action.Action.TheVariants.{ReadSlot, Move, Turn}
@@ -54,11 +55,11 @@ module _ (network : Neighbours) (names : Option (List (List ℕ))) where
           ]
         ]
 
-    module _ (whole : IsNetwork network) where
+    module _ (whole : IsSimple network) where
       -- the first word is to call a node, and calls none
       first-none : (first : List ℕ) (rest : List (List ℕ)) (shape : List Place) (fault : StepTextFault) → IsShapeOf (first ∷ rest) (a_node ∷ shape) → node_at network names line 1 first ≡ Err fault → Why line (first ∷ rest) fault
       first-none first rest shape fault shaped h =
-          let n = node-none network whole names line 1 first fault h in
+          let n = node-none network whole.nodes names line 1 first fault h in
           let none : CallsNone network names (first ∷ rest) 1 =
           record { shape = a_node ∷ shape; shaped = shaped; counted = omega arith; node = refl; word = first; stands = refl; none = n.1; earlier = λ i other low _ _. absurd (omega arith) } in
           subst (λ f. Why line (first ∷ rest) f) n.0 (refl, none)
@@ -93,7 +94,7 @@ module _ (network : Neighbours) (names : Option (List (List ℕ))) where
             | inl a ↦ (let e = a.1 in absurd (cc))
             | inr b ↦ elim (then-err (node_at network names line 3 third) (λ v. and_then (slot_at network line u v) (λ j. Ok (ReadSlot u j))) fault b.1) [
               | inl stops ↦ (
-                  let n = node-none network whole names line 3 third fault stops in
+                  let n = node-none network whole.nodes names line 3 third fault stops in
                   let none : CallsNone network names (first ∷ second ∷ third ∷ []) 3 =
                   record {
                     shape = a_node ∷ this (codes "reads") ∷ a_node ∷ [];

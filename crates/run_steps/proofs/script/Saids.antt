@@ -4,7 +4,8 @@ use Rattle.std.specs.List.{repeat}
 use Rattle.std.proofs.lemmas.Bool.Decides.{nat_tests}
 use Rattle.std.proofs.lemmas.List.{map-append}
 use Rattle.import_lines.specs.Texts.{told_from}
-use Rattle.link_net.specs.Neighbours.{Neighbours, IsNetwork}
+use Rattle.link_net.specs.Neighbours.{Neighbours}
+use Rattle.link_net.specs.Simple.{IsSimple}
 use Rattle.unison_world.specs.declared.step.Step.{Step}
 use Rattle.unison_trace.specs.Histories.{most_steps}
 use Rattle.run_steps.specs.declared.script.action.Action.{Action}
@@ -135,7 +136,7 @@ module _ (network : Neighbours) (names : Option (List (List ℕ))) where
   all-behind (l ∷ ls) r h = cc
 
   -- a text that says steps is read as those
-  pub text-read : IsNetwork network → (text : List ℕ) (steps : List Step) → Says network names text steps → read_text network names text ≡ Ok steps
+  pub text-read : IsSimple network → (text : List ℕ) (steps : List Step) → Says network names text steps → read_text network names text ≡ Ok steps
   text-read whole text steps said =
       let told = told_from 1 text in
       let tells : Tells told said.parts [] = all-read network names whole told (lines_of said.parts) said.lines ∙ sym (append-nil (map Ok (lines_of said.parts))) in

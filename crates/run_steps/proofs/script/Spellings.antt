@@ -4,7 +4,8 @@ use Rattle.std.specs.Fmt.{decimal}
 use Rattle.std.specs.Str.{bytes_eq}
 use Rattle.std.proofs.lemmas.Bool.{cases_Bool}
 use Rattle.std.proofs.lemmas.Slice.Eq.{bytes_eq-Decides}
-use Rattle.link_net.specs.Neighbours.{Neighbours, IsNetwork, neighbour_at}
+use Rattle.link_net.specs.Neighbours.{Neighbours, neighbour_at}
+use Rattle.link_net.specs.Simple.{IsSimple}
 use Rattle.run_steps.specs.declared.script.action.Action.{Action}
 use Rattle.run_steps.specs.declared.script.action.Action.TheVariants.{ReadSlot, ReadAll, Move, Turn, Sweep}
 use Rattle.run_steps.specs.declared.script.line.Line.{Line}
@@ -145,7 +146,7 @@ module _ (network : Neighbours) (names : Option (List (List ℕ))) (line : ℕ) 
 
   -- ---- what is spelled is read
 
-  module _ (whole : IsNetwork network) where
+  module _ (whole : IsSimple network) where
     -- a line that reads, and is no `repeat`
     three-reads : (first third : List ℕ) → (first ≡ codes "repeat" → third ≢ codes "{") → three_words network names line first (codes "reads") third ≡ as_line (reads_line network names line first third)
     three-reads first third other =
@@ -153,22 +154,22 @@ module _ (network : Neighbours) (names : Option (List (List ℕ))) (line : ℕ) 
 
     read-slot : (first third : List ℕ) (u v j : ℕ) → Calls network names first u → third ≢ codes "all" → Calls network names third v → neighbour_at network u j ≡ Some v → reads_line network names line first third ≡ Ok (ReadSlot u j)
     read-slot first third u v j reader other whom stands =
-        ap (λ r. and_then r (read-on third)) (node-read network whole names line 1 first u reader)
+        ap (λ r. and_then r (read-on third)) (node-read network whole.nodes names line 1 first u reader)
         ∙ ap (λ t. if t then Ok (ReadAll u) else and_then (node_at network names line 3 third) (λ v. and_then (slot_at network line u v) (λ j. Ok (ReadSlot u j)))) (word-other third (codes "all") other)
-        ∙ ap (λ r. and_then r (λ v. and_then (slot_at network line u v) (λ j. Ok (ReadSlot u j)))) (node-read network whole names line 3 third v whom)
+        ∙ ap (λ r. and_then r (λ v. and_then (slot_at network line u v) (λ j. Ok (ReadSlot u j)))) (node-read network whole.nodes names line 3 third v whom)
         ∙ ap (λ r. and_then r (λ j. Ok (ReadSlot u j))) (slot-read network whole line u v j stands)
 
     pub spelled-read : (words : List (List ℕ)) (said : Line) → IsSpelled network names words said → line_of network names line words ≡ Ok said
     spelled-read words (Act Sweep) h = ap (line_of network names line) h
     spelled-read words (Act (Move u)) h =
-        ap (line_of network names line) h.1 ∙ ap (λ r. as_line (and_then r (λ u. Ok (Move u)))) (node-read network whole names line 1 h.0 u h.2)
+        ap (line_of network names line) h.1 ∙ ap (λ r. as_line (and_then r (λ u. Ok (Move u)))) (node-read network whole.nodes names line 1 h.0 u h.2)
     spelled-read words (Act (Turn u)) h =
-        ap (line_of network names line) h.1 ∙ ap (λ r. as_line (and_then r (λ u. Ok (Turn u)))) (node-read network whole names line 1 h.0 u h.2)
+        ap (line_of network names line) h.1 ∙ ap (λ r. as_line (and_then r (λ u. Ok (Turn u)))) (node-read network whole.nodes names line 1 h.0 u h.2)
     spelled-read words (Act (ReadAll u)) h =
         let other : codes "all" ≢ codes "{" = no-word (codes "all") (codes "{") refl in
         ap (line_of network names line) h.1
         ∙ three-reads h.0 (codes "all") (λ _. other)
-        ∙ ap (λ r. as_line (and_then r (read-on (codes "all")))) (node-read network whole names line 1 h.0 u h.2)
+        ∙ ap (λ r. as_line (and_then r (read-on (codes "all")))) (node-read network whole.nodes names line 1 h.0 u h.2)
     spelled-read words (Act (ReadSlot u j)) h =
         let are = h.3 in
         ap (line_of network names line) are.are

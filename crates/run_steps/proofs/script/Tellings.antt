@@ -5,7 +5,8 @@ use Rattle.std.specs.Str.{is_utf8}
 use Rattle.import_lines.specs.Parts.{shown, is_control, most_bytes}
 use Rattle.import_lines.specs.declared.words_fault.WordsFault.{WordsFault}
 use Rattle.import_lines.specs.declared.words_fault.WordsFault.TheVariants as words_fault
-use Rattle.link_net.specs.Neighbours.{Neighbours, IsNetwork}
+use Rattle.link_net.specs.Neighbours.{Neighbours}
+use Rattle.link_net.specs.Simple.{IsSimple}
 use Rattle.run_steps.specs.declared.script.line.Line.{Line}
 use Rattle.run_steps.specs.declared.script.fault.StepTextFault.{StepTextFault}
 use Rattle.run_steps.specs.declared.script.fault.StepTextFault.TheVariants.{NotUtf8, ControlCharacter, LongLine}
@@ -56,7 +57,7 @@ module _ (network : Neighbours) (names : Option (List (List ℕ))) where
         spelled = words-spelled network names here.0 (words_in here.1) said (ap (λ text. line_of network names here.0 (words_in text)) t.1 ∙ x.2);
       }
 
-  module _ (whole : IsNetwork network) where
+  module _ (whole : IsSimple network) where
     -- a line that is refused says nothing, for that reason
     pub line-unsaid : (here : ℕ × List ℕ) (fault : StepTextFault) → line_at network names here ≡ Err fault → IsUnsaid network names here fault
     unfolding line_at

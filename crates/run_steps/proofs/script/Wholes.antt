@@ -1,7 +1,8 @@
 -- Texts that are read.
 use Rattle.std.proofs.Common.{◌≡◌, ℕ, ◌≤◌, List, [], ◌∷◌, ◌++◌, length, ◌⊎◌, inl, inr, subst, refl, sym, ap, ◌∙◌, append_assoc, append-nil, Option, Some, None, Ok, Err, arith}
 use Rattle.import_lines.specs.Texts.{told_from}
-use Rattle.link_net.specs.Neighbours.{Neighbours, IsNetwork}
+use Rattle.link_net.specs.Neighbours.{Neighbours}
+use Rattle.link_net.specs.Simple.{IsSimple}
 use Rattle.unison_world.specs.declared.step.Step.{Step}
 use Rattle.unison_trace.specs.Histories.{most_steps}
 use Rattle.run_steps.specs.declared.script.open_repeat.OpenRepeat.{OpenRepeat}
@@ -35,7 +36,7 @@ module _ (network : Neighbours) (names : Option (List (List ℕ))) where
       let rest = all-read (told ++ l ∷ []) ls x.0 one.0 q one.1 x.2 in
       (rest.0, subst (λ (t : List (ℕ × List ℕ)). HasRead network names t q rest.0) (append_assoc told (l ∷ []) ls) rest.1)
 
-  bad-line : IsNetwork network → (told todo : List (ℕ × List ℕ)) (r : Reading) (b : Beginning) (fault : StepTextFault) → HasRead network names told r b → behind_all network names r todo ≡ Err fault → IsFirstBadLine network names (told ++ todo) fault
+  bad-line : IsSimple network → (told todo : List (ℕ × List ℕ)) (r : Reading) (b : Beginning) (fault : StepTextFault) → HasRead network names told r b → behind_all network names r todo ≡ Err fault → IsFirstBadLine network names (told ++ todo) fault
   bad-line valid told [] r b fault read h = cc
   bad-line valid told (l ∷ ls) r b fault read h =
       elim (then-err (behind_told network names r l) (λ q. behind_all network names q ls) fault h) [
@@ -95,7 +96,7 @@ module _ (network : Neighbours) (names : Option (List (List ℕ))) where
           few = subst (λ (ss : List Step). length ss ≤ most_steps) (sym made) read.stand.few;
         }
 
-    pub text-refused : IsNetwork network → (fault : StepTextFault) → read_text network names text ≡ Err fault → IsFirstBadLine network names (told_from 1 text) fault ⊎ IsUnclosed network names (told_from 1 text) fault
+    pub text-refused : IsSimple network → (fault : StepTextFault) → read_text network names text ≡ Err fault → IsFirstBadLine network names (told_from 1 text) fault ⊎ IsUnclosed network names (told_from 1 text) fault
     text-refused valid fault h =
         let told = told_from 1 text in
         elim (then-err (behind_all network names unread told) (λ r. closed r.steps (last_open r.opens)) fault h) [

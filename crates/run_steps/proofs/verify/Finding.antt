@@ -4,7 +4,8 @@ use Rattle.std.proofs.lemmas.Bool.Decides.{nat_tests}
 use Rattle.import_lines.specs.Texts.{told_from}
 use Rattle.rule_check.specs.declared.state.State.{State}
 use Rattle.rounds_plan.specs.Configs.{blank, most_rounds}
-use Rattle.rounds_plan.specs.Plans.{PlanView, IsPlan}
+use Rattle.rounds_plan.specs.Plans.{PlanView}
+use Rattle.rounds_plan.specs.Starts.{IsSimplePlan}
 use Rattle.rounds_plan.specs.Lockstep.{lockstep, lockstep-start}
 use Rattle.unison_world.specs.Counting.{Counts, moves_of}
 use Rattle.unison_world.specs.Opening.{opening_of}
@@ -19,7 +20,7 @@ use Rattle.run_steps.specs.verify.Walks.{HasBefore, Runs, Walked, IsWalked, IsSt
 use Rattle.run_steps.proofs.verify.Refusing.{none-bad}
 
 -- no plan starts behind the last round, so its world opens
-pub opens : (plan : PlanView) → IsPlan plan → opening_of plan most_rounds ≡ Ok (opened plan most_rounds)
+pub opens : (plan : PlanView) → IsSimplePlan plan → opening_of plan most_rounds ≡ Ok (opened plan most_rounds)
 opens plan is =
     let start = is.start in
     let a : nat_lt most_rounds most_rounds ≡ false = grind (arith, nat_tests) in
@@ -27,7 +28,7 @@ opens plan is =
     rw (a, b) refl
 
 -- before any step the states before are the initial ones
-pub before-opened : (w : WorldView) (states : List State) → w ≡ opened w.plan most_rounds → IsPlan w.plan → states ≡ w.plan.opening → HasBefore w states
+pub before-opened : (w : WorldView) (states : List State) → w ≡ opened w.plan most_rounds → IsSimplePlan w.plan → states ≡ w.plan.opening → HasBefore w states
 before-opened w states is plan same =
     let p = w.plan in
     record {

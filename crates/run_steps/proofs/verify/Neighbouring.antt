@@ -1,7 +1,8 @@
 -- Nodes and neighbours that are found.
 use Rattle.std.proofs.Common.{◌≡◌, ℕ, Option, Some, None, Ok, Err, refl, ap, ◌∙◌}
 use Rattle.std.specs.Option.{ok_or}
-use Rattle.link_net.specs.Neighbours.{Neighbours, IsNetwork, neighbour_at}
+use Rattle.link_net.specs.Neighbours.{Neighbours, neighbour_at}
+use Rattle.link_net.specs.Simple.{IsSimple}
 use Rattle.run_steps.proofs.script.Callings.{place-stands, place-none, stands-place}
 use Rattle.run_steps.specs.declared.verify.fault.VerifyFault.{VerifyFault}
 use Rattle.run_steps.specs.declared.verify.fault.VerifyFault.TheVariants.{NoNode, NotNeighbour}
@@ -32,5 +33,5 @@ module _ (network : Neighbours) (line u : ℕ) where
       let e = or-err (slot_to network u w) (NotNeighbour line) fault h in
       (e.1, λ j v stands is. (let same : w ≡ v = cc in place-none network u w j e.0 (stands ∙ ap Some (let back : v ≡ w = cc in back))))
 
-  pub slot-there : IsNetwork network → (v j : ℕ) → neighbour_at network u j ≡ Some v → slot_found network line u (Some v) ≡ Ok j
+  pub slot-there : IsSimple network → (v j : ℕ) → neighbour_at network u j ≡ Some v → slot_found network line u (Some v) ≡ Ok j
   slot-there whole v j stands = ap (λ o. ok_or o (NotNeighbour line)) (stands-place network whole u v j stands)

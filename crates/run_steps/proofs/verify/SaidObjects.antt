@@ -2,7 +2,8 @@
 use Rattle.std.proofs.Common.{◌≡◌, ◌⊎◌, ℕ, ◌≤◌, ◌<◌, Bool, true, false, codes, if◌then◌else◌, List, length, Option, Some, None, Result, Ok, Err, inl, inr, refl, sym, ap, ◌∙◌, subst}
 use Rattle.std.specs.Option.{option_and_then}
 use Rattle.std.proofs.lemmas.Bool.{cases_Bool}
-use Rattle.link_net.specs.Neighbours.{Neighbours, IsNetwork}
+use Rattle.link_net.specs.Neighbours.{Neighbours}
+use Rattle.link_net.specs.Simple.{IsSimple}
 use Rattle.rule_check.specs.Value.{names_of}
 use Rattle.rounds_plan.specs.Plans.{PlanView}
 use Rattle.serde_json.specs.Data.{Data, null, boolean, number, string, array, object, unsigned, negative, float}
@@ -84,8 +85,8 @@ module _ (network : Neighbours) where
   value-called names (array ds) u h = absurd (unnumbered names u h)
   value-called names (object ms) u h = absurd (unnumbered names u h)
 
-  value-calls : IsNetwork network → (names : Option (List (List ℕ))) (d : Data) (u : ℕ) → ValueCalls network names d u → node_by network names d ≡ Some u
-  value-calls whole names (string s) u h = calls network whole names s u h
+  value-calls : IsSimple network → (names : Option (List (List ℕ))) (d : Data) (u : ℕ) → ValueCalls network names d u → node_by network names d ≡ Some u
+  value-calls whole names (string s) u h = calls network whole.nodes names s u h
   value-calls whole names (number n) u h =
       ap (λ ns. node_by network ns (number n)) h.2 ∙ ap (λ m. node_by network None (number m)) h.1 ∙ within-node network u h.0
   value-calls whole names null u h = absurd h
@@ -124,7 +125,7 @@ module _ (plan : PlanView) (names : Option (List (List ℕ))) (line : ℕ) where
             subst (λ s. SaysStep plan.network names d s) same (whom, s.0, is, lets-not d b.0, node-had d x.0 x.1, s.2, value-called plan.network names whom s.0 s.1))
       ]
 
-  module _ (whole : IsNetwork plan.network) where
+  module _ (whole : IsSimple plan.network) where
     has-node : (d : Data) (u : ℕ) → HasNode plan.network names d u → node_in plan names line d ≡ Ok u
     has-node d u h = ap (λ o. node_found line (option_and_then calls_node o)) h.1 ∙ ap (node_found line) (value-calls plan.network whole names h.0 u h.2)
 
@@ -193,12 +194,12 @@ module _ (plan : PlanView) (names : Option (List (List ℕ))) (line : ℕ) where
         subst (λ e. SaysObject plan names d e) same
         (record { step = step-said d (get (codes "reads") d) x.0 refl x.1; given = state-gives fields few line distinct (get (codes "state") d) y.0 y.1 })
 
-    pub said-object : IsNetwork plan.network → (d : Data) (e : Entry) → SaysObject plan names d e → entry_in plan names line d ≡ Ok e
+    pub said-object : IsSimple plan.network → (d : Data) (e : Entry) → SaysObject plan names d e → entry_in plan names line d ≡ Ok e
     said-object whole d e h =
         ap (λ r. and_then r (λ step. and_then (values_by fields line (get (codes "state") d)) (λ given. Ok (record { step = step; given = given })))) (step-read whole d e.step h.step)
         ∙ ap (λ r. and_then r (λ given. Ok (record { step = e.step; given = given }))) (gives-state fields few line distinct (get (codes "state") d) e.given h.given)
 
-    pub object-refused : IsNetwork plan.network → (d : Data) (fault : VerifyFault) → entry_in plan names line d ≡ Err fault → SaysNothing plan names line d fault
+    pub object-refused : IsSimple plan.network → (d : Data) (fault : VerifyFault) → entry_in plan names line d ≡ Err fault → SaysNothing plan names line d fault
     object-refused whole d fault h =
         let state = get (codes "state") d in
         elim (then-err (step_in plan names line d (get (codes "reads") d)) (λ step. and_then (values_by fields line state) (λ given. Ok (record { step = step; given = given }))) fault h) [

@@ -2,7 +2,7 @@
 use Rattle.std.proofs.Common.{◌≡◌, ◌≢◌, ℕ, ◌≤◌, true, false, List, [], ◌∷◌, codes, length, if◌then◌else◌, Option, Some, None, Ok, Err, inl, inr, refl, sym, ap, ◌∙◌, subst}
 use Rattle.std.specs.Str.{bytes_eq}
 use Rattle.std.proofs.lemmas.Slice.Eq.{bytes_eq-Decides}
-use Rattle.link_net.specs.Neighbours.{IsNetwork}
+use Rattle.link_net.specs.Simple.{IsSimple}
 use Rattle.rule_check.specs.Value.{names_of}
 use Rattle.rounds_plan.specs.Plans.{PlanView}
 use Rattle.unison_world.specs.declared.step.Step.{Step}
@@ -80,11 +80,11 @@ module _ (plan : PlanView) (names : Option (List (List ℕ))) (line : ℕ) (few 
         ]
       ]
 
-  module _ (whole : IsNetwork plan.network) where
+  module _ (whole : IsSimple plan.network) where
     -- ---- what is spelled is read
 
     node-there : (word : List ℕ) (u : ℕ) → Calls plan.network names word u → called_by word ≡ Some u
-    node-there word u h = calls plan.network whole names word u h
+    node-there word u h = calls plan.network whole.nodes names word u h
 
     entry-read : (rest : List (List ℕ)) (step : Step) (given : Given) → Gives fields rest given → entry_of fields line step rest ≡ Ok (record { step = step; given = given })
     entry-read rest step given h = ap (λ g. and_then g (λ given. Ok (record { step = step; given = given }))) (give-words fields few line rest given h)

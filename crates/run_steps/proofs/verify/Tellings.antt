@@ -5,7 +5,7 @@ use Rattle.std.proofs.lemmas.Bool.{cases_Bool}
 use Rattle.std.proofs.lemmas.Bool.Decides.{Decides-eqb}
 use Rattle.import_lines.specs.Parts.{shown}
 use Rattle.import_lines.specs.Texts.{words_of}
-use Rattle.link_net.specs.Neighbours.{IsNetwork}
+use Rattle.link_net.specs.Simple.{IsSimple}
 use Rattle.rule_check.specs.Value.{names_of}
 use Rattle.rounds_plan.specs.Plans.{PlanView}
 use Rattle.serde_json.specs.Data.{Data}
@@ -86,7 +86,7 @@ module _ (plan : PlanView) (names : Option (List (List ℕ))) (few : length (nam
       let t = text-shown here.0 here.1 x.0 x.1 in
       record { may_be_shown = t.0; says = text-said here.0 here.1 e (ap (text_entry plan names here.0) t.1 ∙ x.2) }
 
-  module _ (whole : IsNetwork plan.network) where
+  module _ (whole : IsSimple plan.network) where
     said-text : (line : ℕ) (text : List ℕ) (e : Entry) → TextSays plan names text e → text_entry plan names line text ≡ Ok e
     unfolding text_entry object_entry
     said-text line text e (inl h) =
@@ -144,7 +144,7 @@ module _ (plan : PlanView) (names : Option (List (List ℕ))) (few : length (nam
   all-said (l ∷ told) [] h = absurd (cc)
   all-said (l ∷ told) (e ∷ entries) h = (let one : entry_at plan names l ≡ Ok e = cc in let rest : map (entry_at plan names) told ≡ map Ok entries = cc in (line-said l e one, all-said told entries rest))
 
-  pub all-read : IsNetwork plan.network → (told : List (ℕ × List ℕ)) (entries : List Entry) → AllZip (Said plan names) told entries → map (entry_at plan names) told ≡ map Ok entries
+  pub all-read : IsSimple plan.network → (told : List (ℕ × List ℕ)) (entries : List Entry) → AllZip (Said plan names) told entries → map (entry_at plan names) told ≡ map Ok entries
   all-read whole [] [] h = refl
   all-read whole [] (e ∷ entries) h = absurd h
   all-read whole (l ∷ told) [] h = absurd h

@@ -4,7 +4,8 @@ use Rattle.std.proofs.lemmas.List.{length-map}
 use Rattle.import_lines.specs.Texts.{told_from}
 use Rattle.rule_check.specs.Value.{names_of}
 use Rattle.rule_check.specs.WellFormed.{first_fault}
-use Rattle.rounds_plan.specs.Plans.{PlanView, IsPlan}
+use Rattle.rounds_plan.specs.Plans.{PlanView}
+use Rattle.rounds_plan.specs.Starts.{IsSimplePlan}
 use Rattle.unison_world.specs.Counting.{Counts}
 use Rattle.run_steps.specs.declared.verify.entry.Entry.{Entry}
 use Rattle.run_steps.specs.declared.verify.verified.Verified.{Verified}
@@ -17,7 +18,7 @@ use Rattle.run_steps.proofs.verify.Finding.{accepted}
 use Rattle.run_steps.proofs.verify.Keys.{AreDistinct}
 use Rattle.run_steps.proofs.verify.Tellings.{line-said, line-unsaid, all-said, all-read}
 
-module _ (plan : PlanView) (names : Option (List (List ℕ))) (is : IsPlan plan) (sound : first_fault plan.program ≡ None) where
+module _ (plan : PlanView) (names : Option (List (List ℕ))) (is : IsSimplePlan plan) (sound : first_fault plan.program ≡ None) where
   few : length (names_of plan.program) ≤ 8
   few = (let many = length-map plan.program.fields (λ f. f.name) in let low = is.fields in omega arith)
 

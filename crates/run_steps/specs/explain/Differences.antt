@@ -1,7 +1,8 @@
 -- How far nodes that have moved are from their neighbours.
 use Rattle.std.specs.Prelude.{ℕ, ◌≤◌, min, max, List, [], ◌∷◌, map, fold}
 use Rattle.std.specs.Int.{abs_diff}
-use Rattle.link_net.specs.Neighbours.{Neighbours, IsNetwork}
+use Rattle.link_net.specs.Neighbours.{Neighbours}
+use Rattle.link_net.specs.Simple.{IsSimple}
 use Rattle.unison_world.specs.declared.step.Step.{Step}
 use Rattle.unison_world.specs.declared.step.Step.TheVariants.{Write}
 use Rattle.unison_world.specs.declared.step.Answer.{Answer}
@@ -40,4 +41,4 @@ greatest_difference network stop c steps = greatest_of (differences_after networ
 -- from the start on it is at most 1, whatever the steps
 abbrev pub DifferByOneAtMost : Type 0
 DifferByOneAtMost =
-    (network : Neighbours) (start stop : ℕ) (steps : List Step) → IsNetwork network → start ≤ stop → greatest_difference network stop (at_start network start) steps ≤ 1
+    (network : Neighbours) (start stop : ℕ) (steps : List Step) → IsSimple network → start ≤ stop → greatest_difference network stop (at_start network start) steps ≤ 1

@@ -6,7 +6,8 @@ use Rattle.phase_register.specs.Looks.{RegisterView, look_by_counts, look_by_pha
 use Rattle.phase_register.specs.declared.register.Look.{Look}
 use Rattle.phase_register.specs.declared.register.Look.TheVariants.{Level, Ahead}
 use Rattle.rounds_plan.specs.Configs.{blank}
-use Rattle.rounds_plan.specs.Plans.{PlanView, IsPlan}
+use Rattle.rounds_plan.specs.Plans.{PlanView}
+use Rattle.rounds_plan.specs.Starts.{IsSimplePlan}
 use Rattle.rounds_plan.specs.Lockstep.{lockstep}
 use Rattle.unison_world.specs.declared.step.Step.{Step}
 use Rattle.unison_world.specs.declared.step.Step.TheVariants.{Read}
@@ -43,8 +44,8 @@ SeesOwnRound plan c u v =
 -- Whatever steps were made before: a read that is taken sees the state of the reader's own round, and any look at a neighbour is the one
 -- that the two phases alone give.
 pub record ReadsOwnRound : Type 0 where
-  pub round : (plan : PlanView) (stop : ℕ) (steps : List Step) (u j : ℕ) → IsPlan plan → plan.start ≤ stop
+  pub round : (plan : PlanView) (stop : ℕ) (steps : List Step) (u j : ℕ) → IsSimplePlan plan → plan.start ≤ stop
       → answer_of plan.network stop (run_of plan stop steps) (Read u j) ≡ Taken → SeesOwnRound plan (run_of plan stop steps) u (neighbour plan.network u j)
-  pub phases : (plan : PlanView) (stop : ℕ) (steps : List Step) (u j : ℕ) → IsPlan plan → plan.start ≤ stop → j < degree plan.network u
+  pub phases : (plan : PlanView) (stop : ℕ) (steps : List Step) (u j : ℕ) → IsSimplePlan plan → plan.start ≤ stop → j < degree plan.network u
       → look_of plan (run_of plan stop steps) u (neighbour plan.network u j)
       ≡ look_by_phases (phase_of plan (run_of plan stop steps) u) (register_of plan (run_of plan stop steps) (neighbour plan.network u j))

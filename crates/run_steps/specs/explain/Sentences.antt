@@ -7,7 +7,8 @@ use Rattle.rule_check.specs.Value.{names_of}
 use Rattle.link_net.specs.Neighbours.{degree, neighbour}
 use Rattle.phase_register.specs.declared.register.Look.{Look}
 use Rattle.phase_register.specs.declared.register.Look.TheVariants.{Behind, Level, Ahead}
-use Rattle.rounds_plan.specs.Plans.{PlanView, IsPlan}
+use Rattle.rounds_plan.specs.Plans.{PlanView}
+use Rattle.rounds_plan.specs.Starts.{IsSimplePlan}
 use Rattle.rounds_plan.specs.Lockstep.{lockstep}
 use Rattle.report_text.specs.Report.{fields_text}
 use Rattle.unison_world.specs.declared.step.Step.{Step}
@@ -98,6 +99,6 @@ IsSaidOfRound names plan c u v text =
 -- whatever steps were made before, that is what the sentence of a read says that is taken
 abbrev pub SaysOwnRound : Type 0
 SaysOwnRound =
-    (names : Option (List (List ℕ))) (plan : PlanView) (stop : ℕ) (steps : List Step) (u j : ℕ) → IsPlan plan → plan.start ≤ stop
+    (names : Option (List (List ℕ))) (plan : PlanView) (stop : ℕ) (steps : List Step) (u j : ℕ) → IsSimplePlan plan → plan.start ≤ stop
     → answer_of plan.network stop (run_of plan stop steps) (Read u j) ≡ answer.Taken
     → IsSaidOfRound names plan (run_of plan stop steps) u (neighbour plan.network u j) (sentence names plan stop (run_of plan stop steps) (Read u j))

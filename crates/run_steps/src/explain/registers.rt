@@ -6,18 +6,18 @@ ghost use Rattle.run_steps.specs.explain.Registers.{HasPrevious, look_of};
 use phase_register::Look;
 use rule_check::State;
 use std::alloc::{AllocError, Global};
-use unison_world::{Answer, Step, World, moves, state_of};
+use unison_world::{Answer, Step, WorldRef};
 
 /// What a node sees of the register of another.
-pub(crate) fn look(world: &World, previous: &[State], node: u32, neighbour: u32) -> Look
+pub(crate) fn look(world: &WorldRef<'_>, previous: &[State], node: u32, neighbour: u32) -> Look
     requires neighbour { neighbour < length world.now.plan.network }
     requires previous { HasPrevious world.now previous.now }
     ensures look { result ≡ look_of world.now.plan world.now.counts node neighbour }
 {
-    let own = moves(world, node);
-    let count = moves(world, neighbour);
+    let own = world.moves(node);
+    let count = world.moves(neighbour);
     if count == own {
-        Look::Level(state_of(world, neighbour))
+        Look::Level(world.state(neighbour))
     } else if own < count {
         Look::Ahead(previous[neighbour as usize])
     } else {
@@ -26,7 +26,7 @@ pub(crate) fn look(world: &World, previous: &[State], node: u32, neighbour: u32)
 }
 
 /// The previous states of all nodes before any step.
-pub(crate) fn opening_states(alloc: Global, world: &World) -> Result<Vec<State>, AllocError>
+pub(crate) fn opening_states(alloc: Global, world: &WorldRef<'_>) -> Result<Vec<State>, AllocError>
     requires opened { world.now ≡ opened world.now.plan world.now.stop }
     ensures previous { IfOk result (λ v. HasPrevious world.now v.items) }
 {
@@ -37,7 +37,7 @@ pub(crate) fn opening_states(alloc: Global, world: &World) -> Result<Vec<State>,
 }
 
 /// A move, behind which the node's state before it is the previous one.
-fn move_on(world: &mut World, previous: &mut [State], node: u32) -> Answer
+fn move_on(world: &mut WorldRef<'_>, previous: &mut [State], node: u32) -> Answer
     requires moves { answer_in world.old (Step.Write node) ≡ Answer.Moved }
     requires previous { HasPrevious world.old previous.old }
     ensures answer { result ≡ Answer.Moved }
@@ -46,12 +46,12 @@ fn move_on(world: &mut World, previous: &mut [State], node: u32) -> Answer
 {
     // For the proof alone: the call tells that there is a count for each node.
     let _nodes = world.nodes();
-    previous[node as usize] = state_of(world, node);
+    previous[node as usize] = world.state(node);
     world.step(Step::Write { node })
 }
 
 /// A step, behind which each node's previous state is known.
-pub(crate) fn make(world: &mut World, previous: &mut [State], step: Step) -> Answer
+pub(crate) fn make(world: &mut WorldRef<'_>, previous: &mut [State], step: Step) -> Answer
     requires previous { HasPrevious world.old previous.old }
     ensures answer { result ≡ answer_in world.old step }
     ensures after { world.new ≡ world_after world.old step }

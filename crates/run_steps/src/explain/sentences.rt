@@ -17,7 +17,7 @@ use phase_register::Look;
 use report_text::put_fields;
 use rule_check::State;
 use std::alloc::AllocError;
-use unison_world::{Answer, Step, World, moves, state_of};
+use unison_world::{Answer, Step, WorldRef};
 
 /// The name of a node.
 fn name_of(names: &NodeNames, node: u32) -> &str
@@ -37,7 +37,7 @@ fn put_called(out: &mut String, names: Option<&NodeNames>, node: u32) -> Result<
 }
 
 /// The fields of a state.
-fn put_state(out: &mut String, world: &World, state: State) -> Result<(), AllocError>
+fn put_state(out: &mut String, world: &WorldRef<'_>, state: State) -> Result<(), AllocError>
     ensures words { OnOk result (string_bytes out.new ≡ string_bytes out.old ++ fields_text (names_of world.now.plan.program) state.words) }
 {
     put_fields(out, world.plan().program(), &state)
@@ -59,7 +59,7 @@ fn put_reads(
 }
 
 /// What is taken of a neighbour that has moved as often.
-fn put_level(out: &mut String, world: &World, taken: State) -> Result<(), AllocError>
+fn put_level(out: &mut String, world: &WorldRef<'_>, taken: State) -> Result<(), AllocError>
     ensures words { OnOk result (string_bytes out.new ≡ string_bytes out.old ++ (codes ", which has moved as often: takes" ++ fields_text (names_of world.now.plan.program) taken.words)) }
 {
     out.push_str(", which has moved as often: takes")?;
@@ -68,7 +68,7 @@ fn put_level(out: &mut String, world: &World, taken: State) -> Result<(), AllocE
 }
 
 /// What a neighbour holds that is ahead.
-fn put_holds(out: &mut String, world: &World, holds: State) -> Result<(), AllocError>
+fn put_holds(out: &mut String, world: &WorldRef<'_>, holds: State) -> Result<(), AllocError>
     ensures words { OnOk result (string_bytes out.new ≡ string_bytes out.old ++ (codes ", its previous state (it holds" ++ (fields_text (names_of world.now.plan.program) holds.words ++ codes ")"))) }
 {
     out.push_str(", its previous state (it holds")?;
@@ -78,7 +78,7 @@ fn put_holds(out: &mut String, world: &World, holds: State) -> Result<(), AllocE
 }
 
 /// What is taken of a neighbour that is ahead, and what that one holds.
-fn put_ahead(out: &mut String, world: &World, taken: State, holds: State) -> Result<(), AllocError>
+fn put_ahead(out: &mut String, world: &WorldRef<'_>, taken: State, holds: State) -> Result<(), AllocError>
     ensures words { OnOk result (string_bytes out.new ≡ string_bytes out.old ++ (codes ", which is one ahead: takes" ++ (fields_text (names_of world.now.plan.program) taken.words ++ (codes ", its previous state (it holds" ++ (fields_text (names_of world.now.plan.program) holds.words ++ codes ")"))))) }
 {
     out.push_str(", which is one ahead: takes")?;
@@ -100,7 +100,7 @@ fn put_behind(out: &mut String, names: Option<&NodeNames>, neighbour: u32) -> Re
 /// What a reader sees of a neighbour.
 fn put_look(
     out: &mut String,
-    world: &World,
+    world: &WorldRef<'_>,
     names: Option<&NodeNames>,
     neighbour: u32,
     look: Look,
@@ -110,7 +110,7 @@ fn put_look(
 {
     match look {
         Look::Level(taken) => put_level(out, world, taken),
-        Look::Ahead(taken) => put_ahead(out, world, taken, state_of(world, neighbour)),
+        Look::Ahead(taken) => put_ahead(out, world, taken, world.state(neighbour)),
         Look::Behind => put_behind(out, names, neighbour),
     }
 }
@@ -118,7 +118,7 @@ fn put_look(
 /// The read of a neighbour, and what the reader sees.
 fn put_seen(
     out: &mut String,
-    world: &World,
+    world: &WorldRef<'_>,
     previous: &[State],
     names: Option<&NodeNames>,
     node: u32,
@@ -140,7 +140,7 @@ fn put_seen(
 }
 
 /// That there is no such node.
-fn put_no_node(out: &mut String, world: &World, node: u32) -> Result<(), AllocError>
+fn put_no_node(out: &mut String, world: &WorldRef<'_>, node: u32) -> Result<(), AllocError>
     ensures words { OnOk result (string_bytes out.new ≡ string_bytes out.old ++ no_node_words world.now.plan node) }
 {
     let nodes = world.nodes();
@@ -153,14 +153,14 @@ fn put_no_node(out: &mut String, world: &World, node: u32) -> Result<(), AllocEr
 /// That a node has no such slot.
 fn put_no_slot(
     out: &mut String,
-    world: &World,
+    world: &WorldRef<'_>,
     names: Option<&NodeNames>,
     node: u32,
     slot: u32,
 ) -> Result<(), AllocError>
     ensures words { OnOk result (string_bytes out.new ≡ string_bytes out.old ++ (called (option_map (λ n. n.now) names.entry) node ++ (codes " has no slot " ++ (decimal slot ++ (codes ": its slots are numbered below " ++ decimal (degree world.now.plan.network node)))))) }
 {
-    let slots = world.plan().network().degree_of(node);
+    let slots = world.plan().rows().degree_of(node);
     put_called(out, names, node)?;
     write!(
         out,
@@ -186,14 +186,14 @@ fn put_again(
 /// That a node stands at the stop, and does not do what is asked of it.
 fn put_stopped(
     out: &mut String,
-    world: &World,
+    world: &WorldRef<'_>,
     names: Option<&NodeNames>,
     node: u32,
     verb: &str,
 ) -> Result<(), AllocError>
     ensures words { OnOk result (string_bytes out.new ≡ string_bytes out.old ++ (called (option_map (λ n. n.now) names.entry) node ++ (codes " does not " ++ (verb.now ++ (codes ": it stands at the stop, round " ++ decimal (moves_of world.now.counts node)))))) }
 {
-    let count = moves(world, node);
+    let count = world.moves(node);
     put_called(out, names, node)?;
     write!(
         out,
@@ -205,7 +205,7 @@ fn put_stopped(
 /// A read, by its answer.
 fn put_read(
     out: &mut String,
-    world: &World,
+    world: &WorldRef<'_>,
     previous: &[State],
     names: Option<&NodeNames>,
     node: u32,
@@ -218,7 +218,7 @@ fn put_read(
 {
     // For the proof alone: the call tells that neighbours are nodes.
     let _nodes = world.nodes();
-    let neighbour = world.plan().network().neighbour_of(node, slot);
+    let neighbour = world.plan().rows().neighbour_of(node, slot);
     match answer {
         Answer::Taken => put_seen(out, world, previous, names, node, neighbour),
         Answer::Behind => put_seen(out, world, previous, names, node, neighbour),
@@ -234,17 +234,17 @@ fn put_read(
 /// The state to which a node has moved.
 fn put_moved(
     out: &mut String,
-    world: &World,
+    world: &WorldRef<'_>,
     names: Option<&NodeNames>,
     node: u32,
 ) -> Result<(), AllocError>
     requires node { node < length world.now.plan.network }
     ensures words { OnOk result (string_bytes out.new ≡ string_bytes out.old ++ write_sentence (option_map (λ n. n.now) names.entry) world.now.plan world.now.counts node Answer.Moved) }
 {
-    let round = moves(world, node);
+    let round = world.moves(node);
     put_called(out, names, node)?;
     out.push_str(" moves:")?;
-    put_state(out, world, state_of(world, node))?;
+    put_state(out, world, world.state(node))?;
     write!(out, ", its state of round {round}")?;
     Ok(())
 }
@@ -252,16 +252,16 @@ fn put_moved(
 /// How many neighbours a node has read that does not move, and the first that it has not.
 fn put_waiting(
     out: &mut String,
-    world: &World,
+    world: &WorldRef<'_>,
     names: Option<&NodeNames>,
     node: u32,
 ) -> Result<(), AllocError>
     ensures words { OnOk result (string_bytes out.new ≡ string_bytes out.old ++ write_sentence (option_map (λ n. n.now) names.entry) world.now.plan world.now.counts node Answer.NotReady) }
 {
-    let network = world.plan().network();
+    let rows = world.plan().rows();
     let read = slots_read(world, node);
-    let slots = network.degree_of(node);
-    let unread = network.neighbour_of(node, first_unread(world, node));
+    let slots = rows.degree_of(node);
+    let unread = rows.neighbour_of(node, first_unread(world, node));
     put_called(out, names, node)?;
     write!(
         out,
@@ -274,7 +274,7 @@ fn put_waiting(
 /// A write, by its answer, in the world after it.
 fn put_write(
     out: &mut String,
-    world: &World,
+    world: &WorldRef<'_>,
     names: Option<&NodeNames>,
     node: u32,
     answer: Answer,
@@ -297,7 +297,7 @@ fn put_write(
 /// A read, which is made behind its sentence.
 fn tell_read(
     out: &mut String,
-    world: &mut World,
+    world: &mut WorldRef<'_>,
     previous: &mut [State],
     names: Option<&NodeNames>,
     node: u32,
@@ -318,7 +318,7 @@ fn tell_read(
 /// A write, which is made before its sentence.
 fn tell_write(
     out: &mut String,
-    world: &mut World,
+    world: &mut WorldRef<'_>,
     previous: &mut [State],
     names: Option<&NodeNames>,
     node: u32,
@@ -337,7 +337,7 @@ fn tell_write(
 /// A step, which is made, in a sentence.
 pub(crate) fn tell_sentence(
     out: &mut String,
-    world: &mut World,
+    world: &mut WorldRef<'_>,
     previous: &mut [State],
     names: Option<&NodeNames>,
     step: Step,

@@ -5,7 +5,7 @@ ghost use Rattle.run_steps.specs.explain.Summaries.{answered_lines, counts_lines
 use crate::explain::answered::Answered;
 use crate::explain::differences::{greatest_count, least_count};
 use std::alloc::AllocError;
-use unison_world::World;
+use unison_world::WorldRef;
 
 /// What came of a list of steps: how many had each answer, and how far a node that had just moved was from a neighbour, at most.
 #[derive(Clone, Copy)]
@@ -48,7 +48,7 @@ fn put_answered(out: &mut String, answered: Answered) -> Result<(), AllocError>
 }
 
 /// The least and the greatest count, and the greatest difference.
-fn put_counts(out: &mut String, world: &World, difference: u32) -> Result<(), AllocError>
+fn put_counts(out: &mut String, world: &WorldRef<'_>, difference: u32) -> Result<(), AllocError>
     ensures lines { OnOk result (string_bytes out.new ≡ string_bytes out.old ++ counts_lines world.now.counts difference) }
 {
     put_number(out, "least count ", least_count(world) as u64)?;
@@ -58,7 +58,7 @@ fn put_counts(out: &mut String, world: &World, difference: u32) -> Result<(), Al
 }
 
 /// The summary of the steps that led to a world.
-pub(crate) fn put_summary(out: &mut String, world: &World, way: Way) -> Result<(), AllocError>
+pub(crate) fn put_summary(out: &mut String, world: &WorldRef<'_>, way: Way) -> Result<(), AllocError>
     requires room { total way.answered < 2 ^ 64 }
     ensures lines { OnOk result (string_bytes out.new ≡ string_bytes out.old ++ summary_lines way.answered world.now.counts way.difference) }
 {

@@ -1,6 +1,5 @@
 //! Lists of steps that are told.
 ghost use Rattle.std.specs.Prelude.{◌≡◌, ◌++◌, ◌<◌, ◌^◌, Ok, IfOk, IfErr, OnOk, string_bytes};
-ghost use Rattle.std.specs.Arc.{arc_value};
 ghost use Rattle.std.specs.Option.{option_map};
 ghost use Rattle.unison_world.specs.Counting.{answers, run};
 ghost use Rattle.unison_world.specs.Opening.{opening_of};
@@ -18,26 +17,25 @@ use crate::explain::show::Show;
 use crate::explain::summary::{Way, put_summary};
 use crate::explain::words::{put_answer, put_step};
 use net_names::NodeNames;
-use rounds_plan::Plan;
+use rounds_plan::SimplePlan;
 use rule_check::State;
 use std::alloc::{AllocError, Global};
-use std::sync::Arc;
-use unison_world::{Answer, OpenFault, Step, World, moves};
+use unison_world::{Answer, OpenFault, Step, WorldRef};
 
 /// The line of all counts.
-fn put_counts(out: &mut String, world: &World) -> Result<(), AllocError>
+fn put_counts(out: &mut String, world: &WorldRef<'_>) -> Result<(), AllocError>
     ensures line { OnOk result (string_bytes out.new ≡ string_bytes out.old ++ counts_line world.now.counts) }
 {
     out.push_str("  counts")?;
     for node in 0..world.nodes() {
-        let count = moves(world, node);
+        let count = world.moves(node);
         write!(out, " {count}")?;
     }
     out.push_str("\n")
 }
 
 /// The line of all counts, where it is asked for.
-fn put_counts_asked(out: &mut String, world: &World, counts: bool) -> Result<(), AllocError>
+fn put_counts_asked(out: &mut String, world: &WorldRef<'_>, counts: bool) -> Result<(), AllocError>
     ensures part { OnOk result (string_bytes out.new ≡ string_bytes out.old ++ counts_part counts world.now.counts) }
 {
     if counts {
@@ -50,7 +48,7 @@ fn put_counts_asked(out: &mut String, world: &World, counts: bool) -> Result<(),
 /// A step by slots, and its answer by the counts before it; the step is made then.
 fn tell_slots(
     out: &mut String,
-    world: &mut World,
+    world: &mut WorldRef<'_>,
     previous: &mut [State],
     step: Step,
 ) -> Result<Answer, AllocError>
@@ -70,7 +68,7 @@ fn tell_slots(
 /// What a step does, which is made.
 fn tell(
     out: &mut String,
-    world: &mut World,
+    world: &mut WorldRef<'_>,
     previous: &mut [State],
     names: Option<&NodeNames>,
     show: Show,
@@ -92,7 +90,7 @@ fn tell(
 /// The line of a step with this number, which is made; its answer.
 fn tell_step(
     out: &mut String,
-    world: &mut World,
+    world: &mut WorldRef<'_>,
     previous: &mut [State],
     names: Option<&NodeNames>,
     show: Show,
@@ -114,7 +112,7 @@ fn tell_step(
 /// The lines of steps, which are made, and what came of them.
 fn tell_steps(
     out: &mut String,
-    world: &mut World,
+    world: &mut WorldRef<'_>,
     previous: &mut [State],
     names: Option<&NodeNames>,
     show: Show,
@@ -144,13 +142,13 @@ fn tell_steps(
 /// The text of steps on a world before any step.
 fn told_on(
     alloc: Global,
-    mut world: World,
+    mut world: WorldRef<'_>,
     names: Option<&NodeNames>,
     show: Show,
     steps: &[Step],
 ) -> Result<Vec<u8>, AllocError>
     requires opened { world ≡ opened world.plan world.stop }
-    ensures text { IfOk result (λ v. v.items ≡ told_text (option_map (λ n. n.now) names.entry) show world.plan world.stop steps.now) }
+    ensures text { IfOk result (λ v. v.items ≡ told_text (option_map (λ n. n.now) names.entry) show world.entry.plan world.entry.stop steps.now) }
 {
     let mut previous = opening_states(alloc, &world)?;
     let mut out = String::new(alloc);
@@ -181,17 +179,17 @@ fn told_on(
 /// taken; `Memory` only where neither does.
 pub fn told(
     alloc: Global,
-    plan: Arc<Plan>,
+    plan: SimplePlan<'_>,
     stop: u32,
     steps: &[Step],
     names: Option<&NodeNames>,
     show: Show,
 ) -> Result<Vec<u8>, OpenFault>
-    ensures text { IfOk result (λ v. v.items ≡ told_text (option_map (λ n. n.now) names.entry) show (arc_value plan) stop steps.now) }
-    ensures opens { IfOk result (λ _. opening_of (arc_value plan) stop ≡ Ok (opened (arc_value plan) stop)) }
-    ensures refused { IfErr result (IsTellFault (arc_value plan) stop) }
+    ensures text { IfOk result (λ v. v.items ≡ told_text (option_map (λ n. n.now) names.entry) show plan.entry stop steps.now) }
+    ensures opens { IfOk result (λ _. opening_of plan.entry stop ≡ Ok (opened plan.entry stop)) }
+    ensures refused { IfErr result (IsTellFault plan.entry stop) }
 {
-    let world = World::new(alloc, plan, stop)?;
+    let world = WorldRef::new(alloc, plan, stop)?;
     let text = told_on(alloc, world, names, show, steps)?;
     Ok(text)
 }

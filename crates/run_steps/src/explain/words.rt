@@ -4,7 +4,7 @@ ghost use Rattle.run_steps.specs.explain.Words.{answer_words, at_count, read_wor
 
 use crate::explain::looks::slots_read;
 use std::alloc::AllocError;
-use unison_world::{Answer, Step, World, moves};
+use unison_world::{Answer, Step, WorldRef};
 
 /// A step as a schedule spells it.
 pub(crate) fn put_step(out: &mut String, step: Step) -> Result<(), AllocError>
@@ -17,15 +17,15 @@ pub(crate) fn put_step(out: &mut String, step: Step) -> Result<(), AllocError>
 }
 
 /// A node and how often it has moved.
-fn put_at_count(out: &mut String, world: &World, node: u32) -> Result<(), AllocError>
+fn put_at_count(out: &mut String, world: &WorldRef<'_>, node: u32) -> Result<(), AllocError>
     ensures words { OnOk result (string_bytes out.new ≡ string_bytes out.old ++ at_count world.now.counts node) }
 {
-    let count = moves(world, node);
+    let count = world.moves(node);
     write!(out, "{node} at count {count}")
 }
 
 /// That the neighbour at a slot has moved less often than the node.
-fn put_behind(out: &mut String, world: &World, node: u32, neighbour: u32) -> Result<(), AllocError>
+fn put_behind(out: &mut String, world: &WorldRef<'_>, node: u32, neighbour: u32) -> Result<(), AllocError>
     ensures words { OnOk result (string_bytes out.new ≡ string_bytes out.old ++ (codes "Behind: neighbour " ++ (at_count world.now.counts neighbour ++ (codes ", node " ++ at_count world.now.counts node)))) }
 {
     out.push_str("Behind: neighbour ")?;
@@ -35,7 +35,7 @@ fn put_behind(out: &mut String, world: &World, node: u32, neighbour: u32) -> Res
 }
 
 /// That the neighbour at a slot is read.
-fn put_taken(out: &mut String, world: &World, neighbour: u32) -> Result<(), AllocError>
+fn put_taken(out: &mut String, world: &WorldRef<'_>, neighbour: u32) -> Result<(), AllocError>
     ensures words { OnOk result (string_bytes out.new ≡ string_bytes out.old ++ (codes "Taken: neighbour " ++ at_count world.now.counts neighbour)) }
 {
     out.push_str("Taken: neighbour ")?;
@@ -46,17 +46,17 @@ fn put_taken(out: &mut String, world: &World, neighbour: u32) -> Result<(), Allo
 /// The answer to a read, with its reason.
 fn put_read(
     out: &mut String,
-    world: &World,
+    world: &WorldRef<'_>,
     node: u32,
     slot: u32,
     answer: Answer,
 ) -> Result<(), AllocError>
     ensures words { OnOk result (string_bytes out.new ≡ string_bytes out.old ++ read_words world.now.plan.network world.now.counts node slot answer) }
 {
-    let network = world.plan().network();
-    let neighbour = network.neighbour_of(node, slot);
-    let slots = network.degree_of(node);
-    let nodes = network.nodes();
+    let rows = world.plan().rows();
+    let neighbour = rows.neighbour_of(node, slot);
+    let slots = rows.degree_of(node);
+    let nodes = rows.nodes();
     match answer {
         Answer::Taken => put_taken(out, world, neighbour),
         Answer::Behind => put_behind(out, world, node, neighbour),
@@ -73,19 +73,19 @@ fn put_read(
 }
 
 /// How many of a node's neighbours were read.
-fn put_not_ready(out: &mut String, world: &World, node: u32) -> Result<(), AllocError>
+fn put_not_ready(out: &mut String, world: &WorldRef<'_>, node: u32) -> Result<(), AllocError>
     ensures words { OnOk result (string_bytes out.new ≡ string_bytes out.old ++ write_words world.now.plan.network world.now.counts node Answer.NotReady) }
 {
     let read = slots_read(world, node);
-    let slots = world.plan().network().degree_of(node);
+    let slots = world.plan().rows().degree_of(node);
     write!(out, "NotReady: {read} of {slots} neighbours read")
 }
 
 /// The answer to a write, with its reason.
-fn put_write(out: &mut String, world: &World, node: u32, answer: Answer) -> Result<(), AllocError>
+fn put_write(out: &mut String, world: &WorldRef<'_>, node: u32, answer: Answer) -> Result<(), AllocError>
     ensures words { OnOk result (string_bytes out.new ≡ string_bytes out.old ++ write_words world.now.plan.network world.now.counts node answer) }
 {
-    let count = moves(world, node) + 1;
+    let count = world.moves(node) + 1;
     let nodes = world.nodes();
     match answer {
         Answer::Moved => write!(out, "Moved: node {node} at count {count}"),
@@ -102,7 +102,7 @@ fn put_write(out: &mut String, world: &World, node: u32, answer: Answer) -> Resu
 /// The answer to a step, with its reason in the world before the step.
 pub(crate) fn put_answer(
     out: &mut String,
-    world: &World,
+    world: &WorldRef<'_>,
     step: Step,
     answer: Answer,
 ) -> Result<(), AllocError>

@@ -6,7 +6,7 @@ ghost use Rattle.run_steps.specs.script.Spelled.{Calls};
 ghost use Rattle.run_steps.specs.script.Words.{number_in, called_in, node_called, node_at, slot_at, count_at};
 
 use crate::script::fault::StepTextFault;
-use link_net::Network;
+use link_net::{NetRows, Network};
 use net_names::NodeNames;
 use report_text::read_number;
 
@@ -36,13 +36,13 @@ fn called_in(names: Option<&NodeNames>, word: &str) -> Option<u32>
     }
 }
 
-/// The node of the network that a word calls: by its number, in decimal digits without leading zeros, or, where names are
+/// The node of a network with these rows that a word calls: by its number, in decimal digits without leading zeros, or, where names are
 /// given, by its name alone; none where it calls none.
-pub fn node_called(network: &Network, names: Option<&NodeNames>, word: &str) -> Option<u32>
-    ensures exact { result ≡ node_called network.now (option_map (λ n. n.now) names.entry) word.now }
-    ensures calls { (u : ℕ) → (result ≡ Some u) ↔ Calls network.now (option_map (λ n. n.now) names.entry) word.now u }
+pub fn node_called(rows: &NetRows<'_>, names: Option<&NodeNames>, word: &str) -> Option<u32>
+    ensures exact { result ≡ node_called rows.now (option_map (λ n. n.now) names.entry) word.now }
+    ensures calls { (u : ℕ) → (result ≡ Some u) ↔ Calls rows.now (option_map (λ n. n.now) names.entry) word.now u }
 {
-    let nodes = network.nodes();
+    let nodes = rows.nodes();
     let node = called_in(names, word)?;
     if node >= nodes {
         return None;
@@ -60,7 +60,7 @@ pub(crate) fn node_at(
 ) -> Result<u32, StepTextFault>
     ensures { result ≡ node_at network.now (option_map (λ n. n.now) names.entry) line place word.now }
 {
-    match node_called(network, names, word) {
+    match node_called(&network.rows(), names, word) {
         Some(node) => Ok(node),
         None => Err(StepTextFault::NoNode { line, word: place }),
     }

@@ -16,7 +16,7 @@ use crate::verify::nodes::{node_found, slot_found};
 use crate::verify::objects::object_entry;
 use import_lines::{WordsFault, line_text, next_word};
 use net_names::NodeNames;
-use rounds_plan::Plan;
+use rounds_plan::SimplePlan;
 use std::alloc::Global;
 use unison_world::Step;
 
@@ -48,7 +48,7 @@ fn is_move(word: &str) -> bool
 }
 
 /// A step, and the values that the words of a text give.
-fn entry_of(plan: &Plan, line: u64, step: Step, text: &str) -> Result<Entry, VerifyFault>
+fn entry_of(plan: &SimplePlan<'_>, line: u64, step: Step, text: &str) -> Result<Entry, VerifyFault>
     ensures exact { result ≡ entry_of (names_of plan.now.program) line step (words_in text.now) }
     ensures step { IfOk result (λ e. e.step ≡ step) }
 {
@@ -59,7 +59,7 @@ fn entry_of(plan: &Plan, line: u64, step: Step, text: &str) -> Result<Entry, Ver
 /// The entry of a line by which a node moves.
 #[tactic(auto, unfolding(crate::specs::verify::Meaning::move_entry))]
 fn move_entry(
-    plan: &Plan,
+    plan: &SimplePlan<'_>,
     names: Option<&NodeNames>,
     line: u64,
     first: &str,
@@ -68,18 +68,14 @@ fn move_entry(
     ensures exact { result ≡ move_entry plan.now (option_map (λ n. n.now) names.entry) line first.now (words_in rest.now) }
     ensures step { IfOk result (λ e. IsStepOf plan.now.network e.step) }
 {
-    let node = node_found(
-        plan.network(),
-        line,
-        node_called(plan.network(), names, first),
-    )?;
+    let node = node_found(plan, line, node_called(&plan.rows(), names, first))?;
     entry_of(plan, line, Step::Write { node }, rest)
 }
 
 /// The entry of a line by which a node reads.
 #[tactic(auto, unfolding(crate::specs::verify::Meaning::read_entry))]
 fn read_entry(
-    plan: &Plan,
+    plan: &SimplePlan<'_>,
     names: Option<&NodeNames>,
     line: u64,
     first: &str,
@@ -89,19 +85,15 @@ fn read_entry(
     ensures exact { result ≡ read_entry plan.now (option_map (λ n. n.now) names.entry) line first.now third.now (words_in rest.now) }
     ensures step { IfOk result (λ e. IsStepOf plan.now.network e.step) }
 {
-    let node = node_found(
-        plan.network(),
-        line,
-        node_called(plan.network(), names, first),
-    )?;
-    let called = node_called(plan.network(), names, without_colon(third));
-    let slot = slot_found(plan.network(), line, node, called)?;
+    let node = node_found(plan, line, node_called(&plan.rows(), names, first))?;
+    let called = node_called(&plan.rows(), names, without_colon(third));
+    let slot = slot_found(plan, line, node, called)?;
     entry_of(plan, line, Step::Read { node, slot }, rest)
 }
 
 /// The entry of a line whose second word is `reads`.
 fn reads_line(
-    plan: &Plan,
+    plan: &SimplePlan<'_>,
     names: Option<&NodeNames>,
     line: u64,
     first: &str,
@@ -118,7 +110,7 @@ fn reads_line(
 
 /// The entry of a line that has these two words and what stands after them.
 fn long_line(
-    plan: &Plan,
+    plan: &SimplePlan<'_>,
     names: Option<&NodeNames>,
     line: u64,
     first: &str,
@@ -139,7 +131,7 @@ fn long_line(
 
 /// The entry of a line of these words.
 fn line_of(
-    plan: &Plan,
+    plan: &SimplePlan<'_>,
     names: Option<&NodeNames>,
     line: u64,
     text: &str,
@@ -180,7 +172,7 @@ fn begins_object(text: &str) -> bool
 #[tactic(auto, unfolding(crate::specs::verify::Meaning::text_entry))]
 fn text_entry(
     alloc: Global,
-    plan: &Plan,
+    plan: &SimplePlan<'_>,
     names: Option<&NodeNames>,
     line: u64,
     text: &str,
@@ -199,7 +191,7 @@ fn text_entry(
 #[tactic(auto, unfolding(crate::specs::verify::Meaning::entry_at))]
 pub(crate) fn entry_at(
     alloc: Global,
-    plan: &Plan,
+    plan: &SimplePlan<'_>,
     names: Option<&NodeNames>,
     line: u64,
     bytes: &[u8],

@@ -14,9 +14,8 @@ use crate::script::node_called;
 use crate::verify::entry::{Entry, Given};
 use crate::verify::fault::VerifyFault;
 use crate::verify::nodes::{node_found, slot_found};
-use link_net::Network;
 use net_names::NodeNames;
-use rounds_plan::Plan;
+use rounds_plan::SimplePlan;
 use rule_check::Program;
 use serde_json::Value;
 use serde_json::error::Category;
@@ -24,25 +23,25 @@ use std::alloc::Global;
 use unison_world::Step;
 
 /// The node that a number calls, where no names are given.
-fn numbered(network: &Network, names: Option<&NodeNames>, number: u64) -> Option<u32>
-    ensures exact { result ≡ numbered network.now (option_map (λ n. n.now) names.entry) (Some number) }
-    ensures node { IfSome result (λ u. u < length network.now) }
+fn numbered(plan: &SimplePlan<'_>, names: Option<&NodeNames>, number: u64) -> Option<u32>
+    ensures exact { result ≡ numbered plan.now.network (option_map (λ n. n.now) names.entry) (Some number) }
+    ensures node { IfSome result (λ u. u < length plan.now.network) }
 {
-    if names.is_some() || number >= network.nodes() as u64 {
+    if names.is_some() || number >= plan.nodes() as u64 {
         return None;
     }
     Some(number as u32)
 }
 
 /// The node that a value calls: a string as a word of that text does, a number by itself where no names are given.
-fn node_by(network: &Network, names: Option<&NodeNames>, value: &Value) -> Option<u32>
-    ensures exact { result ≡ node_by network.now (option_map (λ n. n.now) names.entry) (view value.now) }
-    ensures node { IfSome result (λ u. u < length network.now) }
+fn node_by(plan: &SimplePlan<'_>, names: Option<&NodeNames>, value: &Value) -> Option<u32>
+    ensures exact { result ≡ node_by plan.now.network (option_map (λ n. n.now) names.entry) (view value.now) }
+    ensures node { IfSome result (λ u. u < length plan.now.network) }
 {
     if let Some(name) = value.as_str() {
-        return node_called(network, names, name);
+        return node_called(&plan.rows(), names, name);
     }
-    numbered(network, names, value.as_u64()?)
+    numbered(plan, names, value.as_u64()?)
 }
 
 /// The number from 0 to 4,294,967,295 that a value is.
@@ -154,7 +153,7 @@ fn lets_move(object: &Value) -> bool
 
 /// The node that an object calls.
 fn node_in(
-    plan: &Plan,
+    plan: &SimplePlan<'_>,
     names: Option<&NodeNames>,
     line: u64,
     object: &Value,
@@ -162,16 +161,15 @@ fn node_in(
     ensures exact { result ≡ node_in plan.now (option_map (λ n. n.now) names.entry) line (view object.now) }
     ensures node { IfOk result (λ u. u < length plan.now.network) }
 {
-    let network = plan.network();
     match object.get("node") {
-        Some(value) => node_found(network, line, node_by(network, names, value)),
+        Some(value) => node_found(plan, line, node_by(plan, names, value)),
         None => Err(VerifyFault::NoNode { line }),
     }
 }
 
 /// The step of an object.
 fn step_in(
-    plan: &Plan,
+    plan: &SimplePlan<'_>,
     names: Option<&NodeNames>,
     line: u64,
     object: &Value,
@@ -187,14 +185,13 @@ fn step_in(
     let Some(value) = read else {
         return Ok(Step::Write { node });
     };
-    let network = plan.network();
-    let slot = slot_found(network, line, node, node_by(network, names, value))?;
+    let slot = slot_found(plan, line, node, node_by(plan, names, value))?;
     Ok(Step::Read { node, slot })
 }
 
 /// What an object says.
 fn entry_in(
-    plan: &Plan,
+    plan: &SimplePlan<'_>,
     names: Option<&NodeNames>,
     line: u64,
     object: &Value,
@@ -211,7 +208,7 @@ fn entry_in(
 #[tactic(auto, unfolding(crate::specs::verify::Objects::object_entry))]
 pub(crate) fn object_entry(
     alloc: Global,
-    plan: &Plan,
+    plan: &SimplePlan<'_>,
     names: Option<&NodeNames>,
     line: u64,
     text: &str,

@@ -13,24 +13,24 @@ ghost use Rattle.run_steps.specs.verify.Walks.{HasBefore, IsStepOf};
 use crate::verify::entry::{Entry, Given};
 use crate::verify::fault::VerifyFault;
 use rule_check::State;
-use unison_world::{Answer, Step, World, moves, state_of};
+use unison_world::{Answer, Step, WorldRef};
 
 /// The neighbour at a slot of a node.
-fn neighbour(world: &World, node: u32, slot: u32) -> u32
+fn neighbour(world: &WorldRef<'_>, node: u32, slot: u32) -> u32
     ensures { result ≡ neighbour world.now.plan.network node slot }
 {
-    world.plan().network().neighbour(node, slot).unwrap_or(0)
+    world.plan().rows().neighbour_of(node, slot)
 }
 
 /// How many slots a node has.
-fn degree(world: &World, node: u32) -> u32
+fn degree(world: &WorldRef<'_>, node: u32) -> u32
     ensures { result ≡ degree world.now.plan.network node }
 {
-    world.plan().network().degree(node).unwrap_or(0)
+    world.plan().rows().degree_of(node)
 }
 
 /// Whether a node that is below the stop has read a slot since it last moved.
-fn has_read(world: &World, node: u32, slot: u32) -> bool
+fn has_read(world: &WorldRef<'_>, node: u32, slot: u32) -> bool
     requires node { node < length world.now.plan.network }
     requires slot { slot < degree world.now.plan.network node }
     requires below { moves_of world.now.counts node ≢ world.now.stop }
@@ -40,7 +40,7 @@ fn has_read(world: &World, node: u32, slot: u32) -> bool
 }
 
 /// The first neighbour that a node has not read since it last moved.
-fn first_unread(world: &World, node: u32) -> u32
+fn first_unread(world: &WorldRef<'_>, node: u32) -> u32
     requires node { node < length world.now.plan.network }
     requires refused { answer_in world.now (Step.Write node) ≡ Answer.NotReady }
     ensures { IsFirstUnread world.now.plan.network world.now.counts node result }
@@ -54,7 +54,7 @@ fn first_unread(world: &World, node: u32) -> u32
 }
 
 /// Why a read is refused.
-fn read_refused(world: &World, line: u64, node: u32, slot: u32, answer: Answer) -> VerifyFault
+fn read_refused(world: &WorldRef<'_>, line: u64, node: u32, slot: u32, answer: Answer) -> VerifyFault
     requires stop { world.now.stop ≡ most_rounds }
     requires step { IsStepOf world.now.plan.network (Step.Read node slot) }
     requires answer { answer ≡ answer_in world.now (Step.Read node slot) }
@@ -73,15 +73,15 @@ fn read_refused(world: &World, line: u64, node: u32, slot: u32, answer: Answer) 
             line,
             node,
             neighbour,
-            own: moves(world, node),
-            other: moves(world, neighbour),
+            own: world.moves(node),
+            other: world.moves(neighbour),
         },
         _ => VerifyFault::Stopped { line, node },
     }
 }
 
 /// Why a move is refused.
-fn move_refused(world: &World, line: u64, node: u32, answer: Answer) -> VerifyFault
+fn move_refused(world: &WorldRef<'_>, line: u64, node: u32, answer: Answer) -> VerifyFault
     requires stop { world.now.stop ≡ most_rounds }
     requires node { node < length world.now.plan.network }
     requires answer { answer ≡ answer_in world.now (Step.Write node) }
@@ -100,7 +100,7 @@ fn move_refused(world: &World, line: u64, node: u32, answer: Answer) -> VerifyFa
 
 /// The state that a read takes, where it is taken: the neighbour's own, or, where it has moved once more than the node,
 /// the one before.
-fn state_read(world: &World, before: &[State], node: u32, slot: u32) -> State
+fn state_read(world: &WorldRef<'_>, before: &[State], node: u32, slot: u32) -> State
     requires step { IsStepOf world.now.plan.network (Step.Read node slot) }
     requires before { HasBefore world.now before.now }
     requires taken { answer_in world.now (Step.Read node slot) ≡ Answer.Taken }
@@ -108,8 +108,8 @@ fn state_read(world: &World, before: &[State], node: u32, slot: u32) -> State
 {
     let _nodes = world.nodes();
     let neighbour = neighbour(world, node, slot);
-    if moves(world, neighbour) == moves(world, node) {
-        state_of(world, neighbour)
+    if world.moves(neighbour) == world.moves(node) {
+        world.state(neighbour)
     } else {
         before[neighbour as usize]
     }
@@ -117,7 +117,7 @@ fn state_read(world: &World, before: &[State], node: u32, slot: u32) -> State
 
 /// A read, with the state that it takes.
 fn read(
-    world: &mut World,
+    world: &mut WorldRef<'_>,
     before: &[State],
     line: u64,
     node: u32,
@@ -144,7 +144,7 @@ fn read(
 
 /// A move, with the state to which it leads.
 fn move_on(
-    world: &mut World,
+    world: &mut WorldRef<'_>,
     before: &mut [State],
     line: u64,
     node: u32,
@@ -165,14 +165,14 @@ fn move_on(
     if answer != Answer::Moved {
         return Err(move_refused(world, line, node, answer));
     }
-    before[node as usize] = state_of(world, node);
+    before[node as usize] = world.state(node);
     world.step(step);
-    Ok(state_of(world, node))
+    Ok(world.state(node))
 }
 
 /// A step, with the state that it shows.
 fn make(
-    world: &mut World,
+    world: &mut WorldRef<'_>,
     before: &mut [State],
     line: u64,
     step: Step,
@@ -216,7 +216,7 @@ fn mover(step: Step) -> u32
 }
 
 /// Whose state a step shows.
-fn shown_node(world: &World, step: Step) -> u32
+fn shown_node(world: &WorldRef<'_>, step: Step) -> u32
     requires step { IsStepOf world.now.plan.network step }
     ensures node { result ≡ shown_node world.now.plan.network step }
     ensures within { result < length world.now.plan.network }
@@ -230,7 +230,7 @@ fn shown_node(world: &World, step: Step) -> u32
 }
 
 /// The round after which a step shows a state.
-fn shown_round(world: &World, step: Step) -> u32
+fn shown_round(world: &WorldRef<'_>, step: Step) -> u32
     requires step { IsStepOf world.now.plan.network step }
     ensures { result ≡ shown_round world.now.counts step }
 {
@@ -238,14 +238,14 @@ fn shown_round(world: &World, step: Step) -> u32
     let _nodes = world.nodes();
     let _stop = world.stop();
     match step {
-        Step::Read { node, .. } => moves(world, node),
-        Step::Write { node } => moves(world, node) + 1,
+        Step::Read { node, .. } => world.moves(node),
+        Step::Write { node } => world.moves(node) + 1,
     }
 }
 
 /// Makes the step of an entry, where it holds.
 pub(crate) fn hold(
-    world: &mut World,
+    world: &mut WorldRef<'_>,
     before: &mut [State],
     line: u64,
     entry: &Entry,
@@ -260,7 +260,7 @@ pub(crate) fn hold(
     ensures refused { IfErr result (IsUnheld world.old.plan world.old.counts line entry.now) }
 {
     let node = shown_node(world, entry.step);
-    let count = moves(world, node);
+    let count = world.moves(node);
     let round = shown_round(world, entry.step);
     let state = make(world, before, line, entry.step)?;
     let Some((field, given)) = first_difference(&entry.given, &state) else {

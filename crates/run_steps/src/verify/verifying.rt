@@ -1,6 +1,5 @@
 //! Traces that are checked.
 ghost use Rattle.std.specs.Prelude.{◌≡◌, ◌≤◌, ◌+◌, ◌<◌, ◌^◌, cond, ℕ, List, [], length, IfOk, IfErr, OnOk};
-ghost use Rattle.std.specs.Arc.{arc_value};
 ghost use Rattle.std.specs.List.{list_any};
 ghost use Rattle.std.specs.Option.{option_map, is_some};
 ghost use Rattle.import_lines.specs.Texts.{told_from};
@@ -18,11 +17,10 @@ use crate::verify::steps::hold;
 use crate::verify::verified::Verified;
 use import_lines::Lines;
 use net_names::NodeNames;
-use rounds_plan::{MOST_ROUNDS, Plan};
+use rounds_plan::{MOST_ROUNDS, SimplePlan};
 use rule_check::State;
 use std::alloc::{AllocError, Global};
-use std::sync::Arc;
-use unison_world::{OpenFault, World, moves};
+use unison_world::{OpenFault, WorldRef};
 
 /// Whether an entry gives a value.
 fn has_value(entry: &Entry) -> bool
@@ -47,7 +45,7 @@ fn one_if_valued(entry: &Entry) -> u64
 /// Makes the steps of all lines, where they hold; how many lines there are, and how many of them give a value.
 fn walk(
     alloc: Global,
-    world: &mut World,
+    world: &mut WorldRef<'_>,
     before: &mut [State],
     names: Option<&NodeNames>,
     text: &[u8],
@@ -71,30 +69,30 @@ fn walk(
 }
 
 /// The counts of all nodes.
-fn counts_of(alloc: Global, world: &World) -> Result<Vec<u32>, AllocError>
+fn counts_of(alloc: Global, world: &WorldRef<'_>) -> Result<Vec<u32>, AllocError>
     ensures counts { IfOk result (λ v. v.items ≡ world.now.counts.moves) }
 {
     let mut counts = Vec::new(alloc);
     for node in 0..world.nodes() {
-        counts.push(moves(world, node))?;
+        counts.push(world.moves(node))?;
     }
     Ok(counts)
 }
 
 /// The world of a plan before any step, whose nodes may move as often as there are rounds.
-fn opened(alloc: Global, plan: Arc<Plan>) -> Result<World, AllocError>
-    ensures opened { IfOk result (λ world. world ≡ opened (arc_value plan) most_rounds) }
+fn opened<'a>(alloc: Global, plan: SimplePlan<'a>) -> Result<WorldRef<'a>, AllocError>
+    ensures opened { IfOk result (λ world. world ≡ opened plan.entry most_rounds) }
 {
     // For the proof alone: the call tells that no plan starts behind the last round.
-    let _phase = plan.phase();
-    match World::new(alloc, plan, MOST_ROUNDS) {
+    let _nodes = plan.nodes();
+    match WorldRef::new(alloc, plan, MOST_ROUNDS) {
         Ok(world) => Ok(world),
         Err(_) => Err(AllocError),
     }
 }
 
 /// The states of all nodes before any step.
-fn opening_states(alloc: Global, world: &World) -> Result<Vec<State>, AllocError>
+fn opening_states(alloc: Global, world: &WorldRef<'_>) -> Result<Vec<State>, AllocError>
     requires opened { world.now ≡ opened world.now.plan most_rounds }
     ensures before { IfOk result (λ v. HasBefore world.now v.items) }
 {
@@ -107,13 +105,13 @@ fn opening_states(alloc: Global, world: &World) -> Result<Vec<State>, AllocError
 /// What is found of a trace of a run on a world before any step.
 fn verify_on(
     alloc: Global,
-    mut world: World,
+    mut world: WorldRef<'_>,
     names: Option<&NodeNames>,
     text: &[u8],
 ) -> Result<Verified, VerifyFault>
     requires opened { world ≡ opened world.plan most_rounds }
-    ensures found { IfOk result (IsWalked world.plan (option_map (λ n. n.now) names.entry) text.now) }
-    ensures refused { IfErr result (IsStopped world.plan (option_map (λ n. n.now) names.entry) text.now) }
+    ensures found { IfOk result (IsWalked world.entry.plan (option_map (λ n. n.now) names.entry) text.now) }
+    ensures refused { IfErr result (IsStopped world.entry.plan (option_map (λ n. n.now) names.entry) text.now) }
 {
     let mut before = opening_states(alloc, &world)?;
     let (lines, valued) = walk(alloc, &mut world, &mut before, names, text)?;
@@ -152,16 +150,16 @@ fn verify_on(
 /// only where memory runs out.
 pub fn verify(
     alloc: Global,
-    plan: Arc<Plan>,
+    plan: SimplePlan<'_>,
     names: Option<&NodeNames>,
     text: &[u8],
 ) -> Result<Verified, VerifyFault>
-    ensures found { IfOk result (IsFound (arc_value plan) (option_map (λ n. n.now) names.entry) text.now) }
-    ensures refused { IfErr result (IsRefused (arc_value plan) (option_map (λ n. n.now) names.entry) text.now) }
-    ensures accepted { (entries : List Entry) (counts : Counts) → HoldsAs (arc_value plan) (option_map (λ n. n.now) names.entry) text.now entries counts → IfErr result (λ fault. fault ≡ VerifyFault.Memory) }
+    ensures found { IfOk result (IsFound plan.entry (option_map (λ n. n.now) names.entry) text.now) }
+    ensures refused { IfErr result (IsRefused plan.entry (option_map (λ n. n.now) names.entry) text.now) }
+    ensures accepted { (entries : List Entry) (counts : Counts) → HoldsAs plan.entry (option_map (λ n. n.now) names.entry) text.now entries counts → IfErr result (λ fault. fault ≡ VerifyFault.Memory) }
 {
     // For the proof alone: the calls tell what holds of every plan, and that its fields have different names.
-    let _phase = plan.phase();
+    let _nodes = plan.nodes();
     let _fields = plan.program().field_count();
     let world = opened(alloc, plan)?;
     verify_on(alloc, world, names, text)

@@ -22,7 +22,7 @@ returns c =
     let two = string_bytes c.push_str.new.self in
     let three = string_bytes c.put_state.new.out in
     let four = string_bytes c.write.new.self in
-    let third : three ≡ two ++ fields = c.in_ok-put_state.ensures.words ∙ ap (λ s. two ++ fields_text names s.words) c.state_of.ensures.state in
+    let third : three ≡ two ++ fields = c.in_ok-put_state.ensures.words ∙ ap (λ s. two ++ fields_text names s.words) c.state.ensures.state in
     let last : four ≡ three ++ round = c.in_ok-write.ensures.bytes ∙ ap (λ n. three ++ (codes ", its state of round " ++ decimal n)) c.moves-round.ensures.count in
     record {
       words = joined out one four who (codes " moves:" ++ (fields ++ round)) c.in_ok-put_called.ensures.words

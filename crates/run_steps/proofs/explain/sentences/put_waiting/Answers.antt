@@ -12,7 +12,7 @@ returns c =
     let w = c.args.world.now in
     let u = c.args.node in
     let names = option_map (λ n. n.now) c.args.names in
-    let network = c.network-network.ensures.network ∙ ap (λ p. p.network) c.plan.ensures.plan in
+    let network = c.rows-rows.ensures.rows ∙ ap (λ p. p.network) c.plan.ensures.plan in
     let slots : c.degree_of-slots.result ≡ degree w.plan.network u = c.degree_of-slots.ensures.exact ∙ ap (λ n. degree n u) network in
     let unread : c.neighbour_of-unread.result ≡ neighbour w.plan.network u (first_unread w.counts u) =
     c.neighbour_of-unread.ensures.exact ∙ ap (λ n. neighbour n u c.first_unread.result) network ∙ ap (neighbour w.plan.network u) c.first_unread.ensures in

@@ -3,5 +3,5 @@ use Rattle.run_steps.proofs.explain.words.put_read.Goals as goal
 
 pub returns-in-NoNode : goal.returns-in-NoNode
 returns-in-NoNode c =
-    let count : c.nodes-nodes.result ≡ length c.args.world.now.plan.network = c.nodes-nodes.ensures.count ∙ ap length c.network-network.ensures.network ∙ ap (λ p. length p.network) c.plan.ensures.plan in
+    let count : c.nodes-nodes.result ≡ length c.args.world.now.plan.network = c.nodes-nodes.ensures.count ∙ ap length c.rows-rows.ensures.rows ∙ ap (λ p. length p.network) c.plan.ensures.plan in
     record { words = rw (c.in-NoNode.is, ← count) c.write-in-NoNode.ensures.bytes }

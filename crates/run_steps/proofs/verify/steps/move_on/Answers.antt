@@ -9,4 +9,4 @@ pub returns-clause-shown : goal.returns-clause-shown
 returns-clause-shown c =
     let w = c.args.world.now in
     let moved : answer_in w (Write c.args.node) ≡ Moved = search rules in
-    shown-moved w c.step.new.self c.args.node c.state_of-2.result c.nodes-nodes.ensures.shape c.requires.node moved c.step.ensures.after c.state_of-2.ensures.state
+    shown-moved w c.step.new.self c.args.node c.state-2.result c.nodes-nodes.ensures.shape c.requires.node moved c.step.ensures.after c.state-2.ensures.state
