@@ -7,6 +7,7 @@ use crate::set_words::{
     RandomWord, SEED, SET_ARGUMENT, SET_RANDOM_ARGUMENT, SetWord, overlap_in, random_in, sets_in,
 };
 use app_table::{Argument, Kind, OPTION, Reading, Value, WordsFault};
+use std::alloc::Global;
 
 /// `SEED`, as it is read.
 static SEED_ARGUMENT: Argument = SEED;
@@ -79,6 +80,18 @@ pub struct StartWords {
 }
 
 impl StartWords {
+    /// No initial values.
+    pub fn none(alloc: Global) -> StartWords {
+        StartWords {
+            random: Vec::new(alloc),
+            overlap: false,
+            files: Vec::new(alloc),
+            sets: Vec::new(alloc),
+            names: None,
+            seed: 0,
+        }
+    }
+
     /// Whether no initial values are asked for.
     pub fn is_empty(&self) -> bool
         ensures exact { result ≡ ((length self.now.random.items == 0 && length self.now.files.items == 0) && length self.now.sets.items == 0) }
@@ -184,6 +197,17 @@ fn threads_in(reading: &mut Reading) -> Option<u32>
 }
 
 impl RunTexts {
+    /// A plan for which no initial values are asked beside those that it has.
+    pub fn of_plan(alloc: Global, plan: PlanPaths) -> RunTexts
+        ensures threads { AreThreadsWithin result }
+    {
+        RunTexts {
+            plan,
+            start: StartWords::none(alloc),
+            threads: None,
+        }
+    }
+
     /// What the words of a command say that has `PROGRAM`, `CONSTANT`, `NETWORK`, `FROM` and the words of rounds.
     pub fn of(reading: &mut Reading) -> RunTexts
         ensures threads { AreThreadsWithin result }

@@ -4,7 +4,7 @@ ghost use Rattle.rounds_plan.specs.Configs.{most_rounds};
 
 use crate::schedule_request::{STOP, STOP_ARGUMENT};
 use app_commands::{
-    CONSTANT, FILE, FLAG, FROM, NAMES, NAMES_ARGUMENT, NETWORK, PROGRAM, PlanPaths,
+    CONSTANT, FILE, FLAG, FROM, NAMES, NAMES_ARGUMENT, NETWORK, PROGRAM, PlanPaths, RunTexts,
 };
 use app_table::{Argument, Command, Reading, WordsFault};
 use rounds_plan::MOST_ROUNDS;
@@ -59,7 +59,7 @@ pub fn explain_command() -> &'static Command {
 /// What `explain` is asked for.
 #[derive(Drop)]
 pub struct ExplainRequest {
-    pub plan: PlanPaths,
+    pub texts: RunTexts,
     /// The path of the schedule.
     pub schedule: String,
     /// The round at which a node stops, counted from round 0.
@@ -81,7 +81,7 @@ fn request_in(reading: &mut Reading) -> ExplainRequest
     let names = reading.text(&NAMES_ARGUMENT);
     let plan = PlanPaths::of(reading);
     ExplainRequest {
-        plan,
+        texts: RunTexts::of_plan(reading.alloc(), plan),
         schedule,
         stop,
         names,

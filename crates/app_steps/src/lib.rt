@@ -7,6 +7,7 @@ mod naive;
 mod naive_request;
 mod schedule;
 mod schedule_request;
+mod simple;
 mod text_lines;
 mod verify;
 mod verify_request;

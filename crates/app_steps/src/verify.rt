@@ -1,14 +1,16 @@
 //! `verify PROGRAM NETWORK TRACE`: a trace of an asynchronous run that was made elsewhere, checked.
 
+use crate::simple::simple_plan;
 use crate::text_lines::line_at;
 use crate::verify_request::VerifyRequest;
-use app_commands::{asked_by, names_for, put_note, read_plan_once, shared_plan};
+use app_commands::{asked_by, names_for, put_note, read_plan_once, source_at};
 use app_files::{Ending, bytes_at, name_at, path_in, write_out};
 use net_names::NodeNames;
-use rounds_plan::Plan;
+use rounds_plan::SimplePlan;
+use rule_check::Program;
 use run_steps::verify::{Verified, VerifyFault, verify};
 use std::alloc::{AllocError, Global};
-use std::sync::Arc;
+use std::thread::Threads;
 
 /// The most nodes of which each one's count is told.
 const MOST_TOLD: usize = 16;
@@ -222,7 +224,7 @@ fn line_in(fault: VerifyFault) -> u64 {
 /// What nodes and fields are called by.
 #[derive(Clone, Copy)]
 struct Telling<'a> {
-    plan: &'a Plan,
+    program: &'a Program,
     names: Option<&'a NodeNames>,
 }
 
@@ -316,7 +318,7 @@ impl Telling<'_> {
         } else {
             self.put_read(out, found)?;
         }
-        let field = self.plan.program().field_name(found.field).unwrap_or("");
+        let field = self.program.field_name(found.field).unwrap_or("");
         let Difference { due, given, .. } = found;
         write!(out, ": {field}={due}, not {field}={given}\n")
     }
@@ -475,23 +477,23 @@ fn put_held(
 /// Prints what is told of the trace that the text is. The status with which the program ends.
 fn put_verdict(
     rt: &HostRuntime,
-    plan: &Arc<Plan>,
+    plan: SimplePlan<'_>,
     asked: &VerifyRequest,
     names: Option<&NodeNames>,
     text: &[u8],
 ) -> Result<u8, Ending> {
-    let shared = Arc::try_clone(plan)?;
     let name = name_at(asked.trace.as_str());
-    match verify(rt.alloc(), shared, names, text) {
-        Ok(found) => put_held(rt, asked, names, plan.start(), &found),
-        Err(fault) => put_unheld(rt, Telling { plan, names }, name, text, fault),
+    let (program, start) = (plan.program(), plan.start());
+    match verify(rt.alloc(), plan, names, text) {
+        Ok(found) => put_held(rt, asked, names, start, &found),
+        Err(fault) => put_unheld(rt, Telling { program, names }, name, text, fault),
     }
 }
 
 /// Prints what is told of the trace that is asked for, on a plan. The status with which the program ends.
 fn put_trace(
     rt: &HostRuntime,
-    plan: &Arc<Plan>,
+    plan: SimplePlan<'_>,
     asked: &VerifyRequest,
     names: Option<&NodeNames>,
 ) -> Result<u8, Ending> {
@@ -500,21 +502,28 @@ fn put_trace(
 }
 
 /// Prints what is told of a trace on a plan. The status with which the program ends.
-fn put_told(rt: &HostRuntime, plan: &Arc<Plan>, asked: &VerifyRequest) -> Result<u8, Ending> {
-    let names = names_for(rt, &asked.names, plan.network().nodes())?;
+fn put_told(rt: &HostRuntime, plan: SimplePlan<'_>, asked: &VerifyRequest) -> Result<u8, Ending> {
+    let names = names_for(rt, &asked.names, plan.nodes())?;
     put_trace(rt, plan, asked, names.as_ref())
 }
 
 /// Prints what is told of the trace on the plan that is asked for. The status with which the program ends.
-fn put_asked(rt: &HostRuntime, asked: &VerifyRequest) -> Result<u8, Ending> {
-    let (names, trace) = (path_in(&asked.names), asked.trace.as_str());
-    read_plan_once(rt.alloc(), &asked.plan, names, trace, "")?;
-    let plan = shared_plan(rt, &asked.plan)?;
-    put_told(rt, &plan, asked)
+fn put_on(rt: &HostRuntime, threads: &impl Threads, asked: &VerifyRequest) -> Result<u8, Ending> {
+    let source = source_at(rt, threads, &asked.texts)?;
+    let ground = source.ground(rt, &asked.texts)?;
+    let path = asked.texts.plan.network.as_str();
+    let plan = simple_plan(rt.alloc(), path, ground.lent(rt.alloc())?)?;
+    put_told(rt, plan, asked)
 }
 
 /// Checks the trace that the words name. The status with which the program ends.
-pub fn verify_trace(rt: &HostRuntime, words: &[String]) -> Result<u8, Ending> {
+pub fn verify_trace(
+    rt: &HostRuntime,
+    threads: &impl Threads,
+    words: &[String],
+) -> Result<u8, Ending> {
     let asked = asked_by(VerifyRequest::parse(rt.alloc(), words))?;
-    put_asked(rt, &asked)
+    let (names, trace) = (path_in(&asked.names), asked.trace.as_str());
+    read_plan_once(rt.alloc(), &asked.texts.plan, names, trace, "")?;
+    put_on(rt, threads, &asked)
 }

@@ -2,7 +2,7 @@
 
 use app_commands::{
     CONSTANT, FILE, FROM, NAMES, NAMES_ARGUMENT, NETWORK, PROGRAM, PlanPaths, QUIET,
-    QUIET_ARGUMENT, ROUND,
+    QUIET_ARGUMENT, ROUND, RunTexts,
 };
 use app_table::{Argument, Command, OPTION, Reading, WordsFault};
 use std::alloc::Global;
@@ -56,7 +56,7 @@ pub fn verify_command() -> &'static Command {
 /// What `verify` is asked for.
 #[derive(Drop)]
 pub struct VerifyRequest {
-    pub plan: PlanPaths,
+    pub texts: RunTexts,
     /// The path of the trace.
     pub trace: String,
     /// The path of the names of the nodes, where they are called by names.
@@ -74,7 +74,7 @@ fn request_in(reading: &mut Reading) -> VerifyRequest {
     let plan = PlanPaths::of(reading);
     let until_round = reading.number_or(&UNTIL_ROUND_ARGUMENT, 0);
     VerifyRequest {
-        plan,
+        texts: RunTexts::of_plan(reading.alloc(), plan),
         trace,
         names,
         until_round,

@@ -5,7 +5,7 @@ use Rattle.std.specs.Prelude.{position}
 use Rattle.std.specs.List.{list_any}
 use Rattle.link_net.specs.declared.draft.Draft.{Draft}
 use Rattle.link_net.specs.declared.fault.NetFault.{NetFault}
-use Rattle.link_net.specs.declared.fault.NetFault.TheVariants.{NodeCount, BadLink, SelfLink, LinkTwice, TooManyLinks, BadPhase, BadWeight}
+use Rattle.link_net.specs.declared.fault.NetFault.TheVariants.{BadLink, SelfLink, LinkTwice, TooManyLinks, BadPhase, BadWeight}
 use Rattle.link_net.specs.Arcs.{Arc}
 use Rattle.link_net.specs.Causes.{refusal_of}
 use Rattle.link_net.specs.Limits.{most_nodes, most_links}

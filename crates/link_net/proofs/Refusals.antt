@@ -1,19 +1,19 @@
 -- Refusals, step by step.
 use Rattle.std.proofs.Common.{◌≡◌, ◌∙◌, ℕ, ℤ, ◌-◌, Bool, true, false, ◌||◌, List, [], ◌∷◌, length, map, nat_lt, Option, Some, None, option_map, is_none, Result, Ok, Err, refl, sym, ap, inl, inr}
-use Rattle.std.specs.Prelude.{codes, option_and_then, take, slice_get, IsSomeAnd, find}
+use Rattle.std.specs.Prelude.{option_and_then, take, slice_get, IsSomeAnd, find}
 use Rattle.std.specs.List.{list_any}
 use Rattle.std.proofs.lemmas.Bool.{cases_Bool}
 use Rattle.std.proofs.lemmas.List.{length-map, take-map}
 use Rattle.std.proofs.lemmas.Option.{slice_get-map}
-use Rattle.toml.specs.Data.{Members, get_member, as_table}
+use Rattle.toml.specs.Data.{Members}
 use Rattle.link_net.specs.declared.cause.NetCause.{NetCause}
 use Rattle.link_net.specs.declared.cause.NetCause.TheVariants as cause
 use Rattle.link_net.specs.declared.draft.Draft.{Draft}
 use Rattle.link_net.specs.declared.field_set.FieldSet.{FieldSet}
 use Rattle.link_net.specs.declared.fault.NetFault.{NetFault}
-use Rattle.link_net.specs.declared.fault.NetFault.TheVariants.{TooManyNeighbours, UnknownKey, BadShape}
+use Rattle.link_net.specs.declared.fault.NetFault.TheVariants.{TooManyNeighbours}
 use Rattle.link_net.specs.Arcs.{Arc}
-use Rattle.link_net.specs.Causes.{refusal_of, fault_if, AreTwice, IsLinkCause, IsNumberCause, IsSetCause, IsShapeCause, IsDocumentCause}
+use Rattle.link_net.specs.Causes.{refusal_of, fault_if, AreTwice, IsLinkCause, IsNumberCause}
 use Rattle.link_net.specs.Document.{has_unknown_key, nodes_of, links_of, phase_of, field_sets_of, draft_of}
 use Rattle.link_net.specs.Limits.{most_nodes, most_links, most_neighbours}
 use Rattle.link_net.specs.Links.{is_self_link, has_link_twice, joins, linked_with}

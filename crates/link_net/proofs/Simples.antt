@@ -1,5 +1,5 @@
 -- Rows without a fault are a simple network, and what a search by halves says of a link.
-use Rattle.std.proofs.Common.{◌≡◌, ◌≢◌, ◌∙◌, ℕ, zero, suc, ◌+◌, ◌-◌, ◌<◌, ◌≤◌, ◌==◌, ◌&&◌, ◌||◌, Bool, true, false, not, List, [], ◌∷◌, map, length, get_or, nat_lt, nat_le, nat_cmp, refl, sym, ap, Result, Ok, Err, None, arith, inl, inr, ⊎_elim}
+use Rattle.std.proofs.Common.{◌≡◌, ◌≢◌, ◌∙◌, ℕ, zero, suc, ◌+◌, ◌-◌, ◌<◌, ◌≤◌, ◌==◌, ◌&&◌, ◌||◌, Bool, true, false, List, [], ◌∷◌, map, length, get_or, nat_lt, nat_le, nat_cmp, refl, sym, ap, Ok, Err, None, arith, inl, inr, ⊎_elim}
 use Rattle.std.specs.List.{list_any}
 use Rattle.std.specs.List.Sorted.{IsBinarySearchResult}
 use Rattle.std.proofs.lemmas.Bool.{cases_Bool, cases_lt, not-false}
@@ -111,14 +111,14 @@ found_at r u w k up low is =
           let e = get_or_default r i d (0, 0) inside in
           elim (cases_Bool (nat_lt i k)) [
             | inl before ↦ let less : i < k = grind (arith, nat_tests) in
-              let n : (get_or r i (0, 0)).0 ≢ u = λ s. absurd (omega (arith, up i k less low, s, is)) in
-              rw e (fails_first (get_or r i (0, 0)).0 u (get_or r i (0, 0)).1 w n)
+                let n : (get_or r i (0, 0)).0 ≢ u = λ s. absurd (omega (arith, up i k less low, s, is)) in
+                rw e (fails_first (get_or r i (0, 0)).0 u (get_or r i (0, 0)).1 w n)
             | inr past ↦ elim (cases_Bool (nat_lt k i)) [
               | inl after ↦ let less : k < i = grind (arith, nat_tests) in
-                let n : (get_or r i (0, 0)).0 ≢ u = λ s. absurd (omega (arith, up k i less inside, s, is)) in
-                rw e (fails_first (get_or r i (0, 0)).0 u (get_or r i (0, 0)).1 w n)
+                  let n : (get_or r i (0, 0)).0 ≢ u = λ s. absurd (omega (arith, up k i less inside, s, is)) in
+                  rw e (fails_first (get_or r i (0, 0)).0 u (get_or r i (0, 0)).1 w n)
               | inr same ↦ let here : i ≡ k = grind (arith, nat_tests) in
-                rw (e, here, other) (and_false ((get_or r k (0, 0)).0 == u))
+                  rw (e, here, other) (and_false ((get_or r k (0, 0)).0 == u))
             ]
           ]
 

@@ -1,17 +1,16 @@
 -- What is known of nodes that are found free, and of those that are drawn.
-use Rattle.std.proofs.Common.{◌≡◌, ◌≢◌, ℕ, zero, suc, ◌+◌, ◌<◌, ◌≤◌, Bool, true, false, ◌&&◌, List, [], ◌∷◌, ◌++◌, length, append-nil, get_or, Option, Some, None, Result, Ok, Err, sym, refl, ap, subst, ◌∙◌, inl, inr, ⊎_elim, arith, if◌then◌else◌}
+use Rattle.std.proofs.Common.{◌≡◌, ℕ, zero, suc, ◌+◌, ◌<◌, ◌≤◌, Bool, true, false, ◌&&◌, List, [], ◌∷◌, ◌++◌, length, append-nil, get_or, Option, None, Result, Ok, Err, sym, refl, ap, subst, ◌∙◌, inl, inr, ⊎_elim, arith, if◌then◌else◌}
 use Rattle.std.specs.List.{All, AllPairs, filter, range_with_len}
 use Rattle.std.specs.Result.{IfOk}
 use Rattle.std.proofs.lemmas.List.Elements.{All-nil, All-cons, All-push, filter-append, filter_passes}
 use Rattle.std.proofs.lemmas.List.Kept.{AllPairs-cons, AllPairs-filter}
 use Rattle.std.proofs.lemmas.List.Quantifiers.{all_pairs_push}
-use Rattle.std.proofs.lemmas.Bool.{cases_eq, cases_lt, false≢true}
-use Rattle.std.proofs.lemmas.Bool.Decides.{nat_tests}
+use Rattle.std.proofs.lemmas.Bool.{cases_lt, false≢true}
 use Rattle.link_net.specs.Neighbours.{numbers_below}
 use Rattle.unison_world.specs.View.{WorldView}
 use Rattle.unison_world.proofs.Sights.{cases_bool, lt_false}
 use Rattle.unison_world.proofs.Turnings.{Has, has_range}
-use Rattle.run_schedule.specs.declared.daemon.Daemon.TheVariants.{Central, Synchronous, Distributed, Adversary}
+use Rattle.run_schedule.specs.declared.daemon.Daemon.TheVariants.{Synchronous, Distributed}
 use Rattle.run_schedule.specs.Daemons.{AreChosen, AreDrawn, MayBePut, MayMove, NoneFree, free_nodes, is_but, is_enabled, is_free}
 use Rattle.run_schedule.proofs.Fronts.{range-next}
 

@@ -18,7 +18,7 @@ use Rattle.unison_world.proofs.Writes.{answer-unready}
 use Rattle.unison_world.proofs.Sights.{cases_bool, lt_false, lt_true}
 use Rattle.unison_world.proofs.Turnings.{run-snoc}
 use Rattle.unison_trace.specs.Histories.{is_change}
-use Rattle.run_schedule.specs.Mixing.{changing, most_refused, ArePut, HasLink, IsLinked, IsRefused, MayStand, StandAmong}
+use Rattle.run_schedule.specs.Mixing.{changing, HasLink, IsLinked, IsRefused, MayStand, StandAmong}
 use Rattle.run_schedule.proofs.Fronts.{front-more}
 
 changing-more : (network : Neighbours) (stop : ℕ) (c : Counts) (xs : List Step) (s : Step) → changing network stop c (xs ++ s ∷ []) ≡ changing network stop c xs ++ (if is_change (answer_of network stop (run network stop c xs) s) then s ∷ [] else [])

@@ -45,7 +45,7 @@ fn run_task(
         Task::Cuts => tell_cuts(rt, threads, words),
         Task::Dot => make_dot(rt, threads, words),
         Task::Expand => expand_model(rt, words),
-        Task::Explain => explain_schedule(rt, words),
+        Task::Explain => explain_schedule(rt, threads, words),
         Task::Generate => generate_network(rt, words),
         Task::Image => make_image(rt, threads, words),
         Task::Import => import_network(rt, threads, words),
@@ -59,7 +59,7 @@ fn run_task(
         Task::Page => make_page(rt, threads, words),
         Task::Schedule => make_schedule(rt, words),
         Task::Settle => settle_rounds(rt, threads, words),
-        Task::Verify => verify_trace(rt, words),
+        Task::Verify => verify_trace(rt, threads, words),
         Task::Watch => watch_rounds(rt, threads, words),
         Task::Why => why_command(rt, words),
     }

@@ -37,7 +37,12 @@ fn opening_phase(plan: &SimplePlan<'_>) -> Phase
 }
 
 /// A node before any step.
-fn opening_node(alloc: Global, plan: &SimplePlan<'_>, phase: Phase, node: u32) -> Result<Node, AllocError>
+fn opening_node(
+    alloc: Global,
+    plan: &SimplePlan<'_>,
+    phase: Phase,
+    node: u32,
+) -> Result<Node, AllocError>
     requires plan { IsSimplePlan plan.now }
     requires phase { phase ≡ (plan.now.phase + plan.now.start) % 3 }
     requires node { node < length plan.now.network }

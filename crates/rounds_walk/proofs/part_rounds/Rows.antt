@@ -1,7 +1,6 @@
 -- Rows that are looked up.
-use Rattle.std.proofs.Common.{◌≡◌, ◌∙◌, ℕ, zero, suc, List, [], ◌∷◌, map, slice_get, Option, Some, None, option_map, unwrap_or, Bor, refl, ap, arith, length, get_or, ◌<◌}
+use Rattle.std.proofs.Common.{◌≡◌, ◌∙◌, ℕ, List, map, ap, arith, length, get_or, ◌<◌}
 use Rattle.std.proofs.lemmas.List.{get_or-map, length-map}
-use Rattle.link_net.specs.Neighbours.{Neighbours, row}
 
 -- one part of each link of a row: as many, and slot by slot
 pub so_many : (f : ℕ × ℕ → ℕ) (links : List (ℕ × ℕ)) (xs : List ℕ) → xs ≡ map f links → length xs ≡ length links

@@ -1,5 +1,5 @@
 -- What is looked up in a network.
-use Rattle.std.proofs.Common.{◌≡◌, ◌∙◌, ℕ, zero, suc, List, [], ◌∷◌, get_or, Option, Some, None, slice_get, refl}
+use Rattle.std.proofs.Common.{◌≡◌, ℕ, zero, suc, List, [], ◌∷◌, get_or, Option, Some, None, slice_get, refl}
 use Rattle.std.specs.Option.{option_map, unwrap_or}
 
 pub mapped_or : {X : Type 0} (f : X → List ℕ) (o : Option X) (d : X) → f (unwrap_or o d) ≡ unwrap_or (option_map f o) (f d)

@@ -78,7 +78,12 @@ fn put_holds(out: &mut String, world: &WorldRef<'_>, holds: State) -> Result<(),
 }
 
 /// What is taken of a neighbour that is ahead, and what that one holds.
-fn put_ahead(out: &mut String, world: &WorldRef<'_>, taken: State, holds: State) -> Result<(), AllocError>
+fn put_ahead(
+    out: &mut String,
+    world: &WorldRef<'_>,
+    taken: State,
+    holds: State,
+) -> Result<(), AllocError>
     ensures words { OnOk result (string_bytes out.new ≡ string_bytes out.old ++ (codes ", which is one ahead: takes" ++ (fields_text (names_of world.now.plan.program) taken.words ++ (codes ", its previous state (it holds" ++ (fields_text (names_of world.now.plan.program) holds.words ++ codes ")"))))) }
 {
     out.push_str(", which is one ahead: takes")?;

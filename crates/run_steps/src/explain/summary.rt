@@ -58,7 +58,11 @@ fn put_counts(out: &mut String, world: &WorldRef<'_>, difference: u32) -> Result
 }
 
 /// The summary of the steps that led to a world.
-pub(crate) fn put_summary(out: &mut String, world: &WorldRef<'_>, way: Way) -> Result<(), AllocError>
+pub(crate) fn put_summary(
+    out: &mut String,
+    world: &WorldRef<'_>,
+    way: Way,
+) -> Result<(), AllocError>
     requires room { total way.answered < 2 ^ 64 }
     ensures lines { OnOk result (string_bytes out.new ≡ string_bytes out.old ++ summary_lines way.answered world.now.counts way.difference) }
 {

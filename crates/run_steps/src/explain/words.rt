@@ -25,7 +25,12 @@ fn put_at_count(out: &mut String, world: &WorldRef<'_>, node: u32) -> Result<(),
 }
 
 /// That the neighbour at a slot has moved less often than the node.
-fn put_behind(out: &mut String, world: &WorldRef<'_>, node: u32, neighbour: u32) -> Result<(), AllocError>
+fn put_behind(
+    out: &mut String,
+    world: &WorldRef<'_>,
+    node: u32,
+    neighbour: u32,
+) -> Result<(), AllocError>
     ensures words { OnOk result (string_bytes out.new ≡ string_bytes out.old ++ (codes "Behind: neighbour " ++ (at_count world.now.counts neighbour ++ (codes ", node " ++ at_count world.now.counts node)))) }
 {
     out.push_str("Behind: neighbour ")?;
@@ -82,7 +87,12 @@ fn put_not_ready(out: &mut String, world: &WorldRef<'_>, node: u32) -> Result<()
 }
 
 /// The answer to a write, with its reason.
-fn put_write(out: &mut String, world: &WorldRef<'_>, node: u32, answer: Answer) -> Result<(), AllocError>
+fn put_write(
+    out: &mut String,
+    world: &WorldRef<'_>,
+    node: u32,
+    answer: Answer,
+) -> Result<(), AllocError>
     ensures words { OnOk result (string_bytes out.new ≡ string_bytes out.old ++ write_words world.now.plan.network world.now.counts node answer) }
 {
     let count = world.moves(node) + 1;

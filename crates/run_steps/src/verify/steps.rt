@@ -54,7 +54,13 @@ fn first_unread(world: &WorldRef<'_>, node: u32) -> u32
 }
 
 /// Why a read is refused.
-fn read_refused(world: &WorldRef<'_>, line: u64, node: u32, slot: u32, answer: Answer) -> VerifyFault
+fn read_refused(
+    world: &WorldRef<'_>,
+    line: u64,
+    node: u32,
+    slot: u32,
+    answer: Answer,
+) -> VerifyFault
     requires stop { world.now.stop ≡ most_rounds }
     requires step { IsStepOf world.now.plan.network (Step.Read node slot) }
     requires answer { answer ≡ answer_in world.now (Step.Read node slot) }

@@ -1,4 +1,4 @@
-use Rattle.std.proofs.Common.{◌∙◌, map, sym, ap, subst, nat_eq, nat_cmp, slice_index_or, Ok, Err}
+use Rattle.std.proofs.Common.{◌∙◌, sym, ap, subst, nat_eq, nat_cmp, slice_index_or, Ok, Err}
 use Rattle.std.specs.List.Sorted.{IsBinarySearchResult}
 use Rattle.link_net.specs.Neighbours.{row}
 use Rattle.link_net.proofs.Simples.{link_at, no_link, seconds}

@@ -1,4 +1,4 @@
-use Rattle.std.proofs.Common.{arith, ◌≡◌, ℕ, length, refl, slice_get, Some}
+use Rattle.std.proofs.Common.{arith, ◌≡◌, length, refl, slice_get, Some}
 use Rattle.std.proofs.lemmas.Option.{slice_get_read}
 use Rattle.unison_world.proofs.Sights.{moves_at}
 use Rattle.unison_world.proofs.world_ref.WorldRef.moves.Goals as goal
