@@ -47,7 +47,7 @@ fn not_simple(alloc: Global, path: &str, rows: &NetRows<'_>, fault: SimpleFault)
     let name = name_at(path);
     match told_of(alloc, rows, fault) {
         Ok((kind, told)) => Ending::refused(format!(in alloc;
-            "network {kind}\n{name}: {told}; nodes move at their own pace where links lead both ways, with one weight, and join two nodes once"
+            "network {kind}\n{name}: {told}; this command takes networks whose links lead both ways, with one weight, and join two nodes once"
         )),
         Err(_) => Ending::Memory,
     }
