@@ -4,7 +4,6 @@ pub mod Nearing
 pub mod Way
 pub mod Reading
 pub mod Counting
-pub mod Previous
 pub mod Seeing
 pub mod Stopping
 pub mod Saying

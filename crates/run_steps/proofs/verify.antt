@@ -1,4 +1,3 @@
-pub mod Looking
 pub mod Answering
 pub mod Holding
 pub mod Refusing

@@ -1,3 +1,4 @@
+pub mod Previous
 pub mod explain
 pub mod script
 pub mod verify

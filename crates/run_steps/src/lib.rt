@@ -2,5 +2,6 @@
 #![tactic(auto)]
 
 pub mod explain;
+mod previous;
 pub mod script;
 pub mod verify;

@@ -1,22 +1,18 @@
 -- What is found of a trace: from the world before any step to the verdict.
-use Rattle.std.proofs.Common.{◌≡◌, ◌≢◌, ℕ, ◌-◌, List, [], length, slice_index_or, nat_lt, false, Option, Result, Ok, Err, IfErr, append-nil, refl, sym, ap, ◌∙◌, subst, arith}
+use Rattle.std.proofs.Common.{◌≡◌, ◌≢◌, ℕ, List, [], nat_lt, false, Option, Result, Ok, Err, IfErr, append-nil, refl, sym, ◌∙◌, subst, arith}
 use Rattle.std.proofs.lemmas.Bool.Decides.{nat_tests}
 use Rattle.import_lines.specs.Texts.{told_from}
-use Rattle.rule_check.specs.declared.state.State.{State}
-use Rattle.rounds_plan.specs.Configs.{blank, most_rounds}
+use Rattle.rounds_plan.specs.Configs.{most_rounds}
 use Rattle.rounds_plan.specs.Plans.{PlanView}
 use Rattle.rounds_plan.specs.Starts.{IsSimplePlan}
-use Rattle.rounds_plan.specs.Lockstep.{lockstep, lockstep-start}
-use Rattle.unison_world.specs.Counting.{Counts, moves_of}
+use Rattle.unison_world.specs.Counting.{Counts}
 use Rattle.unison_world.specs.Opening.{opening_of}
-use Rattle.unison_world.specs.View.{WorldView, opened}
-use Rattle.unison_world.proofs.Starts.{lockstep-early}
-use Rattle.unison_world.proofs.Steps.{moves-at_start}
+use Rattle.unison_world.specs.View.{opened}
 use Rattle.run_steps.specs.declared.verify.entry.Entry.{Entry}
 use Rattle.run_steps.specs.declared.verify.verified.Verified.{Verified}
 use Rattle.run_steps.specs.declared.verify.fault.VerifyFault.{VerifyFault}
 use Rattle.run_steps.specs.declared.verify.fault.VerifyFault.TheVariants.{Memory}
-use Rattle.run_steps.specs.verify.Walks.{HasBefore, Runs, Walked, IsWalked, IsStopped}
+use Rattle.run_steps.specs.verify.Walks.{Runs, Walked, IsWalked, IsStopped}
 use Rattle.run_steps.proofs.verify.Refusing.{none-bad}
 
 -- no plan starts behind the last round, so its world opens
@@ -26,17 +22,6 @@ opens plan is =
     let a : nat_lt most_rounds most_rounds ≡ false = grind (arith, nat_tests) in
     let b : nat_lt most_rounds plan.start ≡ false = grind (arith, nat_tests) in
     rw (a, b) refl
-
--- before any step the states before are the initial ones
-pub before-opened : (w : WorldView) (states : List State) → w ≡ opened w.plan most_rounds → IsSimplePlan w.plan → states ≡ w.plan.opening → HasBefore w states
-before-opened w states is plan same =
-    let p = w.plan in
-    record {
-      one_each = ap length same ∙ plan.opening;
-      each = λ u less. (
-          let count : moves_of w.counts u ≡ p.start = ap (λ (x : WorldView). moves_of x.counts u) is ∙ moves-at_start p.network p.start u less in
-          ap (λ (xs : List State). slice_index_or xs u blank) same ∙ sym (lockstep-start p u) ∙ sym (lockstep-early p u) ∙ ap (λ t. lockstep p (t - 1) u) (sym count));
-    }
 
 module _ (plan : PlanView) (names : Option (List (List ℕ))) (text : List ℕ) where
   -- all lines are walked through

@@ -1,11 +1,9 @@
 -- The registers of nodes at some counts, and what a node sees of a neighbour's.
-use Rattle.std.specs.Prelude.{◌≡◌, ◌⊎◌, ℕ, ◌+◌, ◌-◌, ◌%◌, ◌≤◌, ◌<◌, List, length, slice_index_or}
-use Rattle.rule_check.specs.declared.state.State.{State}
+use Rattle.std.specs.Prelude.{◌≡◌, ◌⊎◌, ℕ, ◌+◌, ◌-◌, ◌%◌, ◌≤◌, ◌<◌, List}
 use Rattle.link_net.specs.Neighbours.{degree, neighbour}
 use Rattle.phase_register.specs.Looks.{RegisterView, look_by_counts, look_by_phases}
 use Rattle.phase_register.specs.declared.register.Look.{Look}
 use Rattle.phase_register.specs.declared.register.Look.TheVariants.{Level, Ahead}
-use Rattle.rounds_plan.specs.Configs.{blank}
 use Rattle.rounds_plan.specs.Plans.{PlanView}
 use Rattle.rounds_plan.specs.Starts.{IsSimplePlan}
 use Rattle.rounds_plan.specs.Lockstep.{lockstep}
@@ -13,7 +11,6 @@ use Rattle.unison_world.specs.declared.step.Step.{Step}
 use Rattle.unison_world.specs.declared.step.Step.TheVariants.{Read}
 use Rattle.unison_world.specs.declared.step.Answer.TheVariants.{Taken}
 use Rattle.unison_world.specs.Counting.{Counts, moves_of, answer_of}
-use Rattle.unison_world.specs.View.{WorldView}
 use Rattle.unison_trace.specs.Histories.{run_of}
 
 -- the phase that a node shows: the plan's, as many steps on as the node has moved
@@ -28,11 +25,6 @@ register_of plan c u = record { phase = phase_of plan c u; current = lockstep pl
 -- what node u sees of the register of node v: level, ahead or behind, with the state to take
 abbrev pub look_of : PlanView → Counts → ℕ → ℕ → Look
 look_of plan c u v = look_by_counts (moves_of c u) (moves_of c v) (register_of plan c v)
-
--- for each node the previous state of its register
-pub record HasPrevious (w : WorldView) (previous : List State) : Type 0 where
-  pub one_each : length previous ≡ length w.plan.network
-  pub each : (u : ℕ) → u < length w.plan.network → slice_index_or previous u blank ≡ (register_of w.plan w.counts u).previous
 
 -- node v has moved as often as node u, which sees its current state, or once more, and u sees its previous one; either is the lockstep
 -- state of v in the round of u's own count

@@ -1,16 +1,13 @@
 -- How a trace is walked through. The clauses of private functions speak of this, by what lines are read as; what it is for stands in Traces.
-use Rattle.std.specs.Prelude.{◌≡◌, ◌≢◌, ◌⊎◌, ℕ, ◌<◌, ◌-◌, ◌∷◌, ◌++◌, List, length, map, slice_index_or, Option, Ok, Err}
+use Rattle.std.specs.Prelude.{◌≡◌, ◌≢◌, ◌⊎◌, ℕ, ◌<◌, ◌∷◌, ◌++◌, List, length, map, Option, Ok, Err}
 use Rattle.std.specs.List.{count_by}
 use Rattle.link_net.specs.Neighbours.{Neighbours, degree}
-use Rattle.rule_check.specs.declared.state.State.{State}
 use Rattle.import_lines.specs.Texts.{told_from}
-use Rattle.rounds_plan.specs.Configs.{blank, most_rounds}
+use Rattle.rounds_plan.specs.Configs.{most_rounds}
 use Rattle.rounds_plan.specs.Plans.{PlanView}
-use Rattle.rounds_plan.specs.Lockstep.{lockstep}
 use Rattle.unison_world.specs.declared.step.Step.{Step}
 use Rattle.unison_world.specs.declared.step.Step.TheVariants.{Read, Write}
-use Rattle.unison_world.specs.Counting.{Counts, moves_of, at_start}
-use Rattle.unison_world.specs.View.{WorldView}
+use Rattle.unison_world.specs.Counting.{Counts, at_start}
 use Rattle.unison_trace.specs.Histories.{LeadTo}
 use Rattle.run_steps.specs.declared.verify.entry.Entry.{Entry}
 use Rattle.run_steps.specs.declared.verify.fault.VerifyFault.{VerifyFault}
@@ -24,11 +21,6 @@ use Rattle.run_steps.specs.verify.Traces.{IsUnheld, has_value}
 abbrev pub IsStepOf : Neighbours → Step → Type 0
 IsStepOf network (Read u j) = (u < length network) × (j < degree network u)
 IsStepOf network (Write u) = u < length network
-
--- for each node the lockstep state that it had before its last move; at the start the initial one
-pub record HasBefore (w : WorldView) (before : List State) : Type 0 where
-  pub one_each : length before ≡ length w.plan.network
-  pub each : (u : ℕ) → u < length w.plan.network → slice_index_or before u blank ≡ lockstep w.plan (moves_of w.counts u - 1) u
 
 -- these lines are read as entries, whose steps are a run to these counts, and whose values agree with it
 pub record Runs (plan : PlanView) (names : Option (List (List ℕ))) (told : List (ℕ × List ℕ)) (entries : List Entry) (counts : Counts) : Type 0 where

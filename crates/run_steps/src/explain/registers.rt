@@ -1,11 +1,11 @@
 //! What registers hold, and what a node sees of a neighbour's.
-ghost use Rattle.std.specs.Prelude.{◌≡◌, ◌<◌, length, IfOk};
-ghost use Rattle.unison_world.specs.View.{answer_in, opened, world_after};
-ghost use Rattle.run_steps.specs.explain.Registers.{HasPrevious, look_of};
+ghost use Rattle.std.specs.Prelude.{◌≡◌, ◌<◌, length};
+ghost use Rattle.unison_world.specs.View.{answer_in, world_after};
+ghost use Rattle.run_steps.specs.Previous.{HasPrevious};
+ghost use Rattle.run_steps.specs.explain.Registers.{look_of};
 
 use phase_register::Look;
 use rule_check::State;
-use std::alloc::{AllocError, Global};
 use unison_world::{Answer, Step, WorldRef};
 
 /// What a node sees of the register of another.
@@ -23,17 +23,6 @@ pub(crate) fn look(world: &WorldRef<'_>, previous: &[State], node: u32, neighbou
     } else {
         Look::Behind
     }
-}
-
-/// The previous states of all nodes before any step.
-pub(crate) fn opening_states(alloc: Global, world: &WorldRef<'_>) -> Result<Vec<State>, AllocError>
-    requires opened { world.now ≡ opened world.now.plan world.now.stop }
-    ensures previous { IfOk result (λ v. HasPrevious world.now v.items) }
-{
-    // For the proof alone: the call tells what holds of every plan.
-    let _nodes = world.nodes();
-    let states = world.plan().openings().to_vec(alloc)?;
-    Ok(states)
 }
 
 /// A move, behind which the node's state before it is the previous one.

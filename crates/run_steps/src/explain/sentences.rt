@@ -7,7 +7,7 @@ ghost use Rattle.rule_check.specs.Value.{names_of};
 ghost use Rattle.report_text.specs.Report.{fields_text};
 ghost use Rattle.unison_world.specs.Counting.{moves_of};
 ghost use Rattle.unison_world.specs.View.{answer_in, state_of, world_after};
-ghost use Rattle.run_steps.specs.explain.Registers.{HasPrevious};
+ghost use Rattle.run_steps.specs.Previous.{HasPrevious};
 ghost use Rattle.run_steps.specs.explain.Sentences.{called, look_sentence, look_words, no_node_words, read_sentence, reads_words, sentence, write_sentence};
 
 use crate::explain::looks::{first_unread, slots_read};

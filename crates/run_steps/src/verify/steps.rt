@@ -8,7 +8,8 @@ ghost use Rattle.unison_world.specs.Counting.{is_marked, moves_of};
 ghost use Rattle.unison_world.specs.View.{answer_in, world_after};
 ghost use Rattle.run_steps.specs.verify.Traces.{IsFirstUnread, IsRefusal, IsUnheld};
 ghost use Rattle.run_steps.specs.verify.Shown.{Agrees, DiffersFirst, mover, shown_node, shown_round, shown_state};
-ghost use Rattle.run_steps.specs.verify.Walks.{HasBefore, IsStepOf};
+ghost use Rattle.run_steps.specs.Previous.{HasPrevious};
+ghost use Rattle.run_steps.specs.verify.Walks.{IsStepOf};
 
 use crate::verify::entry::{Entry, Given};
 use crate::verify::fault::VerifyFault;
@@ -108,7 +109,7 @@ fn move_refused(world: &WorldRef<'_>, line: u64, node: u32, answer: Answer) -> V
 /// the one before.
 fn state_read(world: &WorldRef<'_>, before: &[State], node: u32, slot: u32) -> State
     requires step { IsStepOf world.now.plan.network (Step.Read node slot) }
-    requires before { HasBefore world.now before.now }
+    requires before { HasPrevious world.now before.now }
     requires taken { answer_in world.now (Step.Read node slot) ≡ Answer.Taken }
     ensures { result ≡ shown_state world.now.plan world.now.counts (Step.Read node slot) }
 {
@@ -131,11 +132,11 @@ fn read(
 ) -> Result<State, VerifyFault>
     requires stop { world.old.stop ≡ most_rounds }
     requires step { IsStepOf world.old.plan.network (Step.Read node slot) }
-    requires before { HasBefore world.old before.now }
+    requires before { HasPrevious world.old before.now }
     ensures taken { OnOk result (answer_in world.old (Step.Read node slot) ≡ Answer.Taken) }
     ensures shown { IfOk result (λ state. state ≡ shown_state world.old.plan world.old.counts (Step.Read node slot)) }
     ensures after { OnOk result (world.new ≡ world_after world.old (Step.Read node slot)) }
-    ensures before { OnOk result (HasBefore world.new before.now) }
+    ensures before { OnOk result (HasPrevious world.new before.now) }
     ensures refused { IfErr result (IsRefusal world.old.plan.network world.old.counts line (Step.Read node slot)) }
 {
     let step = Step::Read { node, slot };
@@ -157,11 +158,11 @@ fn move_on(
 ) -> Result<State, VerifyFault>
     requires stop { world.old.stop ≡ most_rounds }
     requires node { node < length world.old.plan.network }
-    requires before { HasBefore world.old before.old }
+    requires before { HasPrevious world.old before.old }
     ensures moved { OnOk result (answer_in world.old (Step.Write node) ≡ Answer.Moved) }
     ensures shown { IfOk result (λ state. state ≡ shown_state world.old.plan world.old.counts (Step.Write node)) }
     ensures after { OnOk result (world.new ≡ world_after world.old (Step.Write node)) }
-    ensures before { OnOk result (HasBefore world.new before.new) }
+    ensures before { OnOk result (HasPrevious world.new before.new) }
     ensures refused { IfErr result (IsRefusal world.old.plan.network world.old.counts line (Step.Write node)) }
 {
     // For the proof alone: the call tells that there is a count for each node.
@@ -185,11 +186,11 @@ fn make(
 ) -> Result<State, VerifyFault>
     requires stop { world.old.stop ≡ most_rounds }
     requires step { IsStepOf world.old.plan.network step }
-    requires before { HasBefore world.old before.old }
+    requires before { HasPrevious world.old before.old }
     ensures changes { OnOk result (IsTrue (is_change (answer_in world.old step))) }
     ensures shown { IfOk result (λ state. state ≡ shown_state world.old.plan world.old.counts step) }
     ensures after { OnOk result (world.new ≡ world_after world.old step) }
-    ensures before { OnOk result (HasBefore world.new before.new) }
+    ensures before { OnOk result (HasPrevious world.new before.new) }
     ensures refused { IfErr result (IsRefusal world.old.plan.network world.old.counts line step) }
 {
     match step {
@@ -258,11 +259,11 @@ pub(crate) fn hold(
 ) -> Result<(), VerifyFault>
     requires stop { world.old.stop ≡ most_rounds }
     requires step { IsStepOf world.old.plan.network entry.now.step }
-    requires before { HasBefore world.old before.old }
+    requires before { HasPrevious world.old before.old }
     ensures changes { OnOk result (IsTrue (is_change (answer_in world.old entry.now.step))) }
     ensures agrees { OnOk result (Agrees entry.now.given (shown_state world.old.plan world.old.counts entry.now.step)) }
     ensures after { OnOk result (world.new ≡ world_after world.old entry.now.step) }
-    ensures before { OnOk result (HasBefore world.new before.new) }
+    ensures before { OnOk result (HasPrevious world.new before.new) }
     ensures refused { IfErr result (IsUnheld world.old.plan world.old.counts line entry.now) }
 {
     let node = shown_node(world, entry.step);

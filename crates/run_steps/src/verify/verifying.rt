@@ -8,8 +8,10 @@ ghost use Rattle.unison_world.specs.Counting.{Counts};
 ghost use Rattle.unison_world.specs.View.{opened};
 ghost use Rattle.run_steps.specs.declared.verify.entry.Entry.{Entry};
 ghost use Rattle.run_steps.specs.verify.Traces.{HoldsAs, IsFound, IsRefused, has_value};
-ghost use Rattle.run_steps.specs.verify.Walks.{HasBefore, IsStopped, IsWalked, Walked};
+ghost use Rattle.run_steps.specs.Previous.{HasPrevious};
+ghost use Rattle.run_steps.specs.verify.Walks.{IsStopped, IsWalked, Walked};
 
+use crate::previous::opening_states;
 use crate::verify::entry::Entry;
 use crate::verify::fault::VerifyFault;
 use crate::verify::line_reader::entry_at;
@@ -51,7 +53,7 @@ fn walk(
     text: &[u8],
 ) -> Result<(u64, u64), VerifyFault>
     requires opened { world.old ≡ opened world.old.plan most_rounds }
-    requires before { HasBefore world.old before.old }
+    requires before { HasPrevious world.old before.old }
     ensures walked { IfOk result (λ n. Walked world.old.plan (option_map (λ n. n.now) names.entry) (told_from 1 text.now) [] world.new.counts n.0 n.1) }
     ensures plan { OnOk result (world.new.plan ≡ world.old.plan) }
     ensures refused { IfErr result (IsStopped world.old.plan (option_map (λ n. n.now) names.entry) text.now) }
@@ -89,17 +91,6 @@ fn opened<'a>(alloc: Global, plan: SimplePlan<'a>) -> Result<WorldRef<'a>, Alloc
         Ok(world) => Ok(world),
         Err(_) => Err(AllocError),
     }
-}
-
-/// The states of all nodes before any step.
-fn opening_states(alloc: Global, world: &WorldRef<'_>) -> Result<Vec<State>, AllocError>
-    requires opened { world.now ≡ opened world.now.plan most_rounds }
-    ensures before { IfOk result (λ v. HasBefore world.now v.items) }
-{
-    // For the proof alone: the call tells what holds of every plan.
-    let _nodes = world.nodes();
-    let states = world.plan().openings().to_vec(alloc)?;
-    Ok(states)
 }
 
 /// What is found of a trace of a run on a world before any step.

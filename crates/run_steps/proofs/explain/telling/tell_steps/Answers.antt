@@ -4,7 +4,7 @@ use Rattle.std.specs.Option.{option_map}
 use Rattle.unison_world.specs.declared.step.Step.TheVariants.{Read}
 use Rattle.unison_world.specs.Counting.{answer_of, after, answers, run}
 use Rattle.unison_world.specs.View.{with_counts}
-use Rattle.run_steps.specs.explain.Registers.{HasPrevious}
+use Rattle.run_steps.specs.Previous.{HasPrevious}
 use Rattle.run_steps.specs.explain.Differences.{difference_after, greatest_difference}
 use Rattle.run_steps.specs.explain.Summaries.{answered_in, with_answer}
 use Rattle.run_steps.specs.explain.Telling.{step_line, step_lines, counts_part}

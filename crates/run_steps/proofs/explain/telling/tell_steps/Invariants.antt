@@ -3,7 +3,7 @@ use Rattle.std.specs.List.{fold}
 use Rattle.std.specs.Option.{option_map}
 use Rattle.unison_world.specs.Counting.{answers, run}
 use Rattle.run_steps.specs.explain.Differences.{differences_after, greatest_difference}
-use Rattle.run_steps.specs.explain.Registers.{HasPrevious}
+use Rattle.run_steps.specs.Previous.{HasPrevious}
 use Rattle.run_steps.specs.explain.Summaries.{answered_in, total, with_answer}
 use Rattle.run_steps.specs.explain.Telling.{step_lines}
 use Rattle.run_steps.proofs.explain.telling.tell_steps.Given as goal

@@ -2,7 +2,8 @@ use Rattle.std.proofs.Common.{◌≡◌, ◌+◌, ◌≤◌, ◌<◌, ◌^◌, l
 use Rattle.std.specs.Option.{option_map}
 use Rattle.import_lines.specs.Texts.{told_from}
 use Rattle.rounds_plan.specs.Configs.{most_rounds}
-use Rattle.run_steps.specs.verify.Walks.{HasBefore, Walked}
+use Rattle.run_steps.specs.Previous.{HasPrevious}
+use Rattle.run_steps.specs.verify.Walks.{Walked}
 use Rattle.run_steps.proofs.verify.verifying.walk.Given as goal
 
 abbrev pub invariant-loop-number : goal.invariant-loop-number
@@ -11,7 +12,7 @@ invariant-loop-number l =
       room : l.lines.passed + length l.lines.bytes.now < 2 ^ 64;
       same_plan : l.world.plan ≡ l.initial.world.plan;
       same_stop : l.world.stop ≡ most_rounds;
-      before : HasBefore l.world l.before;
+      before : HasPrevious l.world l.before;
       walked : Walked l.initial.world.plan (option_map (λ n. n.now) l.names) (told_from 1 l.text) (told_from (l.lines.passed + 1) l.lines.bytes.now) l.world.counts l.said l.valued;
       many : l.said + length (told_from (l.lines.passed + 1) l.lines.bytes.now) ≡ length (told_from 1 l.text);
       some : l.valued ≤ l.said;

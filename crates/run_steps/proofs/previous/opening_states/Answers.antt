@@ -1,6 +1,6 @@
 use Rattle.std.proofs.Common.{rules, ◌≡◌}
-use Rattle.run_steps.proofs.explain.Previous.{previous-opened}
-use Rattle.run_steps.proofs.explain.registers.opening_states.Goals as goal
+use Rattle.run_steps.proofs.Initially.{previous-opened}
+use Rattle.run_steps.proofs.previous.opening_states.Goals as goal
 
 pub returns : goal.returns
 returns c =

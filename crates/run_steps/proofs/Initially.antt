@@ -8,7 +8,7 @@ use Rattle.unison_world.specs.Counting.{moves_of}
 use Rattle.unison_world.specs.View.{WorldView, opened}
 use Rattle.unison_world.proofs.Starts.{lockstep-early}
 use Rattle.unison_world.proofs.Steps.{moves-at_start}
-use Rattle.run_steps.specs.explain.Registers.{HasPrevious}
+use Rattle.run_steps.specs.Previous.{HasPrevious}
 
 -- before any step the previous states are the initial ones
 pub previous-opened : (w : WorldView) (states : List State) → w ≡ opened w.plan w.stop → IsSimplePlan w.plan → states ≡ w.plan.opening → HasPrevious w states
