@@ -3,10 +3,10 @@ use Rattle.std.proofs.Common.{◌≡◌, ℕ, ◌-◌, ◌≤◌, Bool, true, fa
 use Rattle.std.proofs.lemmas.Bool.Decides.{nat_tests}
 use Rattle.std.proofs.lemmas.List.{length-replicate}
 use Rattle.link_net.specs.Limits.{most_rows}
+use Rattle.link_net.proofs.Searches.{none_mapped}
 use Rattle.large_net.specs.Large.{AreLaidOut}
 use Rattle.large_net.specs.declared.fault.LargeFault.TheVariants.{NodeCount}
 use Rattle.large_net.specs.File.{rows_fault}
-use Rattle.large_net.proofs.Searches.{none_mapped}
 use Rattle.large_net.proofs.Sound.{sound_lists}
 use Rattle.app_calls.specs.declared.large.fault.ListsFault.{ListsFault}
 use Rattle.app_calls.specs.declared.large.fault.ListsFault.TheVariants.{Rows, WeightCount}
