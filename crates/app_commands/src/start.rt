@@ -1,5 +1,5 @@
 //! What rounds begin with, and how many threads make them: the words that all commands share which make rounds.
-ghost use Rattle.std.specs.Prelude.{◌≡◌, ◌==◌, ◌&&◌, ◌≤◌, IfSome, length};
+ghost use Rattle.std.specs.Prelude.{◌≡◌, ◌==◌, ◌&&◌, ◌≤◌, [], IfSome, None, length};
 ghost use Rattle.app_commands.specs.Requests.{AreThreadsWithin};
 
 use crate::arguments::{FILE_OPTION, FLAG, FROM_ARGUMENT, PlanPaths};
@@ -81,7 +81,11 @@ pub struct StartWords {
 
 impl StartWords {
     /// No initial values.
-    pub fn none(alloc: Global) -> StartWords {
+    fn none(alloc: Global) -> StartWords
+        ensures random { result.random.items ≡ [] }
+        ensures files { result.files.items ≡ [] }
+        ensures sets { result.sets.items ≡ [] }
+    {
         StartWords {
             random: Vec::new(alloc),
             overlap: false,
@@ -199,7 +203,11 @@ fn threads_in(reading: &mut Reading) -> Option<u32>
 impl RunTexts {
     /// A plan for which no initial values are asked beside those that it has.
     pub fn of_plan(alloc: Global, plan: PlanPaths) -> RunTexts
-        ensures threads { AreThreadsWithin result }
+        ensures plan { result.plan ≡ plan }
+        ensures random { result.start.random.items ≡ [] }
+        ensures files { result.start.files.items ≡ [] }
+        ensures sets { result.start.sets.items ≡ [] }
+        ensures threads { result.threads ≡ None }
     {
         RunTexts {
             plan,
