@@ -11,7 +11,7 @@ from unison import Network, _files, schedule
 
 FAR = unison.Program(DISTANCE)
 SUM = unison.Program(SWAP)
-TAKEN = "lockstep, watch, count, sweep, settle, cuts and image take any"
+TAKEN = "lockstep, watch, count, sweep, settle, cuts and image take any, explain and verify any size"
 
 
 def one_way(**how):
@@ -182,6 +182,39 @@ def test_what_needs_a_network_file_refuses_others():
             error = raised(unison.NetworkError, ask)
             assert (error.part, error.name, error.number) == ("network", name, number)
             assert str(error) == f"{call}: network is {network!r}: expected a network {wanted}; {TAKEN} (network {name})"
+
+
+def test_steps_on_networks_of_any_size():
+    """A ring of 70,000 nodes, of which node 0 moves twice and its neighbours once."""
+    ring = Network.ring(70_000, set={"s": {0: 5, 1: 7, 69_999: 9}})
+    turns = [step for node in (0, 1, 69_999, 0) for step in schedule.turn(ring, node)]
+    told = unison.explain(SUM, ring, turns).splitlines()
+    assert told[0] == "1  node 0 reads node 1, which has moved as often: takes s=7"
+    assert told[2] == "3  node 0 moves: s=16, its state of round 1", "7 and 9"
+    assert told[5] == "6  node 1 moves: s=5, its state of round 1", "5 and 0"
+    assert told[11] == "12  node 0 moves: s=10, its state of round 2", "5 and 5"
+    trace = ["0 reads 1: s=7", "0 reads 69999: s=9", "0 moves: s=16", "1 reads 0: s=5", "1 reads 2: s=0", "1 moves: s=5"]
+    assert unison.verify(SUM, ring, trace).holds
+    verdict = unison.verify(SUM, ring, [*trace[:5], "1 moves: s=6"])
+    assert (verdict.holds, verdict.line) == (False, 6)
+    later = unison.lockstep(SUM, ring, 3)
+    assert unison.verify(SUM, ring, ["0 reads 1: s=15"], from_=later).holds, "10 of node 0 and 5 of node 2 in round 2"
+    assert unison.verify(SUM, ring, ["0 reads 1: s=14"], from_=later).line == 1
+
+
+def test_steps_want_links_that_lead_both_ways():
+    wanted = "expected a network whose links lead both ways, with one weight, and join two nodes once"
+    for network, name, number, told in (
+        (one_way(), "OneWay", 0, "node 0 has a link to node 1 that node 1 does not have, or has with another weight"),
+        (Network.from_edges([0, 0], [1, 1]), "LinkTwice", 54, "two links join node 0 and node 1"),
+        (Network.from_edges([0, 1], [1, 1]), "SelfLink", 53, "a link joins node 1 with itself"),
+        (Network.from_arrays([0, 2, 3, 4], [2, 1, 0, 0]), "Unordered", 0, "the neighbours of node 0 do not stand by rising number"),
+    ):
+        for call, ask in (("explain", lambda: unison.explain(SUM, network, "")), ("verify", lambda: unison.verify(SUM, network, ""))):
+            error = raised(unison.NetworkError, ask)
+            assert (error.part, error.name, error.number) == ("network", name, number)
+            assert str(error) == f"{call}: network: {told}: {wanted} (network {name})"
+    assert raised(unison.PlanError, lambda: unison.explain(SUM, row(set={"t": 1}), "")).name == "UnknownField"
 
 
 def test_texts_that_say_more_than_a_network_file_has():

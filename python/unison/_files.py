@@ -2,6 +2,7 @@
 
 from __future__ import annotations
 
+import re
 from typing import Any, Dict, List, Mapping, NamedTuple, Optional, Sequence
 
 from . import _calls, _checks, _packed, _programs, faults
@@ -13,6 +14,7 @@ from .program import Program
 
 PROGRAM, NETWORK, REPORT, NAMES = "program.rules", "network.toml", "report.txt", "names.txt"
 LAST = _checks.LAST_ROUND
+SIMPLE = re.compile(rf"{re.escape(FILE)}: (.*); this command takes networks ([^;\n]*)$", re.M)  # where nodes cannot move at their own pace
 FEW = 1000  # nodes whose initial values words tell; those of more stand in a file, with those of all others
 
 
@@ -39,6 +41,10 @@ class Job(NamedTuple):
     def told(self, error: faults.UnisonError) -> faults.UnisonError:
         """The fault in words of the call; that of a plan, a report or a run as the library tells it."""
         error = faults.in_words_of_calls(error, self.call)
+        found = SIMPLE.search(error.diagnosis) if error.part == "network" else None
+        if found is not None:
+            told = f"{self.call}: network: {found[1]}: expected a network {found[2]} (network {error.name})"
+            return faults.NetworkError(error.number, told, (error.part, error.name))
         if self.texts is None or error.number == faults.NO_NUMBER or error.part not in ("plan", "report", "run"):
             return error
         in_texts = error.part != "run"
@@ -74,6 +80,18 @@ def job_of(call: str, program: Any, network: Any, from_: Any = None, constants: 
 def file_job_of(call: str, program: Any, network: Any, from_: Any = None) -> Job:
     """The job of a call that takes a network file."""
     return job_of(call, program, _checks.network(call, network)._file(call), from_)
+
+
+def steps_job_of(call: str, program: Any, network: Any, from_: Any = None) -> Job:
+    """The job of a call on steps of single nodes, which takes a network of any size whose links lead both ways. What is kept as arrays stands with
+    its initial values in one file."""
+    rules, links = _checks.program(call, program), _checks.network(call, network)
+    if not isinstance(links, LargeNetwork):
+        return job_of(call, rules, links, from_)
+    report = _checks.report(call, from_, rules, links)
+    links._check_fields(rules)
+    job = program_job(call, rules, {}).reading(FILE, links._saved)
+    return job.naming("--from", REPORT, report) if report else job
 
 
 def beginning(job: Job, program: Program, network: LargeNetwork, in_words: bool) -> Job:

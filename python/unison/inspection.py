@@ -76,7 +76,8 @@ Step = Union[str, Mapping[str, Any]]
 def verify(program: Program, network: Network, trace: Union[str, bytes, Iterable[Step]], *, from_: Any = None) -> Verdict:
     """Whether a trace of an asynchronous run that was made elsewhere is a run, read by read and move by move (docs/commands/verify.md).
 
-    - `program`: a `Program`, or a `Model`; `network`: a `Network` that a network file says, whose nodes are called by their names.
+    - `program`: a `Program`, or a `Model`; `network`: a `Network` of any size, whose nodes are called by their names. Each of its
+      links joins two nodes, leads both ways with one weight, and stands once.
     - `trace`: a text with a line for each step, as `ann reads bob: s=7` or `ann moves: s=7`; or a list of such lines, or of dicts as
       `{"node": "ann", "reads": "bob", "state": {"s": 7}}` and `{"node": "ann", "moves": True, "state": {"s": 7}}`.
     - `from_`: a result of `lockstep`, or the text of a report, from which the run goes on.
@@ -93,7 +94,7 @@ def verify(program: Program, network: Network, trace: Union[str, bytes, Iterable
     >>> print(verdict.text.splitlines()[-1])
     node 1 reads the state of node 0 before its last move, after round 0: s=5, not s=7
     """
-    job = _files.file_job_of("verify", program, network, from_)
+    job = _files.steps_job_of("verify", program, network, from_)
     names = _files.names_file(network)
     if names is not None:
         job = job.naming("--names", _files.NAMES, names)
@@ -139,6 +140,7 @@ def explain(
 ) -> str:
     """What each step of a schedule does, a line each with a sentence, and below them a summary.
 
+    - `network`: a `Network` of any size, each of whose links joins two nodes, leads both ways with one weight, and stands once.
     - `schedule`: the text of a schedule, or steps as `unison.schedule` makes them; `stop`: the count of moves at which nodes stop.
     - `counts`: all counts behind each step; `slots`: each step by node and slot, for programs that read it, and without names.
 
@@ -148,7 +150,7 @@ def explain(
     1  ann reads bob, which has moved as often: takes s=7
     2  ann moves: s=7, its state of round 1
     """
-    job = _files.file_job_of("explain", program, network, from_).reading(SCHEDULE, _checks.schedule("explain", schedule))
+    job = _files.steps_job_of("explain", program, network, from_).reading(SCHEDULE, _checks.schedule("explain", schedule))
     by_slots, names = _checks.flag("explain", "slots", slots), _files.names_file(network)
     if names is not None and not by_slots:
         job = job.naming("--names", _files.NAMES, names)

@@ -18,7 +18,7 @@ from .results import States, numpy
 Name = Hashable
 FILE = "network.net"  # how programs call a network that has no file
 TAKES = re.compile(r"this command takes networks ([^;]+);")  # with which they refuse one that no network file says
-ANY = "lockstep, watch, count, sweep, settle, cuts and image take any"
+ANY = "lockstep, watch, count, sweep, settle, cuts and image take any, explain and verify any size"
 
 
 class LargeNetwork(Network):

@@ -15,6 +15,7 @@ use Rattle.unison_trace.specs.Histories.{most_steps, run_of}
 use Rattle.unison_trace.specs.Replays.{replay_text}
 use Rattle.unison_trace.specs.Schedules.{HasSteps}
 use Rattle.app_jobs.specs.Served.{HasResumed, IsAccepted}
+use Rattle.app_calls.specs.declared.plans.PlanTexts.{PlanTexts}
 use Rattle.app_calls.specs.Words.{counts_in, list_fault, with_front, words_after, words_at, words_of}
 
 -- the text of a report to go on from; an empty one is none
@@ -25,6 +26,10 @@ report_in (byte ∷ text) = Some (byte ∷ text)
 -- the texts of a program and a network, and of a report to go on from, have a plan of which this holds
 abbrev pub HasPlanWith : List ℕ → List ℕ → List ℕ → (PlanView → Type 0) → Type 0
 HasPlanWith program network from P = (p : PlanView) × HasResumed program network (report_in from) p × P p
+
+-- the same of texts that a call takes
+abbrev pub HasPlanOf : PlanTexts → (PlanView → Type 0) → Type 0
+HasPlanOf texts P = HasPlanWith texts.program.now texts.network.now texts.from.now P
 
 -- the plan has so many nodes and fields
 pub record HasShape (p : PlanView) (nodes fields : ℕ) : Type 0 where

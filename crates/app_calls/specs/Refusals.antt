@@ -13,6 +13,7 @@ use Rattle.app_jobs.specs.declared.fault.ServeFault.TheVariants as serve
 use Rattle.app_jobs.specs.Served.{HasResumed, IsAccepted, RefusesProgram, RefusesTexts}
 use Rattle.app_calls.specs.declared.fault.Fault.{Fault}
 use Rattle.app_calls.specs.declared.fault.Fault.TheVariants.{Texts, Round, Replay, Settle, NotRising, NoJob, Room, Memory}
+use Rattle.app_calls.specs.declared.plans.PlanTexts.{PlanTexts}
 use Rattle.app_calls.specs.Answers.{HasShape, Replayed, TellsReplay, report_in}
 use Rattle.app_calls.specs.Words.{list_fault}
 
@@ -20,6 +21,10 @@ use Rattle.app_calls.specs.Words.{list_fault}
 abbrev pub IsRefusedPlan : List ℕ → List ℕ → List ℕ → (PlanView → Fault → Type 0) → Fault → Type 0
 IsRefusedPlan program network from P (Texts f) = RefusesTexts program network (report_in from) f
 IsRefusedPlan program network from P f = (p : PlanView) × HasResumed program network (report_in from) p × P p f
+
+-- the same of texts that a call takes
+abbrev pub HasNoPlanOf : PlanTexts → (PlanView → Fault → Type 0) → Fault → Type 0
+HasNoPlanOf texts P f = IsRefusedPlan texts.program.now texts.network.now texts.from.now P f
 
 -- a program's text that is too long is told as that, whatever memory and room there are
 abbrev pub IsLongFault : List ℕ → Fault → Type 0

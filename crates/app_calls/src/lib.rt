@@ -15,12 +15,13 @@ mod words;
 
 pub use fault::Fault;
 pub use large::{
-    LargeCallFault, ListsFault, check_lists, write_large_counts, write_large_rounds,
-    write_large_watch, write_part_round,
+    CountedRounds, LargeCallFault, Lists, ListsFault, ListsStart, Part, check_lists,
+    write_large_counts, write_large_rounds, write_large_watch, write_part_round,
 };
 pub use models::{ConstantsFault, ModelCallFault, one_setting, write_expansion};
+pub use plans::PlanTexts;
 pub use reasons::{Reason, reason_for, write_reason};
-pub use replays::write_replay;
+pub use replays::{ReplaySizes, ReplayTexts, write_replay};
 pub use rounds::{write_round, write_rounds};
 pub use settling::write_settling;
 pub use spelling::write_spelling;

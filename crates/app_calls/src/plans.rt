@@ -15,17 +15,20 @@ pub(crate) fn report_in(from: &[u8]) -> Option<&[u8]>
     if from.is_empty() { None } else { Some(from) }
 }
 
+/// The texts of a plan: a program, a network, and a report to go on from, which is empty where there is none.
+#[derive(Clone, Copy)]
+pub struct PlanTexts<'a> {
+    pub program: &'a [u8],
+    pub network: &'a [u8],
+    pub from: &'a [u8],
+}
+
 /// The plan of the texts.
-pub(crate) fn plan_of(
-    alloc: Global,
-    program: &[u8],
-    network: &[u8],
-    from: &[u8],
-) -> Result<Plan, ServeFault>
-    ensures plan { IfOk result (HasResumed program.now network.now (report_in from.now)) }
-    ensures refused { IfErr result (RefusesTexts program.now network.now (report_in from.now)) }
+pub(crate) fn plan_of(alloc: Global, texts: &PlanTexts<'_>) -> Result<Plan, ServeFault>
+    ensures plan { IfOk result (HasResumed texts.now.program.now texts.now.network.now (report_in texts.now.from.now)) }
+    ensures refused { IfErr result (RefusesTexts texts.now.program.now texts.now.network.now (report_in texts.now.from.now)) }
 {
-    let plan = plan_from(alloc, program, network, report_in(from))?;
+    let plan = plan_from(alloc, texts.program, texts.network, report_in(texts.from))?;
     Ok(plan)
 }
 

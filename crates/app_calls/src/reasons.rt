@@ -9,7 +9,7 @@ ghost use Rattle.app_calls.specs.Refusals.{IsUnknownJob, is_job};
 ghost use Rattle.app_calls.specs.Words.{with_front};
 
 use crate::fault::{Fault, ending_number};
-use crate::plans::report_in;
+use crate::plans::{PlanTexts, report_in};
 use crate::spelling::put_text;
 use app_jobs::Job;
 use app_why::{Named, Texts, why};
@@ -48,23 +48,17 @@ fn report<'a>(from: &'a [u8]) -> Option<Named<'a>>
 }
 
 /// The texts that a job reads, under their names: they are all that its first fault depends on.
-fn texts_of<'a>(
-    job: &Job,
-    program: &'a [u8],
-    network: &'a [u8],
-    from: &'a [u8],
-    schedule: &'a [u8],
-) -> Texts<'a>
-    ensures first { (f : ServeFault) → IsFirstFault job.now result.program.text.now (network_of result) (report_of result) (schedule_of result) f → IsFirstFault job.now program.now network.now (report_in from.now) schedule.now f }
-    ensures unrefused { IsUnrefused job.now result.program.text.now (network_of result) (report_of result) (schedule_of result) → IsUnrefused job.now program.now network.now (report_in from.now) schedule.now }
+fn texts_of<'a>(job: &Job, texts: &PlanTexts<'a>, schedule: &'a [u8]) -> Texts<'a>
+    ensures first { (f : ServeFault) → IsFirstFault job.now result.program.text.now (network_of result) (report_of result) (schedule_of result) f → IsFirstFault job.now texts.now.program.now texts.now.network.now (report_in texts.now.from.now) schedule.now f }
+    ensures unrefused { IsUnrefused job.now result.program.text.now (network_of result) (report_of result) (schedule_of result) → IsUnrefused job.now texts.now.program.now texts.now.network.now (report_in texts.now.from.now) schedule.now }
 {
     let program = Named {
         name: "program",
-        text: program,
+        text: texts.program,
     };
     let network = Named {
         name: "network",
-        text: network,
+        text: texts.network,
     };
     let schedule = Named {
         name: "schedule",
@@ -80,13 +74,13 @@ fn texts_of<'a>(
         Job::Replay { .. } => Texts {
             program,
             network: Some(network),
-            report: report(from),
+            report: report(texts.from),
             schedule: Some(schedule),
         },
         Job::Lockstep { .. } | Job::Run { .. } | Job::Compare { .. } => Texts {
             program,
             network: Some(network),
-            report: report(from),
+            report: report(texts.from),
             schedule: None,
         },
     }
@@ -96,16 +90,14 @@ fn texts_of<'a>(
 fn reason_of(
     alloc: Global,
     job: &Job,
-    program: &[u8],
-    network: &[u8],
-    from: &[u8],
+    texts: &PlanTexts<'_>,
     schedule: &[u8],
 ) -> Result<Reason, AllocError>
-    ensures accepted { IfOk result (λ reason. reason.fault ≡ 0 → IsUnrefused job.now program.now network.now (report_in from.now) schedule.now) }
-    ensures first { IfOk result (λ reason. reason.fault ≢ 0 → IsFirstNumber job.now program.now network.now (report_in from.now) schedule.now reason.fault) }
+    ensures accepted { IfOk result (λ reason. reason.fault ≡ 0 → IsUnrefused job.now texts.now.program.now texts.now.network.now (report_in texts.now.from.now) schedule.now) }
+    ensures first { IfOk result (λ reason. reason.fault ≢ 0 → IsFirstNumber job.now texts.now.program.now texts.now.network.now (report_in texts.now.from.now) schedule.now reason.fault) }
 {
-    let texts = texts_of(job, program, network, from, schedule);
-    let finding = why(alloc, job, &texts)?;
+    let named = texts_of(job, texts, schedule);
+    let finding = why(alloc, job, &named)?;
     Ok(Reason {
         fault: ending_number(finding.fault),
         text: finding.text.into_bytes(),
@@ -117,22 +109,20 @@ fn reason_of(
 pub fn reason_for(
     alloc: Global,
     job: u32,
-    program: &[u8],
-    network: &[u8],
-    from: &[u8],
+    texts: &PlanTexts<'_>,
     schedule: &[u8],
     number: u32,
 ) -> Result<Reason, Fault>
     ensures job { OnOk result (is_job job ≡ true) }
-    ensures accepted { IfOk result (λ reason. reason.fault ≡ 0 → HasJobWith job number (λ asked. IsUnrefused asked program.now network.now (report_in from.now) schedule.now)) }
-    ensures first { IfOk result (λ reason. reason.fault ≢ 0 → HasJobWith job number (λ asked. IsFirstNumber asked program.now network.now (report_in from.now) schedule.now reason.fault)) }
+    ensures accepted { IfOk result (λ reason. reason.fault ≡ 0 → HasJobWith job number (λ asked. IsUnrefused asked texts.now.program.now texts.now.network.now (report_in texts.now.from.now) schedule.now)) }
+    ensures first { IfOk result (λ reason. reason.fault ≢ 0 → HasJobWith job number (λ asked. IsFirstNumber asked texts.now.program.now texts.now.network.now (report_in texts.now.from.now) schedule.now reason.fault)) }
     ensures named { IfOk result (λ reason. reason.fault ≢ 0 → 16 ≤ reason.fault) }
     ensures refused { IfErr result (IsUnknownJob job) }
 {
     let Some(job) = job_of(job, number) else {
         return Err(Fault::NoJob);
     };
-    Ok(reason_of(alloc, &job, program, network, from, schedule)?)
+    Ok(reason_of(alloc, &job, texts, schedule)?)
 }
 
 /// Writes what is told of a job: the number of its first fault, or 0, and its text to the front of the caller's text, and how

@@ -5,18 +5,37 @@ ghost use Rattle.unison_world.specs.Counting.{moves_of};
 ghost use Rattle.unison_trace.specs.Replays.{replay_text};
 ghost use Rattle.unison_trace.specs.ReplayFaults.{IsRefusedText};
 ghost use Rattle.app_calls.specs.declared.fault.Fault.TheVariants as fault;
-ghost use Rattle.app_calls.specs.Answers.{ArePutIn, HasPlanWith, HasReplay, HasShape, IsToldOf, Replayed, TellsReplay, told_by};
-ghost use Rattle.app_calls.specs.Refusals.{AreTooSmall, IsNoReplay, IsRefusedPlan};
+ghost use Rattle.app_calls.specs.Answers.{ArePutIn, HasPlanOf, HasReplay, HasShape, IsToldOf, Replayed, TellsReplay, told_by};
+ghost use Rattle.app_calls.specs.Refusals.{AreTooSmall, HasNoPlanOf, IsNoReplay};
 ghost use Rattle.app_calls.specs.Words.{counts_in, shown_words, words_after};
 
 use crate::fault::Fault;
-use crate::plans::{plan_of, put_shape};
+use crate::plans::{PlanTexts, plan_of};
 use crate::words::{add_words, put_bytes, put_words};
 use rounds_plan::Plan;
 use std::alloc::{AllocError, Global};
 use std::sync::Arc;
 use unison_trace::{ReplayFault, make_steps, read_schedule, replay_report};
 use unison_world::World;
+
+/// What is replayed: the texts of a plan, that of a schedule, and the round in which each node stops.
+#[derive(Clone, Copy)]
+pub struct ReplayTexts<'a> {
+    pub plan: PlanTexts<'a>,
+    pub schedule: &'a [u8],
+    pub stop: u32,
+}
+
+/// How much a replay tells.
+#[derive(Clone, Copy)]
+pub struct ReplaySizes {
+    /// How many bytes the replay report has.
+    pub report: usize,
+    /// How many nodes there are.
+    pub nodes: u32,
+    /// How many fields the program has.
+    pub fields: u32,
+}
 
 /// What a replay tells.
 #[derive(Drop)]
@@ -110,20 +129,20 @@ fn replay_on(
 fn put_told(
     told: &Told,
     report: &mut [u8],
-    report_len: &mut usize,
     counts: &mut [u32],
     words: &mut [u32],
-    nodes: &mut u32,
-    fields: &mut u32,
+    sizes: &mut ReplaySizes,
 ) -> Result<(), Fault>
     ensures put { OnOk result (ArePutIn (told_by report.old counts.old words.old) (told_by report.new counts.new words.new) (told_by told.now.report.items told.now.counts.items told.now.words.items)) }
-    ensures sizes { (report_len.new ≡ length told.now.report.items) × (nodes.new ≡ told.now.nodes) × (fields.new ≡ told.now.fields) }
+    ensures sizes { (sizes.new.report ≡ length told.now.report.items) × (sizes.new.nodes ≡ told.now.nodes) × (sizes.new.fields ≡ told.now.fields) }
     ensures kept { OnErr result ((report.new ≡ report.old) × (counts.new ≡ counts.old) × (words.new ≡ words.old)) }
     ensures refused { IfErr result (λ f. (f ≡ fault.Room) × AreTooSmall (told_by report.old counts.old words.old) (told_by told.now.report.items told.now.counts.items told.now.words.items)) }
 {
-    *report_len = told.report.len();
-    *nodes = told.nodes;
-    *fields = told.fields;
+    *sizes = ReplaySizes {
+        report: told.report.len(),
+        nodes: told.nodes,
+        fields: told.fields,
+    };
     if report.len() < told.report.len() {
         return Err(Fault::Room);
     }
@@ -139,44 +158,31 @@ fn put_told(
     Ok(())
 }
 
-/// What the replay of a schedule's text on the plan of the texts tells.
-fn replay_of_texts(
-    alloc: Global,
-    program: &[u8],
-    network: &[u8],
-    from: &[u8],
-    schedule: &[u8],
-    stop: u32,
-) -> Result<Told, Fault>
-    ensures told { IfOk result (λ t. HasPlanWith program.now network.now from.now (λ p. TellsReplay p stop schedule.now (told_by t.report.items t.counts.items t.words.items) t.nodes t.fields)) }
-    ensures refused { IfErr result (λ f. (f ≢ fault.Room) × ((old : Replayed) (len nodes fields : ℕ) → IsRefusedPlan program.now network.now from.now (IsNoReplay stop schedule.now old len nodes fields) f)) }
+/// What the replay tells.
+fn replay_of_texts(alloc: Global, replay: &ReplayTexts<'_>) -> Result<Told, Fault>
+    ensures told { IfOk result (λ t. HasPlanOf replay.now.plan (λ p. TellsReplay p replay.now.stop replay.now.schedule.now (told_by t.report.items t.counts.items t.words.items) t.nodes t.fields)) }
+    ensures refused { IfErr result (λ f. (f ≢ fault.Room) × ((old : Replayed) (len nodes fields : ℕ) → HasNoPlanOf replay.now.plan (IsNoReplay replay.now.stop replay.now.schedule.now old len nodes fields) f)) }
 {
-    let plan = plan_of(alloc, program, network, from)?;
+    let plan = plan_of(alloc, &replay.plan)?;
     let plan = Arc::new(alloc, plan)?;
-    Ok(replay_on(alloc, plan, stop, schedule)?)
+    Ok(replay_on(alloc, plan, replay.stop, replay.schedule)?)
 }
 
-/// Writes what the replay of a schedule's text on the plan of the texts tells, and its sizes; where there is too little room,
-/// its sizes alone.
+/// Writes what the replay tells to the front of the caller's three memories, and how much that is; where one of them is too
+/// small, how much it is alone.
 pub fn write_replay(
     alloc: Global,
-    program: &[u8],
-    network: &[u8],
-    from: &[u8],
-    schedule: &[u8],
-    stop: u32,
+    replay: &ReplayTexts<'_>,
     report: &mut [u8],
-    report_len: &mut usize,
     counts: &mut [u32],
     words: &mut [u32],
-    nodes: &mut u32,
-    fields: &mut u32,
+    sizes: &mut ReplaySizes,
 ) -> Result<(), Fault>
-    ensures written { OnOk result (HasPlanWith program.now network.now from.now (λ p. HasReplay p stop schedule.now (told_by report.old counts.old words.old) (told_by report.new counts.new words.new) report_len.new nodes.new fields.new)) }
+    ensures written { OnOk result (HasPlanOf replay.now.plan (λ p. HasReplay p replay.now.stop replay.now.schedule.now (told_by report.old counts.old words.old) (told_by report.new counts.new words.new) sizes.new.report sizes.new.nodes sizes.new.fields)) }
     ensures kept { OnErr result ((report.new ≡ report.old) × (counts.new ≡ counts.old) × (words.new ≡ words.old)) }
-    ensures sized { IfErr result (λ f. f ≢ fault.Room → (report_len.new ≡ report_len.old) × (nodes.new ≡ nodes.old) × (fields.new ≡ fields.old)) }
-    ensures refused { IfErr result (IsRefusedPlan program.now network.now from.now (IsNoReplay stop schedule.now (told_by report.old counts.old words.old) report_len.new nodes.new fields.new)) }
+    ensures sized { IfErr result (λ f. f ≢ fault.Room → sizes.new ≡ sizes.old) }
+    ensures refused { IfErr result (HasNoPlanOf replay.now.plan (IsNoReplay replay.now.stop replay.now.schedule.now (told_by report.old counts.old words.old) sizes.new.report sizes.new.nodes sizes.new.fields)) }
 {
-    let told = replay_of_texts(alloc, program, network, from, schedule, stop)?;
-    put_told(&told, report, report_len, counts, words, nodes, fields)
+    let told = replay_of_texts(alloc, replay)?;
+    put_told(&told, report, counts, words, sizes)
 }

@@ -3,12 +3,12 @@ ghost use Rattle.std.specs.Prelude.{◌≡◌, ◌≢◌, ◌*◌, ◌+◌, ◌�
 ghost use Rattle.rounds_plan.specs.Configs.{most_rounds};
 ghost use Rattle.rounds_plan.specs.Lockstep.{lockstep_config, rounds_of};
 ghost use Rattle.app_calls.specs.declared.fault.Fault.TheVariants as fault;
-ghost use Rattle.app_calls.specs.Answers.{HasPlanWith, HasRoundWords, HaveRoundWords};
-ghost use Rattle.app_calls.specs.Refusals.{AreNoRounds, IsNoRound, IsRefusedPlan, word_count};
+ghost use Rattle.app_calls.specs.Answers.{HasPlanOf, HasRoundWords, HaveRoundWords};
+ghost use Rattle.app_calls.specs.Refusals.{AreNoRounds, HasNoPlanOf, IsNoRound, word_count};
 ghost use Rattle.app_calls.specs.Words.{entry_fault, list_fault, words_at, words_of};
 
 use crate::fault::Fault;
-use crate::plans::{plan_of, put_shape, word_count};
+use crate::plans::{PlanTexts, plan_of, put_shape, word_count};
 use crate::words::{add_config, put_words};
 use lockstep::lockstep;
 use rounds_plan::{MOST_ROUNDS, Plan, RoundFault};
@@ -70,20 +70,18 @@ fn put_round(
 /// Writes the words after a round of the plan of the texts, and its shape; where there is too little room, its shape alone.
 pub fn write_round(
     alloc: Global,
-    program: &[u8],
-    network: &[u8],
-    from: &[u8],
+    texts: &PlanTexts<'_>,
     round: u32,
     words: &mut [u32],
     nodes: &mut u32,
     fields: &mut u32,
 ) -> Result<(), Fault>
-    ensures written { OnOk result (HasPlanWith program.now network.now from.now (λ p. HasRoundWords p round words.old words.new nodes.new fields.new)) }
+    ensures written { OnOk result (HasPlanOf texts.now (λ p. HasRoundWords p round words.old words.new nodes.new fields.new)) }
     ensures kept { OnErr result (words.new ≡ words.old) }
     ensures sized { IfErr result (λ f. f ≢ fault.Room → (nodes.new ≡ nodes.old) × (fields.new ≡ fields.old)) }
-    ensures refused { IfErr result (IsRefusedPlan program.now network.now from.now (IsNoRound round (length words.old) nodes.new fields.new)) }
+    ensures refused { IfErr result (HasNoPlanOf texts.now (IsNoRound round (length words.old) nodes.new fields.new)) }
 {
-    let plan = plan_of(alloc, program, network, from)?;
+    let plan = plan_of(alloc, texts)?;
     put_round(alloc, &plan, round, words, nodes, fields)
 }
 
@@ -175,19 +173,17 @@ fn put_rounds(
 /// shape alone.
 pub fn write_rounds(
     alloc: Global,
-    program: &[u8],
-    network: &[u8],
-    from: &[u8],
+    texts: &PlanTexts<'_>,
     rounds: &[u32],
     words: &mut [u32],
     nodes: &mut u32,
     fields: &mut u32,
 ) -> Result<(), Fault>
-    ensures written { OnOk result (HasPlanWith program.now network.now from.now (λ p. HaveRoundWords p rounds.now words.old words.new nodes.new fields.new)) }
+    ensures written { OnOk result (HasPlanOf texts.now (λ p. HaveRoundWords p rounds.now words.old words.new nodes.new fields.new)) }
     ensures kept { OnErr result (words.new ≡ words.old) }
     ensures sized { IfErr result (λ f. f ≢ fault.Room → (nodes.new ≡ nodes.old) × (fields.new ≡ fields.old)) }
-    ensures refused { IfErr result (IsRefusedPlan program.now network.now from.now (AreNoRounds rounds.now (length words.old) nodes.new fields.new)) }
+    ensures refused { IfErr result (HasNoPlanOf texts.now (AreNoRounds rounds.now (length words.old) nodes.new fields.new)) }
 {
-    let plan = plan_of(alloc, program, network, from)?;
+    let plan = plan_of(alloc, texts)?;
     put_rounds(alloc, &plan, rounds, words, nodes, fields)
 }

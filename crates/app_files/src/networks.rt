@@ -73,7 +73,7 @@ fn no_file_of(alloc: Global, path: &str, network: &LargeNetwork, fault: RowsFaul
     };
     let more = if nodes == 1 { "" } else { "s" };
     Ending::refused(format!(in alloc;
-        "network {kind}\n{name}: a packed network of {nodes} node{more}; this command takes networks {why}; lockstep, watch, count, settle, cuts, image, info and init --packed take any"
+        "network {kind}\n{name}: a packed network of {nodes} node{more}; this command takes networks {why}; lockstep, watch, count, settle, cuts, csv, image, info and init --packed take any, explain and verify any size"
     ))
 }
 

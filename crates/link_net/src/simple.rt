@@ -10,7 +10,7 @@ use thiserror::Error;
 #[derive(Clone, Copy, Debug, PartialEq, Eq, Error)]
 pub enum SimpleFault {
     /// The neighbour at a slot is the node itself, or does not stand above the neighbour before it.
-    #[error("node {node}, slot {slot}: the neighbours do not rise, or the node is its own")]
+    #[error("node {node}, slot {slot}: the neighbour is the node itself, or does not stand above the one before it")]
     Unordered {
         /// The node.
         node: u32,

@@ -19,7 +19,7 @@ ghost use Rattle.app_calls.specs.ModelAnswers.{IsExpansion, IsUnexpanded};
 ghost use Rattle.app_calls.specs.ModelNumbers.{IsModelNumberOf};
 
 use app_calls::{
-    check_lists, reason_for, write_expansion, write_large_counts, write_large_rounds,
+    CountedRounds, Lists, ListsStart, Part, PlanTexts, ReplaySizes, ReplayTexts, check_lists, reason_for, write_expansion, write_large_counts, write_large_rounds,
     write_large_watch, write_part_round, write_reason, write_replay, write_round, write_rounds,
     write_settling, write_spelling,
 };
@@ -100,7 +100,12 @@ pub extern "C" fn unison_lockstep(
     ensures sized { result ≢ 0 → result ≢ ROOM → (nodes.new ≡ nodes.old) × (fields.new ≡ fields.old) }
     ensures refused { result ≢ 0 → IsNumberOf (IsRefusedPlan program.now network.now from.now (IsNoRound round (length words.old) nodes.new fields.new)) result }
 {
-    match write_round(alloc, program, network, from, round, words, nodes, fields) {
+    let texts = PlanTexts {
+        program,
+        network,
+        from,
+    };
+    match write_round(alloc, &texts, round, words, nodes, fields) {
         Ok(()) => 0,
         Err(fault) => fault.number(),
     }
@@ -125,7 +130,12 @@ pub extern "C" fn unison_watch(
     ensures sized { result ≢ 0 → result ≢ ROOM → (nodes.new ≡ nodes.old) × (fields.new ≡ fields.old) }
     ensures refused { result ≢ 0 → IsNumberOf (IsRefusedPlan program.now network.now from.now (AreNoRounds rounds.now (length words.old) nodes.new fields.new)) result }
 {
-    match write_rounds(alloc, program, network, from, rounds, words, nodes, fields) {
+    let texts = PlanTexts {
+        program,
+        network,
+        from,
+    };
+    match write_rounds(alloc, &texts, rounds, words, nodes, fields) {
         Ok(()) => 0,
         Err(fault) => fault.number(),
     }
@@ -149,7 +159,12 @@ pub extern "C" fn unison_settle(
     ensures kept { result ≢ 0 → (manner.new ≡ manner.old) × (round.new ≡ round.old) × (period.new ≡ period.old) }
     ensures refused { result ≢ 0 → IsNumberOf (IsRefusedPlan program.now network.now from.now (IsNoSettling limit)) result }
 {
-    match write_settling(alloc, program, network, from, limit, manner, round, period) {
+    let texts = PlanTexts {
+        program,
+        network,
+        from,
+    };
+    match write_settling(alloc, &texts, limit, manner, round, period) {
         Ok(()) => 0,
         Err(fault) => fault.number(),
     }
@@ -179,10 +194,25 @@ pub extern "C" fn unison_replay(
     ensures sized { result ≢ 0 → result ≢ ROOM → (report_len.new ≡ report_len.old) × (nodes.new ≡ nodes.old) × (fields.new ≡ fields.old) }
     ensures refused { result ≢ 0 → IsNumberOf (IsRefusedPlan program.now network.now from.now (IsNoReplay stop schedule.now (told_by report.old counts.old words.old) report_len.new nodes.new fields.new)) result }
 {
-    let done = write_replay(
-        alloc, program, network, from, schedule, stop, report, report_len, counts, words, nodes,
-        fields,
-    );
+    let plan = PlanTexts {
+        program,
+        network,
+        from,
+    };
+    let replay = ReplayTexts {
+        plan,
+        schedule,
+        stop,
+    };
+    let mut sizes = ReplaySizes {
+        report: *report_len,
+        nodes: *nodes,
+        fields: *fields,
+    };
+    let done = write_replay(alloc, &replay, report, counts, words, &mut sizes);
+    *report_len = sizes.report;
+    *nodes = sizes.nodes;
+    *fields = sizes.fields;
     match done {
         Ok(()) => 0,
         Err(fault) => fault.number(),
@@ -215,7 +245,12 @@ pub extern "C" fn unison_why(
     ensures sized { result ≢ 0 → result ≢ ROOM → text_len.new ≡ text_len.old }
     ensures refused { result ≢ 0 → IsNumberOf (IsUntold job (length text.old) text_len.new) result }
 {
-    let reason = match reason_for(alloc, job, program, network, from, schedule, number) {
+    let texts = PlanTexts {
+        program,
+        network,
+        from,
+    };
+    let reason = match reason_for(alloc, job, &texts, schedule, number) {
         Ok(reason) => reason,
         Err(fault) => return fault.number(),
     };
@@ -239,7 +274,12 @@ pub extern "C" fn unison_large_check(
     ensures kept { result ≡ 0 → place.new ≡ place.old }
     ensures refused { result ≢ 0 → IsToldLists (lists_fault offsets.now neighbours.now weights.now) result place.new }
 {
-    match check_lists(offsets, neighbours, weights) {
+    let lists = Lists {
+        offsets,
+        neighbours,
+        weights,
+    };
+    match check_lists(&lists) {
         Ok(()) => 0,
         Err(fault) => {
             *place = fault.place() as usize;
@@ -269,10 +309,17 @@ pub extern "C" fn unison_large_rounds(
     ensures refused { result ≢ 0 → IsLargeNumberOf (IsRefusedRounds program.now offsets.now neighbours.now weights.now start round (length words.old) fields.new) result }
     ensures long { 65536 < length program.now → result ≡ 16 }
 {
-    let done = write_large_rounds(
-        alloc, program, offsets, neighbours, weights, start, round, words, fields,
-    );
-    match done {
+    let lists = Lists {
+        offsets,
+        neighbours,
+        weights,
+    };
+    let origin = ListsStart {
+        program,
+        lists,
+        start,
+    };
+    match write_large_rounds(alloc, &origin, round, words, fields) {
         Ok(()) => 0,
         Err(fault) => fault.number(),
     }
@@ -301,10 +348,17 @@ pub extern "C" fn unison_large_watch(
     ensures refused { result ≢ 0 → IsLargeNumberOf (IsRefusedWatch program.now offsets.now neighbours.now weights.now start from.now rounds.now (length words.old) fields.new) result }
     ensures long { 65536 < length program.now → result ≡ 16 }
 {
-    let done = write_large_watch(
-        alloc, program, offsets, neighbours, weights, start, from, rounds, words, fields,
-    );
-    match done {
+    let lists = Lists {
+        offsets,
+        neighbours,
+        weights,
+    };
+    let origin = ListsStart {
+        program,
+        lists,
+        start,
+    };
+    match write_large_watch(alloc, &origin, from, rounds, words, fields) {
         Ok(()) => 0,
         Err(fault) => fault.number(),
     }
@@ -336,11 +390,22 @@ pub extern "C" fn unison_large_counts(
     ensures refused { result ≢ 0 → IsLargeNumberOf (IsRefusedCounts program.now offsets.now neighbours.now weights.now start from.now rounds.now field (length values.now) (length counts.old) fields.new) result }
     ensures long { 65536 < length program.now → result ≡ 16 }
 {
-    let done = write_large_counts(
-        alloc, program, offsets, neighbours, weights, start, from, rounds, field, values, counts,
-        fields,
-    );
-    match done {
+    let lists = Lists {
+        offsets,
+        neighbours,
+        weights,
+    };
+    let origin = ListsStart {
+        program,
+        lists,
+        start,
+    };
+    let asked = CountedRounds {
+        rounds,
+        field,
+        values,
+    };
+    match write_large_counts(alloc, &origin, from, &asked, counts, fields) {
         Ok(()) => 0,
         Err(fault) => fault.number(),
     }
@@ -368,10 +433,13 @@ pub extern "C" fn unison_part_round(
     ensures refused { result ≢ 0 → IsLargeNumberOf (IsRefusedPart program.now ids.now offsets.now neighbours.now weights.now (length from.now) (length to.old)) result }
     ensures long { 65536 < length program.now → result ≡ 16 }
 {
-    let done = write_part_round(
-        alloc, program, ids, offsets, neighbours, weights, round, from, to,
-    );
-    match done {
+    let lists = Lists {
+        offsets,
+        neighbours,
+        weights,
+    };
+    let part = Part { ids, lists };
+    match write_part_round(alloc, program, &part, round, from, to) {
         Ok(count) => {
             *changed = count;
             0

@@ -2,11 +2,19 @@
 ghost use Rattle.std.specs.Prelude.{◌≡◌, ◌+◌, ◌-◌, ◌<◌, ◌≤◌, length, find, position, nat_le, MatchResult, OnOk, Some, None};
 ghost use Rattle.link_net.specs.Neighbours.{numbers_below};
 ghost use Rattle.large_net.specs.File.{is_bad_offset, is_wide, rows_fault};
-ghost use Rattle.large_net.specs.Large.{AreLaidOut};
-ghost use Rattle.app_calls.specs.Lists.{given_weights, lists_fault};
+ghost use Rattle.app_calls.specs.Lists.{AreRows, lists_fault};
 
 use crate::large::fault::ListsFault;
 use large_net::LargeFault;
+
+/// The lists of a network: the neighbours of node u stand from offset u up to the next one, and beside them the weights of
+/// the links, of which there are none where each is 1.
+#[derive(Clone, Copy)]
+pub struct Lists<'a> {
+    pub offsets: &'a [usize],
+    pub neighbours: &'a [u32],
+    pub weights: &'a [u32],
+}
 
 /// The most nodes, and the most neighbours that a node may have.
 const MOST_ROWS: usize = 4_294_967_295;
@@ -91,22 +99,22 @@ fn check_rows(offsets: &[usize], neighbours: &[u32]) -> Result<(), LargeFault>
 /// The first fault is told, in this order: `NodeCount` where there are not 2 to 4,294,967,296 offsets; `WeightCount` where
 /// there are weights, and not as many as neighbours; `Offsets`, `TooManyNeighbours` and `Neighbour`, each at the first
 /// place.
-pub fn check_lists(offsets: &[usize], neighbours: &[u32], weights: &[u32]) -> Result<(), ListsFault>
-    ensures fault { MatchResult result (λ _. lists_fault offsets.now neighbours.now weights.now ≡ None) (λ fault. lists_fault offsets.now neighbours.now weights.now ≡ Some fault) }
-    ensures rows { OnOk result (AreLaidOut offsets.now neighbours.now (given_weights neighbours.now weights.now)) }
+pub fn check_lists(lists: &Lists<'_>) -> Result<(), ListsFault>
+    ensures fault { MatchResult result (λ _. lists_fault lists.now.offsets.now lists.now.neighbours.now lists.now.weights.now ≡ None) (λ fault. lists_fault lists.now.offsets.now lists.now.neighbours.now lists.now.weights.now ≡ Some fault) }
+    ensures rows { OnOk result (AreRows lists.now) }
 {
-    let nodes = offsets.len().saturating_sub(1);
+    let nodes = lists.offsets.len().saturating_sub(1);
     if nodes == 0 || nodes > MOST_ROWS {
         return Err(ListsFault::Rows(LargeFault::NodeCount {
             nodes: nodes as u64,
         }));
     }
-    if !weights.is_empty() && weights.len() != neighbours.len() {
+    if !lists.weights.is_empty() && lists.weights.len() != lists.neighbours.len() {
         return Err(ListsFault::WeightCount {
-            weights: weights.len() as u64,
+            weights: lists.weights.len() as u64,
         });
     }
-    match check_rows(offsets, neighbours) {
+    match check_rows(lists.offsets, lists.neighbours) {
         Ok(()) => Ok(()),
         Err(fault) => Err(ListsFault::Rows(fault)),
     }

@@ -1,75 +1,66 @@
 //! The words of a part's own nodes after a round, on the lists of the part.
 ghost use Rattle.std.specs.Prelude.{◌≡◌, length, IfOk, IfErr, OnErr};
-ghost use Rattle.link_net.specs.Layout.{rows_of};
-ghost use Rattle.large_net.specs.Large.{AreLaidOut};
-ghost use Rattle.app_calls.specs.Lists.{given_weights};
+ghost use Rattle.app_calls.specs.Lists.{AreRows, rows_in};
 ghost use Rattle.app_calls.specs.LargeAnswers.{IsLongLarge};
 ghost use Rattle.app_calls.specs.PartAnswers.{HasPartRound, IsNoPart, IsPartRound, IsRefusedPart};
 
 use crate::large::fault::LargeCallFault;
-use crate::large::lists::check_lists;
+use crate::large::lists::{Lists, check_lists};
+use crate::large::rows::{ones_of, rows_with};
 use app_jobs::program_of;
-use link_net::NetRows;
 use rounds_walk::part_rounds::part_round;
 use rule_check::Program;
 use std::alloc::Global;
+
+/// A part of a network: the number of each of its nodes in the whole network, which is what a program sees, and its lists,
+/// which call nodes by their places in the part.
+#[derive(Clone, Copy)]
+pub struct Part<'a> {
+    pub ids: &'a [u32],
+    pub lists: Lists<'a>,
+}
 
 /// Writes the words of the own nodes of a part whose lists are rows, each weight being 1 where there are none, and answers how
 /// many of these nodes changed.
 fn put_part(
     alloc: Global,
     program: &Program,
-    ids: &[u32],
-    offsets: &[usize],
-    neighbours: &[u32],
-    weights: &[u32],
+    part: &Part<'_>,
     round: u32,
     from: &[u32],
     to: &mut [u32],
 ) -> Result<usize, LargeCallFault>
-    requires rows { AreLaidOut offsets.now neighbours.now (given_weights neighbours.now weights.now) }
-    ensures written { IfOk result (IsPartRound program.now ids.now (rows_of offsets.now neighbours.now (given_weights neighbours.now weights.now)) round from.now (length to.old) to.new) }
+    requires rows { AreRows part.now.lists }
+    ensures written { IfOk result (IsPartRound program.now part.now.ids.now (rows_in part.now.lists) round from.now (length to.old) to.new) }
     ensures kept { OnErr result (to.new ≡ to.old) }
-    ensures refused { IfErr result (IsNoPart program.now ids.now (rows_of offsets.now neighbours.now (given_weights neighbours.now weights.now)) (length from.now) (length to.old)) }
+    ensures refused { IfErr result (IsNoPart program.now part.now.ids.now (rows_in part.now.lists) (length from.now) (length to.old)) }
 {
-    if weights.is_empty() {
-        let ones = vec![in alloc; 1; neighbours.len()]?;
-        let rows = NetRows::new(offsets, neighbours, &ones);
-        let changed = part_round(program, ids, &rows, round, from, to)?;
-        return Ok(changed);
-    }
-    let rows = NetRows::new(offsets, neighbours, weights);
-    let changed = part_round(program, ids, &rows, round, from, to)?;
+    let ones = ones_of(alloc, &part.lists)?;
+    let rows = rows_with(&part.lists, &ones);
+    let changed = part_round(program, part.ids, &rows, round, from, to)?;
     Ok(changed)
 }
 
 /// Writes the words of a part's own nodes after the step from a round, counted from round 0, and answers how many of these
-/// nodes changed. `ids` has the number in the whole network of each node of the part, which is what the program sees; the
-/// lists have the neighbours of each by their places in the part; `from` has the words of all its nodes before the round,
-/// and `to` takes those of the first ones, the own nodes, as many as it has room for: the word of field k of node u stands at
-/// u times the number of fields, and k more. Each weight is 1 where there are none.
+/// nodes changed. `from` has the words of all nodes of the part before the round, and `to` takes those of the first ones, the
+/// own nodes, as many as it has room for: the word of field k of node u stands at u times the number of fields, and k more. Each weight is 1 where there are none.
 ///
 /// The first fault is answered, in this order: of the program, of the lists as [`check_lists`] tells it, and of what does
 /// not fit as [`rounds_walk::part_rounds::PartFault`] tells it. After a fault `to` is as it was.
 pub fn write_part_round(
     alloc: Global,
     program: &[u8],
-    ids: &[u32],
-    offsets: &[usize],
-    neighbours: &[u32],
-    weights: &[u32],
+    part: &Part<'_>,
     round: u32,
     from: &[u32],
     to: &mut [u32],
 ) -> Result<usize, LargeCallFault>
-    ensures written { IfOk result (HasPartRound program.now ids.now offsets.now neighbours.now weights.now round from.now (length to.old) to.new) }
+    ensures written { IfOk result (HasPartRound program.now part.now.ids.now part.now.lists.offsets.now part.now.lists.neighbours.now part.now.lists.weights.now round from.now (length to.old) to.new) }
     ensures kept { OnErr result (to.new ≡ to.old) }
-    ensures refused { IfErr result (IsRefusedPart program.now ids.now offsets.now neighbours.now weights.now (length from.now) (length to.old)) }
+    ensures refused { IfErr result (IsRefusedPart program.now part.now.ids.now part.now.lists.offsets.now part.now.lists.neighbours.now part.now.lists.weights.now (length from.now) (length to.old)) }
     ensures long { IfErr result (IsLongLarge program.now) }
 {
     let (_source, program) = program_of(alloc, program)?;
-    check_lists(offsets, neighbours, weights)?;
-    put_part(
-        alloc, &program, ids, offsets, neighbours, weights, round, from, to,
-    )
+    check_lists(&part.lists)?;
+    put_part(alloc, &program, part, round, from, to)
 }

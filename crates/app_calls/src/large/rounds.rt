@@ -4,16 +4,16 @@ ghost use Rattle.rounds_plan.specs.Configs.{most_rounds};
 ghost use Rattle.rounds_plan.specs.Lockstep.{lockstep_states, rounds_of};
 ghost use Rattle.rounds_plan.specs.Plans.{PlanView};
 ghost use Rattle.rounds_plan.specs.Starts.{start_of};
-ghost use Rattle.link_net.specs.Layout.{rows_of};
-ghost use Rattle.large_net.specs.Large.{AreLaidOut};
 ghost use Rattle.app_calls.specs.declared.fault.Fault.TheVariants as call;
 ghost use Rattle.app_calls.specs.declared.large.fault.LargeCallFault.TheVariants as fault;
-ghost use Rattle.app_calls.specs.Lists.{given_weights};
+ghost use Rattle.app_calls.specs.Lists.{AreRows, rows_in};
 ghost use Rattle.app_calls.specs.LargeAnswers.{AreMoved, HasLargeRounds, HasSpan, IsLongLarge, IsNoMove, IsNoSpan, IsRefusedRounds, given_plan};
 
 use crate::Fault;
 use crate::large::fault::LargeCallFault;
 use crate::large::lists::check_lists;
+use crate::large::rows::{ones_of, rows_with};
+use crate::large::start::{ListsStart, ReadStart};
 use crate::large::states::{put_states, states_of};
 use app_jobs::program_of;
 use link_net::NetRows;
@@ -100,58 +100,44 @@ fn move_on(
 /// Moves all nodes on, each weight being 1 where there are none.
 fn move_on_lists(
     alloc: Global,
-    program: &Program,
-    offsets: &[usize],
-    neighbours: &[u32],
-    weights: &[u32],
-    start: u32,
+    origin: &ReadStart<'_>,
     round: u32,
     words: &mut [u32],
 ) -> Result<(), AllocError>
-    requires rows { AreLaidOut offsets.now neighbours.now (given_weights neighbours.now weights.now) }
-    requires count { length words.old ≡ (length offsets.now - 1) * length program.now.fields }
-    requires late { start ≤ round }
+    requires rows { AreRows origin.now.lists }
+    requires count { length words.old ≡ (length origin.now.lists.offsets.now - 1) * length origin.now.program.now.fields }
+    requires late { origin.now.start ≤ round }
     requires there { round ≤ most_rounds }
-    ensures moved { OnOk result (AreMoved program.now (rows_of offsets.now neighbours.now (given_weights neighbours.now weights.now)) start round words.old words.new) }
+    ensures moved { OnOk result (AreMoved origin.now.program.now (rows_in origin.now.lists) origin.now.start round words.old words.new) }
     ensures kept { OnErr result (words.new ≡ words.old) }
 {
-    if weights.is_empty() {
-        let ones = vec![in alloc; 1; neighbours.len()]?;
-        let rows = NetRows::new(offsets, neighbours, &ones);
-        return move_on(alloc, program, rows, start, round, words);
-    }
-    let rows = NetRows::new(offsets, neighbours, weights);
-    move_on(alloc, program, rows, start, round, words)
+    let ones = ones_of(alloc, &origin.lists)?;
+    let rows = rows_with(&origin.lists, &ones);
+    move_on(alloc, origin.program, rows, origin.start, round, words)
 }
 
 /// Writes the words after a round of a program that is read, on lists that are rows.
 fn put_rounds(
     alloc: Global,
-    program: &Program,
-    offsets: &[usize],
-    neighbours: &[u32],
-    weights: &[u32],
-    start: u32,
+    origin: &ReadStart<'_>,
     round: u32,
     words: &mut [u32],
     fields: &mut u32,
 ) -> Result<(), LargeCallFault>
-    requires rows { AreLaidOut offsets.now neighbours.now (given_weights neighbours.now weights.now) }
-    ensures written { OnOk result (AreMoved program.now (rows_of offsets.now neighbours.now (given_weights neighbours.now weights.now)) start round words.old words.new) }
-    ensures fields { OnOk result (fields.new ≡ length program.now.fields) }
+    requires rows { AreRows origin.now.lists }
+    ensures written { OnOk result (AreMoved origin.now.program.now (rows_in origin.now.lists) origin.now.start round words.old words.new) }
+    ensures fields { OnOk result (fields.new ≡ length origin.now.program.now.fields) }
     ensures kept { OnErr result (words.new ≡ words.old) }
     ensures sized { IfErr result (λ f. f ≢ fault.WordCount → fields.new ≡ fields.old) }
-    ensures refused { IfErr result (IsNoMove program.now (length offsets.now - 1) start round (length words.old) fields.new) }
+    ensures refused { IfErr result (IsNoMove origin.now.program.now (length origin.now.lists.offsets.now - 1) origin.now.start round (length words.old) fields.new) }
 {
-    check_span(start, round)?;
-    let field_count = program.field_count();
-    if words.len() != (offsets.len() - 1) * field_count as usize {
+    check_span(origin.start, round)?;
+    let field_count = origin.program.field_count();
+    if words.len() != (origin.lists.offsets.len() - 1) * field_count as usize {
         *fields = field_count;
         return Err(LargeCallFault::WordCount);
     }
-    move_on_lists(
-        alloc, program, offsets, neighbours, weights, start, round, words,
-    )?;
+    move_on_lists(alloc, origin, round, words)?;
     *fields = field_count;
     Ok(())
 }
@@ -165,24 +151,23 @@ fn put_rounds(
 /// node, which tells how many fields there are. After a fault the words are as they were.
 pub fn write_large_rounds(
     alloc: Global,
-    program: &[u8],
-    offsets: &[usize],
-    neighbours: &[u32],
-    weights: &[u32],
-    start: u32,
+    origin: &ListsStart<'_>,
     round: u32,
     words: &mut [u32],
     fields: &mut u32,
 ) -> Result<(), LargeCallFault>
-    ensures written { OnOk result (HasLargeRounds program.now offsets.now neighbours.now weights.now start round words.old words.new fields.new) }
+    ensures written { OnOk result (HasLargeRounds origin.now.program.now origin.now.lists.offsets.now origin.now.lists.neighbours.now origin.now.lists.weights.now origin.now.start round words.old words.new fields.new) }
     ensures kept { OnErr result (words.new ≡ words.old) }
     ensures sized { IfErr result (λ f. f ≢ fault.WordCount → fields.new ≡ fields.old) }
-    ensures refused { IfErr result (IsRefusedRounds program.now offsets.now neighbours.now weights.now start round (length words.old) fields.new) }
-    ensures long { IfErr result (IsLongLarge program.now) }
+    ensures refused { IfErr result (IsRefusedRounds origin.now.program.now origin.now.lists.offsets.now origin.now.lists.neighbours.now origin.now.lists.weights.now origin.now.start round (length words.old) fields.new) }
+    ensures long { IfErr result (IsLongLarge origin.now.program.now) }
 {
-    let (_source, program) = program_of(alloc, program)?;
-    check_lists(offsets, neighbours, weights)?;
-    put_rounds(
-        alloc, &program, offsets, neighbours, weights, start, round, words, fields,
-    )
+    let (_source, program) = program_of(alloc, origin.program)?;
+    check_lists(&origin.lists)?;
+    let read = ReadStart {
+        program: &program,
+        lists: origin.lists,
+        start: origin.start,
+    };
+    put_rounds(alloc, &read, round, words, fields)
 }

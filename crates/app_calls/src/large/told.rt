@@ -2,18 +2,18 @@
 ghost use Rattle.std.specs.Prelude.{◌≡◌, ◌+◌, ◌-◌, ◌*◌, ◌++◌, ◌≤◌, ◌<◌, ◌^◌, length, IfOk, OnOk, MatchResult, Ok, Some, None};
 ghost use Rattle.rounds_plan.specs.Configs.{most_rounds};
 ghost use Rattle.rounds_plan.specs.Lockstep.{lockstep_config};
-ghost use Rattle.link_net.specs.Layout.{rows_of};
-ghost use Rattle.large_net.specs.Large.{AreLaidOut};
 ghost use Rattle.rounds_plan.specs.Starts.{start_of};
 ghost use Rattle.app_calls.specs.Refusals.{word_count};
 ghost use Rattle.app_calls.specs.Words.{entry_fault, list_fault};
-ghost use Rattle.app_calls.specs.Lists.{given_weights};
+ghost use Rattle.app_calls.specs.Lists.{AreRows, rows_in};
 ghost use Rattle.app_calls.specs.LargeAnswers.{given_plan, words_plan};
 ghost use Rattle.app_calls.specs.Tellings.{told_at, told_count, told_of};
 ghost use Rattle.app_calls.specs.WatchAnswers.{plan_from};
 
 use crate::Fault;
 use crate::large::rounds::{check_span, plan_on};
+use crate::large::rows::{ones_of, rows_with};
+use crate::large::start::ReadStart;
 use crate::large::states::states_of;
 use crate::large::telling::{Telling, add_told};
 use link_net::NetRows;
@@ -66,25 +66,31 @@ fn add_round(
     Ok(())
 }
 
+/// Of which rounds what is told, and how many numbers that are.
+#[derive(Clone, Copy)]
+pub(crate) struct Asked<'a> {
+    pub(crate) rounds: &'a [u32],
+    pub(crate) telling: Telling<'a>,
+    pub(crate) room: usize,
+}
+
 /// What is told of each of the rounds of a plan, in one pass over them, with memory for so many numbers from the beginning.
 fn plan_told<'a>(
     alloc: Global,
     plan: &'a Start<'a>,
-    rounds: &[u32],
-    room: usize,
-    telling: Telling<'_>,
+    asked: &Asked<'_>,
 ) -> Result<Vec<u32>, AllocError>
-    requires there { list_fault plan.now plan.now.start rounds.now ≡ None }
-    ensures words { IfOk result (λ v. v.items ≡ told_at telling.entry plan.now rounds.now) }
-    ensures count { IfOk result (λ v. length v.items ≡ length rounds.now * told_count telling.entry (word_count plan.now)) }
+    requires there { list_fault plan.now plan.now.start asked.now.rounds.now ≡ None }
+    ensures words { IfOk result (λ v. v.items ≡ told_at asked.now.telling plan.now asked.now.rounds.now) }
+    ensures count { IfOk result (λ v. length v.items ≡ length asked.now.rounds.now * told_count asked.now.telling (word_count plan.now)) }
 {
     let fields = plan.program().field_count() as usize;
     // For the proof: that there are not too many.
     let _nodes = plan.nodes();
     let mut walk = plan.walk(alloc)?;
-    let mut words = Vec::with_capacity(alloc, room)?;
-    for round in rounds {
-        add_round(alloc, &mut words, &mut walk, *round, fields, telling)?;
+    let mut words = Vec::with_capacity(alloc, asked.room)?;
+    for round in asked.rounds {
+        add_round(alloc, &mut words, &mut walk, *round, fields, asked.telling)?;
     }
     Ok(words)
 }
@@ -96,17 +102,15 @@ fn told_from(
     rows: NetRows<'_>,
     opening: &[State],
     start: u32,
-    rounds: &[u32],
-    room: usize,
-    telling: Telling<'_>,
+    asked: &Asked<'_>,
 ) -> Result<Vec<u32>, AllocError>
     requires plan { start_of program.now rows opening.now start ≡ Ok (given_plan program.now rows opening.now start) }
-    requires there { list_fault (plan_from start) start rounds.now ≡ None }
-    ensures words { IfOk result (λ v. v.items ≡ told_at telling.entry (given_plan program.now rows.entry opening.now start) rounds.now) }
-    ensures count { IfOk result (λ v. length v.items ≡ length rounds.now * told_count telling.entry (length rows.entry * length program.now.fields)) }
+    requires there { list_fault (plan_from start) start asked.now.rounds.now ≡ None }
+    ensures words { IfOk result (λ v. v.items ≡ told_at asked.now.telling (given_plan program.now rows.entry opening.now start) asked.now.rounds.now) }
+    ensures count { IfOk result (λ v. length v.items ≡ length asked.now.rounds.now * told_count asked.now.telling (length rows.entry * length program.now.fields)) }
 {
     let plan = plan_on(alloc, program, rows, opening, start)?;
-    let words = plan_told(alloc, &plan, rounds, room, telling)?;
+    let words = plan_told(alloc, &plan, asked)?;
     Ok(words)
 }
 
@@ -117,80 +121,57 @@ fn told_on_rows(
     rows: NetRows<'_>,
     start: u32,
     from: &[u32],
-    rounds: &[u32],
-    room: usize,
-    telling: Telling<'_>,
+    asked: &Asked<'_>,
 ) -> Result<Vec<u32>, AllocError>
     requires some { 1 ≤ length rows }
     requires count { length from.now ≡ length rows * length program.now.fields }
     requires early { start ≤ most_rounds }
-    requires there { list_fault (plan_from start) start rounds.now ≡ None }
-    ensures words { IfOk result (λ v. v.items ≡ told_at telling.entry (words_plan program.now rows.entry from.now start) rounds.now) }
-    ensures count { IfOk result (λ v. length v.items ≡ length rounds.now * told_count telling.entry (length from.now)) }
+    requires there { list_fault (plan_from start) start asked.now.rounds.now ≡ None }
+    ensures words { IfOk result (λ v. v.items ≡ told_at asked.now.telling (words_plan program.now rows.entry from.now start) asked.now.rounds.now) }
+    ensures count { IfOk result (λ v. length v.items ≡ length asked.now.rounds.now * told_count asked.now.telling (length from.now)) }
 {
     let fields = program.field_count() as usize;
     let nodes = rows.nodes() as usize;
     let opening = states_of(alloc, from, fields, nodes)?;
-    let words = told_from(alloc, program, rows, &opening, start, rounds, room, telling)?;
+    let words = told_from(alloc, program, rows, &opening, start, asked)?;
     Ok(words)
 }
 
-/// What is told of each of the rounds, of which there is one or more, on the lists of a network, each weight being 1 where
-/// there are none.
+/// What is told of each of the rounds, of which there is one or more, on the lists of a network.
 fn told_on_lists(
     alloc: Global,
-    program: &Program,
-    offsets: &[usize],
-    neighbours: &[u32],
-    weights: &[u32],
-    start: u32,
+    origin: &ReadStart<'_>,
     from: &[u32],
-    rounds: &[u32],
-    room: usize,
-    telling: Telling<'_>,
+    asked: &Asked<'_>,
 ) -> Result<Vec<u32>, AllocError>
-    requires rows { AreLaidOut offsets.now neighbours.now (given_weights neighbours.now weights.now) }
-    requires count { length from.now ≡ (length offsets.now - 1) * length program.now.fields }
-    requires early { start ≤ most_rounds }
-    requires there { list_fault (plan_from start) start rounds.now ≡ None }
-    ensures words { IfOk result (λ v. v.items ≡ told_at telling.entry (words_plan program.now (rows_of offsets.now neighbours.now (given_weights neighbours.now weights.now)) from.now start) rounds.now) }
-    ensures count { IfOk result (λ v. length v.items ≡ length rounds.now * told_count telling.entry (length from.now)) }
+    requires rows { AreRows origin.now.lists }
+    requires count { length from.now ≡ (length origin.now.lists.offsets.now - 1) * length origin.now.program.now.fields }
+    requires early { origin.now.start ≤ most_rounds }
+    requires there { list_fault (plan_from origin.now.start) origin.now.start asked.now.rounds.now ≡ None }
+    ensures words { IfOk result (λ v. v.items ≡ told_at asked.now.telling (words_plan origin.now.program.now (rows_in origin.now.lists) from.now origin.now.start) asked.now.rounds.now) }
+    ensures count { IfOk result (λ v. length v.items ≡ length asked.now.rounds.now * told_count asked.now.telling (length from.now)) }
 {
-    if weights.is_empty() {
-        let ones = vec![in alloc; 1; neighbours.len()]?;
-        let rows = NetRows::new(offsets, neighbours, &ones);
-        let words = told_on_rows(alloc, program, rows, start, from, rounds, room, telling)?;
-        return Ok(words);
-    }
-    let rows = NetRows::new(offsets, neighbours, weights);
-    let words = told_on_rows(alloc, program, rows, start, from, rounds, room, telling)?;
-    Ok(words)
+    let ones = ones_of(alloc, &origin.lists)?;
+    let rows = rows_with(&origin.lists, &ones);
+    told_on_rows(alloc, origin.program, rows, origin.start, from, asked)
 }
 
 /// What is told of each of the rounds on the lists of a network, one round after the other; of no rounds nothing, and then no
 /// plan is made.
 pub(crate) fn told_of_each(
     alloc: Global,
-    program: &Program,
-    offsets: &[usize],
-    neighbours: &[u32],
-    weights: &[u32],
-    start: u32,
+    origin: &ReadStart<'_>,
     from: &[u32],
-    rounds: &[u32],
-    room: usize,
-    telling: Telling<'_>,
+    asked: &Asked<'_>,
 ) -> Result<Vec<u32>, AllocError>
-    requires rows { AreLaidOut offsets.now neighbours.now (given_weights neighbours.now weights.now) }
-    requires count { length from.now ≡ (length offsets.now - 1) * length program.now.fields }
-    requires there { list_fault (plan_from start) start rounds.now ≡ None }
-    ensures words { IfOk result (λ v. v.items ≡ told_at telling.entry (words_plan program.now (rows_of offsets.now neighbours.now (given_weights neighbours.now weights.now)) from.now start) rounds.now) }
-    ensures count { IfOk result (λ v. length v.items ≡ length rounds.now * told_count telling.entry (length from.now)) }
+    requires rows { AreRows origin.now.lists }
+    requires count { length from.now ≡ (length origin.now.lists.offsets.now - 1) * length origin.now.program.now.fields }
+    requires there { list_fault (plan_from origin.now.start) origin.now.start asked.now.rounds.now ≡ None }
+    ensures words { IfOk result (λ v. v.items ≡ told_at asked.now.telling (words_plan origin.now.program.now (rows_in origin.now.lists) from.now origin.now.start) asked.now.rounds.now) }
+    ensures count { IfOk result (λ v. length v.items ≡ length asked.now.rounds.now * told_count asked.now.telling (length from.now)) }
 {
-    if rounds.is_empty() {
+    if asked.rounds.is_empty() {
         return Ok(Vec::new(alloc));
     }
-    told_on_lists(
-        alloc, program, offsets, neighbours, weights, start, from, rounds, room, telling,
-    )
+    told_on_lists(alloc, origin, from, asked)
 }

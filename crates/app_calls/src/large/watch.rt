@@ -1,45 +1,39 @@
 //! The words after each of a list of rounds of a program on the lists of a network.
 ghost use Rattle.std.specs.Prelude.{◌≡◌, ◌≢◌, ◌-◌, length, IfErr, OnErr, OnOk};
-ghost use Rattle.link_net.specs.Layout.{rows_of};
-ghost use Rattle.large_net.specs.Large.{AreLaidOut};
 ghost use Rattle.app_calls.specs.declared.fault.Fault.TheVariants as call;
 ghost use Rattle.app_calls.specs.declared.large.fault.LargeCallFault.TheVariants as fault;
-ghost use Rattle.app_calls.specs.Lists.{given_weights};
+ghost use Rattle.app_calls.specs.Lists.{AreRows, rows_in};
 ghost use Rattle.app_calls.specs.LargeAnswers.{IsLongLarge};
 ghost use Rattle.app_calls.specs.WatchAnswers.{AreUnwatched, AreWatched, HaveLargeRounds, IsRefusedWatch};
 
 use crate::Fault;
 use crate::large::fault::LargeCallFault;
 use crate::large::lists::check_lists;
+use crate::large::start::{ListsStart, ReadStart};
 use crate::large::telling::Telling;
-use crate::large::told::{check_rounds, told_of_each};
+use crate::large::told::{Asked, check_rounds, told_of_each};
 use app_jobs::program_of;
 use rounds_walk::part_rounds::put_words;
-use rule_check::Program;
 use std::alloc::Global;
 
 /// Writes the words after each of the rounds of a program that is read, on lists that are rows.
 fn put_watch(
     alloc: Global,
-    program: &Program,
-    offsets: &[usize],
-    neighbours: &[u32],
-    weights: &[u32],
-    start: u32,
+    origin: &ReadStart<'_>,
     from: &[u32],
     rounds: &[u32],
     words: &mut [u32],
     fields: &mut u32,
 ) -> Result<(), LargeCallFault>
-    requires rows { AreLaidOut offsets.now neighbours.now (given_weights neighbours.now weights.now) }
-    ensures written { OnOk result (AreWatched program.now (rows_of offsets.now neighbours.now (given_weights neighbours.now weights.now)) start from.now rounds.now words.old words.new (length offsets.now - 1) fields.new) }
+    requires rows { AreRows origin.now.lists }
+    ensures written { OnOk result (AreWatched origin.now.program.now (rows_in origin.now.lists) origin.now.start from.now rounds.now words.old words.new (length origin.now.lists.offsets.now - 1) fields.new) }
     ensures kept { OnErr result (words.new ≡ words.old) }
     ensures sized { IfErr result (λ f. f ≢ fault.WordCount → f ≢ fault.Call call.Room → fields.new ≡ fields.old) }
-    ensures refused { IfErr result (AreUnwatched program.now (rows_of offsets.now neighbours.now (given_weights neighbours.now weights.now)) start from.now rounds.now (length words.old) (length offsets.now - 1) fields.new) }
+    ensures refused { IfErr result (AreUnwatched origin.now.program.now (rows_in origin.now.lists) origin.now.start from.now rounds.now (length words.old) (length origin.now.lists.offsets.now - 1) fields.new) }
 {
-    check_rounds(start, rounds)?;
-    let field_count = program.field_count();
-    let count = (offsets.len() - 1) * field_count as usize;
+    check_rounds(origin.start, rounds)?;
+    let field_count = origin.program.field_count();
+    let count = (origin.lists.offsets.len() - 1) * field_count as usize;
     if from.len() != count {
         *fields = field_count;
         return Err(LargeCallFault::WordCount);
@@ -49,10 +43,12 @@ fn put_watch(
         *fields = field_count;
         return Err(LargeCallFault::Call(Fault::Room));
     }
-    let telling = Telling::Words;
-    let found = told_of_each(
-        alloc, program, offsets, neighbours, weights, start, from, rounds, room, telling,
-    )?;
+    let asked = Asked {
+        rounds,
+        telling: Telling::Words,
+        room,
+    };
+    let found = told_of_each(alloc, origin, from, &asked)?;
     put_words(words, 0, &found);
     *fields = field_count;
     Ok(())
@@ -71,25 +67,24 @@ fn put_watch(
 /// were.
 pub fn write_large_watch(
     alloc: Global,
-    program: &[u8],
-    offsets: &[usize],
-    neighbours: &[u32],
-    weights: &[u32],
-    start: u32,
+    origin: &ListsStart<'_>,
     from: &[u32],
     rounds: &[u32],
     words: &mut [u32],
     fields: &mut u32,
 ) -> Result<(), LargeCallFault>
-    ensures written { OnOk result (HaveLargeRounds program.now offsets.now neighbours.now weights.now start from.now rounds.now words.old words.new fields.new) }
+    ensures written { OnOk result (HaveLargeRounds origin.now.program.now origin.now.lists.offsets.now origin.now.lists.neighbours.now origin.now.lists.weights.now origin.now.start from.now rounds.now words.old words.new fields.new) }
     ensures kept { OnErr result (words.new ≡ words.old) }
     ensures sized { IfErr result (λ f. f ≢ fault.WordCount → f ≢ fault.Call call.Room → fields.new ≡ fields.old) }
-    ensures refused { IfErr result (IsRefusedWatch program.now offsets.now neighbours.now weights.now start from.now rounds.now (length words.old) fields.new) }
-    ensures long { IfErr result (IsLongLarge program.now) }
+    ensures refused { IfErr result (IsRefusedWatch origin.now.program.now origin.now.lists.offsets.now origin.now.lists.neighbours.now origin.now.lists.weights.now origin.now.start from.now rounds.now (length words.old) fields.new) }
+    ensures long { IfErr result (IsLongLarge origin.now.program.now) }
 {
-    let (_source, program) = program_of(alloc, program)?;
-    check_lists(offsets, neighbours, weights)?;
-    put_watch(
-        alloc, &program, offsets, neighbours, weights, start, from, rounds, words, fields,
-    )
+    let (_source, program) = program_of(alloc, origin.program)?;
+    check_lists(&origin.lists)?;
+    let read = ReadStart {
+        program: &program,
+        lists: origin.lists,
+        start: origin.start,
+    };
+    put_watch(alloc, &read, from, rounds, words, fields)
 }

@@ -6,5 +6,5 @@ pub returns-clause-first : goal.returns-clause-first
 returns-clause-first c =
     let found = c.in_ok-finding.ensures in
     let told = c.ending_number.ensures in
-    first_of_found c.args.job.now c.args.program.now c.args.network.now c.args.schedule.now (report_in c.args.from.now) c.in_ok-finding.finding.fault c.ending_number.result
-    _ told.none told.number found.refused found.shown c.texts_of-texts.ensures.first
+    first_of_found c.args.job.now c.args.texts.now.program.now c.args.texts.now.network.now c.args.schedule.now (report_in c.args.texts.now.from.now) c.in_ok-finding.finding.fault c.ending_number.result
+    _ told.none told.number found.refused found.shown c.texts_of-named.ensures.first

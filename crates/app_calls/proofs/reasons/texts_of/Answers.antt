@@ -7,7 +7,7 @@ use Rattle.app_calls.proofs.reasons.texts_of.Goals as goal
 pub returns-in-Lockstep-clause-first : goal.returns-in-Lockstep-clause-first
 returns-in-Lockstep-clause-first c = λ f h.
     let job = c.args.job.now in
-    let program = c.args.program.now in
-    let network = c.args.network.now in
+    let program = c.args.texts.now.program.now in
+    let network = c.args.texts.now.network.now in
     let free : IsUnscheduled job = search rules in
     unscheduled_first job program network [] c.args.schedule.now _ f free (subst (λ (r : Option (List ℕ)). IsFirstFault job program network r [] f) c.report-in-Lockstep.ensures.text h)

@@ -32,5 +32,5 @@ pub returns-clause-written : goal.returns-clause-written
 returns-clause-written c =
     let a = c.args in
     let accepted = c.in_ok-_source.ensures.accepted in
-    of_program a.program.now a.ids.now a.offsets.now a.neighbours.now a.weights.now a.round a.from.now (length a.to.now) c.put_part.new.to _ _ c.put_part.result
+    of_program a.program.now a.part.now.ids.now a.part.now.lists.offsets.now a.part.now.lists.neighbours.now a.part.now.lists.weights.now a.round a.from.now (length a.to.now) c.put_part.new.to _ _ c.put_part.result
     accepted.0 accepted.1 c.in_ok-check_lists.ensures.rows c.put_part.ensures.written

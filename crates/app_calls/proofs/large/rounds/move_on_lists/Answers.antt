@@ -4,8 +4,5 @@ use Rattle.app_calls.proofs.large.rounds.move_on_lists.Goals as goal
 
 pub move_on-requires-clause-count : goal.move_on-requires-clause-count
 move_on-requires-clause-count c =
-    row_words c.args.offsets.now c.args.neighbours.now _ c.new-rows.result (length c.args.words.now) (length c.args.program.now.fields) c.new-rows.ensures.rows c.requires.count
-
-pub move_on-requires-2-clause-count : goal.move_on-requires-2-clause-count
-move_on-requires-2-clause-count c =
-    row_words c.args.offsets.now c.args.neighbours.now _ c.new-rows-2.result (length c.args.words.now) (length c.args.program.now.fields) c.new-rows-2.ensures.rows c.requires.count
+    let origin = c.args.origin.now in
+    row_words origin.lists.offsets.now origin.lists.neighbours.now _ c.rows_with-rows.result (length c.args.words.now) (length origin.program.now.fields) c.rows_with-rows.ensures.rows c.requires.count

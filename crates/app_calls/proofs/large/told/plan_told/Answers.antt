@@ -10,17 +10,17 @@ use Rattle.app_calls.proofs.large.told.plan_told.Goals as goal
 pub add_round-requires-clause-late : goal.add_round-requires-clause-late
 add_round-requires-clause-late c =
     let rest = c.loop-round.invariant.rest in
-    let next = is_next c.args.plan.now rest.0 c.args.rounds.now c.loop-round.round-index (omega (arith, c.loop-round-test.true)) rest.2 in
+    let next = is_next c.args.plan.now rest.0 c.args.asked.now.rounds.now c.loop-round.round-index (omega (arith, c.loop-round-test.true)) rest.2 in
     let late = next.late in
     let there = rest.1 in
     omega (arith, late, there)
 
 pub loop-round-preserved : goal.loop-round-preserved
 loop-round-preserved c =
-    let telling = c.args.telling in
+    let telling = c.args.asked.now.telling in
     let p = c.args.plan.now in
     let l = c.loop-round in
-    let rounds = c.args.rounds.now in
+    let rounds = c.args.asked.now.rounds.now in
     let t = slice_index rounds l.round-index in
     let inside : l.round-index < length rounds = omega (arith, c.loop-round-test.true) in
     let next = is_next p l.invariant.rest.0 rounds l.round-index inside l.invariant.rest.2 in

@@ -7,7 +7,7 @@ use Rattle.app_calls.proofs.large.told.plan_told.Given as goal
 abbrev pub invariant-loop-round : goal.invariant-loop-round
 invariant-loop-round l = record {
   plan : l.walk.plan ≡ l.plan;
-  rest : (least : ℕ) × (l.walk.round ≤ least) × (list_fault l.plan least (drop l.round-index l.rounds) ≡ None);
-  words : l.words.items ++ told_at l.telling l.plan (drop l.round-index l.rounds) ≡ told_at l.telling l.plan l.rounds;
-  count : length l.words.items ≡ l.round-index * told_count l.telling (word_count l.plan);
+  rest : (least : ℕ) × (l.walk.round ≤ least) × (list_fault l.plan least (drop l.round-index l.asked.rounds.now) ≡ None);
+  words : l.words.items ++ told_at l.asked.telling l.plan (drop l.round-index l.asked.rounds.now) ≡ told_at l.asked.telling l.plan l.asked.rounds.now;
+  count : length l.words.items ≡ l.round-index * told_count l.asked.telling (word_count l.plan);
 }

@@ -9,11 +9,11 @@ use Rattle.app_calls.proofs.large.told.told_of_each.Goals as goal
 pub returns-then-is_empty-clause-words : goal.returns-then-is_empty-clause-words
 returns-then-is_empty-clause-words c =
     let a = c.args in
-    let none : length a.rounds.now ≡ 0 = search rules in
-    let plan = words_plan a.program.now (rows_of a.offsets.now a.neighbours.now (given_weights a.neighbours.now a.weights.now)) a.from.now a.start in
-    c.new.ensures.items ∙ sym (none_left a.telling plan a.rounds.now none)
+    let none : length a.asked.now.rounds.now ≡ 0 = search rules in
+    let plan = words_plan a.origin.now.program.now (rows_of a.origin.now.lists.offsets.now a.origin.now.lists.neighbours.now (given_weights a.origin.now.lists.neighbours.now a.origin.now.lists.weights.now)) a.from.now a.origin.now.start in
+    c.new.ensures.items ∙ sym (none_left a.asked.now.telling plan a.asked.now.rounds.now none)
 
 pub told_on_lists-requires-clause-early : goal.told_on_lists-requires-clause-early
 told_on_lists-requires-clause-early c =
-    let some : 0 < length c.args.rounds.now = search rules in
-    early (plan_from c.args.start) c.args.start c.args.rounds.now some c.requires.there
+    let some : 0 < length c.args.asked.now.rounds.now = search rules in
+    early (plan_from c.args.origin.now.start) c.args.origin.now.start c.args.asked.now.rounds.now some c.requires.there

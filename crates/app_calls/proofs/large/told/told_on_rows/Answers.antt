@@ -21,7 +21,7 @@ returns-clause-words c =
     let rows = c.args.rows in
     let from = c.args.from.now in
     let opens = as_opening program rows from _ _ c.deref.result.now (c.deref.ensures.value ∙ c.in_ok-opening.ensures.states) c.field_count-fields.ensures.count c.nodes-nodes.ensures.count in
-    c.in_ok-words.ensures.words ∙ ap (λ (o : List State). told_at c.args.telling (given_plan program rows o c.args.start) c.args.rounds.now) opens
+    c.in_ok-words.ensures.words ∙ ap (λ (o : List State). told_at c.args.asked.now.telling (given_plan program rows o c.args.start) c.args.asked.now.rounds.now) opens
 
 pub returns-clause-count : goal.returns-clause-count
-returns-clause-count c = c.in_ok-words.ensures.count ∙ ap (λ (n : ℕ). length c.args.rounds.now * told_count c.args.telling n) (sym c.requires.count)
+returns-clause-count c = c.in_ok-words.ensures.count ∙ ap (λ (n : ℕ). length c.args.asked.now.rounds.now * told_count c.args.asked.now.telling n) (sym c.requires.count)
