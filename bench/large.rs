@@ -1,11 +1,29 @@
 //! Loops written by hand over a binary network file: `large FILE PROGRAM ROUNDS THREADS REPORT` prints the seconds of the rounds and a sum of the
 //! words of the first field after them; they begin with the field s of the report. One field, two of PageRank and eight of the heavy program, which
-//! heavy.py makes (HEAVY names its file); plain rows; threads share the nodes by their neighbours and start anew in each round.
+//! heavy.py makes (HEAVY names its file); plain rows; columns as narrow as their values, bytes for those of majority and life; threads share the
+//! nodes by their neighbours and start anew in each round.
 use std::time::Instant;
 
 const M: u32 = u32::MAX;
 
 include!(env!("HEAVY"));
+
+/// A word of a column.
+trait Word: Copy + Send + Sync {
+    fn number(self) -> u64;
+}
+
+impl Word for u8 {
+    fn number(self) -> u64 {
+        self as u64
+    }
+}
+
+impl Word for u32 {
+    fn number(self) -> u64 {
+        self as u64
+    }
+}
 
 struct Network {
     offsets: Vec<usize>,
@@ -35,12 +53,12 @@ fn parts(network: &Network, threads: usize) -> Vec<usize> {
 }
 
 /// The next words of the nodes of a network by those before: `next` gives those of a node by its number, its row and the columns.
-fn round<const F: usize, N>(network: &Network, parts: &[usize], from: &[Vec<u32>; F], to: &mut [Vec<u32>; F], next: &N)
+fn round<const F: usize, W: Word, N>(network: &Network, parts: &[usize], from: &[Vec<W>; F], to: &mut [Vec<W>; F], next: &N)
 where
-    N: Fn(usize, &[u32], &[&[u32]; F]) -> [u32; F] + Sync,
+    N: Fn(usize, &[u32], &[&[W]; F]) -> [W; F] + Sync,
 {
-    let from: [&[u32]; F] = from.each_ref().map(|column| column.as_slice());
-    let step = |first: usize, nodes: usize, columns: [&mut [u32]; F]| {
+    let from: [&[W]; F] = from.each_ref().map(|column| column.as_slice());
+    let step = |first: usize, nodes: usize, columns: [&mut [W]; F]| {
         for k in 0..nodes {
             let u = first + k;
             let words = next(u, &network.neighbours[network.offsets[u]..network.offsets[u + 1]], &from);
@@ -49,7 +67,7 @@ where
             }
         }
     };
-    let mut rest: [&mut [u32]; F] = to.each_mut().map(|column| column.as_mut_slice());
+    let mut rest: [&mut [W]; F] = to.each_mut().map(|column| column.as_mut_slice());
     if parts.len() == 2 {
         return step(0, parts[1], rest);
     }
@@ -65,7 +83,7 @@ where
 }
 
 /// The first words of columns, and all others.
-fn split<const F: usize>(columns: [&mut [u32]; F], count: usize) -> ([&mut [u32]; F], [&mut [u32]; F]) {
+fn split<const F: usize, W>(columns: [&mut [W]; F], count: usize) -> ([&mut [W]; F], [&mut [W]; F]) {
     let mut others = Vec::new();
     let fronts = columns.map(|column| {
         let (front, back) = column.split_at_mut(count);
@@ -81,9 +99,9 @@ fn states(path: &str) -> Vec<u32> {
     text.lines().skip(1).map(|line| line.split_once("s=").unwrap().1.split(' ').next().unwrap().parse().unwrap()).collect()
 }
 
-fn run<const F: usize, N>(network: &Network, rounds: usize, threads: usize, open: [Vec<u32>; F], next: N)
+fn run<const F: usize, W: Word, N>(network: &Network, rounds: usize, threads: usize, open: [Vec<W>; F], next: N)
 where
-    N: Fn(usize, &[u32], &[&[u32]; F]) -> [u32; F] + Sync,
+    N: Fn(usize, &[u32], &[&[W]; F]) -> [W; F] + Sync,
 {
     let mut from = open;
     let mut to = from.clone();
@@ -94,7 +112,7 @@ where
         std::mem::swap(&mut from, &mut to);
     }
     let seconds = start.elapsed().as_secs_f64();
-    println!("{seconds:.4} {}", from[0].iter().map(|word| *word as u64).sum::<u64>());
+    println!("{seconds:.4} {}", from[0].iter().map(|word| word.number()).sum::<u64>());
 }
 
 fn main() {
@@ -103,17 +121,18 @@ fn main() {
     let nodes = network.offsets.len() - 1;
     let (rounds, threads) = (words[3].parse().unwrap(), words[4].parse().unwrap());
     let open = || states(&words[5]);
+    let bytes = || open().into_iter().map(|word| u8::try_from(word).expect("a byte")).collect::<Vec<u8>>();
     match words[2].as_str() {
         "distance" => run(&network, rounds, threads, [open()], |u, row, [at]| {
             [row.iter().fold(at[u], |least, w| least.min(at[*w as usize].saturating_add(1)))]
         }),
-        "majority" => run(&network, rounds, threads, [open()], |_, row, [at]| {
-            let ones = row.iter().fold(0u32, |sum, w| sum.saturating_add(at[*w as usize]));
-            [(ones.saturating_add(ones) > row.len() as u32) as u32]
+        "majority" => run(&network, rounds, threads, [bytes()], |_, row, [at]| {
+            let ones = row.iter().map(|w| at[*w as usize] as usize).sum::<usize>();
+            [(2 * ones > row.len()) as u8]
         }),
-        "life" => run(&network, rounds, threads, [open()], |u, row, [at]| {
-            let living = row.iter().filter(|w| at[**w as usize] != 0).count();
-            [(living == 3 || (living == 2 && at[u] != 0)) as u32]
+        "life" => run(&network, rounds, threads, [bytes()], |u, row, [at]| {
+            let living = row.iter().map(|w| at[*w as usize] as usize).sum::<usize>();
+            [(living == 3 || (living == 2 && at[u] != 0)) as u8]
         }),
         "pagerank" => run(&network, rounds, threads, [open(), vec![0; nodes]], |u, row, [rank, share]| {
             let sum = row.iter().fold(0u32, |sum, w| sum.saturating_add(share[*w as usize]));

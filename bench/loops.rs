@@ -4,7 +4,8 @@
 //!   loops run PROGRAM FILE N      PROGRAM: distance, rule_110, majority, drawn_majority, life, heavy; prints the seconds of N rounds and a checksum
 //!   loops settle PROGRAM FILE N   the same, but the first round that changes nothing is the last; prints the rounds that were made, too
 //!
-//! HEAVY names the file with the loop of the heavy program, which heavy.py makes.
+//! Columns are as narrow as their values: bytes for truths, words of 32 bits for distances and the heavy program, whose loop stands in the file that
+//! HEAVY names, which heavy.py makes.
 use std::collections::BTreeSet;
 use std::env;
 use std::fs;
@@ -151,7 +152,7 @@ fn read(file: &str) -> (Vec<usize>, Vec<u32>) {
 }
 
 /// One round of a program: from columns to columns, one for each field.
-type Round = fn(&[usize], &[u32], &[Vec<u32>], &mut [Vec<u32>]);
+type Round<W> = fn(&[usize], &[u32], &[Vec<W>], &mut [Vec<W>]);
 
 fn distance_round(offsets: &[usize], near: &[u32], now: &[Vec<u32>], next: &mut [Vec<u32>]) {
     let (states, next) = (&now[0], &mut next[0]);
@@ -164,27 +165,27 @@ fn distance_round(offsets: &[usize], near: &[u32], now: &[Vec<u32>], next: &mut 
     }
 }
 
-fn rule_110_round(offsets: &[usize], near: &[u32], now: &[Vec<u32>], next: &mut [Vec<u32>]) {
+fn rule_110_round(offsets: &[usize], near: &[u32], now: &[Vec<u8>], next: &mut [Vec<u8>]) {
     let (states, next) = (&now[0], &mut next[0]);
     for node in 0..NODES as usize {
         let own = states[node];
         let (mut left, mut right) = (0, 0);
         for other in &near[offsets[node]..offsets[node + 1]] {
-            let alive = (states[*other as usize] != 0) as u32;
-            right |= alive & (*other as usize > node) as u32;
-            left |= alive & ((*other as usize) < node) as u32;
+            let alive = states[*other as usize];
+            right |= alive & (*other as usize > node) as u8;
+            left |= alive & ((*other as usize) < node) as u8;
         }
-        next[node] = (own | right) & (((left & own) & right) == 0) as u32;
+        next[node] = (own | right) & (((left & own) & right) == 0) as u8;
     }
 }
 
-fn majority_round(offsets: &[usize], near: &[u32], now: &[Vec<u32>], next: &mut [Vec<u32>]) {
+fn majority_round(offsets: &[usize], near: &[u32], now: &[Vec<u8>], next: &mut [Vec<u8>]) {
     let (states, next) = (&now[0], &mut next[0]);
     for node in 0..NODES as usize {
         let row = &near[offsets[node]..offsets[node + 1]];
         let mut ones = 0;
         for other in row {
-            ones += (states[*other as usize] != 0) as u32;
+            ones += states[*other as usize] as u32;
         }
         next[node] = match (ones * 2).cmp(&(row.len() as u32)) {
             std::cmp::Ordering::Greater => 1,
@@ -194,14 +195,14 @@ fn majority_round(offsets: &[usize], near: &[u32], now: &[Vec<u32>], next: &mut 
     }
 }
 
-fn life_round(offsets: &[usize], near: &[u32], now: &[Vec<u32>], next: &mut [Vec<u32>]) {
+fn life_round(offsets: &[usize], near: &[u32], now: &[Vec<u8>], next: &mut [Vec<u8>]) {
     let (states, next) = (&now[0], &mut next[0]);
     for node in 0..NODES as usize {
         let mut alive = 0;
         for other in &near[offsets[node]..offsets[node + 1]] {
-            alive += (states[*other as usize] != 0) as u32;
+            alive += states[*other as usize] as u32;
         }
-        next[node] = (alive == 3) as u32 | ((alive == 2) as u32 & states[node]);
+        next[node] = (alive == 3) as u8 | ((alive == 2) as u8 & states[node]);
     }
 }
 
@@ -217,49 +218,46 @@ fn is_drawn(node: u32) -> bool {
 const GLIDER: [u32; 5] = [1, SIDE + 2, 2 * SIDE, 2 * SIDE + 1, 2 * SIDE + 2];
 
 /// One column, with a word for each node.
-fn column(word: impl Fn(u32) -> u32) -> Vec<Vec<u32>> {
+fn column<W>(word: impl Fn(u32) -> W) -> Vec<Vec<W>> {
     vec![(0..NODES).map(word).collect()]
 }
 
-/// The columns at first: as the programs of compare.py make them in round 0, from the numbers of the nodes.
-fn initial(program: &str) -> Vec<Vec<u32>> {
+/// The round of a program whose states are truths, and the column at first: as the programs of compare.py make them in round 0, from the numbers
+/// of the nodes.
+fn of_truths(program: &str) -> Option<(Round<u8>, Vec<Vec<u8>>)> {
     match program {
-        "distance" => column(|node| if node == 0 { 0 } else { M }),
-        "rule_110" => column(|node| (node == 0 || node == 65_534) as u32),
-        "majority" => column(|node| ((node * 7) % 5 < 2) as u32),
-        "drawn_majority" => column(|node| is_drawn(node) as u32),
-        "life" => column(|node| GLIDER.contains(&node) as u32),
-        _ => (0..8).map(|field| vec![field; NODES as usize]).collect(),
+        "rule_110" => Some((rule_110_round, column(|node| (node == 0 || node == 65_534) as u8))),
+        "majority" => Some((majority_round, column(|node| ((node * 7) % 5 < 2) as u8))),
+        "drawn_majority" => Some((majority_round, column(|node| is_drawn(node) as u8))),
+        "life" => Some((life_round, column(|node| GLIDER.contains(&node) as u8))),
+        _ => None,
     }
 }
 
-fn round_of(program: &str) -> Round {
+/// The round of a program of numbers, and the columns at first.
+fn of_numbers(program: &str) -> (Round<u32>, Vec<Vec<u32>>) {
     match program {
-        "distance" => distance_round,
-        "rule_110" => rule_110_round,
-        "majority" | "drawn_majority" => majority_round,
-        "life" => life_round,
-        _ => heavy_round,
+        "distance" => (distance_round, column(|node| if node == 0 { 0 } else { M })),
+        _ => (heavy_round, (0..8).map(|field| vec![field; NODES as usize]).collect()),
     }
 }
 
 /// A sum over all words, in which their order plays a part.
-fn sum(columns: &[Vec<u32>]) -> u64 {
+fn sum<W: Copy + Into<u64>>(columns: &[Vec<W>]) -> u64 {
     let mut sum = 0u64;
     for node in 0..NODES as usize {
         for field in 0..8 {
-            let word = columns.get(field).map_or(0, |column| column[node]);
-            sum = sum.wrapping_mul(31).wrapping_add(word as u64);
+            let word = columns.get(field).map_or(0, |column| column[node].into());
+            sum = sum.wrapping_mul(31).wrapping_add(word);
         }
     }
     sum
 }
 
 /// Makes rounds of a program, each over all nodes. Where they may settle, the first one that changes nothing is the last.
-fn run(program: &str, file: &str, rounds: u32, may_settle: bool) {
-    let round = round_of(program);
+fn run<W: Copy + PartialEq + Into<u64>>(round: Round<W>, initial: Vec<Vec<W>>, file: &str, rounds: u32, may_settle: bool) {
     let (offsets, near) = read(file);
-    let mut now = initial(program);
+    let mut now = initial;
     let mut next = now.clone();
     let mut made = 0;
     let start = Instant::now();
@@ -280,6 +278,13 @@ fn main() {
     if words[1] == "make" {
         return make(&words[2], &words[3]);
     }
+    let (file, may_settle) = (&words[3], words[1] == "settle");
     let rounds = words[4].parse().expect("rounds");
-    run(&words[2], &words[3], rounds, words[1] == "settle");
+    match of_truths(&words[2]) {
+        Some((round, initial)) => run(round, initial, file, rounds, may_settle),
+        None => {
+            let (round, initial) = of_numbers(&words[2]);
+            run(round, initial, file, rounds, may_settle)
+        }
+    }
 }

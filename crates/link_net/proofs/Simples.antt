@@ -19,7 +19,7 @@ network_simple network whole =
     record { nodes = rows.nodes; degrees = rows.degrees; within = whole.within; apart = whole.apart; rising = whole.rising; both_ways = whole.both_ways }
 
 -- a node with a slot is a node of the network
-node_of_slot : (network : Neighbours) (u j : ℕ) → j < degree network u → u < length network
+pub node_of_slot : (network : Neighbours) (u j : ℕ) → j < degree network u → u < length network
 node_of_slot network u j slot =
     ⊎_elim (λ a. a) (λ a. (let e : degree network u ≡ 0 = ap length (get_or_past network u [] a) in absurd (omega arith))) (cases_lt u (length network))
 

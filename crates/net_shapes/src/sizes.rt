@@ -12,10 +12,11 @@ const MOST_DIMENSIONS: u32 = 16;
 
 /// The power of two.
 pub(crate) fn power(exponent: u32) -> u32
-    requires { exponent ≤ 16 }
+    requires { exponent ≤ 30 }
     ensures value { result ≡ 2 ^ exponent }
     ensures some { 1 ≤ result }
-    ensures bound { result ≤ most_nodes }
+    ensures bound { result ≤ 2 ^ 30 }
+    ensures few { exponent ≤ 16 → result ≤ most_nodes }
 {
     2u32.pow(exponent)
 }

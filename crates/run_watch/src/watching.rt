@@ -139,6 +139,26 @@ fn put_rounds<P: Progress>(
     Ok(())
 }
 
+/// The text of the rounds, by a walk that stands at the plan's start.
+fn walk_text<P: Progress>(
+    rt: &(impl Threads + Sync),
+    alloc: Global,
+    plan: &PlanRef<'_>,
+    walk: &mut RoundWalk<'_>,
+    span: &Span,
+    show: &Show<'_>,
+    progress: &mut P,
+) -> Result<Vec<u8>, AllocError>
+    requires fits { refusal_of plan.now span.now show.now ≡ None }
+    requires start { walk.old ≡ record { plan = plan.now; round = plan.now.start } }
+    ensures text { IfOk result (λ v. v.items ≡ watch_text plan.now span.now show.now) }
+{
+    let mut out = String::new(alloc);
+    put_opening(&mut out, show, plan.program())?;
+    put_rounds(rt, alloc, &mut out, plan, walk, span, show, progress)?;
+    Ok(out.into_bytes())
+}
+
 /// The text of the rounds, where nothing refuses them.
 fn text_of<R: Threads + Sync, P: Progress>(
     workers: &Workers<'_, R>,
@@ -153,12 +173,7 @@ fn text_of<R: Threads + Sync, P: Progress>(
 {
     let start = Start::new(alloc, plan)?;
     let mut walk = start.shared_walk(alloc, workers.count)?;
-    let mut out = String::new(alloc);
-    put_opening(&mut out, show, plan.program())?;
-    put_rounds(
-        workers.rt, alloc, &mut out, plan, &mut walk, span, show, progress,
-    )?;
-    Ok(out.into_bytes())
+    walk_text(workers.rt, alloc, plan, &mut walk, span, show, progress)
 }
 
 /// The text of the rounds of a span of a plan, however many nodes it has, in one pass over the rounds: none is computed

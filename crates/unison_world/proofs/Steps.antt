@@ -5,7 +5,7 @@ use Rattle.std.proofs.lemmas.Bool.{cases_eq, cases_lt, false≢true}
 use Rattle.std.proofs.lemmas.Bool.Decides.{nat_tests, Decides-below_and}
 use Rattle.link_net.specs.Neighbours.{Neighbours, row, degree, neighbour}
 use Rattle.link_net.specs.Simple.{IsSimple}
-use Rattle.link_net.proofs.Simples.{network_simple}
+use Rattle.link_net.proofs.Simples.{network_simple, node_of_slot}
 use Rattle.unison_world.specs.declared.step.Step.{Step}
 use Rattle.unison_world.specs.declared.step.Step.TheVariants.{Read, Write}
 use Rattle.unison_world.specs.declared.step.Answer.{Answer}
@@ -163,11 +163,6 @@ shape-at_start network start =
       marks = length-map network (λ (row : List (ℕ × ℕ)). map (λ (a : ℕ × ℕ). false) row);
       slots = λ u. rw (get_or-map_each (λ (row : List (ℕ × ℕ)). map (λ (a : ℕ × ℕ). false) row) network u []) (length-map (row network u) (λ (a : ℕ × ℕ). false));
     }
-
--- a node with a slot is within the network
-node_of_slot : (network : Neighbours) (u j : ℕ) → j < degree network u → u < length network
-node_of_slot network u j h =
-    ⊎_elim (λ a. a) (λ a. (let e : degree network u ≡ 0 = ap length (get_or_past network u [] a) in absurd (omega arith))) (cases_lt u (length network))
 
 pub in_step-at_start : (network : Neighbours) (start stop : ℕ) → IsSimple network → start ≤ stop → InStep network stop (at_start network start)
 in_step-at_start network start stop net late =

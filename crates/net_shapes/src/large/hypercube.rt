@@ -1,21 +1,12 @@
 //! The neighbours of a node of a hypercube.
-ghost use Rattle.std.specs.Prelude.{◌≡◌, ◌<◌, ◌≤◌, ◌^◌, ◌++◌, OnOk};
+ghost use Rattle.std.specs.Prelude.{◌≡◌, ◌<◌, ◌≤◌, ◌++◌, OnOk};
 ghost use Rattle.link_net.specs.Neighbours.{numbers_below};
 ghost use Rattle.net_shapes.specs.Ahead.{raised};
 ghost use Rattle.net_shapes.specs.Listed.{lowered};
 
 use crate::large::put::put_if;
+use crate::sizes::power;
 use std::alloc::AllocError;
-
-/// The power of two.
-fn power(exponent: u32) -> u32
-    requires { exponent ≤ 30 }
-    ensures value { result ≡ 2 ^ exponent }
-    ensures some { 1 ≤ result }
-    ensures bound { result ≤ 2 ^ 30 }
-{
-    2u32.pow(exponent)
-}
 
 /// Puts the numbers that have 0 in place of one of a number's binary digits 1, the highest digit first.
 fn put_lower(neighbours: &mut Vec<u32>, dimension: u32, node: u32) -> Result<(), AllocError>

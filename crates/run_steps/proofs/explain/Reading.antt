@@ -5,6 +5,7 @@ use Rattle.std.proofs.lemmas.Bool.Decides.{nat_tests}
 use Rattle.std.proofs.lemmas.List.{get_or_past}
 use Rattle.std.proofs.lemmas.List.Sums.{sum_by-drop_more, position_or_len_is}
 use Rattle.link_net.specs.Neighbours.{Neighbours, degree}
+use Rattle.link_net.proofs.Simples.{node_of_slot}
 use Rattle.unison_world.specs.declared.step.Step.TheVariants.{Read}
 use Rattle.unison_world.specs.declared.step.Answer.TheVariants.{Already}
 use Rattle.unison_world.specs.Counting.{Counts, moves_of, marks_of, is_marked, answer_of, HasShape, InStep}
@@ -26,11 +27,6 @@ module _ (network : Neighbours) (stop : ℕ) (c : Counts) (u j : ℕ) (node : u 
       (λ e. ap one_if_read (read-marked (is.unstopped u j e) e) ∙ sym (ap (λ b. cond b 1 0) e))
       (λ e. read-unmarked e ∙ sym (ap (λ b. cond b 1 0) e))
       (cases_bool (is_marked c u j))
-
--- a node with a slot is within the network
-node_of_slot : (network : Neighbours) (u j : ℕ) → j < degree network u → u < length network
-node_of_slot network u j h =
-    ⊎_elim (λ a. a) (λ a. (let e : degree network u ≡ 0 = ap length (get_or_past network u [] a) in absurd (omega arith))) (cases_lt u (length network))
 
 -- one slot more
 pub read-next : (network : Neighbours) (stop : ℕ) (c : Counts) (u j one read whole : ℕ) → HasShape network c → InStep network stop c → j < degree network u

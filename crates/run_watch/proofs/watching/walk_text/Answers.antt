@@ -1,7 +1,7 @@
 use Rattle.std.proofs.Common.{◌<◌, All, length, subst, sym}
 use Rattle.rule_check.specs.Value.{Rules}
 use Rattle.run_watch.proofs.Missing.{fields_there}
-use Rattle.run_watch.proofs.watching.text_of.Goals as goal
+use Rattle.run_watch.proofs.watching.walk_text.Goals as goal
 
 pub put_opening-requires : goal.put_opening-requires
 put_opening-requires g c = record {
