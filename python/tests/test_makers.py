@@ -178,7 +178,7 @@ def words_of(make):
 
 
 def test_which_networks_are_beyond_the_limits():
-    """More than 65,536 nodes, 262,144 links or 4,096 neighbours of a node, without weights; not of the two kinds that have the size of a file."""
+    """More than 65,536 nodes, 262,144 links or 4,096 neighbours of a node; not shapes with weights, and not those whose degree is given."""
     for make, words in [
         (lambda: Network.ring(65_536), "generate ring 65536"),
         (lambda: Network.ring(65_537), "generate ring 65537 --packed"),
@@ -208,6 +208,8 @@ def test_which_networks_are_beyond_the_limits():
         (lambda: Network.random_tree(65_537, 1), "generate random-tree 65537 --seed=1 --packed"),
         (lambda: Network.random(1000, 262_144, 1), "generate random 1000 --links=262144 --seed=1"),
         (lambda: Network.random(1000, 262_145, 1), "generate random 1000 --links=262145 --seed=1 --packed"),
+        (lambda: Network.random(1000, 262_145, 1, weights=(2, 9)), "generate random 1000 --links=262145 --seed=1 --weights=2..9 --packed"),
+        (lambda: Network.gnp(70_000, 1, 1), "generate gnp 70000 --probability=1.000000000 --seed=1"),
         (lambda: Network.small_world(1024, 256, 0, 1), "generate small-world 1024 --near=256 --rewire=0.000000% --seed=1"),
         (lambda: Network.small_world(1025, 256, 0, 1), "generate small-world 1025 --near=256 --rewire=0.000000% --seed=1 --packed"),
         (lambda: Network.preferential(65_538, 4, 1), "generate preferential 65538 --links-each=4 --seed=1 --packed"),
@@ -216,6 +218,15 @@ def test_which_networks_are_beyond_the_limits():
         (lambda: Network.regular(70_000, 2, 1), "generate regular 70000 --degree=2 --seed=1"),
     ]:
         assert words_of(make) == words.split(), words
+
+
+def test_random_networks_with_weights_beyond_the_limits():
+    tree = Network.random_tree(70_000, 1, weights=(7, 9))
+    assert type(tree) is unison.LargeNetwork and tree.ends == 139_998 and set(tree.weights) == {7, 8, 9}
+    assert all(tree.weight(0, node) == tree.weight(node, 0) for node in tree.neighbours(0))
+    complete = Network.gnp(800, 1, 1)
+    assert type(complete) is unison.LargeNetwork and complete.ends == 800 * 799 and complete.neighbours(799) == list(range(799))
+    assert type(Network.gnp(700, 1, 1)) is Network
 
 
 def test_large_makers_make_the_same_networks():

@@ -14,6 +14,7 @@ if TYPE_CHECKING:
     Sets = Optional[Mapping[str, InitialValues]]
 
 MOST_NODES, MOST_LINKS, MOST_NEIGHBOURS = 65536, 262144, 4096  # of a network file
+PACKED = "it is written as a packed network"  # what is told where only a packed network has what is asked for
 Weights = Optional[Tuple[int, int]]
 
 
@@ -26,6 +27,7 @@ class Recipe:
         self.words = [shape, *map(str, self.sizes)]
         self.links = 0  # how many, where they may be too many for a network file though its nodes are not
         self.neighbours = 0  # how many a node has at most, where they may be too many for a network file though its links are not
+        self.has_weighted_shape = False  # of which none is made that is more than a network file has
 
     def number(self, name: str, value: Any) -> int:
         """A whole number that an option has."""
@@ -58,6 +60,7 @@ class Recipe:
         if (weights is None) != (seed is None):
             raise ValueError(f"{self.call}: weights=(LOW, HIGH) and seed are wanted together: the seed draws the weights")
         if seed is not None:
+            self.has_weighted_shape = True
             self.drawn(weights, seed)
 
     def drawn(self, weights: Any, seed: Any) -> None:
@@ -72,9 +75,9 @@ class Recipe:
         self.words.append(f"--weights={low}..{high}")
 
     def is_large(self, nodes: int) -> bool:
-        """Whether the network is more than a network file has, and has no weights, with which none is made of any size."""
+        """Whether the network is more than a network file has, and one is made of any size."""
         beyond = nodes > MOST_NODES or self.links > MOST_LINKS or self.neighbours > MOST_NEIGHBOURS
-        return beyond and not any(word.startswith("--weights") for word in self.words)
+        return beyond and not self.has_weighted_shape
 
     def told(self, *options: str) -> bytes:
         """What the command prints."""
@@ -87,6 +90,17 @@ class Recipe:
         """The network, with these initial values."""
         network: Network = kind.from_text(self.told())
         return network if set is None else network.with_set(set)
+
+    def made_as_drawn(self, kind: Any, set: Sets) -> Network:
+        """The network, with these initial values: as arrays where what is drawn is more than a network file has."""
+        try:
+            return self.made(kind, set)
+        except faults.UsageError as error:
+            if PACKED not in error.diagnosis:
+                raise
+        from . import _packed
+
+        return _packed.read(self.told("--packed"), set)
 
     def made_of_any_size(self, kind: Any, set: Sets, nodes: Optional[int] = None) -> Network:
         """The network, with these initial values: as arrays where it is more than a network file has."""
@@ -103,9 +117,8 @@ class Makers:
     Links have the weight 1; with `weights=(LOW, HIGH)` each link has one of these and those between them, drawn by `seed`, a whole number
     from 0 to 4294967295: the same seed gives the same network on every machine. Nodes are numbered from 0.
 
-    Each may have any size that memory holds where its weights are 1, but `gnp` and `regular`: these, and those whose weights are drawn, have
-    65,536 nodes, 262,144 links and 4,096 links of one node at most. Raises UsageError, with what is possible, for numbers of which no network
-    can be made.
+    Each may have any size that memory holds, but `regular`, and shapes whose weights are drawn: these have 65,536 nodes, 262,144 links and
+    4,096 links of one node at most. Raises UsageError, with what is possible, for numbers of which no network can be made.
     """
 
     @classmethod
@@ -215,11 +228,11 @@ class Makers:
     @classmethod
     def gnp(cls, n: int, probability: float, seed: int, *, weights: Weights = None, set: Sets = None) -> Network:
         """Each pair of `n` nodes is linked with the chance `probability`, 0 to 1, which is rounded to nine digits behind the point
-        (Gilbert 1959)."""
+        (Gilbert 1959). A number is drawn for each pair, so the time grows with the square of `n`; that of `random` grows with its links."""
         recipe = Recipe("gnp", "gnp", {"n": n})
         recipe.decimal("probability", probability, 1, 9)
         recipe.drawn(weights, seed)
-        return recipe.made(cls, set)
+        return recipe.made_as_drawn(cls, set)
 
     @classmethod
     def random_tree(cls, n: int, seed: int, *, weights: Weights = None, set: Sets = None) -> Network:

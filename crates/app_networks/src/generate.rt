@@ -1,13 +1,13 @@
 //! `generate SHAPE NUMBERS..`: a network of a shape, or at random, as a network file or packed.
 
 use crate::generate_request::{GenerateRequest, Topology, Weights};
-use crate::pack::{random_bytes, shape_bytes, text_bytes};
+use crate::pack::{chance_bytes, random_bytes, shape_bytes, text_bytes};
 use app_commands::{asked_by, check_output};
 use app_files::{Ending, print_out};
 use link_net::{MOST_LINKS, MOST_NODES};
 use net_random::{
-    LargeRandom, RandomFault, RandomNetwork, WeightFault, chance_list, chance_text, drawn,
-    drawn_text, weighted_text,
+    LargeRandom, RandomFault, RandomNetwork, WeightDraw, WeightFault, chance_list, chance_text,
+    drawn, drawn_text, weighted_text,
 };
 use net_shapes::{Shape, ShapeFault, large_refusal, links_of, made_text};
 use net_text::LinkList;
@@ -122,16 +122,19 @@ fn links_for(alloc: Global, asked: &GenerateRequest) -> Result<LinkList, Ending>
     }
 }
 
-/// The network file of the links with weights that are drawn apart from the links: the generator's seed is 2 to the power
-/// of 32 greater.
+/// The seed by which weights are drawn, apart from the links: it is 2 to the power of 32 greater.
+fn weight_seed(seed: u32) -> u64 {
+    seed as u64 + 4_294_967_296
+}
+
+/// The network file of the links with weights that are drawn.
 fn weighted(
     alloc: Global,
     links: &LinkList,
     weights: &Weights,
     seed: u32,
 ) -> Result<Vec<u8>, Ending> {
-    let apart = seed as u64 + 4_294_967_296;
-    match weighted_text(alloc, links, weights.low, weights.high, apart) {
+    match weighted_text(alloc, links, weights.low, weights.high, weight_seed(seed)) {
         Ok(text) => Ok(text),
         Err(fault) => Err(no_weights(alloc, fault)),
     }
@@ -235,13 +238,18 @@ fn is_drawn_packed_alone(random: &RandomNetwork) -> bool {
     }
 }
 
-/// Whether a packed network without weights has what is asked for, where no network file has it.
+/// Whether a packed network has what is asked for, where no network file has it; a shape without weights.
 fn fits_packed_alone(asked: &GenerateRequest) -> bool {
     match &asked.topology {
         Topology::Shape(shape) => large_refusal(shape).is_none(),
         Topology::RandomNetwork(random) => is_drawn_packed_alone(random),
-        Topology::Chance { .. } => false,
+        Topology::Chance { nodes, .. } => *nodes > 0,
     }
+}
+
+/// Whether what is asked for has the size of a network file at most where it is packed: a shape with weights.
+fn is_weighted_shape(asked: &GenerateRequest) -> bool {
+    asked.weights.is_some() && matches!(asked.topology, Topology::Shape(_))
 }
 
 /// What is told beside where no network file is made: the way to a packed network, where there is one.
@@ -249,10 +257,10 @@ fn way_of(asked: &GenerateRequest) -> &'static str {
     if !fits_packed_alone(asked) {
         return "";
     }
-    match (asked.packed, asked.weights.is_some()) {
+    match (asked.packed, is_weighted_shape(asked)) {
         (false, false) => "\nwith --packed it is written as a packed network, of any size",
         (false, true) => "",
-        (true, _) => "\nwith --weights a packed network has the size of a network file at most",
+        (true, _) => "\nwith --weights a packed network of a shape has the size of a network file at most",
     }
 }
 
@@ -273,17 +281,38 @@ fn file_for(alloc: Global, asked: &GenerateRequest) -> Result<Vec<u8>, Ending> {
     }
 }
 
+/// How the weights of links are drawn that may be of any number, where that is asked.
+fn weight_draw(asked: &GenerateRequest) -> Option<WeightDraw> {
+    let weights = asked.weights.as_ref()?;
+    Some(WeightDraw {
+        low: weights.low,
+        high: weights.high,
+        seed: weight_seed(asked.seed),
+    })
+}
+
 /// The packed network that is asked for, where it may have any size.
 fn large_for(alloc: Global, asked: &GenerateRequest) -> Option<Result<Vec<u8>, Ending>> {
-    if asked.weights.is_some() {
+    if is_weighted_shape(asked) {
         return None;
     }
     match &asked.topology {
         Topology::Shape(shape) => Some(shape_bytes(alloc, shape)),
         Topology::RandomNetwork(random) => {
-            Some(random_bytes(alloc, large_random_of(random)?, asked.seed))
+            let random = large_random_of(random)?;
+            Some(random_bytes(alloc, random, weight_draw(asked), asked.seed))
         }
-        Topology::Chance { .. } => None,
+        Topology::Chance { nodes, billionths } => {
+            Some(chance_bytes(alloc, *nodes, *billionths, weight_draw(asked), asked.seed))
+        }
+    }
+}
+
+/// Refuses weights of which the first is above the second.
+fn check_weights(alloc: Global, asked: &GenerateRequest) -> Result<(), Ending> {
+    match &asked.weights {
+        Some(weights) if weights.low > weights.high => Err(no_weights(alloc, WeightFault::NoWeight)),
+        _ => Ok(()),
     }
 }
 
@@ -299,6 +328,7 @@ fn packed_for(alloc: Global, asked: &GenerateRequest) -> Result<Vec<u8>, Ending>
 /// Prints the packed network that is asked for. The status with which the program ends.
 fn print_packed(rt: &HostRuntime, asked: &GenerateRequest) -> Result<u8, Ending> {
     check_output(rt)?;
+    check_weights(rt.alloc(), asked)?;
     let bytes = packed_for(rt.alloc(), asked)?;
     print_out(rt, &bytes)
 }

@@ -10,7 +10,7 @@ use large_net::{LargeNetwork, large_bytes};
 use large_pack::{PackOptions, Packed, pack_edges};
 use link_net::NetFile;
 use net_names::list_text;
-use net_random::{LargeRandom, LargeRandomFault, large_random};
+use net_random::{LargeRandom, LargeRandomFault, WeightDraw, large_chance, large_random};
 use net_shapes::{LargeShapeFault, Shape, large_shape};
 use std::alloc::{AllocError, Global};
 use std::thread::Threads;
@@ -164,16 +164,36 @@ fn no_random(alloc: Global, fault: LargeRandomFault) -> Ending {
     Ending::usage(String::from_str(alloc, text))
 }
 
+/// The binary file of a network that was drawn, or the ending where there is none.
+fn drawn_bytes(
+    alloc: Global,
+    drawn: Result<LargeNetwork, LargeRandomFault>,
+) -> Result<Vec<u8>, Ending> {
+    match drawn {
+        Ok(network) => Ok(large_bytes(alloc, &network)?),
+        Err(fault) => Err(no_random(alloc, fault)),
+    }
+}
+
 /// The binary file of the random network that a seed draws.
 pub(crate) fn random_bytes(
     alloc: Global,
     wanted: LargeRandom,
+    weights: Option<WeightDraw>,
     seed: u32,
 ) -> Result<Vec<u8>, Ending> {
-    match large_random(alloc, wanted, seed as u64) {
-        Ok(network) => Ok(large_bytes(alloc, &network)?),
-        Err(fault) => Err(no_random(alloc, fault)),
-    }
+    drawn_bytes(alloc, large_random(alloc, wanted, weights, seed as u64))
+}
+
+/// The binary file of the pairs of nodes that a seed links, each with the same chance.
+pub(crate) fn chance_bytes(
+    alloc: Global,
+    nodes: u32,
+    billionths: u32,
+    weights: Option<WeightDraw>,
+    seed: u32,
+) -> Result<Vec<u8>, Ending> {
+    drawn_bytes(alloc, large_chance(alloc, nodes, billionths, weights, seed as u64))
 }
 
 /// The binary file of a shape, beside which nothing is told.
@@ -184,7 +204,7 @@ fn shape_output(alloc: Global, shape: &Shape) -> Result<Output, Ending> {
 
 /// The binary file of the random network that a seed draws, beside which nothing is told.
 fn random_output(alloc: Global, wanted: LargeRandom, seed: u32) -> Result<Output, Ending> {
-    let bytes = random_bytes(alloc, wanted, seed)?;
+    let bytes = random_bytes(alloc, wanted, None, seed)?;
     Ok(plain_output(alloc, bytes))
 }
 

@@ -1,4 +1,4 @@
--- A network that has the arcs of simple links is that of these links.
+-- A network that has the arcs of links which join different nodes, no two the same, is that of these links.
 use Rattle.std.proofs.Common.{◌≡◌, ℕ, ◌+◌, ◌<◌, ◌≤◌, ◌==◌, Bool, true, false, ◌&&◌, ◌||◌, List, [], ◌∷◌, map, get_or, true≢false, Ordering, Less, Equal, Greater, nat_cmp, refl, sym, ap, ◌∙◌, inl, inr, arith}
 use Rattle.std.specs.List.{list_any, filter, AllByRecursion}
 use Rattle.std.specs.List.Sorted.{IsSorted, IsNonDecreasingBy}
@@ -13,7 +13,7 @@ use Rattle.link_net.specs.Arcs.{arcs_of}
 use Rattle.link_net.specs.Links.{AllWithin, is_self_link, has_link_twice, joins, are_linked, linked_with, neighbours_of, network_of, weight_of}
 use Rattle.link_net.specs.Neighbours.{Neighbours, numbers_below, row}
 use Rattle.net_text.specs.Listing.{Link}
-use Rattle.net_random.specs.RandomNetworks.{AreSimpleLinks}
+use Rattle.net_random.specs.RandomNetworks.{AreApart}
 use Rattle.large_pack.specs.Rows.{ends_from, end_cmp, HasArcs}
 use Rattle.net_random.proofs.Ordered.{one_if, times, times_more, ascending_same, ascends, kept_ascends, times_kept}
 
@@ -74,52 +74,53 @@ unlinked_past n u w (l ∷ ls) all high =
     let (first, second) = all.0 in
     rw (unlinked_past n u w ls all.1 high) (grind (arith, nat_tests))
 
--- each end has weight 1
-ends_plain : (u : ℕ) (ls : List Link) → AllByRecursion (λ l. l.2 ≡ 1) ls → AllByRecursion (λ e. e.1 ≡ 1) (ends_from u (arcs_of ls))
-ends_plain u [] all = tt
-ends_plain u (l ∷ ls) all =
-    let rest = ends_plain u ls all.1 in
+-- an end of an arc from u: a link joins the two, and the weight is that of the link
+abbrev IsEnd : List Link → ℕ → ℕ × ℕ → Type 0
+IsEnd ls u e = (are_linked ls u e.0 ≡ true) × (e.1 ≡ weight_of ls u e.0)
+
+first_end : (u w : ℕ) (l : Link) (ls : List Link) → joins u w l ≡ true → IsEnd (l ∷ ls) u (w, l.2)
+first_end u w l ls here = rw here (refl, refl)
+
+-- also with one link more, which joins other nodes
+later_end : (u : ℕ) (l : Link) (ls : List Link) → are_linked ls l.0 l.1 ≡ false → (e : ℕ × ℕ) → IsEnd ls u e → IsEnd (l ∷ ls) u e
+later_end u l ls once e is =
+    elim (cases_Bool (joins u e.0 l)) [
+      | inl here ↦ absurd (true≢false (sym is.0 ∙ others_apart u e.0 l ls once here))
+      | inr other ↦ rw other is
+    ]
+
+weaker : (P Q : ℕ × ℕ → Type 0) (xs : List (ℕ × ℕ)) → ((e : ℕ × ℕ) → P e → Q e) → AllByRecursion P xs → AllByRecursion Q xs
+weaker P Q [] f all = tt
+weaker P Q (x ∷ xs) f all = (f x all.0, weaker P Q xs f all.1)
+
+ends_weighed : (u : ℕ) (ls : List Link) → list_any is_self_link ls ≡ false → has_link_twice ls ≡ false → AllByRecursion (IsEnd ls u) (ends_from u (arcs_of ls))
+ends_weighed u [] apart once = tt
+ends_weighed u (l ∷ ls) apart once =
+    let self : is_self_link l ≡ false = grind arith in
+    let new : are_linked ls l.0 l.1 ≡ false = grind arith in
+    let rest = weaker (IsEnd ls u) (IsEnd (l ∷ ls) u) (ends_from u (arcs_of ls)) (later_end u l ls new) (ends_weighed u ls (grind arith) (grind arith)) in
     elim (cases_Bool (l.0 == u)) [
       | inl begins ↦
-          elim (cases_Bool (l.1 == u)) [
-            | inl ends ↦ rw (begins, ends) (all.0, (all.0, rest))
-            | inr other ↦ rw (begins, other) (all.0, rest)
-          ]
+          let ends : (l.1 == u) ≡ false = grind (arith, nat_tests) in
+          let here : joins u l.1 l ≡ true = grind (arith, nat_tests) in
+          rw (begins, ends) (first_end u l.1 l ls here, rest)
       | inr other ↦
           elim (cases_Bool (l.1 == u)) [
-            | inl ends ↦ rw (other, ends) (all.0, rest)
+            | inl ends ↦
+                let here : joins u l.0 l ≡ true = grind (arith, nat_tests) in
+                rw (other, ends) (first_end u l.0 l ls here, rest)
             | inr neither ↦ rw (other, neither) rest
           ]
     ]
 
--- a neighbour of weight 1, and one with the weight of the link to it
-abbrev plain : ℕ → ℕ × ℕ
-plain w = (w, 1)
-
+-- a neighbour with the weight of the link to it
 abbrev weighted : List Link → ℕ → ℕ → ℕ × ℕ
 weighted ls u w = (w, weight_of ls u w)
 
--- a row of weights 1 is that of its nodes
-plain_row : (r : List (ℕ × ℕ)) → AllByRecursion (λ e. e.1 ≡ 1) r → r ≡ map plain (nodes_of r)
-plain_row [] all = refl
-plain_row (e ∷ r) all = ap (λ k. (e.0, k) ∷ r) all.0 ∙ ap (λ t. (e.0, 1) ∷ t) (plain_row r all.1)
-
-weight_plain : (u w : ℕ) (ls : List Link) → AllByRecursion (λ l. l.2 ≡ 1) ls → are_linked ls u w ≡ true → weight_of ls u w ≡ 1
-weight_plain u w [] all linked = cc
-weight_plain u w (l ∷ ls) all linked =
-    elim (cases_Bool (joins u w l)) [
-      | inl here ↦ rw here all.0
-      | inr other ↦ let rest : are_linked ls u w ≡ true = rw other at linked in rw other (weight_plain u w ls all.1 rest)
-    ]
-
-neighbours_plain : (u : ℕ) (ls : List Link) → AllByRecursion (λ l. l.2 ≡ 1) ls → (xs : List ℕ)
-    → map (weighted ls u) (filter (are_linked ls u) xs) ≡ map plain (filter (are_linked ls u) xs)
-neighbours_plain u ls all [] = refl
-neighbours_plain u ls all (x ∷ xs) =
-    elim (cases_Bool (are_linked ls u x)) [
-      | inl linked ↦ rw linked (ap (λ k. (x, k) ∷ map (weighted ls u) (filter (are_linked ls u) xs)) (weight_plain u x ls all linked) ∙ ap (λ t. plain x ∷ t) (neighbours_plain u ls all xs))
-      | inr other ↦ rw other (neighbours_plain u ls all xs)
-    ]
+-- a row of such ends is that of its nodes
+weighed_row : (ls : List Link) (u : ℕ) (r : List (ℕ × ℕ)) → AllByRecursion (IsEnd ls u) r → r ≡ map (weighted ls u) (nodes_of r)
+weighed_row ls u [] all = refl
+weighed_row ls u (e ∷ r) all = ap (λ k. (e.0, k) ∷ r) all.0.1 ∙ ap (λ t. weighted ls u e.0 ∷ t) (weighed_row ls u r all.1)
 
 least_first : (first second : Ordering) → is_lt (ordering_then first second) ≡ false → is_lt first ≡ false
 least_first Less second h = h
@@ -133,18 +134,18 @@ by_node r sorted =
     let y = get_or r (k + 1) d in
     least_first (nat_cmp y.0 x.0) (nat_cmp y.1 x.1) (sorted k d low high))
 
-module _ (n : ℕ) (ls : List Link) (simple : AreSimpleLinks n ls) (network : Neighbours) (has : HasArcs n (arcs_of ls) network) where
-  row_plain : (u : ℕ) → u < n → AllByRecursion (λ e. e.1 ≡ 1) (row network u)
-  row_plain u low =
-      recursion_from_All (λ e. e.1 ≡ 1) (row network u)
-      (All-permutation (λ e. e.1 ≡ 1) (ends_from u (arcs_of ls)) (row network u) (has.rows u low)
-      (All-from_recursion (λ e. e.1 ≡ 1) (ends_from u (arcs_of ls)) (ends_plain u ls simple.weights)))
+module _ (n : ℕ) (ls : List Link) (are : AreApart n ls) (network : Neighbours) (has : HasArcs n (arcs_of ls) network) where
+  row_ends : (u : ℕ) → u < n → AllByRecursion (IsEnd ls u) (row network u)
+  row_ends u low =
+      recursion_from_All (IsEnd ls u) (row network u)
+      (All-permutation (IsEnd ls u) (ends_from u (arcs_of ls)) (row network u) (has.rows u low)
+      (All-from_recursion (IsEnd ls u) (ends_from u (arcs_of ls)) (ends_weighed u ls are.apart are.once)))
 
   row_times : (u w : ℕ) → u < n → times w (nodes_of (row network u)) ≡ times w (linked_with n ls u)
   row_times u w low =
       sum_by-IsPermutation (λ x. one_if (x == w)) (nodes_of (ends_from u (arcs_of ls))) (nodes_of (row network u)) (IsPermutation-map (λ e. e.0) (ends_from u (arcs_of ls)) (row network u) (has.rows u low))
-      ∙ times_ends u w ls simple.apart simple.once
-      ∙ sym (times_kept (are_linked ls u) w 0 n (omega arith) (λ high. unlinked_past n u w ls simple.within (omega arith)))
+      ∙ times_ends u w ls are.apart are.once
+      ∙ sym (times_kept (are_linked ls u) w 0 n (omega arith) (λ high. unlinked_past n u w ls are.within (omega arith)))
 
   row_nodes : (u : ℕ) → u < n → nodes_of (row network u) ≡ linked_with n ls u
   row_nodes u low =
@@ -153,7 +154,7 @@ module _ (n : ℕ) (ls : List Link) (simple : AreSimpleLinks n ls) (network : Ne
       (kept_ascends (are_linked ls u) 0 n) (λ w. row_times u w low)
 
   row_is : (u : ℕ) → u < n → row network u ≡ neighbours_of n ls u
-  row_is u low = plain_row (row network u) (row_plain u low) ∙ ap (map plain) (row_nodes u low) ∙ sym (neighbours_plain u ls simple.weights (numbers_below n))
+  row_is u low = weighed_row ls u (row network u) (row_ends u low) ∙ ap (map (weighted ls u)) (row_nodes u low)
 
   pub network_is : network ≡ network_of n ls
   network_is =

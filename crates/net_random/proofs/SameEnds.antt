@@ -1,5 +1,5 @@
 -- What a network asks of links does not look at their weights.
-use Rattle.std.proofs.Common.{◌≡◌, ◌≤◌, ℕ, Bool, true, false, ◌||◌, nat_lt, List, [], ◌∷◌, ◌++◌, map, length, Ok, Err, refl, ap, sym, ◌∙◌, if◌then◌else◌}
+use Rattle.std.proofs.Common.{◌≡◌, ◌≤◌, ℕ, Bool, true, false, ◌||◌, nat_lt, List, [], ◌∷◌, ◌++◌, map, length, Option, Some, None, Ok, Err, refl, ap, sym, ◌∙◌, if◌then◌else◌}
 use Rattle.std.specs.List.{list_any}
 use Rattle.std.proofs.lemmas.List.{length-map}
 use Rattle.std.proofs.lemmas.List.Elements.{filter_agree}
@@ -9,7 +9,9 @@ use Rattle.link_net.specs.Neighbours.{numbers_below}
 use Rattle.link_net.specs.Links.{AllWithin, is_self_link, has_link_twice, joins, are_linked, linked_with}
 use Rattle.link_net.specs.Reading.{sound, is_crowded}
 use Rattle.net_text.specs.Listing.{Link, IsListing}
-use Rattle.net_random.specs.Weights.{ends, AllBetween}
+use Rattle.net_random.specs.declared.weight_draw.WeightDraw.{WeightDraw}
+use Rattle.net_random.specs.RandomNetworks.{AreApart, AreSimpleLinks}
+use Rattle.net_random.specs.Weights.{ends, AllBetween, HasWeights}
 
 -- a link with weight 0
 abbrev bare : Link → Link
@@ -66,7 +68,7 @@ module _ (ls ms : List Link) (same : map ends ms ≡ map ends ls) where
   crowded_same : (n : ℕ) → is_crowded n ms ≡ is_crowded n ls
   crowded_same n = sym (crowded_bare n ms) ∙ ap (is_crowded n) same_bare ∙ crowded_bare n ls
 
-  length_same : length ms ≡ length ls
+  pub length_same : length ms ≡ length ls
   length_same = sym (length-map ms bare) ∙ ap length same_bare ∙ length-map ls bare
 
   pub sound_same : (n : ℕ) → sound n ls ≡ Ok ls → sound n ms ≡ Ok ms
@@ -90,6 +92,26 @@ listing_same n ls ms same is = record {
   within = within_whole n ms (rw (same_bare ls ms same) (within_bare n ls is.within));
   is_sound = sound_same ls ms same n is.is_sound;
 }
+
+-- links with the ends of those that join different nodes, no two the same, do so too
+pub apart_same : (n : ℕ) (ls ms : List Link) → map ends ms ≡ map ends ls → AreApart n ls → AreApart n ms
+apart_same n ls ms same are = record {
+  within = within_whole n ms (rw (same_bare ls ms same) (within_bare n ls are.within));
+  apart = self_same ls ms same ∙ are.apart;
+  once = twice_same ls ms same ∙ are.once;
+}
+
+pub simple_apart : (n : ℕ) (ls : List Link) → AreSimpleLinks n ls → AreApart n ls
+simple_apart n ls simple = record { within = simple.within; apart = simple.apart; once = simple.once }
+
+-- whether weights are drawn or not
+pub weighed_apart : (n : ℕ) (weights : Option WeightDraw) (ls ms : List Link) → HasWeights weights ls ms → AreApart n ls → AreApart n ms
+weighed_apart n None ls ms same are = rw same are
+weighed_apart n (Some w) ls ms has are = apart_same n ls ms has.0 are
+
+pub weighed_length : (weights : Option WeightDraw) (ls ms : List Link) → HasWeights weights ls ms → length ms ≡ length ls
+weighed_length None ls ms same = ap length same
+weighed_length (Some w) ls ms has = length_same ls ms has.0
 
 -- one link more
 pub between_more : (low high : ℕ) (ls : List Link) (l : Link) → AllBetween low high ls → low ≤ l.2 → l.2 ≤ high → AllBetween low high (ls ++ l ∷ [])

@@ -1,6 +1,7 @@
 -- Which random networks of any size can be drawn.
-use Rattle.std.specs.Prelude.{ℕ, ◌||◌, nat_lt, Option, Some, None, if◌then◌else◌}
+use Rattle.std.specs.Prelude.{ℕ, ◌≤◌, ◌<◌, ◌||◌, nat_lt, List, length, Option, Some, None, if◌then◌else◌}
 use Rattle.link_net.specs.Limits.{most_rows}
+use Rattle.net_text.specs.Listing.{Link}
 use Rattle.net_random.specs.declared.bounds.NetworkBounds.{NetworkBounds}
 use Rattle.net_random.specs.declared.fault.RandomFault.{RandomFault}
 use Rattle.net_random.specs.declared.fault.RandomFault.TheVariants.{NodeCount as NoCount, TooManyLinks as ManyLinks}
@@ -29,6 +30,12 @@ refusal_of wanted =
 abbrev pub refused_by : LargeRandomFault → Option LargeRandomFault
 refused_by Memory = None
 refused_by fault = Some fault
+
+-- the fault is the first of a network of any size with these links between n nodes; running out of memory refuses nothing, and comes only where there is a node
+abbrev pub IsLargeChanceFault : ℕ → List Link → LargeRandomFault → Type 0
+IsLargeChanceFault n links NodeCount = n < 1
+IsLargeChanceFault n links TooManyLinks = (1 ≤ n) × (most_large_links < length links)
+IsLargeChanceFault n links Memory = 1 ≤ n
 
 -- Internal: a fault as one of a network of any size. No public clause cites it.
 abbrev pub fault_as : RandomFault → LargeRandomFault

@@ -1,8 +1,11 @@
 -- Weights that are drawn.
-use Rattle.std.specs.Prelude.{◌≡◌, ◌≤◌, ◌<◌, ℕ, List, [], map, Ok}
+use Rattle.std.specs.Prelude.{◌≡◌, ◌≤◌, ◌<◌, ℕ, List, [], map, max, Option, Some, None, Ok}
 use Rattle.std.specs.List.{AllByRecursion}
 use Rattle.link_net.specs.Reading.{reading_of}
+use Rattle.link_net.specs.Links.{network_of}
+use Rattle.link_net.specs.Neighbours.{Neighbours}
 use Rattle.net_text.specs.Listing.{Link, Listing, described}
+use Rattle.net_random.specs.declared.weight_draw.WeightDraw.{WeightDraw}
 use Rattle.net_random.specs.declared.weight_fault.WeightFault.{WeightFault}
 use Rattle.net_random.specs.declared.weight_fault.WeightFault.TheVariants.{NoWeight, Memory}
 
@@ -21,6 +24,17 @@ pub record IsWeighted (list : Listing) (low high : ℕ) (text : List ℕ) : Type
   pub ends : map ends drawn.links ≡ map ends list.links
   pub weights : AllBetween low high drawn.links
   pub reads : reading_of text ≡ Ok (described drawn 0 [])
+
+-- the links with weights between the low and the high one, where such are drawn, and else as they are; a high one below the low one is taken as that
+abbrev pub HasWeights : Option WeightDraw → List Link → List Link → Type 0
+HasWeights None links drawn = drawn ≡ links
+HasWeights (Some w) links drawn = (map ends drawn ≡ map ends links) × AllBetween w.low (max w.high w.low) drawn
+
+-- the network is that of these links, with their weights
+pub record IsWeighedNetwork (n : ℕ) (weights : Option WeightDraw) (links : List Link) (network : Neighbours) : Type 0 where
+  pub drawn : List Link
+  pub weighed : HasWeights weights links drawn
+  pub rows : network ≡ network_of n drawn
 
 -- no weight lies between exactly where this is told; running out of memory refuses nothing
 abbrev pub IsFaultOf : ℕ → ℕ → WeightFault → Type 0

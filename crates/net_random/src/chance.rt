@@ -2,7 +2,7 @@
 ghost use Rattle.std.specs.Prelude.{◌≡◌, ◌≢◌, ◌≤◌, ◌<◌, ◌+◌, ◌++◌, ℕ, suc, length, map, All, IfOk, IfErr, OnOk, MatchResult};
 ghost use Rattle.rand_core.specs.Steps.{stream_of, steps_u64_low};
 ghost use Rattle.rand_pcg.specs.Pcg.{pcg64};
-ghost use Rattle.link_net.specs.Limits.{most_nodes, most_links};
+ghost use Rattle.link_net.specs.Limits.{most_nodes};
 ghost use Rattle.net_random.specs.declared.fault.RandomFault.TheVariants.{TooManyLinks, Memory};
 ghost use Rattle.net_random.specs.Chances.{IsChanceFault, IsChanceText, chance_links, number_in, places_from};
 ghost use Rattle.net_random.specs.Pairs.{place_count};
@@ -28,61 +28,65 @@ fn number_in(rng: &mut Pcg64) -> usize
     rng.random_range(0..=GREATEST)
 }
 
-/// Puts a place after others, where the number that is drawn for it is below so many billionths.
+/// Puts a place after others, of which there are so many at most, where the number that is drawn for it is below so many
+/// billionths.
 fn put_place(
     places: &mut Vec<usize>,
     rng: &mut Pcg64,
     place: usize,
     billionths: u32,
+    most: usize,
 ) -> Result<(), RandomFault>
-    requires few { length places.old.items ≤ most_links }
-    ensures few { OnOk result (length places.new.items ≤ most_links) }
-    ensures drawn { MatchResult result (λ _. (k : ℕ) → places.new.items ++ places_from k (place + 1) billionths (stream_of (steps_u64_low pcg64) rng.new) ≡ places.old.items ++ places_from (suc k) place billionths (stream_of (steps_u64_low pcg64) rng.old)) (λ fault. fault ≢ Memory → (fault ≡ TooManyLinks) × ((k : ℕ) → most_links < length (places.old.items ++ places_from (suc k) place billionths (stream_of (steps_u64_low pcg64) rng.old)))) }
+    requires few { length places.old.items ≤ most }
+    ensures few { OnOk result (length places.new.items ≤ most) }
+    ensures drawn { MatchResult result (λ _. (k : ℕ) → places.new.items ++ places_from k (place + 1) billionths (stream_of (steps_u64_low pcg64) rng.new) ≡ places.old.items ++ places_from (suc k) place billionths (stream_of (steps_u64_low pcg64) rng.old)) (λ fault. fault ≢ Memory → (fault ≡ TooManyLinks) × ((k : ℕ) → most < length (places.old.items ++ places_from (suc k) place billionths (stream_of (steps_u64_low pcg64) rng.old)))) }
 {
     if number_in(rng) >= billionths as usize {
         return Ok(());
     }
-    if places.len() >= MOST_LINKS as usize {
+    if places.len() >= most {
         return Err(RandomFault::TooManyLinks);
     }
     places.push(place)?;
     Ok(())
 }
 
-/// The places of all pairs whose numbers are below so many billionths.
+/// The places of all pairs whose numbers are below so many billionths, of which there are so many at most.
 fn hit_places(
     alloc: Global,
     rng: &mut Pcg64,
     nodes: u32,
     billionths: u32,
+    most: usize,
 ) -> Result<Vec<usize>, RandomFault>
     requires some { 1 ≤ nodes }
-    ensures few { IfOk result (λ v. length v.items ≤ most_links) }
+    ensures few { IfOk result (λ v. length v.items ≤ most) }
     ensures drawn { IfOk result (λ v. v.items ≡ places_from (place_count nodes) 0 billionths (stream_of (steps_u64_low pcg64) rng.old)) }
-    ensures many { IfErr result (λ fault. fault ≢ Memory → (fault ≡ TooManyLinks) × (most_links < length (places_from (place_count nodes) 0 billionths (stream_of (steps_u64_low pcg64) rng.old)))) }
+    ensures many { IfErr result (λ fault. fault ≢ Memory → (fault ≡ TooManyLinks) × (most < length (places_from (place_count nodes) 0 billionths (stream_of (steps_u64_low pcg64) rng.old)))) }
 {
     let mut places = Vec::new(alloc);
     for place in 0..place_count(nodes) {
-        put_place(&mut places, rng, place, billionths)?;
+        put_place(&mut places, rng, place, billionths, most)?;
     }
     Ok(places)
 }
 
-/// The links of the pairs that are drawn.
-fn hit_links(
+/// The links of the pairs that are drawn, of which there are so many at most.
+pub(crate) fn hit_links(
     alloc: Global,
     nodes: u32,
     billionths: u32,
+    most: usize,
     seed: u64,
 ) -> Result<Vec<Link>, RandomFault>
     requires some { 1 ≤ nodes }
-    ensures few { IfOk result (λ v. length v.items ≤ most_links) }
+    ensures few { IfOk result (λ v. length v.items ≤ most) }
     ensures simple { IfOk result (λ v. AreSimpleLinks nodes v.items) }
     ensures links { IfOk result (λ v. v.items ≡ chance_links nodes billionths seed) }
-    ensures many { IfErr result (λ fault. fault ≢ Memory → (fault ≡ TooManyLinks) × (most_links < length (chance_links nodes billionths seed))) }
+    ensures many { IfErr result (λ fault. fault ≢ Memory → (fault ≡ TooManyLinks) × (most < length (chance_links nodes billionths seed))) }
 {
     let mut rng = Pcg64::seed_from_u64(seed);
-    let places = hit_places(alloc, &mut rng, nodes, billionths)?;
+    let places = hit_places(alloc, &mut rng, nodes, billionths, most)?;
     let links = links_at(alloc, nodes, &places)?;
     Ok(links)
 }
@@ -108,7 +112,7 @@ pub fn chance_list(
     if nodes < 1 || nodes > MOST_NODES {
         return Err(RandomFault::NodeCount);
     }
-    let links = hit_links(alloc, nodes, billionths, seed)?;
+    let links = hit_links(alloc, nodes, billionths, MOST_LINKS as usize, seed)?;
     let list = listed(alloc, nodes, links)?;
     Ok(list)
 }

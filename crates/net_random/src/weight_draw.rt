@@ -1,6 +1,6 @@
 //! Links whose weights are drawn.
 ghost use Rattle.std.specs.Prelude.{◌≡◌, ◌≤◌, map, IfOk, IfErr};
-ghost use Rattle.net_random.specs.Weights.{ends, AllBetween, IsFaultOf};
+ghost use Rattle.net_random.specs.Weights.{ends, AllBetween, HasWeights, IsFaultOf};
 
 use crate::WeightFault;
 use link_net::Link;
@@ -9,6 +9,15 @@ use rand::RngExt;
 use rand_core::SeedableRng;
 use rand_pcg::Pcg64;
 use std::alloc::{AllocError, Global};
+
+/// From where to where the weights of links are drawn, both ends included, and by which seed. A `high` below `low` is taken
+/// as `low`.
+#[derive(Clone, Copy)]
+pub struct WeightDraw {
+    pub low: u32,
+    pub high: u32,
+    pub seed: u64,
+}
 
 /// The links in their order, each with a weight from `low` to `high`, all of which are alike.
 fn drawn_weights(
@@ -28,6 +37,21 @@ fn drawn_weights(
         drawn.push((link.0, link.1, weight))?;
     }
     Ok(drawn)
+}
+
+/// The links in their order, with weights that are drawn where that is asked, and else as they are.
+pub(crate) fn weighed(
+    alloc: Global,
+    links: Vec<Link>,
+    weights: Option<WeightDraw>,
+) -> Result<Vec<Link>, AllocError>
+    ensures weights { IfOk result (λ v. HasWeights weights links.items v.items) }
+{
+    let Some(asked) = weights else {
+        return Ok(links);
+    };
+    let mut rng = Pcg64::seed_from_u64(asked.seed);
+    drawn_weights(alloc, &mut rng, &links, asked.low, asked.high.max(asked.low))
 }
 
 /// The links of the list in their order, each with a weight from `low` to `high`, both included, that the seed draws;

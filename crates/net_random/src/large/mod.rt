@@ -6,4 +6,4 @@ mod network;
 
 pub use fault::LargeRandomFault;
 pub use kind::LargeRandom;
-pub use network::large_random;
+pub use network::{large_chance, large_random};

@@ -2,7 +2,6 @@ use Rattle.std.proofs.Common.{ap, map, ◌∙◌}
 use Rattle.std.proofs.lemmas.Result.{err_from_is_err_and}
 use Rattle.rand_core.specs.Steps.{stream_of, steps_u64_low}
 use Rattle.rand_pcg.specs.Pcg.{pcg64}
-use Rattle.link_net.specs.Limits.{most_links}
 use Rattle.net_random.specs.Chances.{places_from}
 use Rattle.net_random.specs.Pairs.{link_at, place_count}
 use Rattle.net_random.proofs.Chances.{are_places, chance_many, chance_places, chance_simple}
@@ -14,7 +13,7 @@ returns-in_err-places-clause-many c =
     rw (p.1, p.2)
     (λ other.
     let told = c.in_err-places.ensures.many other in
-    (told.0, chance_many c.args.nodes c.args.billionths c.args.seed most_links (rw c.seed_from_u64-rng.ensures at told.1)))
+    (told.0, chance_many c.args.nodes c.args.billionths c.args.seed c.args.most (rw c.seed_from_u64-rng.ensures at told.1)))
 
 pub links_at-requires-clause-low : goal.links_at-requires-clause-low
 links_at-requires-clause-low c =

@@ -2,7 +2,6 @@ use Rattle.std.proofs.Common.{◌+◌, ◌-◌, arith}
 use Rattle.std.proofs.lemmas.Result.{err_from_is_err_and}
 use Rattle.rand_core.specs.Steps.{stream_of, steps_u64_low}
 use Rattle.rand_pcg.specs.Pcg.{pcg64}
-use Rattle.link_net.specs.Limits.{most_links}
 use Rattle.net_random.specs.Chances.{places_from}
 use Rattle.net_random.specs.Pairs.{place_count}
 use Rattle.net_random.proofs.Chances.{places_left, places_many}
@@ -18,7 +17,7 @@ returns-in_err-put_place-clause-many c =
     (λ other.
     let told = c.in_err-put_place.ensures.drawn other in (
       told.0,
-      places_many count l.place b (stream_of (steps_u64_low pcg64) l.rng) l.places.items (places_from count 0 b (stream_of (steps_u64_low pcg64) c.args.rng.now)) (omega (arith, c.loop-place-test.true, c.place_count-place-end.ensures)) l.invariant.drawn most_links
+      places_many count l.place b (stream_of (steps_u64_low pcg64) l.rng) l.places.items (places_from count 0 b (stream_of (steps_u64_low pcg64) c.args.rng.now)) (omega (arith, c.loop-place-test.true, c.place_count-place-end.ensures)) l.invariant.drawn c.args.most
           (told.1 (count - (l.place + 1))),
     ))
 
