@@ -178,7 +178,7 @@ def words_of(make):
 
 
 def test_which_networks_are_beyond_the_limits():
-    """More than 65,536 nodes, 262,144 links or 4,096 neighbours of a node; not shapes with weights, and not those whose degree is given."""
+    """More than 65,536 nodes, 262,144 links or 4,096 neighbours of a node; not shapes with weights."""
     for make, words in [
         (lambda: Network.ring(65_536), "generate ring 65536"),
         (lambda: Network.ring(65_537), "generate ring 65537 --packed"),
@@ -215,7 +215,9 @@ def test_which_networks_are_beyond_the_limits():
         (lambda: Network.preferential(65_538, 4, 1), "generate preferential 65538 --links-each=4 --seed=1 --packed"),
         (lambda: Network.preferential(65_536, 4, 1), "generate preferential 65536 --links-each=4 --seed=1"),
         (lambda: Network.preferential(65_536, 5, 1), "generate preferential 65536 --links-each=5 --seed=1 --packed"),
-        (lambda: Network.regular(70_000, 2, 1), "generate regular 70000 --degree=2 --seed=1"),
+        (lambda: Network.regular(70_000, 2, 1), "generate regular 70000 --degree=2 --seed=1 --packed"),
+        (lambda: Network.regular(65_536, 8, 1), "generate regular 65536 --degree=8 --seed=1"),
+        (lambda: Network.regular(60_000, 9, 1), "generate regular 60000 --degree=9 --seed=1 --packed"),
     ]:
         assert words_of(make) == words.split(), words
 
@@ -224,6 +226,8 @@ def test_random_networks_with_weights_beyond_the_limits():
     tree = Network.random_tree(70_000, 1, weights=(7, 9))
     assert type(tree) is unison.LargeNetwork and tree.ends == 139_998 and set(tree.weights) == {7, 8, 9}
     assert all(tree.weight(0, node) == tree.weight(node, 0) for node in tree.neighbours(0))
+    regular = Network.regular(70_000, 3, 1)
+    assert {regular.degree(node) for node in (0, 1, 35_000, 69_999)} == {3} and regular.ends == 210_000
     complete = Network.gnp(800, 1, 1)
     assert type(complete) is unison.LargeNetwork and complete.ends == 800 * 799 and complete.neighbours(799) == list(range(799))
     assert type(Network.gnp(700, 1, 1)) is Network

@@ -117,8 +117,8 @@ class Makers:
     Links have the weight 1; with `weights=(LOW, HIGH)` each link has one of these and those between them, drawn by `seed`, a whole number
     from 0 to 4294967295: the same seed gives the same network on every machine. Nodes are numbered from 0.
 
-    Each may have any size that memory holds, but `regular`, and shapes whose weights are drawn: these have 65,536 nodes, 262,144 links and
-    4,096 links of one node at most. Raises UsageError, with what is possible, for numbers of which no network can be made.
+    Each may have any size that memory holds, but shapes whose weights are drawn: these have 65,536 nodes, 262,144 links and 4,096 links of one
+    node at most. Raises UsageError, with what is possible, for numbers of which no network can be made.
     """
 
     @classmethod
@@ -255,9 +255,9 @@ class Makers:
     def regular(cls, n: int, degree: int, seed: int, *, weights: Weights = None, set: Sets = None) -> Network:
         """Each of `n` nodes is linked with `degree` others."""
         recipe = Recipe("regular", "regular", {"n": n})
-        recipe.number("degree", degree)
+        recipe.links = recipe.number("degree", degree) * recipe.sizes[0] // 2
         recipe.drawn(weights, seed)
-        return recipe.made(cls, set)
+        return recipe.made_of_any_size(cls, set)
 
     @classmethod
     def small_world(cls, n: int, near: int, rewire: float, seed: int, *, weights: Weights = None, set: Sets = None) -> Network:

@@ -1,13 +1,13 @@
 //! `generate SHAPE NUMBERS..`: a network of a shape, or at random, as a network file or packed.
 
 use crate::generate_request::{GenerateRequest, Topology, Weights};
-use crate::pack::{chance_bytes, random_bytes, shape_bytes, text_bytes};
+use crate::pack::{chance_bytes, random_bytes, shape_bytes, text_bytes, undrawn};
 use app_commands::{asked_by, check_output};
 use app_files::{Ending, print_out};
 use link_net::{MOST_LINKS, MOST_NODES};
 use net_random::{
-    LargeRandom, RandomFault, RandomNetwork, WeightDraw, WeightFault, chance_list, chance_text,
-    drawn, drawn_text, weighted_text,
+    RandomFault, RandomNetwork, WeightDraw, WeightFault, chance_list, chance_text, drawn,
+    drawn_text, weighted_text,
 };
 use net_shapes::{Shape, ShapeFault, large_refusal, links_of, made_text};
 use net_text::LinkList;
@@ -53,12 +53,7 @@ fn no_random(alloc: Global, fault: RandomFault) -> Ending {
         RandomFault::NodeCount => "there are 1 to 65536 nodes",
         RandomFault::TooManyLinks =>
             "a network has 262144 links at most, and no more than there are pairs of nodes: a node has fewer neighbours than there are nodes",
-        RandomFault::TooManyNeighbours =>
-            "a node came out with more than 4096 neighbours: take another seed, or fewer links",
-        RandomFault::OddEnds =>
-            "--degree: an odd number of nodes cannot have an odd number of neighbours each: take one node or neighbour more",
-        RandomFault::Undrawn => "by this seed no such network came out: take another one",
-        RandomFault::Memory => return Ending::Memory,
+        fault => return undrawn(alloc, fault),
     };
     Ending::usage(String::from_str(alloc, text))
 }
@@ -188,54 +183,27 @@ fn text_for(alloc: Global, asked: &GenerateRequest) -> Result<Vec<u8>, Ending> {
     }
 }
 
-/// The way to draw among those of any size, where it is one of them.
-fn large_random_of(random: &RandomNetwork) -> Option<LargeRandom> {
+/// How many nodes a random network has, and how many links at most.
+fn drawn_size(random: &RandomNetwork) -> (u64, u64) {
     match *random {
-        RandomNetwork::Random { nodes, links } => Some(LargeRandom::Random { nodes, links }),
-        RandomNetwork::Tree { nodes } => Some(LargeRandom::Tree { nodes }),
-        RandomNetwork::Preferential { nodes, each } => {
-            Some(LargeRandom::Preferential { nodes, each })
-        }
-        RandomNetwork::SmallWorld {
-            nodes,
-            near,
-            rewire,
-            of,
-        } => Some(LargeRandom::SmallWorld {
-            nodes,
-            near,
-            rewire,
-            of,
-        }),
-        _ => None,
-    }
-}
-
-/// How many nodes and links a random network has that may have any size where it is packed.
-fn drawn_size(random: &RandomNetwork) -> Option<(u64, u64)> {
-    match *random {
-        RandomNetwork::Random { nodes, links } => Some((nodes as u64, links as u64)),
-        RandomNetwork::Tree { nodes } => Some((nodes as u64, (nodes as u64).saturating_sub(1))),
-        RandomNetwork::Preferential { nodes, each } => {
-            Some((nodes as u64, nodes as u64 * each as u64))
+        RandomNetwork::Random { nodes, links } => (nodes as u64, links as u64),
+        RandomNetwork::Tree { nodes } => (nodes as u64, (nodes as u64).saturating_sub(1)),
+        RandomNetwork::Preferential { nodes, each } => (nodes as u64, nodes as u64 * each as u64),
+        RandomNetwork::Regular { nodes, degree } => {
+            (nodes as u64, nodes as u64 * degree as u64 / 2)
         }
         RandomNetwork::SmallWorld { nodes, near, .. } => {
-            Some((nodes as u64, nodes as u64 * near as u64))
+            (nodes as u64, nodes as u64 * near as u64)
         }
-        _ => None,
     }
 }
 
 /// Whether a random network has more nodes or links than a network file, and a packed network has so many.
 fn is_drawn_packed_alone(random: &RandomNetwork) -> bool {
-    match drawn_size(random) {
-        Some((nodes, links)) => {
-            nodes <= MOST_PACKED_NODES
-                && links <= MOST_PACKED_LINKS
-                && (nodes > MOST_NODES as u64 || links > MOST_LINKS as u64)
-        }
-        None => false,
-    }
+    let (nodes, links) = drawn_size(random);
+    nodes <= MOST_PACKED_NODES
+        && links <= MOST_PACKED_LINKS
+        && (nodes > MOST_NODES as u64 || links > MOST_LINKS as u64)
 }
 
 /// Whether a packed network has what is asked for, where no network file has it; a shape without weights.
@@ -299,7 +267,6 @@ fn large_for(alloc: Global, asked: &GenerateRequest) -> Option<Result<Vec<u8>, E
     match &asked.topology {
         Topology::Shape(shape) => Some(shape_bytes(alloc, shape)),
         Topology::RandomNetwork(random) => {
-            let random = large_random_of(random)?;
             Some(random_bytes(alloc, random, weight_draw(asked), asked.seed))
         }
         Topology::Chance { nodes, billionths } => {

@@ -10,7 +10,7 @@ use large_net::{LargeNetwork, large_bytes};
 use large_pack::{PackOptions, Packed, pack_edges};
 use link_net::NetFile;
 use net_names::list_text;
-use net_random::{LargeRandom, LargeRandomFault, WeightDraw, large_chance, large_random};
+use net_random::{RandomFault, RandomNetwork, WeightDraw, large_chance, large_random};
 use net_shapes::{LargeShapeFault, Shape, large_shape};
 use std::alloc::{AllocError, Global};
 use std::thread::Threads;
@@ -152,14 +152,27 @@ pub(crate) fn shape_bytes(alloc: Global, shape: &Shape) -> Result<Vec<u8>, Endin
     }
 }
 
-/// The ending where no random network is drawn.
-fn no_random(alloc: Global, fault: LargeRandomFault) -> Ending {
+/// The ending where no random network comes out of nodes and links that are not too many.
+pub(crate) fn undrawn(alloc: Global, fault: RandomFault) -> Ending {
     let text = match fault {
-        LargeRandomFault::NodeCount => "there are 1 to 4294967295 nodes",
-        LargeRandomFault::TooManyLinks => {
+        RandomFault::TooManyNeighbours =>
+            "a node came out with more than 4096 neighbours: take another seed, or fewer links",
+        RandomFault::OddEnds =>
+            "--degree: an odd number of nodes cannot have an odd number of neighbours each: take one node or neighbour more",
+        RandomFault::Undrawn => "by this seed no such network came out: take another one",
+        _ => return Ending::Memory,
+    };
+    Ending::usage(String::from_str(alloc, text))
+}
+
+/// The ending where no random network is drawn.
+fn no_random(alloc: Global, fault: RandomFault) -> Ending {
+    let text = match fault {
+        RandomFault::NodeCount => "there are 1 to 4294967295 nodes",
+        RandomFault::TooManyLinks => {
             "a network has 2147483647 links at most, and no more than there are pairs of nodes: take more nodes, or fewer links"
         }
-        LargeRandomFault::Memory => return Ending::Memory,
+        fault => return undrawn(alloc, fault),
     };
     Ending::usage(String::from_str(alloc, text))
 }
@@ -167,7 +180,7 @@ fn no_random(alloc: Global, fault: LargeRandomFault) -> Ending {
 /// The binary file of a network that was drawn, or the ending where there is none.
 fn drawn_bytes(
     alloc: Global,
-    drawn: Result<LargeNetwork, LargeRandomFault>,
+    drawn: Result<LargeNetwork, RandomFault>,
 ) -> Result<Vec<u8>, Ending> {
     match drawn {
         Ok(network) => Ok(large_bytes(alloc, &network)?),
@@ -178,7 +191,7 @@ fn drawn_bytes(
 /// The binary file of the random network that a seed draws.
 pub(crate) fn random_bytes(
     alloc: Global,
-    wanted: LargeRandom,
+    wanted: &RandomNetwork,
     weights: Option<WeightDraw>,
     seed: u32,
 ) -> Result<Vec<u8>, Ending> {
@@ -203,7 +216,7 @@ fn shape_output(alloc: Global, shape: &Shape) -> Result<Output, Ending> {
 }
 
 /// The binary file of the random network that a seed draws, beside which nothing is told.
-fn random_output(alloc: Global, wanted: LargeRandom, seed: u32) -> Result<Output, Ending> {
+fn random_output(alloc: Global, wanted: &RandomNetwork, seed: u32) -> Result<Output, Ending> {
     let bytes = random_bytes(alloc, wanted, None, seed)?;
     Ok(plain_output(alloc, bytes))
 }
@@ -228,7 +241,7 @@ fn output_for(
         PackRequest::Matrix { path, options } => matrix_at(rt, path.as_str(), options),
         PackRequest::Network { path } => copied_at(rt, path.as_str()),
         PackRequest::Shape(shape) => shape_output(rt.alloc(), shape),
-        PackRequest::Random { wanted, seed } => random_output(rt.alloc(), *wanted, *seed),
+        PackRequest::Random { wanted, seed } => random_output(rt.alloc(), wanted, *seed),
     }
 }
 

@@ -14,7 +14,7 @@ use app_commands::{FILE_OPTION, FLAG, NETWORK, NETWORK_ARGUMENT, Portion};
 use app_table::{Argument, Choice, Command, OPTION, Reading, Subcommand, Value, WordsFault};
 use import_network::MatrixOptions;
 use large_pack::{PackOptions, Parallel, SelfLoops};
-use net_random::LargeRandom;
+use net_random::RandomNetwork;
 use net_shapes::Shape;
 use std::alloc::Global;
 
@@ -212,7 +212,7 @@ pub enum PackRequest {
     Shape(Shape),
     /// A random network, and the seed by which it is drawn.
     Random {
-        wanted: LargeRandom,
+        wanted: RandomNetwork,
         seed: u32,
     },
 }
@@ -342,21 +342,21 @@ fn shape_in(reading: &mut Reading) -> Shape {
 }
 
 /// The random network that the words name.
-fn random_in(reading: &mut Reading) -> LargeRandom {
+fn random_in(reading: &mut Reading) -> RandomNetwork {
     let nodes = reading.number_or(&NODES_ARGUMENT, 0);
     match reading.subcommand() {
-        "random" => LargeRandom::Random {
+        "random" => RandomNetwork::Random {
             nodes,
             links: reading.number_or(&LINKS_ARGUMENT, 0),
         },
-        "preferential" => LargeRandom::Preferential {
+        "preferential" => RandomNetwork::Preferential {
             nodes,
             each: reading.number_or(&LINKS_EACH_ARGUMENT, 0),
         },
         _ => {
             let near = reading.number_or(&NEAR_ARGUMENT, 0);
             let Portion { times, of } = rewire_in(reading);
-            LargeRandom::SmallWorld {
+            RandomNetwork::SmallWorld {
                 nodes,
                 near,
                 rewire: times,

@@ -54,7 +54,7 @@ fn has_repeat(arcs: &[Arc]) -> bool
 }
 
 /// The arcs of the links, sorted, where no link stands twice.
-pub(crate) fn sorted_arcs(alloc: Global, links: &[Link]) -> Result<Vec<Arc>, NetFault>
+pub fn sorted_arcs(alloc: Global, links: &[Link]) -> Result<Vec<Arc>, NetFault>
     requires { list_any is_self_link links.now ≡ false }
     ensures once { IfOk result (λ _. has_link_twice links.now ≡ false) }
     ensures arcs { IfOk result (λ v. IsPermutation (arcs_of links.now) v.items) }
@@ -108,7 +108,7 @@ pub fn weights(alloc: Global, arcs: &[Arc]) -> Result<Vec<u32>, AllocError>
 }
 
 /// Whether some link joins a node with itself.
-fn has_self_link(links: &[Link]) -> bool
+pub fn has_self_link(links: &[Link]) -> bool
     ensures { result ≡ list_any is_self_link links.now }
 {
     links.iter().any(|link| link.0 == link.1)

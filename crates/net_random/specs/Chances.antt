@@ -11,6 +11,7 @@ use Rattle.net_text.specs.Listing.{Link, described}
 use Rattle.net_random.specs.declared.fault.RandomFault.{RandomFault}
 use Rattle.net_random.specs.declared.fault.RandomFault.TheVariants.{NodeCount, TooManyLinks, TooManyNeighbours, Memory}
 use Rattle.net_random.specs.RandomNetworks.{pair_count}
+use Rattle.net_random.specs.Sizes.{most_large_links}
 use Rattle.net_random.specs.Pairs.{link_at}
 
 -- the words of the generator PCG XSL RR 128/64 that a seed starts
@@ -46,6 +47,13 @@ IsChanceFault n links TooManyLinks = IsNodeCount n × (most_links < length links
 IsChanceFault n links TooManyNeighbours = IsNodeCount n × (length links ≤ most_links) × (is_crowded n links ≡ true)
 IsChanceFault n links Memory = IsNodeCount n
 IsChanceFault n links fault = ⊥
+
+-- the same of a network of any size
+abbrev pub IsLargeChanceFault : ℕ → List Link → RandomFault → Type 0
+IsLargeChanceFault n links NodeCount = n < 1
+IsLargeChanceFault n links TooManyLinks = (1 ≤ n) × (most_large_links < length links)
+IsLargeChanceFault n links Memory = 1 ≤ n
+IsLargeChanceFault n links fault = ⊥
 
 -- the text is a network file, and it reads to the network of these links between n nodes, in phase 0, with no initial values
 abbrev pub IsChanceText : ℕ → List Link → List ℕ → Type 0

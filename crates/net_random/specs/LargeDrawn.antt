@@ -1,19 +1,11 @@
 -- Networks of any size, drawn at random.
-use Rattle.std.specs.Prelude.{ℕ, ◌≤◌, ◌<◌, List, length, Option}
+use Rattle.std.specs.Prelude.{List, Option}
 use Rattle.link_net.specs.Neighbours.{Neighbours}
 use Rattle.net_text.specs.Listing.{Link}
 use Rattle.net_random.specs.declared.random_network.RandomNetwork.{RandomNetwork}
 use Rattle.net_random.specs.declared.weight_draw.WeightDraw.{WeightDraw}
 use Rattle.net_random.specs.RandomNetworks.{node_count, IsOutcome}
 use Rattle.net_random.specs.Weights.{IsWeighedNetwork}
-use Rattle.net_random.specs.declared.large.kind.LargeRandom.{LargeRandom}
-
--- the same as one of the networks of which text is made
-abbrev pub random_of : LargeRandom → RandomNetwork
-random_of (LargeRandom.Random n k) = RandomNetwork.Random n k
-random_of (LargeRandom.Tree n) = RandomNetwork.Tree n
-random_of (LargeRandom.Preferential n e) = RandomNetwork.Preferential n e
-random_of (LargeRandom.SmallWorld n k p q) = RandomNetwork.SmallWorld n k p q
 
 -- the network is that of links which may be drawn for the random network, with their weights: in the row of each node stand, by rising number, the nodes that are linked with it, once
 pub record IsDrawn (wanted : RandomNetwork) (weights : Option WeightDraw) (network : Neighbours) : Type 0 where

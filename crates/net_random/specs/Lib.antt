@@ -7,4 +7,3 @@ pub mod Growth
 pub mod Weights
 pub mod Changed
 pub mod LargeDrawn
-pub mod LargeSizes

@@ -1,6 +1,6 @@
 -- Which random networks can be drawn.
-use Rattle.std.specs.Prelude.{◌≡◌, true, ◌||◌, nat_lt, List, Option, Some, None, if◌then◌else◌}
-use Rattle.link_net.specs.Limits.{most_nodes, most_links}
+use Rattle.std.specs.Prelude.{ℕ, ◌≡◌, true, ◌||◌, nat_lt, List, Option, Some, None, if◌then◌else◌}
+use Rattle.link_net.specs.Limits.{most_nodes, most_links, most_rows}
 use Rattle.link_net.specs.Reading.{is_crowded}
 use Rattle.net_text.specs.Listing.{Link}
 use Rattle.net_random.specs.declared.random_network.RandomNetwork.{RandomNetwork}
@@ -17,10 +17,20 @@ refusal_in bounds wanted =
     else if has_odd_ends wanted then Some OddEnds
     else None
 
--- the refusal that a fault tells: running out of memory refuses nothing
-abbrev pub refused_by : RandomFault → Option RandomFault
-refused_by Memory = None
-refused_by fault = Some fault
+-- the fault is one of the random network within the bounds: the sizes are refused by it, or they fit, and links that were drawn by trial do not make it; running out of memory refuses nothing, and how many neighbours a node has is not looked at
+abbrev pub IsFaultIn : NetworkBounds → RandomNetwork → RandomFault → Type 0
+IsFaultIn bounds wanted Memory = refusal_in bounds wanted ≡ None
+IsFaultIn bounds wanted TooManyNeighbours = ⊥
+IsFaultIn bounds wanted Undrawn = (refusal_in bounds wanted ≡ None) × (is_by_trial wanted ≡ true)
+IsFaultIn bounds wanted fault = refusal_in bounds wanted ≡ Some fault
+
+-- the most links of a network of any size: each has two ends
+abbrev pub most_large_links : ℕ
+most_large_links = 2147483647
+
+-- the bounds of a network of any size
+abbrev pub large_bounds : NetworkBounds
+large_bounds = record { nodes = most_rows; links = most_large_links }
 
 -- the bounds of a network file
 abbrev pub file_bounds : NetworkBounds

@@ -1,23 +1,53 @@
 //! Links that were drawn by trial, and whether they make the network that is asked for.
-ghost use Rattle.std.specs.Prelude.{◌≡◌, ◌≤◌, ◌<◌, ◌⊎◌, ℕ, true, length, IfOk, IfErr};
+ghost use Rattle.std.specs.Prelude.{◌≡◌, ◌≤◌, ◌<◌, ◌⊎◌, ℕ, true, false, length, IfOk, IfErr};
 ghost use Rattle.std.specs.Bool.{OnTrue};
-ghost use Rattle.std.specs.List.{AllByRecursion};
-ghost use Rattle.link_net.specs.Links.{network_of};
+ghost use Rattle.std.specs.List.{AllByRecursion, list_any};
+ghost use Rattle.link_net.specs.Links.{AllWithin, has_link_twice, is_self_link, network_of};
 ghost use Rattle.link_net.specs.Neighbours.{degree};
 ghost use Rattle.net_random.specs.declared.fault.RandomFault.TheVariants.{Undrawn, Memory};
-ghost use Rattle.net_random.specs.RandomNetworks.{node_count, link_count, is_by_trial, IsOutcome, IsDegree};
+ghost use Rattle.net_random.specs.RandomNetworks.{node_count, link_count, is_by_trial, AreSimpleLinks, IsOutcome, IsDegree};
+ghost use Rattle.net_random.specs.Sizes.{most_large_links};
 
+use crate::large::{MOST_LARGE_LINKS, linked};
 use crate::sizes::{link_count, node_count};
 use crate::{RandomFault, RandomNetwork};
-use link_net::{Link, NetFault, Network, link_network};
-use net_text::LinkList;
-use std::alloc::Global;
+use link_net::{Link, NetFault, NetRows, has_self_link, sorted_arcs};
+use std::alloc::{AllocError, Global};
 
 /// Whether each link has weight 1.
 fn are_plain(links: &[Link]) -> bool
     ensures { OnTrue result (AllByRecursion (λ l. l.2 ≡ 1) links.now) }
 {
     links.iter().all(|link| link.2 == 1)
+}
+
+/// Whether both ends of each link are below so many nodes.
+fn are_within(nodes: u32, links: &[Link]) -> bool
+    ensures { OnTrue result (AllWithin nodes links.now) }
+{
+    links.iter().all(|link| link.0 < nodes && link.1 < nodes)
+}
+
+/// Whether no link stands twice.
+fn stand_once(alloc: Global, links: &[Link]) -> Result<bool, AllocError>
+    requires straight { list_any is_self_link links.now ≡ false }
+    ensures once { IfOk result (λ once. OnTrue once (has_link_twice links.now ≡ false)) }
+{
+    match sorted_arcs(alloc, links) {
+        Ok(_) => Ok(true),
+        Err(NetFault::Memory) => Err(AllocError),
+        Err(_) => Ok(false),
+    }
+}
+
+/// Whether links have weight 1 and join different nodes below so many, no two the same.
+fn are_simple(alloc: Global, nodes: u32, links: &[Link]) -> Result<bool, AllocError>
+    ensures simple { IfOk result (λ simple. OnTrue simple (AreSimpleLinks nodes links.now)) }
+{
+    if !are_plain(links) || !are_within(nodes, links) || has_self_link(links) {
+        return Ok(false);
+    }
+    stand_once(alloc, links)
 }
 
 /// Whether a node of such a network may have so many neighbours.
@@ -32,69 +62,62 @@ fn is_degree(wanted: &RandomNetwork, neighbours: u32) -> bool
 }
 
 /// Whether each node has as many neighbours as such a network has.
-fn has_degrees(wanted: &RandomNetwork, network: &Network) -> bool
-    ensures { OnTrue result ((u : ℕ) → u < length network.now → IsDegree wanted.now (degree network.now u)) }
+fn has_degrees(wanted: &RandomNetwork, rows: &NetRows<'_>) -> bool
+    ensures { OnTrue result ((u : ℕ) → u < length rows.now → IsDegree wanted.now (degree rows.now u)) }
 {
-    for node in 0..network.nodes() {
-        if !is_degree(wanted, network.degree(node).unwrap_or(0)) {
+    for node in 0..rows.nodes() {
+        if !is_degree(wanted, rows.degree_of(node)) {
             return false;
         }
     }
     true
 }
 
-/// The list of links, where a network may have them.
-fn list_of(alloc: Global, nodes: u32, links: Vec<Link>) -> Result<LinkList, RandomFault>
-    ensures list { IfOk result (λ list. list ≡ record { nodes = nodes; links = links.items }) }
-    ensures refused { IfErr result (λ fault. (fault ≡ Undrawn) ⊎ (fault ≡ Memory)) }
+/// Whether each node of the network of these links has as many neighbours as such a network has.
+fn make_degrees(
+    alloc: Global,
+    wanted: &RandomNetwork,
+    links: &[Link],
+) -> Result<bool, AllocError>
+    requires some { 1 ≤ node_count wanted.now }
+    requires few { length links.now ≤ most_large_links }
+    requires simple { AreSimpleLinks (node_count wanted.now) links.now }
+    ensures degrees { IfOk result (λ made. OnTrue made ((u : ℕ) → u < length (network_of (node_count wanted.now) links.now) → IsDegree wanted.now (degree (network_of (node_count wanted.now) links.now) u))) }
 {
-    match LinkList::new(alloc, nodes, links) {
-        Ok(list) => Ok(list),
-        Err(NetFault::Memory) => Err(RandomFault::Memory),
-        Err(_) => Err(RandomFault::Undrawn),
-    }
+    let network = linked(alloc, node_count(wanted), links)?;
+    Ok(has_degrees(wanted, &network.rows()))
 }
 
-/// The network of a list of links.
-fn network_from(alloc: Global, list: &LinkList) -> Result<Network, RandomFault>
-    ensures network { IfOk result (λ network. network ≡ network_of list.now.nodes list.now.links) }
-    ensures refused { IfErr result (λ fault. fault ≡ Memory) }
+/// Whether links make the network that is asked for, where that is drawn by trial.
+fn is_outcome(
+    alloc: Global,
+    wanted: &RandomNetwork,
+    links: &[Link],
+) -> Result<bool, AllocError>
+    requires some { 1 ≤ node_count wanted.now }
+    ensures outcome { IfOk result (λ is. OnTrue is (is_by_trial wanted.now ≡ true → IsOutcome wanted.now links.now)) }
 {
-    match link_network(alloc, list.nodes(), list.links()) {
-        Ok(network) => Ok(network),
-        Err(_) => Err(RandomFault::Memory),
-    }
-}
-
-/// Whether the links of a list make the network that is asked for, where that is drawn by trial.
-fn is_outcome(alloc: Global, wanted: &RandomNetwork, list: &LinkList) -> Result<bool, RandomFault>
-    requires nodes { list.now.nodes ≡ node_count wanted.now }
-    ensures outcome { IfOk result (λ is. OnTrue is (is_by_trial wanted.now ≡ true → IsOutcome wanted.now list.now.links)) }
-    ensures refused { IfErr result (λ fault. fault ≡ Memory) }
-{
-    let links = list.links();
-    if links.len() as u64 != link_count(wanted) || !are_plain(links) {
+    if links.len() as u64 != link_count(wanted) || links.len() > MOST_LARGE_LINKS {
         return Ok(false);
     }
-    let network = network_from(alloc, list)?;
-    Ok(has_degrees(wanted, &network))
+    if !are_simple(alloc, node_count(wanted), links)? {
+        return Ok(false);
+    }
+    make_degrees(alloc, wanted, links)
 }
 
-/// The list of links that were drawn by trial, where they make the network that is asked for.
+/// The links that were drawn by trial, where they make the network that is asked for.
 pub(crate) fn tried(
     alloc: Global,
     wanted: &RandomNetwork,
     links: Vec<Link>,
-) -> Result<LinkList, RandomFault>
+) -> Result<Vec<Link>, RandomFault>
     requires some { 1 ≤ node_count wanted.now }
-    requires small { node_count wanted.now ≤ 65536 }
-    ensures nodes { IfOk result (λ list. list.nodes ≡ node_count wanted.now) }
-    ensures links { IfOk result (λ list. is_by_trial wanted.now ≡ true → IsOutcome wanted.now list.links) }
+    ensures links { IfOk result (λ v. is_by_trial wanted.now ≡ true → IsOutcome wanted.now v.items) }
     ensures refused { IfErr result (λ fault. (fault ≡ Undrawn) ⊎ (fault ≡ Memory)) }
 {
-    let list = list_of(alloc, node_count(wanted), links)?;
-    if !is_outcome(alloc, wanted, &list)? {
+    if !is_outcome(alloc, wanted, &links)? {
         return Err(RandomFault::Undrawn);
     }
-    Ok(list)
+    Ok(links)
 }

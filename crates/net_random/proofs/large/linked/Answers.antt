@@ -2,23 +2,23 @@ use Rattle.std.proofs.Common.{arith}
 use Rattle.std.proofs.lemmas.Result.{IfOk-weaker}
 use Rattle.net_random.proofs.Directions.{arcs_count, arcs_within}
 use Rattle.net_random.proofs.Exact.{network_is}
-use Rattle.net_random.proofs.large.network.linked.Goals as goal
+use Rattle.net_random.proofs.large.linked.Goals as goal
 
 pub network_of_arcs-requires-clause-within : goal.network_of_arcs-requires-clause-within
 network_of_arcs-requires-clause-within c =
-    rw (c.in_ok-arcs.ensures, c.as_slice.ensures.value)
-    (arcs_within c.args.nodes c.args.links.items c.requires.apart.within)
+    rw (c.in_ok-arcs.ensures)
+    (arcs_within c.args.nodes c.args.links.now c.requires.apart.within)
 
 pub network_of_arcs-requires-clause-few : goal.network_of_arcs-requires-clause-few
 network_of_arcs-requires-clause-few c =
     let few = c.requires.few in
-    let both = arcs_count c.args.links.items in
-    rw (c.in_ok-arcs.ensures, c.as_slice.ensures.value) (omega arith)
+    let both = arcs_count c.args.links.now in
+    rw (c.in_ok-arcs.ensures) (omega arith)
 
 pub returns : goal.returns
 returns c =
-    let links = c.args.links.items in
+    let links = c.args.links.now in
     record {
       rows = IfOk-weaker c.network_of_arcs.result _ _ (λ network has.
-          network_is c.args.nodes links c.requires.apart network (rw (c.in_ok-arcs.ensures, c.as_slice.ensures.value) at has)) c.network_of_arcs.ensures.rows;
+          network_is c.args.nodes links c.requires.apart network (rw (c.in_ok-arcs.ensures) at has)) c.network_of_arcs.ensures.rows;
     }
