@@ -1,5 +1,5 @@
 //! The neighbours of a node of a hypercube.
-ghost use Rattle.std.specs.Prelude.{◌≡◌, ◌<◌, ◌≤◌, ◌++◌, OnOk};
+ghost use Rattle.std.specs.Prelude.{◌≡◌, ◌<◌, ◌≤◌, ◌^◌, ◌++◌, OnOk};
 ghost use Rattle.link_net.specs.Neighbours.{numbers_below};
 ghost use Rattle.net_shapes.specs.Ahead.{raised};
 ghost use Rattle.net_shapes.specs.Listed.{lowered};
