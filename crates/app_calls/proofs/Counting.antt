@@ -1,5 +1,5 @@
 -- What is refused of counts, and what is written of them.
-use Rattle.std.proofs.Common.{◌≡◌, ◌≢◌, ◌∙◌, ℕ, ◌+◌, ◌-◌, ◌*◌, ◌≤◌, ◌<◌, ◌++◌, Bool, true, false, not, ◌==◌, nat_le, nat_lt, List, Some, None, if◌then◌else◌, ap, arith, drop, length, refl, subst, sym, take, zero-add}
+use Rattle.std.proofs.Common.{◌≡◌, ◌∙◌, ℕ, ◌+◌, ◌-◌, ◌*◌, ◌≤◌, ◌<◌, ◌++◌, Bool, true, false, not, ◌==◌, nat_le, nat_lt, List, Some, None, if◌then◌else◌, ap, arith, drop, length, refl, subst, sym, take, zero-add}
 use Rattle.std.proofs.lemmas.Bool.Decides.{nat_tests}
 use Rattle.rule_check.specs.Value.{Rules}
 use Rattle.link_net.specs.Layout.{rows_of}

@@ -1,5 +1,5 @@
 -- The plan that opens with the states of some words, and its round.
-use Rattle.std.proofs.Common.{◌≡◌, ◌∙◌, ℕ, zero, suc, ◌+◌, ◌-◌, ◌*◌, ◌≤◌, ◌<◌, false, true, not, eqb, nat_lt, List, [], ◌∷◌, ◌++◌, length, drop, replicate, Ok, refl, ap, arith, zero-add}
+use Rattle.std.proofs.Common.{◌≡◌, ◌∙◌, ℕ, zero, suc, ◌+◌, ◌-◌, ◌*◌, ◌≤◌, ◌<◌, false, not, eqb, nat_lt, List, [], ◌∷◌, ◌++◌, length, drop, replicate, Ok, refl, ap, arith, zero-add}
 use Rattle.std.specs.List.{list_any}
 use Rattle.std.proofs.lemmas.Bool.Decides.{nat_tests}
 use Rattle.std.proofs.Math.Seq.{drop-append-add}
@@ -10,13 +10,12 @@ use Rattle.rule_check.specs.declared.state.State.{State}
 use Rattle.rule_check.specs.Value.{Rules}
 use Rattle.link_net.specs.Neighbours.{Neighbours}
 use Rattle.rounds_plan.specs.Starts.{is_stray, start_of}
-use Rattle.rounds_plan.specs.declared.fault.RoundFault.TheVariants.{RoundsBelowStart, TooManyRounds}
 use Rattle.rounds_plan.specs.Configs.{most_rounds}
 use Rattle.rounds_plan.specs.Lockstep.{lockstep, lockstep_config, lockstep_states, rounds_of}
 use Rattle.rounds_plan.specs.Plans.{PlanView}
 use Rattle.app_calls.specs.Lists.{given_weights}
 use Rattle.rounds_walk.specs.part_rounds.States.{node_words, state_of, states_of}
-use Rattle.app_calls.specs.LargeAnswers.{HasSpan, IsNoSpan, words_plan}
+use Rattle.app_calls.specs.LargeAnswers.{HasSpan, words_plan}
 
 no_words : (n : ℕ) → list_any (λ w. not (eqb w 0)) (replicate n 0) ≡ false
 no_words zero = refl

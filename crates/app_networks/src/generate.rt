@@ -228,7 +228,8 @@ fn way_of(asked: &GenerateRequest) -> &'static str {
     match (asked.packed, is_weighted_shape(asked)) {
         (false, false) => "\nwith --packed it is written as a packed network, of any size",
         (false, true) => "",
-        (true, _) => "\nwith --weights a packed network of a shape has the size of a network file at most",
+        (true, _) =>
+            "\nwith --weights a packed network of a shape has the size of a network file at most",
     }
 }
 
@@ -278,7 +279,10 @@ fn large_for(alloc: Global, asked: &GenerateRequest) -> Option<Result<Vec<u8>, E
 /// Refuses weights of which the first is above the second.
 fn check_weights(alloc: Global, asked: &GenerateRequest) -> Result<(), Ending> {
     match &asked.weights {
-        Some(weights) if weights.low > weights.high => Err(no_weights(alloc, WeightFault::NoWeight)),
+        Some(weights) if weights.low > weights.high => Err(no_weights(
+            alloc,
+            WeightFault::NoWeight,
+        )),
         _ => Ok(()),
     }
 }

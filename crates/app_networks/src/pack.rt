@@ -178,10 +178,7 @@ fn no_random(alloc: Global, fault: RandomFault) -> Ending {
 }
 
 /// The binary file of a network that was drawn, or the ending where there is none.
-fn drawn_bytes(
-    alloc: Global,
-    drawn: Result<LargeNetwork, RandomFault>,
-) -> Result<Vec<u8>, Ending> {
+fn drawn_bytes(alloc: Global, drawn: Result<LargeNetwork, RandomFault>) -> Result<Vec<u8>, Ending> {
     match drawn {
         Ok(network) => Ok(large_bytes(alloc, &network)?),
         Err(fault) => Err(no_random(alloc, fault)),
@@ -206,7 +203,10 @@ pub(crate) fn chance_bytes(
     weights: Option<WeightDraw>,
     seed: u32,
 ) -> Result<Vec<u8>, Ending> {
-    drawn_bytes(alloc, large_chance(alloc, nodes, billionths, weights, seed as u64))
+    drawn_bytes(
+        alloc,
+        large_chance(alloc, nodes, billionths, weights, seed as u64),
+    )
 }
 
 /// The binary file of a shape, beside which nothing is told.

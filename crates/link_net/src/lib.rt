@@ -33,7 +33,10 @@ pub use network::Network;
 pub use numbers::MOST_NODES;
 pub use simple::{SimpleFault, check_simple};
 use std::alloc::Global;
-pub use tables::{Arc, Link, MOST_LINKS, MOST_NEIGHBOURS, arcs, has_self_link, link_network, sorted_arcs, targets, weights};
+pub use tables::{
+    Arc, Link, MOST_LINKS, MOST_NEIGHBOURS, arcs, has_self_link, link_network, sorted_arcs,
+    targets, weights,
+};
 use toml::Table;
 
 /// Reads a network file: the description that its bytes are, or the first fault in the order of [`NetFault`],

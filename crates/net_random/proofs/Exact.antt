@@ -1,6 +1,6 @@
 -- A network that has the arcs of links which join different nodes, no two the same, is that of these links.
 use Rattle.std.proofs.Common.{◌≡◌, ℕ, ◌+◌, ◌<◌, ◌≤◌, ◌==◌, Bool, true, false, ◌&&◌, ◌||◌, List, [], ◌∷◌, map, get_or, true≢false, Ordering, Less, Equal, Greater, nat_cmp, refl, sym, ap, ◌∙◌, inl, inr, arith}
-use Rattle.std.specs.List.{list_any, filter, AllByRecursion}
+use Rattle.std.specs.List.{list_any, AllByRecursion}
 use Rattle.std.specs.List.Sorted.{IsSorted, IsNonDecreasingBy}
 use Rattle.std.specs.Ordering.{is_lt, ordering_then}
 use Rattle.std.proofs.lemmas.Bool.{cases_Bool}
@@ -11,7 +11,7 @@ use Rattle.std.proofs.lemmas.List.FromFn.{length-map-range_with_len, get_or-map-
 use Rattle.std.proofs.lemmas.List.Sorted.{All-permutation, IsPermutation-map, IsNonDecreasingBy-from_sort, sum_by-IsPermutation}
 use Rattle.link_net.specs.Arcs.{arcs_of}
 use Rattle.link_net.specs.Links.{AllWithin, is_self_link, has_link_twice, joins, are_linked, linked_with, neighbours_of, network_of, weight_of}
-use Rattle.link_net.specs.Neighbours.{Neighbours, numbers_below, row}
+use Rattle.link_net.specs.Neighbours.{Neighbours, row}
 use Rattle.net_text.specs.Listing.{Link}
 use Rattle.net_random.specs.RandomNetworks.{AreApart}
 use Rattle.large_pack.specs.Rows.{ends_from, end_cmp, HasArcs}

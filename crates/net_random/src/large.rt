@@ -26,11 +26,7 @@ const LARGE_BOUNDS: NetworkBounds = NetworkBounds {
 };
 
 /// The network of links that are kept, each seen from both ends.
-pub(crate) fn linked(
-    alloc: Global,
-    nodes: u32,
-    links: &[Link],
-) -> Result<LargeNetwork, AllocError>
+pub(crate) fn linked(alloc: Global, nodes: u32, links: &[Link]) -> Result<LargeNetwork, AllocError>
     requires some { 1 ≤ nodes }
     requires few { length links.now ≤ most_large_links }
     requires apart { AreApart nodes links.now }

@@ -74,11 +74,7 @@ fn has_degrees(wanted: &RandomNetwork, rows: &NetRows<'_>) -> bool
 }
 
 /// Whether each node of the network of these links has as many neighbours as such a network has.
-fn make_degrees(
-    alloc: Global,
-    wanted: &RandomNetwork,
-    links: &[Link],
-) -> Result<bool, AllocError>
+fn make_degrees(alloc: Global, wanted: &RandomNetwork, links: &[Link]) -> Result<bool, AllocError>
     requires some { 1 ≤ node_count wanted.now }
     requires few { length links.now ≤ most_large_links }
     requires simple { AreSimpleLinks (node_count wanted.now) links.now }
@@ -89,11 +85,7 @@ fn make_degrees(
 }
 
 /// Whether links make the network that is asked for, where that is drawn by trial.
-fn is_outcome(
-    alloc: Global,
-    wanted: &RandomNetwork,
-    links: &[Link],
-) -> Result<bool, AllocError>
+fn is_outcome(alloc: Global, wanted: &RandomNetwork, links: &[Link]) -> Result<bool, AllocError>
     requires some { 1 ≤ node_count wanted.now }
     ensures outcome { IfOk result (λ is. OnTrue is (is_by_trial wanted.now ≡ true → IsOutcome wanted.now links.now)) }
 {

@@ -51,7 +51,13 @@ pub(crate) fn weighed(
         return Ok(links);
     };
     let mut rng = Pcg64::seed_from_u64(asked.seed);
-    drawn_weights(alloc, &mut rng, &links, asked.low, asked.high.max(asked.low))
+    drawn_weights(
+        alloc,
+        &mut rng,
+        &links,
+        asked.low,
+        asked.high.max(asked.low),
+    )
 }
 
 /// The links of the list in their order, each with a weight from `low` to `high`, both included, that the seed draws;

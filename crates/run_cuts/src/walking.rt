@@ -39,19 +39,20 @@ fn count_rounds(
 }
 
 /// Makes the rounds of a plan up to one, and notes what is cut on the way.
-fn count_plan(
+fn count_plan<'a>(
     alloc: Global,
     plan: &PlanRef<'_>,
     rounds: u32,
-    counted: &mut [Counted<'_>],
-) -> Result<(), AllocError>
+    mut counted: Vec<Counted<'a>>,
+) -> Result<Vec<Counted<'a>>, AllocError>
     requires few { rounds ≤ most_rounds }
     requires late { plan.now.start ≤ rounds }
-    ensures exact { OnOk result (counted.new ≡ map (after_all (occasions plan.now rounds)) counted.old) }
+    ensures exact { IfOk result (λ v. v.items ≡ map (after_all (occasions plan.now rounds)) counted.entry.items) }
 {
     let start = Start::new(alloc, plan)?;
     let mut walk = start.walk(alloc)?;
-    count_rounds(alloc, plan, &mut walk, rounds, counted)
+    count_rounds(alloc, plan, &mut walk, rounds, &mut counted)?;
+    Ok(counted)
 }
 
 /// What is told, where nothing refuses the round.
@@ -69,8 +70,8 @@ fn found(
     // For the proof: what holds of every plan.
     let _nodes = plan.nodes();
     let operators = operators_in(alloc, source.items())?;
-    let mut counted = counted_of(alloc, &operators, below)?;
-    count_plan(alloc, plan, rounds, &mut counted)?;
+    let fresh = counted_of(alloc, &operators, below)?;
+    let counted = count_plan(alloc, plan, rounds, fresh)?;
     let cuts = told(alloc, &counted)?;
     Ok(cuts)
 }

@@ -19,9 +19,10 @@ ghost use Rattle.app_calls.specs.ModelAnswers.{IsExpansion, IsUnexpanded};
 ghost use Rattle.app_calls.specs.ModelNumbers.{IsModelNumberOf};
 
 use app_calls::{
-    CountedRounds, Lists, ListsStart, Part, PlanTexts, ReplaySizes, ReplayTexts, check_lists, reason_for, write_expansion, write_large_counts, write_large_rounds,
-    write_large_watch, write_part_round, write_reason, write_replay, write_round, write_rounds,
-    write_settling, write_spelling,
+    CountedRounds, Lists, ListsStart, Part, PlanTexts, ReplaySizes, ReplayTexts, check_lists,
+    reason_for, write_expansion, write_large_counts, write_large_rounds, write_large_watch,
+    write_part_round, write_reason, write_replay, write_round, write_rounds, write_settling,
+    write_spelling,
 };
 use std::alloc::Global;
 

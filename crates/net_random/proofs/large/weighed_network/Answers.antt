@@ -20,13 +20,15 @@ network_of_arcs-requires-clause-few c =
     let few = c.requires.few in
     rw (c.in_ok-arcs.ensures, c.deref.ensures.value) (omega arith)
 
-pub returns-clause-weighed : goal.returns-clause-weighed
-returns-clause-weighed c =
+pub returns : goal.returns
+returns c =
     let a = c.args in
     let drawn = c.in_ok-drawn.drawn.items in
     let apart = weighed_apart a.nodes a.weights a.links.items drawn c.in_ok-drawn.ensures.weights (simple_apart a.nodes a.links.items c.requires.simple) in
     record {
-      drawn = drawn;
-      weighed = c.in_ok-drawn.ensures.weights;
-      rows = network_is a.nodes drawn apart c.in_ok-network.network (rw (c.in_ok-arcs.ensures, c.deref.ensures.value) at c.in_ok-network.ensures.rows);
+      weighed = record {
+        drawn = drawn;
+        weighed = c.in_ok-drawn.ensures.weights;
+        rows = network_is a.nodes drawn apart c.in_ok-network.network (rw (c.in_ok-arcs.ensures, c.deref.ensures.value) at c.in_ok-network.ensures.rows);
+      };
     }
