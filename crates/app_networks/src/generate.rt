@@ -4,20 +4,13 @@ use crate::generate_request::{GenerateRequest, Topology, Weights};
 use crate::pack::{chance_bytes, random_bytes, shape_bytes, text_bytes, undrawn};
 use app_commands::{asked_by, check_output};
 use app_files::{Ending, print_out};
-use link_net::{MOST_LINKS, MOST_NODES};
 use net_random::{
     RandomFault, RandomNetwork, WeightDraw, WeightFault, chance_list, chance_text, drawn,
-    drawn_text, weighted_text,
+    drawn_text, large_random_refusal, weighted_text,
 };
 use net_shapes::{Shape, ShapeFault, large_refusal, links_of, made_text};
 use net_text::LinkList;
 use std::alloc::Global;
-
-/// The most nodes of a packed network.
-const MOST_PACKED_NODES: u64 = 4_294_967_295;
-
-/// The most links of a packed network that is drawn.
-const MOST_PACKED_LINKS: u64 = 2_147_483_647;
 
 /// How many nodes a shape has.
 fn size_text(shape: &Shape) -> &'static str {
@@ -183,34 +176,11 @@ fn text_for(alloc: Global, asked: &GenerateRequest) -> Result<Vec<u8>, Ending> {
     }
 }
 
-/// How many nodes a random network has, and how many links at most.
-fn drawn_size(random: &RandomNetwork) -> (u64, u64) {
-    match *random {
-        RandomNetwork::Random { nodes, links } => (nodes as u64, links as u64),
-        RandomNetwork::Tree { nodes } => (nodes as u64, (nodes as u64).saturating_sub(1)),
-        RandomNetwork::Preferential { nodes, each } => (nodes as u64, nodes as u64 * each as u64),
-        RandomNetwork::Regular { nodes, degree } => {
-            (nodes as u64, nodes as u64 * degree as u64 / 2)
-        }
-        RandomNetwork::SmallWorld { nodes, near, .. } => {
-            (nodes as u64, nodes as u64 * near as u64)
-        }
-    }
-}
-
-/// Whether a random network has more nodes or links than a network file, and a packed network has so many.
-fn is_drawn_packed_alone(random: &RandomNetwork) -> bool {
-    let (nodes, links) = drawn_size(random);
-    nodes <= MOST_PACKED_NODES
-        && links <= MOST_PACKED_LINKS
-        && (nodes > MOST_NODES as u64 || links > MOST_LINKS as u64)
-}
-
 /// Whether a packed network has what is asked for, where no network file has it; a shape without weights.
 fn fits_packed_alone(asked: &GenerateRequest) -> bool {
     match &asked.topology {
         Topology::Shape(shape) => large_refusal(shape).is_none(),
-        Topology::RandomNetwork(random) => is_drawn_packed_alone(random),
+        Topology::RandomNetwork(random) => large_random_refusal(random).is_none(),
         Topology::Chance { nodes, .. } => *nodes > 0,
     }
 }
@@ -299,7 +269,6 @@ fn packed_for(alloc: Global, asked: &GenerateRequest) -> Result<Vec<u8>, Ending>
 /// Prints the packed network that is asked for. The status with which the program ends.
 fn print_packed(rt: &HostRuntime, asked: &GenerateRequest) -> Result<u8, Ending> {
     check_output(rt)?;
-    check_weights(rt.alloc(), asked)?;
     let bytes = packed_for(rt.alloc(), asked)?;
     print_out(rt, &bytes)
 }
@@ -307,6 +276,7 @@ fn print_packed(rt: &HostRuntime, asked: &GenerateRequest) -> Result<u8, Ending>
 /// Prints the network file of a shape or a random network, or the packed network. The status with which the program ends.
 pub fn generate_network(rt: &HostRuntime, words: &[String]) -> Result<u8, Ending> {
     let asked = asked_by(GenerateRequest::parse(rt.alloc(), words))?;
+    check_weights(rt.alloc(), &asked)?;
     if asked.packed {
         return print_packed(rt, &asked);
     }

@@ -8,7 +8,7 @@ ghost use Rattle.net_random.specs.Sizes.{IsFaultIn, large_bounds, most_large_lin
 ghost use Rattle.net_random.specs.Weights.{IsWeighedNetwork};
 
 use crate::chance::hit_links;
-use crate::sizes::node_count;
+use crate::sizes::{node_count, refusal};
 use crate::weight_draw::weighed;
 use crate::{NetworkBounds, RandomFault, RandomNetwork, WeightDraw, drawn_links};
 use large_net::LargeNetwork;
@@ -53,6 +53,13 @@ fn weighed_network(
     drop(drawn);
     let network = network_of_arcs(alloc, nodes, arcs)?;
     Ok(network)
+}
+
+/// Why a random network of any size cannot be drawn, whatever the seed.
+pub fn large_random_refusal(wanted: &RandomNetwork) -> Option<RandomFault>
+    ensures refusal { result ≡ refusal_in large_bounds wanted.now }
+{
+    refusal(wanted, LARGE_BOUNDS)
 }
 
 /// The random network of any size that a seed draws, each link seen from both ends, with weight 1 or with the weights that

@@ -26,7 +26,7 @@ pub use bounds::NetworkBounds;
 pub use chance::{chance_list, chance_text};
 pub use draw::{drawn, drawn_links};
 pub use fault::RandomFault;
-pub use large::{large_chance, large_random};
+pub use large::{large_chance, large_random, large_random_refusal};
 pub use laws::each_pair_has_one_place;
 pub use random_network::RandomNetwork;
 pub use text::drawn_text;
