@@ -246,17 +246,6 @@ fn large_for(alloc: Global, asked: &GenerateRequest) -> Option<Result<Vec<u8>, E
     }
 }
 
-/// Refuses weights of which the first is above the second.
-fn check_weights(alloc: Global, asked: &GenerateRequest) -> Result<(), Ending> {
-    match &asked.weights {
-        Some(weights) if weights.low > weights.high => Err(no_weights(
-            alloc,
-            WeightFault::NoWeight,
-        )),
-        _ => Ok(()),
-    }
-}
-
 /// The packed network that is asked for: of any size where there is such a form, else that of the network file.
 fn packed_for(alloc: Global, asked: &GenerateRequest) -> Result<Vec<u8>, Ending> {
     if let Some(bytes) = large_for(alloc, asked) {
@@ -276,7 +265,6 @@ fn print_packed(rt: &HostRuntime, asked: &GenerateRequest) -> Result<u8, Ending>
 /// Prints the network file of a shape or a random network, or the packed network. The status with which the program ends.
 pub fn generate_network(rt: &HostRuntime, words: &[String]) -> Result<u8, Ending> {
     let asked = asked_by(GenerateRequest::parse(rt.alloc(), words))?;
-    check_weights(rt.alloc(), &asked)?;
     if asked.packed {
         return print_packed(rt, &asked);
     }
