@@ -2,7 +2,7 @@
 ghost use Rattle.std.specs.Prelude.{◌≡◌, ◌≤◌, ◌<◌, ◌⊎◌, ℕ, true, false, length, IfOk, IfErr};
 ghost use Rattle.std.specs.Bool.{OnTrue};
 ghost use Rattle.std.specs.List.{AllByRecursion, list_any};
-ghost use Rattle.link_net.specs.Links.{AllWithin, has_link_twice, is_self_link, network_of};
+ghost use Rattle.link_net.specs.Links.{has_link_twice, is_self_link, network_of};
 ghost use Rattle.link_net.specs.Neighbours.{degree};
 ghost use Rattle.net_random.specs.declared.fault.RandomFault.TheVariants.{Undrawn, Memory};
 ghost use Rattle.net_random.specs.RandomNetworks.{node_count, link_count, is_by_trial, AreSimpleLinks, IsOutcome, IsDegree};
@@ -12,6 +12,7 @@ use crate::large::{MOST_LARGE_LINKS, linked};
 use crate::sizes::{link_count, node_count};
 use crate::{RandomFault, RandomNetwork};
 use link_net::{Link, NetFault, NetRows, has_self_link, sorted_arcs};
+use net_text::all_within;
 use std::alloc::{AllocError, Global};
 
 /// Whether each link has weight 1.
@@ -19,13 +20,6 @@ fn are_plain(links: &[Link]) -> bool
     ensures { OnTrue result (AllByRecursion (λ l. l.2 ≡ 1) links.now) }
 {
     links.iter().all(|link| link.2 == 1)
-}
-
-/// Whether both ends of each link are below so many nodes.
-fn are_within(nodes: u32, links: &[Link]) -> bool
-    ensures { OnTrue result (AllWithin nodes links.now) }
-{
-    links.iter().all(|link| link.0 < nodes && link.1 < nodes)
 }
 
 /// Whether no link stands twice.
@@ -41,10 +35,11 @@ fn stand_once(alloc: Global, links: &[Link]) -> Result<bool, AllocError>
 }
 
 /// Whether links have weight 1 and join different nodes below so many, no two the same.
+#[tactic(auto, using(net_text::proofs::Listings::within_from_test))]
 fn are_simple(alloc: Global, nodes: u32, links: &[Link]) -> Result<bool, AllocError>
     ensures simple { IfOk result (λ simple. OnTrue simple (AreSimpleLinks nodes links.now)) }
 {
-    if !are_plain(links) || !are_within(nodes, links) || has_self_link(links) {
+    if !are_plain(links) || !all_within(nodes, links) || has_self_link(links) {
         return Ok(false);
     }
     stand_once(alloc, links)

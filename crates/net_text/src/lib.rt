@@ -9,7 +9,7 @@ mod row_file;
 mod writer;
 
 pub use fault::RowsFault;
-pub use link_list::LinkList;
+pub use link_list::{LinkList, all_within};
 pub use link_net::Link;
 pub use row_file::row_text;
 pub use writer::write_network;

@@ -27,8 +27,8 @@ impl Model for LinkList {
 }
 
 /// Whether both ends of each link are below the number of nodes.
-fn all_within(nodes: u32, links: &[Link]) -> bool
-    ensures { result ≡ list_all (is_within nodes) links.now }
+pub fn all_within(nodes: u32, links: &[Link]) -> bool
+    ensures within { result ≡ list_all (is_within nodes) links.now }
 {
     links.iter().all(|link| link.0 < nodes && link.1 < nodes)
 }
