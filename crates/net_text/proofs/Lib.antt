@@ -2,5 +2,5 @@ mod Members
 mod ReadBack
 mod LinkLines
 mod Texts
-mod Listings
+pub mod Listings
 mod RowSteps
