@@ -43,7 +43,8 @@ fn put_part(
 
 /// Writes the words of a part's own nodes after the step from a round, counted from round 0, and answers how many of these
 /// nodes changed. `from` has the words of all nodes of the part before the round, and `to` takes those of the first ones, the
-/// own nodes, as many as it has room for: the word of field k of node u stands at u times the number of fields, and k more. Each weight is 1 where there are none.
+/// own nodes, as many as it has room for: the word of field k of node u stands at u times the number of fields, and k more.
+/// Each weight is 1 where there are none.
 ///
 /// The first fault is answered, in this order: of the program, of the lists as [`check_lists`] tells it, and of what does
 /// not fit as [`rounds_walk::part_rounds::PartFault`] tells it. After a fault `to` is as it was.
