@@ -13,8 +13,8 @@ use Rattle.link_net.specs.Arcs.{arcs_of}
 use Rattle.link_net.specs.Links.{AllWithin, is_self_link, has_link_twice, joins, are_linked, linked_with, neighbours_of, network_of, weight_of}
 use Rattle.link_net.specs.Neighbours.{Neighbours, row}
 use Rattle.net_text.specs.Listing.{Link}
-use Rattle.net_random.specs.RandomNetworks.{AreApart}
 use Rattle.large_pack.specs.Rows.{ends_from, end_cmp, HasArcs}
+use Rattle.net_random.proofs.SameEnds.{AreApart}
 use Rattle.net_random.proofs.Ordered.{one_if, times, times_more, ascending_same, ascends, kept_ascends, times_kept}
 
 -- the nodes of a row
@@ -93,12 +93,12 @@ weaker : (P Q : ℕ × ℕ → Type 0) (xs : List (ℕ × ℕ)) → ((e : ℕ ×
 weaker P Q [] f all = tt
 weaker P Q (x ∷ xs) f all = (f x all.0, weaker P Q xs f all.1)
 
-ends_weighed : (u : ℕ) (ls : List Link) → list_any is_self_link ls ≡ false → has_link_twice ls ≡ false → AllByRecursion (IsEnd ls u) (ends_from u (arcs_of ls))
-ends_weighed u [] apart once = tt
-ends_weighed u (l ∷ ls) apart once =
+ends_weighted : (u : ℕ) (ls : List Link) → list_any is_self_link ls ≡ false → has_link_twice ls ≡ false → AllByRecursion (IsEnd ls u) (ends_from u (arcs_of ls))
+ends_weighted u [] apart once = tt
+ends_weighted u (l ∷ ls) apart once =
     let self : is_self_link l ≡ false = grind arith in
     let new : are_linked ls l.0 l.1 ≡ false = grind arith in
-    let rest = weaker (IsEnd ls u) (IsEnd (l ∷ ls) u) (ends_from u (arcs_of ls)) (later_end u l ls new) (ends_weighed u ls (grind arith) (grind arith)) in
+    let rest = weaker (IsEnd ls u) (IsEnd (l ∷ ls) u) (ends_from u (arcs_of ls)) (later_end u l ls new) (ends_weighted u ls (grind arith) (grind arith)) in
     elim (cases_Bool (l.0 == u)) [
       | inl begins ↦
           let ends : (l.1 == u) ≡ false = grind (arith, nat_tests) in
@@ -118,9 +118,9 @@ abbrev weighted : List Link → ℕ → ℕ → ℕ × ℕ
 weighted ls u w = (w, weight_of ls u w)
 
 -- a row of such ends is that of its nodes
-weighed_row : (ls : List Link) (u : ℕ) (r : List (ℕ × ℕ)) → AllByRecursion (IsEnd ls u) r → r ≡ map (weighted ls u) (nodes_of r)
-weighed_row ls u [] all = refl
-weighed_row ls u (e ∷ r) all = ap (λ k. (e.0, k) ∷ r) all.0.1 ∙ ap (λ t. weighted ls u e.0 ∷ t) (weighed_row ls u r all.1)
+weighted_row : (ls : List Link) (u : ℕ) (r : List (ℕ × ℕ)) → AllByRecursion (IsEnd ls u) r → r ≡ map (weighted ls u) (nodes_of r)
+weighted_row ls u [] all = refl
+weighted_row ls u (e ∷ r) all = ap (λ k. (e.0, k) ∷ r) all.0.1 ∙ ap (λ t. weighted ls u e.0 ∷ t) (weighted_row ls u r all.1)
 
 least_first : (first second : Ordering) → is_lt (ordering_then first second) ≡ false → is_lt first ≡ false
 least_first Less second h = h
@@ -139,7 +139,7 @@ module _ (n : ℕ) (ls : List Link) (are : AreApart n ls) (network : Neighbours)
   row_ends u low =
       recursion_from_All (IsEnd ls u) (row network u)
       (All-permutation (IsEnd ls u) (ends_from u (arcs_of ls)) (row network u) (has.rows u low)
-      (All-from_recursion (IsEnd ls u) (ends_from u (arcs_of ls)) (ends_weighed u ls are.apart are.once)))
+      (All-from_recursion (IsEnd ls u) (ends_from u (arcs_of ls)) (ends_weighted u ls are.apart are.once)))
 
   row_times : (u w : ℕ) → u < n → times w (nodes_of (row network u)) ≡ times w (linked_with n ls u)
   row_times u w low =
@@ -154,7 +154,7 @@ module _ (n : ℕ) (ls : List Link) (are : AreApart n ls) (network : Neighbours)
       (kept_ascends (are_linked ls u) 0 n) (λ w. row_times u w low)
 
   row_is : (u : ℕ) → u < n → row network u ≡ neighbours_of n ls u
-  row_is u low = weighed_row ls u (row network u) (row_ends u low) ∙ ap (map (weighted ls u)) (row_nodes u low)
+  row_is u low = weighted_row ls u (row network u) (row_ends u low) ∙ ap (map (weighted ls u)) (row_nodes u low)
 
   pub network_is : network ≡ network_of n ls
   network_is =

@@ -10,7 +10,7 @@ use Rattle.link_net.specs.Links.{AllWithin, is_self_link, has_link_twice, joins,
 use Rattle.link_net.specs.Reading.{sound, is_crowded}
 use Rattle.net_text.specs.Listing.{Link, IsListing}
 use Rattle.net_random.specs.declared.weight_draw.WeightDraw.{WeightDraw}
-use Rattle.net_random.specs.RandomNetworks.{AreApart, AreSimpleLinks}
+use Rattle.net_random.specs.RandomNetworks.{AreSimpleLinks}
 use Rattle.net_random.specs.Weights.{ends, AllBetween, HasWeights}
 
 -- a link with weight 0
@@ -93,7 +93,13 @@ listing_same n ls ms same is = record {
   is_sound = sound_same ls ms same n is.is_sound;
 }
 
--- links with the ends of those that join different nodes, no two the same, do so too
+-- each link joins two different nodes below n, and no two links join the same nodes
+pub record AreApart (n : ℕ) (links : List Link) : Type 0 where
+  pub within : AllWithin n links
+  pub apart : list_any is_self_link links ≡ false
+  pub once : has_link_twice links ≡ false
+
+-- links with the ends of such ones are such ones, too
 pub apart_same : (n : ℕ) (ls ms : List Link) → map ends ms ≡ map ends ls → AreApart n ls → AreApart n ms
 apart_same n ls ms same are = record {
   within = within_whole n ms (rw (same_bare ls ms same) (within_bare n ls are.within));
@@ -105,13 +111,13 @@ pub simple_apart : (n : ℕ) (ls : List Link) → AreSimpleLinks n ls → AreApa
 simple_apart n ls simple = record { within = simple.within; apart = simple.apart; once = simple.once }
 
 -- whether weights are drawn or not
-pub weighed_apart : (n : ℕ) (weights : Option WeightDraw) (ls ms : List Link) → HasWeights weights ls ms → AreApart n ls → AreApart n ms
-weighed_apart n None ls ms same are = rw same are
-weighed_apart n (Some w) ls ms has are = apart_same n ls ms has.0 are
+pub weighted_apart : (n : ℕ) (weights : Option WeightDraw) (ls ms : List Link) → HasWeights weights ls ms → AreApart n ls → AreApart n ms
+weighted_apart n None ls ms same are = rw same are
+weighted_apart n (Some w) ls ms has are = apart_same n ls ms has.0 are
 
-pub weighed_length : (weights : Option WeightDraw) (ls ms : List Link) → HasWeights weights ls ms → length ms ≡ length ls
-weighed_length None ls ms same = ap length same
-weighed_length (Some w) ls ms has = length_same ls ms has.0
+pub weighted_length : (weights : Option WeightDraw) (ls ms : List Link) → HasWeights weights ls ms → length ms ≡ length ls
+weighted_length None ls ms same = ap length same
+weighted_length (Some w) ls ms has = length_same ls ms has.0
 
 -- one link more
 pub between_more : (low high : ℕ) (ls : List Link) (l : Link) → AllBetween low high ls → low ≤ l.2 → l.2 ≤ high → AllBetween low high (ls ++ l ∷ [])

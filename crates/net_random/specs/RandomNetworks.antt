@@ -47,12 +47,6 @@ pub record AreSimpleLinks (n : ℕ) (links : List Link) : Type 0 where
   pub apart : list_any is_self_link links ≡ false
   pub once : has_link_twice links ≡ false
 
--- each link joins two different nodes below n, and no two links join the same nodes
-pub record AreApart (n : ℕ) (links : List Link) : Type 0 where
-  pub within : AllWithin n links
-  pub apart : list_any is_self_link links ≡ false
-  pub once : has_link_twice links ≡ false
-
 -- each node below n is linked with so many of the nodes before it, or with all of them where they are fewer
 abbrev pub AreLinkedBack : ℕ → ℕ → List Link → Type 0
 AreLinkedBack each n links = (u : ℕ) → u < n → length (linked_with u links u) ≡ min each u

@@ -31,9 +31,9 @@ HasWeights None links drawn = drawn ≡ links
 HasWeights (Some w) links drawn = (map ends drawn ≡ map ends links) × AllBetween w.low (max w.high w.low) drawn
 
 -- the network is that of these links, with their weights
-pub record IsWeighedNetwork (n : ℕ) (weights : Option WeightDraw) (links : List Link) (network : Neighbours) : Type 0 where
+pub record IsWeightedNetwork (n : ℕ) (weights : Option WeightDraw) (links : List Link) (network : Neighbours) : Type 0 where
   pub drawn : List Link
-  pub weighed : HasWeights weights links drawn
+  pub weighted : HasWeights weights links drawn
   pub rows : network ≡ network_of n drawn
 
 -- no weight lies between exactly where this is told; running out of memory refuses nothing

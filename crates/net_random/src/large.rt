@@ -2,14 +2,14 @@
 ghost use Rattle.std.specs.Prelude.{◌≡◌, ◌≤◌, length, None, IfOk, IfErr};
 ghost use Rattle.link_net.specs.Links.{network_of};
 ghost use Rattle.net_random.specs.Chances.{IsLargeChanceFault, chance_links};
-ghost use Rattle.net_random.specs.RandomNetworks.{AreApart, AreSimpleLinks};
+ghost use Rattle.net_random.specs.RandomNetworks.{AreSimpleLinks};
 ghost use Rattle.net_random.specs.LargeDrawn.{IsDrawn};
 ghost use Rattle.net_random.specs.Sizes.{IsFaultIn, large_bounds, most_large_links, refusal_in};
-ghost use Rattle.net_random.specs.Weights.{IsWeighedNetwork};
+ghost use Rattle.net_random.specs.Weights.{IsWeightedNetwork};
 
 use crate::chance::hit_links;
 use crate::sizes::{node_count, refusal};
-use crate::weight_draw::weighed;
+use crate::weight_draw::with_weights;
 use crate::{NetworkBounds, RandomFault, RandomNetwork, WeightDraw, drawn_links};
 use large_net::LargeNetwork;
 use large_pack::network_of_arcs;
@@ -29,7 +29,7 @@ const LARGE_BOUNDS: NetworkBounds = NetworkBounds {
 pub(crate) fn linked(alloc: Global, nodes: u32, links: &[Link]) -> Result<LargeNetwork, AllocError>
     requires some { 1 ≤ nodes }
     requires few { length links.now ≤ most_large_links }
-    requires apart { AreApart nodes links.now }
+    requires simple { AreSimpleLinks nodes links.now }
     ensures rows { IfOk result (λ network. network ≡ network_of nodes links.now) }
 {
     let arcs = arcs(alloc, links)?;
@@ -37,7 +37,7 @@ pub(crate) fn linked(alloc: Global, nodes: u32, links: &[Link]) -> Result<LargeN
 }
 
 /// The network of links that were drawn, with weights where these are drawn too.
-fn weighed_network(
+fn weighted_network(
     alloc: Global,
     nodes: u32,
     links: Vec<Link>,
@@ -46,9 +46,9 @@ fn weighed_network(
     requires some { 1 ≤ nodes }
     requires few { length links.items ≤ most_large_links }
     requires simple { AreSimpleLinks nodes links.items }
-    ensures weighed { IfOk result (IsWeighedNetwork nodes weights links.items) }
+    ensures weighted { IfOk result (IsWeightedNetwork nodes weights links.items) }
 {
-    let drawn = weighed(alloc, links, weights)?;
+    let drawn = with_weights(alloc, links, weights)?;
     let arcs = arcs(alloc, &drawn)?;
     drop(drawn);
     let network = network_of_arcs(alloc, nodes, arcs)?;
@@ -79,7 +79,7 @@ pub fn large_random(
     ensures refused { IfErr result (IsFaultIn large_bounds wanted.now) }
 {
     let links = drawn_links(alloc, wanted, LARGE_BOUNDS, seed)?;
-    let network = weighed_network(alloc, node_count(wanted), links, weights)?;
+    let network = weighted_network(alloc, node_count(wanted), links, weights)?;
     Ok(network)
 }
 
@@ -96,7 +96,7 @@ pub fn large_chance(
     weights: Option<WeightDraw>,
     seed: u64,
 ) -> Result<LargeNetwork, RandomFault>
-    ensures drawn { IfOk result (IsWeighedNetwork nodes weights (chance_links nodes billionths seed)) }
+    ensures drawn { IfOk result (IsWeightedNetwork nodes weights (chance_links nodes billionths seed)) }
     ensures some { IfOk result (λ _. 1 ≤ nodes) }
     ensures refused { IfErr result (IsLargeChanceFault nodes (chance_links nodes billionths seed)) }
 {
@@ -104,6 +104,6 @@ pub fn large_chance(
         return Err(RandomFault::NodeCount);
     }
     let links = hit_links(alloc, nodes, billionths, MOST_LARGE_LINKS, seed)?;
-    let network = weighed_network(alloc, nodes, links, weights)?;
+    let network = weighted_network(alloc, nodes, links, weights)?;
     Ok(network)
 }

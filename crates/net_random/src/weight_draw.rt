@@ -40,7 +40,7 @@ fn drawn_weights(
 }
 
 /// The links in their order, with weights that are drawn where that is asked, and else as they are.
-pub(crate) fn weighed(
+pub(crate) fn with_weights(
     alloc: Global,
     links: Vec<Link>,
     weights: Option<WeightDraw>,
