@@ -1,10 +1,11 @@
 //! Batches of nodes with their neighbours, slot by slot.
-ghost use Rattle.std.specs.Prelude.{◌≡◌, ◌<◌, ◌≤◌, ℕ, All, IfOk, length, map, slice_index};
+ghost use Rattle.std.specs.Prelude.{◌≡◌, ◌<◌, ◌≤◌, ℕ, All, IfOk, IfSome, length, map, slice_index};
 ghost use Rattle.link_net.specs.Neighbours.{degree, neighbour, weight};
-ghost use Rattle.rounds_blocks.specs.Batches.{AreFalling, IsSlot, IsBatch};
+ghost use Rattle.rounds_blocks.specs.Batches.{AreFalling, HaveRuns, IsSlot, IsBatch};
 
+use crate::group::alike_end;
 use link_net::NetRows;
-use rounds_code::{Places, Slot, Weights};
+use rounds_code::{CommonRuns, Places, Slot, Weights};
 use std::alloc::{AllocError, Global};
 
 /// Up to 256 nodes by falling number of their neighbours, with these numbers, and what stands in their slots: in each a
@@ -14,6 +15,8 @@ pub struct Batch {
     pub nodes: Places,
     pub degrees: Vec<u32>,
     pub slots: Vec<Slot>,
+    /// The runs that the first slots have in common; none where they are short.
+    pub runs: Option<CommonRuns>,
     /// How many neighbours its nodes have together.
     pub ends: u64,
 }
@@ -116,6 +119,18 @@ fn sum_of(degrees: &[u32]) -> u64 {
     sum
 }
 
+/// The runs that the first of these slots have in common, as many as have equally many neighbours; none where they are short.
+fn runs_of(alloc: Global, slots: &[Slot]) -> Result<Option<CommonRuns>, AllocError>
+    ensures runs { IfOk result (λ found. IfSome found (HaveRuns slots.now)) }
+{
+    if slots.is_empty() {
+        return Ok(None);
+    }
+    let count = slots[0].neighbours.count();
+    let behind = alike_end(slots, 0, count, slots.len());
+    CommonRuns::new(alloc, &slots[..behind], count)
+}
+
 /// These nodes as a batch.
 pub fn batch_of(alloc: Global, network: &NetRows<'_>, nodes: &[u32]) -> Result<Batch, AllocError>
     requires few { length nodes.now ≤ 256 }
@@ -132,10 +147,12 @@ pub fn batch_of(alloc: Global, network: &NetRows<'_>, nodes: &[u32]) -> Result<B
     }
     let nodes = Places::new(alloc, nodes.to_vec(alloc)?)?;
     let ends = sum_of(&degrees);
+    let runs = runs_of(alloc, &slots)?;
     Ok(Batch {
         nodes,
         degrees,
         slots,
+        runs,
         ends,
     })
 }

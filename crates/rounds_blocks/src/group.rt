@@ -13,7 +13,7 @@ const LANES: usize = 256;
 const FEWEST_ALIKE: usize = 8;
 
 /// The end of the slots from this one on that have as many neighbours as it, so many, but no further than a limit.
-fn alike_end(slots: &[Slot], at: usize, count: usize, limit: usize) -> usize
+pub fn alike_end(slots: &[Slot], at: usize, count: usize, limit: usize) -> usize
     requires some { at < limit }
     requires inside { limit ≤ length slots.now }
     requires count { (d : Slot) → length (slice_index_or slots.now at d).neighbours ≡ count }

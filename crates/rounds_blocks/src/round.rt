@@ -7,7 +7,7 @@ ghost use Rattle.rounds_blocks.specs.Batches.{IsBatch};
 ghost use Rattle.rounds_blocks.specs.Nears.{IsDue};
 ghost use Rattle.rounds_blocks.specs.Rounds.{HaveWords, IsNext};
 ghost use Rattle.rounds_blocks.specs.Walks.{IsTask, HasNext, HoldsOfDue};
-ghost use Rattle.rounds_blocks.specs.Gathered.{gathered};
+ghost use Rattle.rounds_blocks.specs.Gathered.{gathered, gathered_first};
 
 use crate::alone::{first_alone, gather_alone};
 use crate::batch::Batch;
@@ -15,6 +15,39 @@ use crate::group::group_end;
 use crate::task::Task;
 use link_net::NetRows;
 use rounds_code::Block;
+
+/// Gathers the aggregates of a batch's nodes over their neighbours in the first slots, where these have common runs and the program reads
+/// its neighbours where they stand. In how many slots.
+fn gather_runs(
+    network: &NetRows<'_>,
+    batch: &Batch,
+    block: &mut Block<'_>,
+    round: u32,
+    from: &[Vec<u32>],
+) -> usize
+    requires batch { IsBatch network.now batch.now }
+    requires network { AreRows network.now }
+    requires fields { length from.now ≡ length block.old.rules.fields }
+    requires nodes { HaveWords (length network.now) from.now }
+    requires count { length block.old.lanes ≡ length batch.now.nodes }
+    requires lanes { (i : ℕ) (d : Lane) → i < length batch.now.nodes
+        → slice_index_or block.old.lanes i d ≡ gathered_first block.old.rules network.now round from.now 0 (slice_index batch.now.nodes i) }
+    ensures rules { block.new.rules ≡ block.old.rules }
+    ensures count { length block.new.lanes ≡ length batch.now.nodes }
+    ensures inside { result ≤ length batch.now.slots.items }
+    ensures lanes { (i : ℕ) (d : Lane) → i < length batch.now.nodes
+        → slice_index_or block.new.lanes i d ≡ gathered_first block.old.rules network.now round from.now result (slice_index batch.now.nodes i) }
+{
+    match &batch.runs {
+        Some(runs) => {
+            if block.take_runs(&batch.slots[..runs.slots], runs, from) {
+                return runs.slots;
+            }
+            0
+        }
+        None => 0,
+    }
+}
 
 /// Gathers the aggregates of a batch's nodes over all their neighbours.
 pub fn gather(
@@ -35,7 +68,7 @@ pub fn gather(
 {
     block.enter(round, &batch.nodes, &batch.degrees, from);
     let alone = first_alone(network, batch);
-    let mut at = 0;
+    let mut at = gather_runs(network, batch, block, round, from);
     while at < alone {
         let count = batch.slots[at].neighbours.count();
         let behind = group_end(&batch.slots, at, count);
