@@ -5,11 +5,12 @@ use Rattle.std.specs.Global.{Vec}
 use Rattle.std.proofs.lemmas.List.{same_lists, length-map, length-take-le, length-drop, get_or-map, get_or-take, get_or-drop, take-append-drop, take-take, drop-take}
 use Rattle.rule_check.specs.declared.state.Near.{Near}
 use Rattle.link_net.specs.Neighbours.{Neighbours, row, degree, neighbour, AreRows}
-use Rattle.rounds_code.specs.declared.common_runs.CommonRuns.{CommonRuns}
+use Rattle.rounds_code.specs.declared.windows.Windows.{Windows}
+use Rattle.rounds_code.specs.Windows.{AreWindows}
 use Rattle.rounds_code.specs.declared.slot.Slot.{Slot}
 use Rattle.rounds_code.specs.Block.{Covers, state_at, near_in, near_at as column_near}
 use Rattle.rounds_blocks.specs.declared.batch.Batch.{Batch}
-use Rattle.rounds_blocks.specs.Batches.{IsSlot, IsBatch, AreAlike, HaveRuns}
+use Rattle.rounds_blocks.specs.Batches.{IsSlot, IsBatch, AreAlike, HaveWindows}
 use Rattle.rounds_blocks.specs.Rounds.{HaveWords, near_at, nears_in}
 use Rattle.rounds_blocks.proofs.Slots.{neighbour_in, weight_in, slot_within, nodes_covered}
 use Rattle.rounds_blocks.proofs.Sums.{nears_count}
@@ -102,15 +103,23 @@ module _ (network : Neighbours) (batch : Batch) (at behind count : ℕ) (group :
         near_here from k d low inner ∙ sym (get_or-take n (drop at nears) k d inner ∙ get_or-drop at nears k d)) in
         ap (λ (ns : List Near). take at nears ++ ns) next ∙ more_taken nears at n ∙ ap (λ (m : ℕ). take m nears) is.many
 
--- the runs of a batch
-pub runs_here : (network : Neighbours) (batch : Batch) (runs : CommonRuns) → IsBatch network batch → batch.runs ≡ Some runs → HaveRuns batch.slots.items runs
-runs_here network batch runs whole here = subst (λ (found : Option CommonRuns). IfSome found (HaveRuns batch.slots.items)) here whole.runs
+-- the windows of a batch
+pub windows_here : (network : Neighbours) (batch : Batch) (windows : Windows) → IsBatch network batch → batch.windows ≡ Some windows → HaveWindows (length network) batch.slots.items windows
+windows_here network batch windows whole here = subst (λ (found : Option Windows). IfSome found (HaveWindows (length network) batch.slots.items)) here whole.windows
 
--- the first slots, which have them in common, are such a group
-pub runs_group : (network : Neighbours) (batch : Batch) (runs : CommonRuns) (slots : List Slot) → IsBatch network batch → HaveRuns batch.slots.items runs → slots ≡ batch.slots.items
-    → IsGroup network batch 0 runs.slots runs.count (take runs.slots slots)
-runs_group network batch runs slots whole have slots_are =
-    let all : runs.slots - 0 ≡ runs.slots = omega arith in
-    subst (λ n. IsGroup network batch 0 runs.slots runs.count (take n slots)) all
-    (group_made network batch 0 runs.slots runs.count batch.slots.items slots whole refl slots_are have.some have.inside
-    (λ j d late low. ap (λ (s : Slot). length s.neighbours) (sym (get_or-take runs.slots batch.slots.items j d low)) ∙ have.are.alike j d (omega (arith, low, length-take-le runs.slots batch.slots.items have.inside))))
+-- the first slots, which have them, are such a group
+pub windows_group : (network : Neighbours) (batch : Batch) (windows : Windows) (slots : List Slot) (n : ℕ) → IsBatch network batch → HaveWindows (length network) batch.slots.items windows
+    → n ≡ length windows.places.items → slots ≡ batch.slots.items → IsGroup network batch 0 n windows.count (take n slots)
+windows_group network batch windows slots n whole have n_is slots_are =
+    let all : n - 0 ≡ n = omega arith in
+    let few : n ≤ length batch.slots.items = omega (arith, n_is, have.inside) in
+    let are : AreWindows (take n batch.slots.items) (length network) windows = subst (λ k. AreWindows (take k batch.slots.items) (length network) windows) (sym n_is) have.are in
+    subst (λ k. IsGroup network batch 0 n windows.count (take k slots)) all
+    (group_made network batch 0 n windows.count batch.slots.items slots whole refl slots_are (omega (arith, n_is, have.some)) few
+    (λ j d late low. ap (λ (s : Slot). length s.neighbours) (sym (get_or-take n batch.slots.items j d low)) ∙ are.alike j d (omega (arith, low, length-take-le n batch.slots.items few))))
+
+-- and their windows stay the same
+pub windows_are : (network : Neighbours) (batch : Batch) (windows : Windows) (slots : List Slot) (n : ℕ) → HaveWindows (length network) batch.slots.items windows
+    → n ≡ length windows.places.items → slots ≡ batch.slots.items → AreWindows (take n slots) (length network) windows
+windows_are network batch windows slots n have n_is slots_are =
+    subst (λ (xs : List Slot). AreWindows (take n xs) (length network) windows) (sym slots_are) (subst (λ k. AreWindows (take k batch.slots.items) (length network) windows) (sym n_is) have.are)

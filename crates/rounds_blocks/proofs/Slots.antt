@@ -7,7 +7,7 @@ use Rattle.link_net.specs.Neighbours.{Neighbours, degree, neighbour, weight, Are
 use Rattle.rounds_code.specs.Block.{Covers}
 use Rattle.rounds_code.specs.declared.slot.Slot.{Slot}
 use Rattle.rounds_blocks.specs.declared.batch.Batch.{Batch}
-use Rattle.rounds_blocks.specs.Batches.{AreFalling, HaveRuns, IsSlot, IsBatch}
+use Rattle.rounds_blocks.specs.Batches.{AreFalling, HaveWindows, IsSlot, IsBatch}
 use Rattle.rounds_blocks.specs.Rounds.{HaveWords}
 
 pub degree_at : (network : Neighbours) (nodes degrees : List ℕ) (i : ℕ) → degrees ≡ map (degree network) nodes → i < length nodes → slice_index degrees i ≡ degree network (slice_index nodes i)
@@ -42,8 +42,8 @@ made_slot network nodes degrees j count slot are fits have lack neighbours weigh
 -- a batch as it is made
 pub made_batch : (network : Neighbours) (nodes : List ℕ) (batch : Batch) → batch.nodes ≡ nodes → length nodes ≤ 256 → All (λ u. u < length network) nodes → AreFalling network nodes
     → batch.degrees.items ≡ map (degree network) nodes → ((j : ℕ) (d : Slot) → j < length batch.slots.items → IsSlot network nodes j (slice_index_or batch.slots.items j d))
-    → slice_index batch.degrees.items 0 ≡ length batch.slots.items → IfSome batch.runs (HaveRuns batch.slots.items) → IsBatch network batch
-made_batch network nodes batch same few within falling degrees slots most runs =
+    → slice_index batch.degrees.items 0 ≡ length batch.slots.items → IfSome batch.windows (HaveWindows (length network) batch.slots.items) → IsBatch network batch
+made_batch network nodes batch same few within falling degrees slots most windows =
     record {
       few = subst (λ ns. length ns ≤ 256) (sym same) few;
       within = subst (All (λ u. u < length network)) (sym same) within;
@@ -54,7 +54,7 @@ made_batch network nodes batch same few within falling degrees slots most runs =
           let first = degree_at network nodes batch.degrees.items 0 degrees (omega (arith, h)) in
           let here = ap (degree network) (get_or_default nodes i d 0 h) in
           omega (arith, fact, first, most, here));
-      runs = runs;
+      windows = windows;
     }
 
 -- the neighbour of a lane

@@ -3,9 +3,9 @@ use Rattle.std.specs.Prelude.{ℕ, ◌≡◌, ◌<◌, ◌≤◌, List, length, 
 use Rattle.std.specs.List.{flat_map}
 use Rattle.std.specs.List.Sorted.{IsPermutation}
 use Rattle.link_net.specs.Neighbours.{Neighbours, numbers_below, degree, neighbour, weight}
-use Rattle.rounds_code.specs.declared.common_runs.CommonRuns.{CommonRuns}
 use Rattle.rounds_code.specs.declared.slot.Slot.{Slot}
-use Rattle.rounds_code.specs.CommonRuns.{AreCommonRuns}
+use Rattle.rounds_code.specs.declared.windows.Windows.{Windows}
+use Rattle.rounds_code.specs.Windows.{AreWindows}
 use Rattle.rounds_blocks.specs.declared.batch.Batch.{Batch}
 
 -- nodes by falling number of their neighbours
@@ -20,11 +20,11 @@ pub record IsSlot (network : Neighbours) (nodes : List ℕ) (j : ℕ) (slot : Sl
   pub have : (i : ℕ) → i < length slot.neighbours → j < degree network (slice_index nodes i)
   pub lack : (i : ℕ) → length slot.neighbours ≤ i → i < length nodes → degree network (slice_index nodes i) ≤ j
 
--- runs that the first slots have in common
-pub record HaveRuns (slots : List Slot) (runs : CommonRuns) : Type 0 where
-  pub some : 0 < runs.slots
-  pub inside : runs.slots ≤ length slots
-  pub are : AreCommonRuns (take runs.slots slots) runs
+-- windows of columns of so many nodes in which the neighbours in the first slots stand
+pub record HaveWindows (nodes : ℕ) (slots : List Slot) (windows : Windows) : Type 0 where
+  pub some : 0 < length windows.places.items
+  pub inside : length windows.places.items ≤ length slots
+  pub are : AreWindows (take (length windows.places.items) slots) nodes windows
 
 -- at most 256 nodes, with their degrees and all their slots
 pub record IsBatch (network : Neighbours) (batch : Batch) : Type 0 where
@@ -33,7 +33,7 @@ pub record IsBatch (network : Neighbours) (batch : Batch) : Type 0 where
   pub degrees : batch.degrees.items ≡ map (degree network) batch.nodes
   pub slots : (j : ℕ) (d : Slot) → j < length batch.slots.items → IsSlot network batch.nodes j (slice_index_or batch.slots.items j d)
   pub whole : All (λ u. degree network u ≤ length batch.slots.items) batch.nodes
-  pub runs : IfSome batch.runs (HaveRuns batch.slots.items)
+  pub windows : IfSome batch.windows (HaveWindows (length network) batch.slots.items)
 
 -- the slots from one place on to the one before another have so many neighbours each
 abbrev pub AreAlike : List Slot → ℕ → ℕ → ℕ → Type 0

@@ -1,12 +1,15 @@
 //! Batches of nodes with their neighbours, slot by slot.
 ghost use Rattle.std.specs.Prelude.{◌≡◌, ◌<◌, ◌≤◌, ℕ, All, IfOk, IfSome, length, map, slice_index};
 ghost use Rattle.link_net.specs.Neighbours.{degree, neighbour, weight};
-ghost use Rattle.rounds_blocks.specs.Batches.{AreFalling, HaveRuns, IsSlot, IsBatch};
+ghost use Rattle.rounds_blocks.specs.Batches.{AreFalling, HaveWindows, IsSlot, IsBatch};
 
 use crate::group::alike_end;
 use link_net::NetRows;
-use rounds_code::{CommonRuns, Places, Slot, Weights};
+use rounds_code::{Places, Slot, Weights, Windows};
 use std::alloc::{AllocError, Global};
+
+/// In how many lanes neighbours have to stand in windows: where they are few, slots are better taken side by side.
+const LEAST_LANES: usize = 16;
 
 /// Up to 256 nodes by falling number of their neighbours, with these numbers, and what stands in their slots: in each a
 /// neighbour, and the weight of the link to it, of each of the first nodes, which are those that have so many neighbours.
@@ -15,8 +18,8 @@ pub struct Batch {
     pub nodes: Places,
     pub degrees: Vec<u32>,
     pub slots: Vec<Slot>,
-    /// The runs that the first slots have in common; none where they are short.
-    pub runs: Option<CommonRuns>,
+    /// The windows in which the neighbours in the first slots stand; none where they do not.
+    pub windows: Option<Windows>,
     /// How many neighbours its nodes have together.
     pub ends: u64,
 }
@@ -119,16 +122,24 @@ fn sum_of(degrees: &[u32]) -> u64 {
     sum
 }
 
-/// The runs that the first of these slots have in common, as many as have equally many neighbours; none where they are short.
-fn runs_of(alloc: Global, slots: &[Slot]) -> Result<Option<CommonRuns>, AllocError>
-    ensures runs { IfOk result (λ found. IfSome found (HaveRuns slots.now)) }
+/// The windows in which the neighbours in the first of these slots stand, in as many as have equally many neighbours; none where they do
+/// not, or have few.
+fn windows_of(
+    alloc: Global,
+    slots: &[Slot],
+    nodes: usize,
+) -> Result<Option<Windows>, AllocError>
+    ensures windows { IfOk result (λ found. IfSome found (HaveWindows nodes slots.now)) }
 {
     if slots.is_empty() {
         return Ok(None);
     }
     let count = slots[0].neighbours.count();
+    if count < LEAST_LANES {
+        return Ok(None);
+    }
     let behind = alike_end(slots, 0, count, slots.len());
-    CommonRuns::new(alloc, &slots[..behind], count)
+    Windows::new(alloc, &slots[..behind], count, nodes)
 }
 
 /// These nodes as a batch.
@@ -147,12 +158,12 @@ pub fn batch_of(alloc: Global, network: &NetRows<'_>, nodes: &[u32]) -> Result<B
     }
     let nodes = Places::new(alloc, nodes.to_vec(alloc)?)?;
     let ends = sum_of(&degrees);
-    let runs = runs_of(alloc, &slots)?;
+    let windows = windows_of(alloc, &slots, network.nodes() as usize)?;
     Ok(Batch {
         nodes,
         degrees,
         slots,
-        runs,
+        windows,
         ends,
     })
 }

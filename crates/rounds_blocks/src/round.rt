@@ -16,9 +16,9 @@ use crate::task::Task;
 use link_net::NetRows;
 use rounds_code::Block;
 
-/// Gathers the aggregates of a batch's nodes over their neighbours in the first slots, where these have common runs and the program reads
-/// its neighbours where they stand. In how many slots.
-fn gather_runs(
+/// Gathers the aggregates of a batch's nodes over their neighbours in the first slots, where these have windows and the program reads its
+/// neighbours where they stand. In how many slots.
+fn gather_windows(
     network: &NetRows<'_>,
     batch: &Batch,
     block: &mut Block<'_>,
@@ -38,10 +38,11 @@ fn gather_runs(
     ensures lanes { (i : ℕ) (d : Lane) → i < length batch.now.nodes
         → slice_index_or block.new.lanes i d ≡ gathered_first block.old.rules network.now round from.now result (slice_index batch.now.nodes i) }
 {
-    match &batch.runs {
-        Some(runs) => {
-            if block.take_runs(&batch.slots[..runs.slots], runs, from) {
-                return runs.slots;
+    match &batch.windows {
+        Some(windows) => {
+            let count = windows.places.len();
+            if block.take_windows(&batch.slots[..count], windows, from) {
+                return count;
             }
             0
         }
@@ -68,7 +69,7 @@ pub fn gather(
 {
     block.enter(round, &batch.nodes, &batch.degrees, from);
     let alone = first_alone(network, batch);
-    let mut at = gather_runs(network, batch, block, round, from);
+    let mut at = gather_windows(network, batch, block, round, from);
     while at < alone {
         let count = batch.slots[at].neighbours.count();
         let behind = group_end(&batch.slots, at, count);
