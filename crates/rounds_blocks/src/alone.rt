@@ -81,7 +81,7 @@ pub fn gather_alone(
     ensures lanes { (i : ℕ) (d : Lane) → i < length batch.now.nodes
         → slice_index_or block.new.lanes i d ≡ gathered block.old.rules network.now round from.now (slice_index batch.now.nodes i) }
 {
-    if batch.nodes.count() == 0 {
+    if first >= batch.slots.len() || batch.nodes.count() == 0 {
         return;
     }
     let node = first_node(batch);
