@@ -1,9 +1,9 @@
 -- One element that is set.
-use Rattle.std.proofs.Common.{◌≡◌, ◌<◌, ◌≤◌, ◌+◌, ◌⊎◌, inl, inr, ℕ, List, length, sym, ap, subst, ◌∙◌, slice_index_or, Bool, true, false, arith}
+use Rattle.std.proofs.Common.{◌≡◌, ◌<◌, ◌≤◌, ◌+◌, ◌⊎◌, inl, inr, ℕ, List, length, sym, ap, subst, ◌∙◌, slice_index_or, Bool, false, arith}
 use Rattle.std.specs.Prelude.{slice_set}
 use Rattle.std.proofs.lemmas.Bool.{cases_eq, cases_lt}
-use Rattle.std.proofs.lemmas.List.{get_or-set_same, get_or-set_other, get_or_past}
-use Rattle.rounds_blocks.specs.Nears.{IsDue, Sleeps}
+use Rattle.std.proofs.lemmas.List.{get_or-set_same, get_or-set_other}
+use Rattle.rounds_blocks.specs.Nears.{Sleeps}
 
 cases_of : {X : Type 0} (xs : List X) (v : ℕ) (b d : X) (u : ℕ) → v < length xs → ((u ≡ v) ⊎ (u ≡ v → ⊥))
     → ((u ≡ v) × (slice_index_or (slice_set xs v b) u d ≡ b)) ⊎ ((u ≡ v → ⊥) × (slice_index_or (slice_set xs v b) u d ≡ slice_index_or xs u d))

@@ -124,11 +124,7 @@ fn sum_of(degrees: &[u32]) -> u64 {
 
 /// The windows in which the neighbours in the first of these slots stand, in as many as have equally many neighbours; none where they do
 /// not, or have few.
-fn windows_of(
-    alloc: Global,
-    slots: &[Slot],
-    nodes: usize,
-) -> Result<Option<Windows>, AllocError>
+fn windows_of(alloc: Global, slots: &[Slot], nodes: usize) -> Result<Option<Windows>, AllocError>
     ensures windows { IfOk result (λ found. IfSome found (HaveWindows nodes slots.now)) }
 {
     if slots.is_empty() {
