@@ -10,7 +10,7 @@ use Rattle.rule_check.specs.declared.state.Near.{Near}
 use Rattle.rule_check.specs.Table.{M}
 use Rattle.rule_check.specs.Value.{Here, Next, value}
 use Rattle.rule_check.specs.Items.{nexts_of}
-use Rattle.rule_cuts.specs.declared.bounds.Bounds.{Bounds}
+use Rattle.rule_cuts.specs.declared.limits.Limits.{Limits}
 use Rattle.rule_ranges.specs.declared.range.Range.{Range}
 use Rattle.rule_cuts.specs.declared.operations.Operation.{Operation}
 use Rattle.rule_cuts.specs.declared.operations.Operation.TheVariants as operation
@@ -82,25 +82,25 @@ pub record IsBetween (range : Range) (v : ℕ) : Type 0 where
   pub from : range.least ≤ v
   pub to : v ≤ range.most
 
--- at each node within the bounds, the expression has a value between the ends of the range
-abbrev pub LiesIn : Bounds → Tree → Range → Type 0
-LiesIn bounds e range = (here : Here) (near : Near) → IsHereWithin bounds here → IsNearWithin bounds near → IsBetween range (value here e near)
+-- at each node within the limits, the expression has a value between the ends of the range
+abbrev pub LiesIn : Limits → Tree → Range → Type 0
+LiesIn limits e range = (here : Here) (near : Near) → IsHereWithin limits here → IsNearWithin limits near → IsBetween range (value here e near)
 
 -- each operand lies in the range that is told of it
-abbrev pub HasRanges : Bounds → Operation → Type 0
-HasRanges bounds (operation.Product a b) = LiesIn bounds (tree_of a.expr.now) a.range × LiesIn bounds (tree_of b.expr.now) b.range
-HasRanges bounds (operation.Total a) = LiesIn bounds (tree_of a.expr.now) a.range
+abbrev pub HasRanges : Limits → Operation → Type 0
+HasRanges limits (operation.Product a b) = LiesIn limits (tree_of a.expr.now) a.range × LiesIn limits (tree_of b.expr.now) b.range
+HasRanges limits (operation.Total a) = LiesIn limits (tree_of a.expr.now) a.range
 
 -- the greatest operands pass the greatest value: they multiplied, or the one over as many neighbours as a node can have
-abbrev pub can_pass : Bounds → Operation → Bool
-can_pass bounds (operation.Product a b) = nat_lt M (a.range.most * b.range.most)
-can_pass bounds (operation.Total a) = nat_lt M (a.range.most * bounds.degree)
+abbrev pub can_pass : Limits → Operation → Bool
+can_pass limits (operation.Product a b) = nat_lt M (a.range.most * b.range.most)
+can_pass limits (operation.Total a) = nat_lt M (a.range.most * limits.bounds.degree)
 
--- the operation is never cut: at each node within the bounds its value is the plain number
-abbrev pub IsNeverCut : Bounds → OperationTree → Type 0
-IsNeverCut bounds (ProductTree a b) =
-    (here : Here) (near : Near) → IsHereWithin bounds here → IsNearWithin bounds near
+-- the operation is never cut: at each node within the limits its value is the plain number
+abbrev pub IsNeverCut : Limits → OperationTree → Type 0
+IsNeverCut limits (ProductTree a b) =
+    (here : Here) (near : Near) → IsHereWithin limits here → IsNearWithin limits near
     → value here (InfixTree Times a b) near ≡ value here a near * value here b near
-IsNeverCut bounds (TotalTree e) =
-    (here : Here) (near : Near) → IsHereWithin bounds here → IsNearWithin bounds near
+IsNeverCut limits (TotalTree e) =
+    (here : Here) (near : Near) → IsHereWithin limits here → IsNearWithin limits near
     → value here (OverTree Total e) near ≡ sum (map (value here e) here.nears)

@@ -7,7 +7,7 @@ ghost use Rattle.rule_lang.specs.Program.{HasProgram};
 ghost use Rattle.rule_cuts.specs.Operations.{can_pass};
 ghost use Rattle.rule_cuts.specs.Cuttable.{AreCuttable, placed_of};
 
-use crate::bounds::Bounds;
+use crate::limits::Limits;
 use crate::operations::{Operation, can_be_cut, operations_in};
 use crate::places::operation_places;
 use rule_lang::Item;
@@ -26,13 +26,13 @@ fn cuttable_among<'a>(
     alloc: Global,
     operations: &[Operation<'a>],
     places: &[usize],
-    bounds: Bounds,
+    limits: &Limits<'_>,
 ) -> Result<Vec<Cuttable<'a>>, AllocError>
-    ensures exact { IfOk result (λ v. map placed_of v.items ≡ filter (λ p. can_pass bounds p.0) (zip operations.now places.now)) }
+    ensures exact { IfOk result (λ v. map placed_of v.items ≡ filter (λ p. can_pass limits.now p.0) (zip operations.now places.now)) }
 {
     let mut found = Vec::new(alloc);
     for (operation, at) in operations.iter().zip(places) {
-        if can_be_cut(*operation, bounds) {
+        if can_be_cut(*operation, limits) {
             found.push(Cuttable {
                 operation: *operation,
                 at: *at,
@@ -42,17 +42,17 @@ fn cuttable_among<'a>(
     Ok(found)
 }
 
-/// The products and totals of a program that can be cut at nodes within the bounds, each with its place, in the order of
+/// The products and totals of a program that can be cut at nodes within the limits, each with its place, in the order of
 /// its text. `items` are those of the text.
 pub fn cuttable_in<'a>(
     alloc: Global,
     text: &[u8],
     items: &'a [Item],
-    bounds: Bounds,
+    limits: &Limits<'_>,
 ) -> Result<Vec<Cuttable<'a>>, AllocError>
-    ensures noted { IfOk result (λ v. length text.now ≤ 65536 → HasProgram text.now (items_of items.now) → AreCuttable bounds text.now (items_of items.now) v.items) }
+    ensures noted { IfOk result (λ v. length text.now ≤ 65536 → HasProgram text.now (items_of items.now) → AreCuttable limits.now text.now (items_of items.now) v.items) }
 {
-    let operations = operations_in(alloc, items, bounds)?;
+    let operations = operations_in(alloc, items, limits)?;
     let places = operation_places(alloc, text)?;
-    cuttable_among(alloc, &operations, &places, bounds)
+    cuttable_among(alloc, &operations, &places, limits)
 }

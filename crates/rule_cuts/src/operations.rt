@@ -5,8 +5,8 @@ ghost use Rattle.rule_lang.specs.View.{tree_of, items_of};
 ghost use Rattle.rule_check.specs.Table.{M};
 ghost use Rattle.rule_cuts.specs.Operations.{HasRanges, IsNeverCut, LiesIn, aggregate_operations, can_pass, infix_operations, operation_of, operations, operations_of};
 
-use crate::bounds::Bounds;
 use crate::expression::value_range;
+use crate::limits::Limits;
 use rule_lang::{Agg, Expr, Item, Op};
 use rule_ranges::Range;
 use std::alloc::{AllocError, Global};
@@ -29,13 +29,13 @@ pub enum Operation<'a> {
 }
 
 /// An expression as an operand.
-fn operand_of<'a>(expr: &'a Expr, bounds: Bounds) -> Operand<'a>
+fn operand_of<'a>(expr: &'a Expr, limits: &Limits<'_>) -> Operand<'a>
     ensures exact { tree_of result.expr.now ≡ tree_of expr.now }
-    ensures lies { LiesIn bounds (tree_of expr.now) result.range }
+    ensures lies { LiesIn limits.now (tree_of expr.now) result.range }
 {
     Operand {
         expr,
-        range: value_range(expr, bounds),
+        range: value_range(expr, limits),
     }
 }
 
@@ -50,18 +50,18 @@ fn put<'a>(found: &mut Vec<Operation<'a>>, operation: Operation<'a>) -> Result<(
 /// Puts the product of an infix form, where it is one.
 fn put_infix<'a>(
     found: &mut Vec<Operation<'a>>,
-    bounds: Bounds,
+    limits: &Limits<'_>,
     op: Op,
     left: &'a Expr,
     right: &'a Expr,
 ) -> Result<(), AllocError>
     ensures put { OnOk result (map operation_of found.new.items ≡ map operation_of found.old.items ++ infix_operations op (tree_of left.now) (tree_of right.now)) }
-    ensures ranges { All (HasRanges bounds) found.old.items → OnOk result (All (HasRanges bounds) found.new.items) }
+    ensures ranges { All (HasRanges limits.now) found.old.items → OnOk result (All (HasRanges limits.now) found.new.items) }
 {
     match op {
         Op::Times => put(
             found,
-            Operation::Product(operand_of(left, bounds), operand_of(right, bounds)),
+            Operation::Product(operand_of(left, limits), operand_of(right, limits)),
         ),
         _ => Ok(()),
     }
@@ -70,15 +70,15 @@ fn put_infix<'a>(
 /// Puts the total of an aggregate, where it is one.
 fn put_aggregate<'a>(
     found: &mut Vec<Operation<'a>>,
-    bounds: Bounds,
+    limits: &Limits<'_>,
     agg: Agg,
     body: &'a Expr,
 ) -> Result<(), AllocError>
     ensures put { OnOk result (map operation_of found.new.items ≡ map operation_of found.old.items ++ aggregate_operations agg (tree_of body.now)) }
-    ensures ranges { All (HasRanges bounds) found.old.items → OnOk result (All (HasRanges bounds) found.new.items) }
+    ensures ranges { All (HasRanges limits.now) found.old.items → OnOk result (All (HasRanges limits.now) found.new.items) }
 {
     match agg {
-        Agg::Total => put(found, Operation::Total(operand_of(body, bounds))),
+        Agg::Total => put(found, Operation::Total(operand_of(body, limits))),
         _ => Ok(()),
     }
 }
@@ -86,11 +86,11 @@ fn put_aggregate<'a>(
 /// Puts the operations of an expression.
 fn collect<'a>(
     found: &mut Vec<Operation<'a>>,
-    bounds: Bounds,
+    limits: &Limits<'_>,
     expr: &'a Expr,
 ) -> Result<(), AllocError>
     ensures put { OnOk result (map operation_of found.new.items ≡ map operation_of found.old.items ++ operations (tree_of expr.now)) }
-    ensures ranges { All (HasRanges bounds) found.old.items → OnOk result (All (HasRanges bounds) found.new.items) }
+    ensures ranges { All (HasRanges limits.now) found.old.items → OnOk result (All (HasRanges limits.now) found.new.items) }
 {
     match expr {
         Expr::Number(_)
@@ -102,19 +102,19 @@ fn collect<'a>(
         | Expr::NearId
         | Expr::NearWeight => Ok(()),
         Expr::Infix(op, left, right) => {
-            collect(found, bounds, left)?;
-            put_infix(found, bounds, *op, left, right)?;
-            collect(found, bounds, right)
+            collect(found, limits, left)?;
+            put_infix(found, limits, *op, left, right)?;
+            collect(found, limits, right)
         }
-        Expr::Not(part) => collect(found, bounds, part),
+        Expr::Not(part) => collect(found, limits, part),
         Expr::Over(agg, part) => {
-            put_aggregate(found, bounds, *agg, part)?;
-            collect(found, bounds, part)
+            put_aggregate(found, limits, *agg, part)?;
+            collect(found, limits, part)
         }
         Expr::Choice(test, yes, no) => {
-            collect(found, bounds, test)?;
-            collect(found, bounds, yes)?;
-            collect(found, bounds, no)
+            collect(found, limits, test)?;
+            collect(found, limits, yes)?;
+            collect(found, limits, no)
         }
     }
 }
@@ -124,15 +124,15 @@ fn collect<'a>(
 pub fn operations_in<'a>(
     alloc: Global,
     items: &'a [Item],
-    bounds: Bounds,
+    limits: &Limits<'_>,
 ) -> Result<Vec<Operation<'a>>, AllocError>
     ensures all { IfOk result (λ v. map operation_of v.items ≡ operations_of (items_of items.now)) }
-    ensures ranges { IfOk result (λ v. All (HasRanges bounds) v.items) }
+    ensures ranges { IfOk result (λ v. All (HasRanges limits.now) v.items) }
 {
     let mut found = Vec::new(alloc);
     for item in items {
         if let Item::Next { body, .. } = item {
-            collect(&mut found, bounds, body)?;
+            collect(&mut found, limits, body)?;
         }
     }
     Ok(found)
@@ -140,13 +140,13 @@ pub fn operations_in<'a>(
 
 /// Whether the greatest values of the operands pass 4294967295: those of a product multiplied, that of a total over as
 /// many neighbours as a node can have. Where they do not, the operation is never cut.
-pub fn can_be_cut(operation: Operation<'_>, bounds: Bounds) -> bool
-    ensures exact { result ≡ can_pass bounds operation.entry }
-    ensures never { result ≡ false → HasRanges bounds operation.entry → IsNeverCut bounds (operation_of operation.entry) }
+pub fn can_be_cut(operation: Operation<'_>, limits: &Limits<'_>) -> bool
+    ensures exact { result ≡ can_pass limits.now operation.entry }
+    ensures never { result ≡ false → HasRanges limits.now operation.entry → IsNeverCut limits.now (operation_of operation.entry) }
 {
     match operation {
         Operation::Product(left, right) => passes(left.range.most, right.range.most),
-        Operation::Total(body) => passes(body.range.most, bounds.degree),
+        Operation::Total(body) => passes(body.range.most, limits.bounds.degree),
     }
 }
 

@@ -1,6 +1,6 @@
 -- Quotients and their rests, in ranges.
 use Rattle.std.specs.Prelude.{ℕ, Bool, true, false, max, ◌<◌, ◌≤◌, ◌/◌, ◌%◌, ◌==◌, if◌then◌else◌}
-use Rattle.std.proofs.Common.{◌*◌, ◌≡◌, arith}
+use Rattle.std.proofs.Common.{◌≡◌, arith}
 use Rattle.std.proofs.lemmas.Bool.Decides.{nat_tests}
 use Rattle.std.proofs.lemmas.Nat.{le-div, mul-le}
 use Rattle.std.proofs.Math.Nat.{div-le_self, div-mul-le_self, mod-le, mod-lt}

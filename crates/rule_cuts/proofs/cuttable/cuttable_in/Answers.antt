@@ -18,7 +18,7 @@ returns c =
       noted =
           IfOk-weaker c.cuttable_among.result _ _ (λ v is short program.
           let places = c.in_ok-places.ensures.listed program.tokens short program.words in
-          are_cuttable c.args.bounds text items all at v.items c.in_ok-operations.ensures.all c.in_ok-operations.ensures.ranges places (one_each text at items program places)
-          (is ∙ ap (λ os. filter (λ p. can_pass c.args.bounds p.0) (zip os c.deref-2.result.now)) c.deref.ensures.value ∙ ap (λ ats. filter (λ p. can_pass c.args.bounds p.0) (zip all ats)) c.deref-2.ensures.value))
+          are_cuttable c.args.limits.now text items all at v.items c.in_ok-operations.ensures.all c.in_ok-operations.ensures.ranges places (one_each text at items program places)
+          (is ∙ ap (λ os. filter (λ p. can_pass c.args.limits.now p.0) (zip os c.deref-2.result.now)) c.deref.ensures.value ∙ ap (λ ats. filter (λ p. can_pass c.args.limits.now p.0) (zip all ats)) c.deref-2.ensures.value))
           c.cuttable_among.ensures.exact;
     }

@@ -1,12 +1,16 @@
-use Rattle.std.specs.Prelude.{◌≤◌, map}
-use Rattle.std.proofs.Common.{arith, get_or, sym, subst}
+use Rattle.std.specs.Prelude.{ℕ, ◌≡◌, ◌≤◌, ◌⊎◌, List, map}
+use Rattle.std.proofs.Common.{ap, arith, get_or, inl, inr, string_bytes, sym, subst}
 use Rattle.std.proofs.lemmas.List.{length-map}
 use Rattle.std.proofs.lemmas.List.Elements.{All-map}
 use Rattle.rule_lang.specs.declared.tree.Expr.{Expr}
+use Rattle.rule_lang.specs.Tree.{Tree, OwnTree, NearTree}
 use Rattle.rule_lang.specs.View.{tree_of}
 use Rattle.rule_check.specs.Table.{M}
-use Rattle.rule_check.specs.Value.{value}
+use Rattle.rule_check.specs.declared.state.Near.{Near}
+use Rattle.rule_check.specs.declared.state.State.{State}
+use Rattle.rule_check.specs.Value.{Here, names_of, place, value, word}
 use Rattle.rule_ranges.specs.Ranges.{IsWithin}
+use Rattle.rule_cuts.specs.Bounded.{HoldsWithin}
 use Rattle.rule_cuts.proofs.Gathered.{gather_word, operate_word}
 use Rattle.rule_cuts.proofs.expression.+value_range.Goals as goal
 
@@ -38,5 +42,29 @@ returns-in-Over-clause-word t c = λ here near inside beside.
     (All-map (λ v. v ≤ M) (value here (tree_of body)) here.nears
     (λ k d within. subst (λ (e : Expr). value here (tree_of e) (get_or here.nears k d) ≤ M) c.deref-in-Over.ensures (c.value_range-in-Over.ensures.word here _ inside (inside.nears k d within)))))
 
-pub returns-in-Own-clause-within : goal.returns-in-Own-clause-within
-returns-in-Own-clause-within t c = λ here near inside beside. c.anything.ensures.within (value here (tree_of c.args.expr.now) near)
+-- a field's value, of the node or of a neighbour
+as_trees : (e own beside : Expr) → ((e ≡ own) ⊎ (e ≡ beside)) → (tree_of e ≡ tree_of own) ⊎ (tree_of e ≡ tree_of beside)
+as_trees e own beside (inl is) = inl (ap tree_of is)
+as_trees e own beside (inr is) = inr (ap tree_of is)
+
+own_or_near : (P : ℕ → Type 0) (here : Here) (near : Near) (e : Tree) (name : List ℕ) → P (word here.names here.own name) → P (word here.names near.state name)
+    → ((e ≡ OwnTree name) ⊎ (e ≡ NearTree name)) → P (value here e near)
+own_or_near P here near e name own beside (inl is) = subst (λ (e : Tree). P (value here e near)) (sym is) own
+own_or_near P here near e name own beside (inr is) = subst (λ (e : Tree). P (value here e near)) (sym is) beside
+
+pub returns-in-Own : goal.returns-in-Own
+returns-in-Own t c =
+    let limits = c.args.limits.now in
+    let name = string_bytes c.in-Own.name in
+    let range = c.field_range.result in
+    let form = as_trees c.args.expr.now (Expr.Own c.in-Own.name) (Expr.Near c.in-Own.name) c.in-Own.is in
+    let lies : (here : Here) (state : State) → here.names ≡ names_of limits.program.now → HoldsWithin limits state → IsWithin range (word here.names state name) =
+    λ here state names holds.
+    subst (λ (ns : List (List ℕ)). IsWithin range (word ns state name)) (sym names)
+    (subst (λ (n : List ℕ). IsWithin range (word (names_of limits.program.now) state n)) c.as_str.ensures.value (c.field_range.ensures.within state holds.ranges.within)) in
+    record {
+      within = λ here near inside beside.
+          own_or_near (IsWithin range) here near (tree_of c.args.expr.now) name (lies here here.own inside.names inside.words) (lies here near.state inside.names beside.words) form;
+      word = λ here near inside beside.
+          own_or_near (λ v. v ≤ M) here near (tree_of c.args.expr.now) name (inside.words.values (place here.names name)) (beside.words.values (place here.names name)) form;
+    }

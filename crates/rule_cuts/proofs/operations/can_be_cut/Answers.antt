@@ -10,9 +10,9 @@ use Rattle.rule_cuts.proofs.operations.can_be_cut.Goals as goal
 
 pub returns-in-Total-clause-never : goal.returns-in-Total-clause-never
 returns-in-Total-clause-never c = λ no ranges.
-    let bounds = c.args.bounds in
+    let limits = c.args.limits.now in
     let body = c.in-Total.body in
-    subst (λ (operation : Operation). IsNeverCut bounds (operation_of operation)) (sym c.in-Total.is)
-    (total_uncut bounds (tree_of body.expr.now) body.range
-    (ltb-false M (body.range.most * bounds.degree) (sym c.passes-in-Total.ensures.exact ∙ no))
-    (subst (λ (operation : Operation). HasRanges bounds operation) c.in-Total.is ranges))
+    subst (λ (operation : Operation). IsNeverCut limits (operation_of operation)) (sym c.in-Total.is)
+    (total_uncut limits (tree_of body.expr.now) body.range
+    (ltb-false M (body.range.most * limits.bounds.degree) (sym c.passes-in-Total.ensures.exact ∙ no))
+    (subst (λ (operation : Operation). HasRanges limits operation) c.in-Total.is ranges))

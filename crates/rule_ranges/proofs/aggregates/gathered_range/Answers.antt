@@ -4,8 +4,8 @@ use Rattle.rule_lang.specs.declared.tree.Agg.{Agg}
 use Rattle.rule_check.specs.Table.{M, gather}
 use Rattle.rule_ranges.specs.declared.range.Range.{Range}
 use Rattle.rule_ranges.specs.Ranges.{IsWithin}
-use Rattle.rule_cuts.proofs.Gathered.{least_within, most_within, total_within}
-use Rattle.rule_cuts.proofs.expression.gathered_range.Goals as goal
+use Rattle.rule_ranges.proofs.Gathered.{least_within, most_within, total_within}
+use Rattle.rule_ranges.proofs.aggregates.gathered_range.Goals as goal
 
 pub returns-in-Total : goal.returns-in-Total
 returns-in-Total c = record {
