@@ -8,7 +8,7 @@ ghost use Rattle.rounds_blocks.specs.Gathered.{gathered, gathered_first};
 
 use crate::batch::Batch;
 use link_net::NetRows;
-use rounds_code::Block;
+use rounds_code::{Block, NearColumns};
 
 /// How many neighbours of one node are taken at once.
 const LANES: usize = 256;
@@ -66,7 +66,7 @@ pub fn gather_alone(
     block: &mut Block<'_>,
     first: usize,
     round: u32,
-    from: &[Vec<u32>],
+    from: &NearColumns<'_>,
 )
     requires batch { IsBatch network.now batch.now }
     requires network { AreRows network.now }

@@ -13,6 +13,7 @@ mod laws;
 mod layout;
 mod line;
 mod merge;
+mod narrow;
 mod near;
 mod node_ranges;
 mod order;

@@ -13,7 +13,7 @@ use crate::round::gather;
 use crate::share::Share;
 use crate::task::Task;
 use link_net::NetRows;
-use rounds_code::Block;
+use rounds_code::{Block, NearColumns};
 
 /// Writes the next words of a batch's nodes to a part of the one column, which begins with the node `low`.
 fn step_part(
@@ -21,7 +21,7 @@ fn step_part(
     batch: &Batch,
     block: &mut Block<'_>,
     round: u32,
-    from: &[Vec<u32>],
+    from: &NearColumns<'_>,
     low: usize,
     part: &mut [u32],
 )

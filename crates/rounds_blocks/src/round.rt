@@ -14,7 +14,7 @@ use crate::batch::Batch;
 use crate::group::group_end;
 use crate::task::Task;
 use link_net::NetRows;
-use rounds_code::Block;
+use rounds_code::{Block, NearColumns};
 
 /// Gathers the aggregates of a batch's nodes over their neighbours in the first slots, where these have windows and the program reads its
 /// neighbours where they stand. In how many slots.
@@ -56,7 +56,7 @@ pub fn gather(
     batch: &Batch,
     block: &mut Block<'_>,
     round: u32,
-    from: &[Vec<u32>],
+    from: &NearColumns<'_>,
 )
     requires batch { IsBatch network.now batch.now }
     requires network { AreRows network.now }
@@ -67,9 +67,9 @@ pub fn gather(
     ensures lanes { (i : ℕ) (d : Lane) → i < length batch.now.nodes
         → slice_index_or block.new.lanes i d ≡ gathered block.old.rules network.now round from.now (slice_index batch.now.nodes i) }
 {
-    block.enter(round, &batch.nodes, &batch.degrees, from);
+    block.enter(round, &batch.nodes, &batch.degrees, from.words());
     let alone = first_alone(network, batch);
-    let mut at = gather_windows(network, batch, block, round, from);
+    let mut at = gather_windows(network, batch, block, round, from.words());
     while at < alone {
         let count = batch.slots[at].neighbours.count();
         let behind = group_end(&batch.slots, at, count);
@@ -85,7 +85,7 @@ fn step(
     batch: &Batch,
     block: &mut Block<'_>,
     round: u32,
-    from: &[Vec<u32>],
+    from: &NearColumns<'_>,
     to: &mut [Vec<u32>],
 )
     requires batch { IsBatch network.now batch.now }

@@ -2,6 +2,7 @@
 
 use crate::batch::Batch;
 use link_net::NetRows;
+use rounds_code::NearColumns;
 
 /// A round: the network in batches, which of the batches have to be computed, the number of the round, and the states
 /// before it by columns.
@@ -11,5 +12,5 @@ pub struct Task<'a> {
     pub batches: &'a [Batch],
     pub due: &'a [bool],
     pub round: u32,
-    pub from: &'a [Vec<u32>],
+    pub from: &'a NearColumns<'a>,
 }

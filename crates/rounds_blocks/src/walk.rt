@@ -11,6 +11,7 @@ use crate::activity::{Activity, all_due};
 use crate::batch::Batch;
 use crate::columns::{are_same, columns_of, states_of};
 use crate::layout::Layout;
+use crate::narrow::{blank_bytes, columns_by, narrow_where};
 use crate::packed::PackedStates;
 use crate::round::step_due;
 use crate::share::Shares;
@@ -42,6 +43,8 @@ pub struct Walk<'a> {
     activity: Activity<'a>,
     from: Vec<Vec<u32>>,
     to: Vec<Vec<u32>>,
+    /// Room for the columns of `from` in bytes; none where that does not pay, or a word did not fit.
+    bytes: Vec<Vec<u8>>,
 }
 
 impl<'a> Model for Walk<'a> {
@@ -79,6 +82,7 @@ impl<'a> Walk<'a> {
         let block = Block::new(alloc, code)?;
         let from = columns_of(alloc, fields, states)?;
         let to = columns_of(alloc, fields, states)?;
+        let bytes = blank_bytes(alloc, fields, states.len(), &layout.batches)?;
         let activity = all_due(alloc, &layout.nears, !program.uses_round())?;
         // For the proof: what holds of every network.
         let _nodes = layout.network.nodes();
@@ -99,6 +103,7 @@ impl<'a> Walk<'a> {
             activity,
             from,
             to,
+            bytes,
         })
     }
 
@@ -142,12 +147,14 @@ impl<'a> Walk<'a> {
         ensures unread { result ≡ false → reads_round self.old.rules ≡ false }
         ensures moves { result ≡ true → reads_round self.old.rules ≡ false → (u : ℕ) × (u < length self.old.network) × (state_by self.new.words u ≢ state_by self.old.words u) }
     {
+        let are_narrow = narrow_where(&self.from, &mut self.bytes, &self.activity.due);
+        let from = columns_by(are_narrow, &self.from, &self.bytes);
         let task = Task {
             network: self.network,
             batches: self.batches,
             due: &self.activity.due,
             round,
-            from: &self.from,
+            from: &from,
         };
         step_due(&task, 0, self.batches.len(), &mut self.block, &mut self.to);
         let moved = self.activity.look(self.batches, &self.from, &self.to);
@@ -174,12 +181,14 @@ impl<'a> Walk<'a> {
         if self.shares.all.is_empty() || saved < self.costs.least_saving {
             return self.round(round);
         }
+        let are_narrow = narrow_where(&self.from, &mut self.bytes, &self.activity.due);
+        let from = columns_by(are_narrow, &self.from, &self.bytes);
         let task = Task {
             network: self.network,
             batches: self.batches,
             due: &self.activity.due,
             round,
-            from: &self.from,
+            from: &from,
         };
         step_shared(rt, &task, &mut self.shares, &mut self.to);
         let moved = self.activity.look(self.batches, &self.from, &self.to);

@@ -18,6 +18,9 @@ new_is c = grind (arith, common_steps, c.swap.ensures.x_after, c.step_due.auto.t
 old_is : (c : goal.After-swap) → c.swap.new.y.items ≡ c.self.inside.from.items
 old_is c = grind (arith, common_steps, c.swap.ensures.y_after)
 
+from_is : (c : goal.After-swap) → c.columns_by-from.result ≡ c.self.inside.from.items
+from_is c = c.columns_by-from.ensures.exact ∙ c.deref-3.ensures.value
+
 written : (c : goal.After-swap) → IsWritten c.self.inside.block.rules c.self.inside.network.now c.self.inside.batches.now c.self.inside.activity.due.items c.args.round c.self.inside.from.items c.self.inside.to.items c.step_due.new.to
 written c =
     let s = c.self.inside in
@@ -28,12 +31,12 @@ written c =
       wide = c.step_due.auto.to ∙ ap length c.deref_mut.ensures.value ∙ c.self.invariant.next_wide;
       long = c.step_due.ensures.nodes;
       done = λ i d h is.
-          subst (λ (from : List (Vec ℕ)). All (IsNext rules network c.args.round from new) (slice_index_or s.batches.now i d).nodes) c.deref-2.ensures.value
-          (c.step_due.ensures.done i d (omega arith) h (subst (λ (due : List Bool). IsDue due i) (sym c.deref.ensures.value) is));
+          subst (λ (from : List (Vec ℕ)). All (IsNext rules network c.args.round from new) (slice_index_or s.batches.now i d).nodes) (from_is c)
+          (c.step_due.ensures.done i d (omega arith) h (subst (λ (due : List Bool). IsDue due i) (sym c.deref-5.ensures.value) is));
       kept = λ u here.
-          subst (λ (from : List (Vec ℕ)). IsNext rules network c.args.round from new u) c.deref-2.ensures.value
+          subst (λ (from : List (Vec ℕ)). IsNext rules network c.args.round from new u) (from_is c)
           (c.step_due.ensures.kept u
-          (subst (λ (from : List (Vec ℕ)). IsNext rules network c.args.round from c.deref_mut.result.now u) (sym c.deref-2.ensures.value)
+          (subst (λ (from : List (Vec ℕ)). IsNext rules network c.args.round from c.deref_mut.result.now u) (sym (from_is c))
           (subst (λ (to : List (Vec ℕ)). IsNext rules network c.args.round s.from.items to u) (sym c.deref_mut.ensures.value) here)));
     }
 
@@ -43,10 +46,10 @@ looked c =
     let e = c.look-moved.ensures in
     let batches = s.batches.now in
     let changed = c.look-moved.new.self.changed.items in
-    let made : c.deref-4.result.now ≡ c.step_due.new.to = c.deref-4.ensures.value ∙ refilled s.to.len c.step_due.new.to s.to.items (c.step_due.auto.to ∙ c.deref_mut.ensures.len) in
+    let made : c.deref-7.result.now ≡ c.step_due.new.to = c.deref-7.ensures.value ∙ refilled s.to.len c.step_due.new.to s.to.items (c.step_due.auto.to ∙ c.deref_mut.ensures.len) in
     let some =
-    subst (λ (from : List (Vec ℕ)). c.look-moved.result ≡ true → s.activity.settles ≡ true → HasMoved batches from c.step_due.new.to) c.deref-3.ensures.value
-    (subst (λ (to : List (Vec ℕ)). c.look-moved.result ≡ true → s.activity.settles ≡ true → HasMoved batches c.deref-3.result.now to) made e.some) in
+    subst (λ (from : List (Vec ℕ)). c.look-moved.result ≡ true → s.activity.settles ≡ true → HasMoved batches from c.step_due.new.to) c.deref-6.ensures.value
+    (subst (λ (to : List (Vec ℕ)). c.look-moved.result ≡ true → s.activity.settles ≡ true → HasMoved batches c.deref-6.result.now to) made e.some) in
     record {
       nears = e.nears;
       settles = e.settles;
@@ -54,8 +57,8 @@ looked c =
       changes = e.changes;
       all = e.all;
       noted =
-          subst (λ (from : List (Vec ℕ)). s.activity.settles ≡ true → (i : ℕ) (d : Batch) → i < length batches → Sleeps changed i → IsDue s.activity.due.items i → All (IsAsBefore from c.step_due.new.to) (slice_index_or batches i d).nodes) c.deref-3.ensures.value
-          (subst (λ (to : List (Vec ℕ)). s.activity.settles ≡ true → (i : ℕ) (d : Batch) → i < length batches → Sleeps changed i → IsDue s.activity.due.items i → All (IsAsBefore c.deref-3.result.now to) (slice_index_or batches i d).nodes) made e.noted);
+          subst (λ (from : List (Vec ℕ)). s.activity.settles ≡ true → (i : ℕ) (d : Batch) → i < length batches → Sleeps changed i → IsDue s.activity.due.items i → All (IsAsBefore from c.step_due.new.to) (slice_index_or batches i d).nodes) c.deref-6.ensures.value
+          (subst (λ (to : List (Vec ℕ)). s.activity.settles ≡ true → (i : ℕ) (d : Batch) → i < length batches → Sleeps changed i → IsDue s.activity.due.items i → All (IsAsBefore c.deref-6.result.now to) (slice_index_or batches i d).nodes) made e.noted);
       awake = e.awake;
       some = some;
       none = e.none;

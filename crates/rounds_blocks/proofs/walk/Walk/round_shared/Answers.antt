@@ -22,6 +22,9 @@ old_is g c = grind (arith, common_steps, c.swap.ensures.y_after)
 given : (g : Over) (c : goal.After-swap g) → AreGiven c.self.inside.block.rules (length c.self.inside.network.now) c.self.inside.batches.now c.self.inside.shares
 given g c = c.self.invariant.shared
 
+from_is : (g : Over) (c : goal.After-swap g) → c.columns_by-from.result ≡ c.self.inside.from.items
+from_is g c = c.columns_by-from.ensures.exact ∙ c.deref-5.ensures.value
+
 written : (g : Over) (c : goal.After-swap g) → IsWritten c.self.inside.block.rules c.self.inside.network.now c.self.inside.batches.now c.self.inside.activity.due.items c.args.round c.self.inside.from.items c.self.inside.to.items c.step_shared.new.to
 written g c =
     let s = c.self.inside in
@@ -32,12 +35,12 @@ written g c =
       wide = c.step_shared.auto.to ∙ ap length c.deref_mut.ensures.value ∙ c.self.invariant.next_wide;
       long = c.step_shared.ensures.long;
       done = λ i d h is.
-          subst (λ (from : List (Vec ℕ)). All (IsNext rules network c.args.round from new) (slice_index_or s.batches.now i d).nodes) c.deref-4.ensures.value
-          (c.step_shared.ensures.done rules (given g c) i d h (subst (λ (due : List Bool). IsDue due i) (sym c.deref-3.ensures.value) is));
+          subst (λ (from : List (Vec ℕ)). All (IsNext rules network c.args.round from new) (slice_index_or s.batches.now i d).nodes) (from_is g c)
+          (c.step_shared.ensures.done rules (given g c) i d h (subst (λ (due : List Bool). IsDue due i) (sym c.deref-7.ensures.value) is));
       kept = λ u here.
-          subst (λ (from : List (Vec ℕ)). IsNext rules network c.args.round from new u) c.deref-4.ensures.value
+          subst (λ (from : List (Vec ℕ)). IsNext rules network c.args.round from new u) (from_is g c)
           (c.step_shared.ensures.kept rules (given g c) u
-          (subst (λ (from : List (Vec ℕ)). IsNext rules network c.args.round from c.deref_mut.result.now u) (sym c.deref-4.ensures.value)
+          (subst (λ (from : List (Vec ℕ)). IsNext rules network c.args.round from c.deref_mut.result.now u) (sym (from_is g c))
           (subst (λ (to : List (Vec ℕ)). IsNext rules network c.args.round s.from.items to u) (sym c.deref_mut.ensures.value) here)));
     }
 
@@ -45,8 +48,8 @@ looked : (g : Over) (c : goal.After-swap g) → IsLookedAt c.self.inside.batches
 looked g c =
     let s = c.self.inside in
     let e = c.look-moved.ensures in
-    let made : c.deref-6.result.now ≡ c.step_shared.new.to = c.deref-6.ensures.value ∙ refilled s.to.len c.step_shared.new.to s.to.items (c.step_shared.auto.to ∙ c.deref_mut.ensures.len) in
-    looked_as s.batches.now s.activity c.look-moved.new.self s.from.items c.deref-5.result.now c.step_shared.new.to c.deref-6.result.now c.look-moved.result c.deref-5.ensures.value made
+    let made : c.deref-9.result.now ≡ c.step_shared.new.to = c.deref-9.ensures.value ∙ refilled s.to.len c.step_shared.new.to s.to.items (c.step_shared.auto.to ∙ c.deref_mut.ensures.len) in
+    looked_as s.batches.now s.activity c.look-moved.new.self s.from.items c.deref-8.result.now c.step_shared.new.to c.deref-9.result.now c.look-moved.result c.deref-8.ensures.value made
     (record { nears = e.nears; settles = e.settles; flags = e.flags; changes = e.changes; all = e.all; noted = e.noted; awake = e.awake; some = e.some; none = e.none })
 
 pub invariant_of-self : goal.invariant_of-self
