@@ -6,7 +6,7 @@ use app_files::{
     Ending, NamedProgram, bytes_where, named_program_at, network_at, path_in, program_at, read_once,
 };
 use app_jobs::plan_from;
-use rounds_plan::Plan;
+use rounds_plan::{Plan, PlanRef};
 use std::alloc::Global;
 use std::sync::Arc;
 
@@ -92,8 +92,8 @@ fn noted_plan_with(
 ) -> Result<NamedPlan, Ending> {
     let plan = plan_with(rt, paths, &program.text)?;
     if !quiet {
-        let (path, rows) = (paths.program.as_str(), plan.network().rows());
-        put_program_notes(rt, path, &program, &rows)?;
+        let path = paths.program.as_str();
+        put_program_notes(rt, path, &program, &PlanRef::of_plan(&plan))?;
     }
     let NamedProgram { names, .. } = program;
     Ok(NamedPlan { plan, names })

@@ -339,7 +339,7 @@ impl RunSource {
         Ok(ground)
     }
 
-    /// Prints notes on the program, on this network.
+    /// Prints notes on the program, in the run of its plan.
     fn put_notes(
         &self,
         rt: &HostRuntime,
@@ -348,7 +348,7 @@ impl RunSource {
     ) -> Result<(), Ending> {
         let plan = ground.lent(rt.alloc())?;
         let path = texts.plan.program.as_str();
-        put_program_notes(rt, path, &self.program, &plan.rows())
+        put_program_notes(rt, path, &self.program, &plan)
     }
 }
 

@@ -1,5 +1,5 @@
 -- Rows of a network, and the greatest of some numbers.
-use Rattle.std.proofs.Common.{◌≡◌, ℕ, ◌≤◌, List, [], map, subst, ◌∙◌, arith}
+use Rattle.std.proofs.Common.{ℕ, ◌≤◌, List, map, subst, arith}
 use Rattle.std.specs.Prelude.{All}
 use Rattle.std.proofs.lemmas.List.{get_or-map, length-map}
 use Rattle.std.proofs.lemmas.List.Elements.{All-from_get_or}

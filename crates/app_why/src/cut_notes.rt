@@ -1,15 +1,18 @@
 //! Notes on products and totals that can be cut.
-ghost use Rattle.std.specs.Prelude.{◌≡◌, ◌≤◌, [], length, option_map, IfOk, IsNone, Some};
+ghost use Rattle.std.specs.Prelude.{◌≡◌, ◌≤◌, [], List, Option, length, IfOk, IsNone, Some};
 ghost use Rattle.rule_lang.specs.Program.{HasProgram};
+ghost use Rattle.rule_lang.specs.Tree.{ItemTree};
 ghost use Rattle.rule_lang.specs.View.{items_of};
+ghost use Rattle.rule_check.specs.Items.{rules_of};
+ghost use Rattle.rounds_plan.specs.Plans.{PlanView};
 ghost use Rattle.rule_cuts.specs.Cuttable.{noted_places};
-ghost use Rattle.app_why.specs.Notes.{AreBounds, AreNoted};
+ghost use Rattle.app_why.specs.Notes.{AreLimits, AreNoted};
 
-use crate::bounds::{bounds_of, bounds_of_any};
+use crate::limits::limits_of;
 use crate::place_at;
 use crate::told::Named;
-use link_net::{NetRows, Network};
-use rule_cuts::{Bounds, Cuttable, Operand, Operation, cuttable_in, greatest_uncut};
+use rounds_plan::PlanRef;
+use rule_cuts::{Cuttable, Limits, Operand, Operation, cuttable_in, greatest_uncut};
 use rule_lang::{Expr, Item, read_program};
 use rule_ranges::only_value;
 use std::alloc::{AllocError, Global};
@@ -146,12 +149,12 @@ fn put_place(
 fn put_limit(
     out: &mut String,
     operation: Operation<'_>,
-    bounds: Bounds,
+    degree: u32,
     of_network: bool,
 ) -> Result<(), AllocError> {
     match operation {
         Operation::Product(left, right) => put_product(out, left, right)?,
-        Operation::Total(_) => put_total(out, bounds.degree, of_network)?,
+        Operation::Total(_) => put_total(out, degree, of_network)?,
     }
     out.push_str("; unison cuts tells whether a run does\n")
 }
@@ -198,30 +201,21 @@ fn line_where(
     }
 }
 
-/// A note, in one line, where products or totals of a program can be cut on a network of any size: where the first of them stands, and
-/// how to see more. None where none can be, as `why` tells.
+/// A note, in one line, where products or totals of a program, whose text this is, can be cut in the run of a plan, on a network of any
+/// size: where the first of them stands, and how to see more. None where none can be, as `why` tells.
 pub fn cut_note(
     alloc: Global,
     program: Named<'_>,
-    rows: &NetRows<'_>,
+    plan: &PlanRef<'_>,
 ) -> Result<Option<String>, AllocError>
-    ensures none { IfOk result (λ note. IsNone note → AreNoted program.entry.text.now (Some rows.now) []) }
+    ensures none { IfOk result (λ note. IsNone note → (items : List ItemTree) → HasProgram program.entry.text.now items → plan.now.program ≡ rules_of items → AreNoted program.entry.text.now (Some plan.now) []) }
 {
     let Ok(source) = read_program(alloc, program.text) else {
         return Err(AllocError);
     };
-    let noted = cuttable_in(alloc, program.text, source.items(), bounds_of(rows))?;
+    let limits = limits_of(alloc, plan)?;
+    let noted = cuttable_in(alloc, program.text, source.items(), &limits)?;
     line_where(alloc, program, &noted)
-}
-
-/// What bounds the nodes of the network, or of each that a file can describe where none is given.
-fn bounds_by(network: Option<&Network>) -> Bounds
-    ensures nodes { AreBounds (option_map (λ given. given.now) network.entry) result }
-{
-    match network {
-        Some(network) => bounds_of(&network.rows()),
-        None => bounds_of_any(),
-    }
 }
 
 /// Adds a note for each of these operations.
@@ -229,12 +223,12 @@ fn put_notes(
     out: &mut String,
     program: Named<'_>,
     noted: &[Cuttable<'_>],
-    bounds: Bounds,
+    degree: u32,
     of_network: bool,
 ) -> Result<(), AllocError> {
     for cut in noted {
         put_place(out, program, cut.at, cut.operation)?;
-        put_limit(out, cut.operation, bounds, of_network)?;
+        put_limit(out, cut.operation, degree, of_network)?;
     }
     Ok(())
 }
@@ -250,19 +244,20 @@ fn places_of(alloc: Global, noted: &[Cuttable<'_>]) -> Result<Vec<usize>, AllocE
     Ok(places)
 }
 
-/// Adds a note for each product and each total of a program that can be cut: on the network, or on some network where
-/// none is given. Answers their places in the program's text, whose items these are.
+/// Adds a note for each product and each total of a program that can be cut within the limits of a run, or of some run on some network.
+/// Answers their places in the program's text, whose items these are.
 pub(crate) fn put_cut_notes(
     alloc: Global,
     out: &mut String,
     program: Named<'_>,
     items: &[Item],
-    network: Option<&Network>,
+    limits: &Limits<'_>,
+    of_network: bool,
 ) -> Result<Vec<usize>, AllocError>
-    ensures noted { IfOk result (λ v. length program.entry.text.now ≤ 65536 → HasProgram program.entry.text.now (items_of items.now) → AreNoted program.entry.text.now (option_map (λ given. given.now) network.entry) v.items) }
+    ensures noted { IfOk result (λ v. length program.entry.text.now ≤ 65536 → HasProgram program.entry.text.now (items_of items.now) → (run : Option PlanView) → AreLimits (rules_of (items_of items.now)) run limits.now
+        → AreNoted program.entry.text.now run v.items) }
 {
-    let bounds = bounds_by(network);
-    let noted = cuttable_in(alloc, program.text, items, bounds)?;
-    put_notes(out, program, &noted, bounds, network.is_some())?;
+    let noted = cuttable_in(alloc, program.text, items, limits)?;
+    put_notes(out, program, &noted, limits.bounds.degree, of_network)?;
     places_of(alloc, &noted)
 }

@@ -71,7 +71,7 @@ fn network_text<'a>(texts: &Texts<'a>) -> &'a [u8]
 }
 
 /// The bytes of the report to go on from.
-fn report_text<'a>(texts: &Texts<'a>) -> Option<&'a [u8]>
+pub(crate) fn report_text<'a>(texts: &Texts<'a>) -> Option<&'a [u8]>
     ensures { given result ≡ report_of texts.now }
 {
     match texts.report {

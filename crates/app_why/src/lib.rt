@@ -10,6 +10,7 @@ mod found;
 mod items;
 mod kinds;
 mod lexical;
+mod limits;
 mod lines;
 mod near;
 mod network;

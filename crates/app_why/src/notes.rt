@@ -1,11 +1,16 @@
 //! What is accepted, and rarely meant.
-ghost use Rattle.std.specs.Prelude.{◌≡◌, option_map, IfOk};
-ghost use Rattle.app_why.specs.Notes.{AreNotedIn, IsDescribed};
+ghost use Rattle.std.specs.Prelude.{option_map, IfOk};
+ghost use Rattle.app_why.specs.Given.{report_of};
+ghost use Rattle.app_why.specs.Notes.{AreNotedIn, IsRunOf};
 
 use crate::cut_notes::put_cut_notes;
+use crate::finding::report_text;
+use crate::limits::limits_by;
 use crate::told::Texts;
-use link_net::{NetFile, Network, read_network};
-use rule_lang::{Agg, Expr, Item, Op, read_program};
+use app_jobs::{plan_from, program_of};
+use link_net::{NetFile, read_network};
+use rounds_plan::Plan;
+use rule_lang::{Agg, Expr, Item, Op};
 use std::alloc::{AllocError, Global};
 
 /// Whether an expression can differ between nodes whose states and neighbours' states are alike.
@@ -163,9 +168,7 @@ fn put_program_notes(out: &mut String, items: &[Item]) -> Result<(), AllocError>
 }
 
 /// What the network file describes, which was read before, where there is one.
-fn file_in(alloc: Global, texts: &Texts) -> Result<Option<NetFile>, AllocError>
-    ensures described { IfOk result (λ file. IsDescribed (option_map (λ named. named.text.now) texts.now.network) (option_map (λ d. d.network) file)) }
-{
+fn file_in(alloc: Global, texts: &Texts) -> Result<Option<NetFile>, AllocError> {
     let Some(named) = texts.network else {
         return Ok(None);
     };
@@ -205,13 +208,16 @@ fn put_alike(out: &mut String, items: &[Item]) -> Result<(), AllocError> {
     )
 }
 
-/// The network of a file, where there is one.
-fn network_of(file: &Option<NetFile>) -> Option<&Network>
-    ensures exact { option_map (λ network. network.now) result ≡ option_map (λ d. d.network) file.now }
+/// The plan of the texts, which were read before, where they have a network.
+fn plan_in(alloc: Global, texts: &Texts) -> Result<Option<Plan>, AllocError>
+    ensures run { IfOk result (IsRunOf texts.now.program.text.now (option_map (λ named. named.text.now) texts.now.network) (report_of texts.now)) }
 {
-    match file {
-        Some(file) => Some(file.network()),
-        None => None,
+    let Some(network) = texts.network else {
+        return Ok(None);
+    };
+    match plan_from(alloc, texts.program.text, network.text, report_text(texts)) {
+        Ok(plan) => Ok(Some(plan)),
+        Err(_) => Err(AllocError),
     }
 }
 
@@ -228,18 +234,21 @@ pub(crate) fn notes(alloc: Global, texts: &Texts) -> Result<Noted, AllocError>
     ensures noted { IfOk result (λ notes. AreNotedIn texts.now notes.cuts.items) }
 {
     let mut out = String::from_str(alloc, "nothing is wrong\n")?;
-    let Ok(source) = read_program(alloc, texts.program.text) else {
+    let Ok((source, program)) = program_of(alloc, texts.program.text) else {
         return Err(AllocError);
     };
-    let file = file_in(alloc, texts)?;
+    let plan = plan_in(alloc, texts)?;
     put_program_notes(&mut out, source.items())?;
+    let limits = limits_by(alloc, &program, &plan)?;
     let cuts = put_cut_notes(
         alloc,
         &mut out,
         texts.program,
         source.items(),
-        network_of(&file),
+        &limits,
+        plan.is_some(),
     )?;
+    let file = file_in(alloc, texts)?;
     if stay_alike(texts, &file, source.items()) {
         put_alike(&mut out, source.items())?;
     }

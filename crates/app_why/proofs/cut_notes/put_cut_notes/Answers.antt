@@ -7,11 +7,11 @@ use Rattle.app_why.proofs.cut_notes.put_cut_notes.Goals as goal
 pub returns : goal.returns
 returns c = record {
   noted =
-      IfOk-weaker c.places_of.result _ _ (λ v is short program. record {
+      IfOk-weaker c.places_of.result _ _ (λ v is short program run bound. record {
         items = items_of c.args.items.now;
         reads = program;
-        bounds = c.bounds_by-bounds.result;
-        bound = c.bounds_by-bounds.ensures.nodes;
+        limits = c.args.limits.now;
+        bound = bound;
         noted = c.in_ok-noted.noted.items;
         cuttable = c.in_ok-noted.ensures.noted short program;
         are = is ∙ ap noted_places c.deref-2.ensures.value;
