@@ -36,7 +36,7 @@ pub fn share_of(percents: &str) -> Option<u32> {
 }
 
 /// The billionths that a decimal from 0 to 1 writes, with nine decimals at most.
-pub fn billionths_of(word: &str) -> Option<u32> {
+fn billionths_of(word: &str) -> Option<u32> {
     let (whole, digits) = parts_of(word);
     let whole = number(whole, 0, 1)?;
     let rest = fraction(digits, 9)?;
@@ -45,6 +45,15 @@ pub fn billionths_of(word: &str) -> Option<u32> {
         return None;
     }
     Some(chance)
+}
+
+/// The billionths of a chance that a word writes: a decimal from 0 to 1, with nine decimals at most, or percents from 0% to
+/// 100%, with six decimals at most.
+pub fn chance_of(word: &str) -> Option<u32> {
+    match word.strip_suffix('%') {
+        Some(percents) => share_of(percents)?.checked_mul(10),
+        None => billionths_of(word),
+    }
 }
 
 /// So many times in so many.

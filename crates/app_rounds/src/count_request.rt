@@ -7,9 +7,10 @@ use crate::varied::{RunConstants, VARIED, Varied, run_constants_in};
 use app_commands::{
     EVERY, FIELD, FIELD_ARGUMENT, FLAG, FROM, NETWORK, OVERLAP, PROGRAM, PlanPaths, QUIET,
     QUIET_ARGUMENT, ROUNDS, RunTexts, SEED, SEQUENTIAL, SET, SET_FILE, SET_NAMES, SET_RANDOM,
-    THREADS, span_in,
+    THREADS, span_in, value_word,
 };
-use app_table::{Argument, Choice, Command, Kind, OPTION, Reading, Value, WordsFault, number};
+use app_files::{VALUE_WORDS, ValueWord};
+use app_table::{Argument, Choice, Command, Kind, OPTION, Reading, Value, WordsFault};
 use run_counts::{CountFormat, FigureKind, Holders};
 use run_watch::Span;
 use std::alloc::Global;
@@ -22,7 +23,7 @@ const COUNTED: Argument = Argument {
 const UNTIL: Argument = Argument {
     name: "until",
     value_name: "none:FIELD=VALUE",
-    help: "End after the first shown round in which no node has this value in this field, or with all:FIELD=VALUE every node: a number, or the name of a state; FIELD=VALUE alone is none:FIELD=VALUE",
+    help: "End after the first shown round in which no node has this value in this field, or with all:FIELD=VALUE every node: a number, none, or the name of a state; FIELD=VALUE alone is none:FIELD=VALUE",
     ..OPTION
 };
 
@@ -118,14 +119,6 @@ pub struct FigureWord {
     pub field: String,
 }
 
-/// A value of a field, as it is written.
-#[derive(Drop)]
-pub enum ValueWord {
-    Number(u32),
-    /// What may be the name of a state: it begins with a letter.
-    Name(String),
-}
-
 /// A word of `--until`: `none:FIELD=VALUE`, `all:FIELD=VALUE`, or `FIELD=VALUE`, which is the first of them.
 #[derive(Drop)]
 pub struct UntilWord {
@@ -165,25 +158,6 @@ pub struct CountRequest {
     pub quiet: bool,
 }
 
-/// Whether a word begins with a letter.
-fn begins_with_letter(word: &str) -> bool {
-    match word.as_bytes().first() {
-        Some(byte) => byte.is_ascii_alphabetic(),
-        None => false,
-    }
-}
-
-/// A value as it is written, where it is a number or may be a name.
-fn value_word(reading: &mut Reading, word: &str) -> Option<ValueWord> {
-    if let Some(value) = number(word, 0, 4_294_967_295) {
-        return Some(ValueWord::Number(value));
-    }
-    if begins_with_letter(word) {
-        return Some(ValueWord::Name(reading.copied(word)));
-    }
-    None
-}
-
 /// At which nodes a value is to stand by a word of `--until`, where the word says it, and what stands after that.
 fn holders_in(word: &str) -> (Option<Holders>, &str) {
     if let Some(rest) = word.strip_prefix("none:") {
@@ -213,7 +187,7 @@ fn until_word(reading: &mut Reading, word: &str) -> Option<UntilWord> {
     let until = until_parts(reading, word);
     if until.is_none() {
         reading.refuse_as(format!(in reading.alloc();
-            "--until: expected none:FIELD=VALUE or all:FIELD=VALUE, with a whole number from 0 to 4294967295 or the name of a state after the first =, found `{word}`"
+            "--until: expected none:FIELD=VALUE or all:FIELD=VALUE, with {VALUE_WORDS} after the first =, found `{word}`"
         ));
     }
     until

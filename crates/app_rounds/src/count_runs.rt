@@ -7,8 +7,10 @@ use crate::count::Counted;
 use crate::count_request::CountRequest;
 use crate::runs_telling::RunsTelling;
 use crate::varied::Varied;
-use app_commands::{Ground, PlanPaths, RunNetwork, RunTexts, ground_on, no_rounds, run_network};
-use app_files::{Ending, bytes_at, check_model, expanded_text, state_names};
+use app_commands::{Ground, PlanPaths, ProgramText, RunNetwork, RunTexts, ground_on, no_rounds, run_network};
+use app_files::{
+    ConstantWord, Ending, bytes_at, check_model, expanded_by, given_constants, state_names,
+};
 use model_rules::Given;
 use rounds_walk::PlanRef;
 use run_counts::{Counting, Ensemble, Variant, counted_runs, mean_counts};
@@ -38,35 +40,17 @@ fn texts_at(rt: &HostRuntime, threads: &impl Threads, paths: &PlanPaths) -> Resu
     Ok(Texts { model, network })
 }
 
-/// Puts a constant with this value after the others.
-fn put_given(
-    constants: &mut Vec<Given>,
-    alloc: Global,
-    name: &str,
-    value: u32,
-) -> Result<(), AllocError> {
-    let name = String::from_str(alloc, name)?;
-    constants.push(Given { name, value })?;
-    Ok(())
-}
-
 /// The constants of a run: those of all runs, and after them the one that has this value.
 fn constants_with(
     alloc: Global,
-    given: &[Given],
+    model: &[u8],
+    given: &[ConstantWord],
     name: &str,
     value: u32,
-) -> Result<Vec<Given>, AllocError> {
-    let mut constants = Vec::new(alloc);
-    for constant in given {
-        put_given(
-            &mut constants,
-            alloc,
-            constant.name.as_str(),
-            constant.value,
-        )?;
-    }
-    put_given(&mut constants, alloc, name, value)?;
+) -> Result<Vec<Given>, Ending> {
+    let mut constants = given_constants(alloc, model, given)?;
+    let name = String::from_str(alloc, name)?;
+    constants.push(Given { name, value })?;
     Ok(constants)
 }
 
@@ -78,8 +62,8 @@ fn program_for(
     name: &str,
     value: u32,
 ) -> Result<Vec<u8>, Ending> {
-    let constants = constants_with(alloc, &paths.constants, name, value)?;
-    expanded_text(alloc, paths.program.as_str(), model, &constants)
+    let constants = constants_with(alloc, model, &paths.constants, name, value)?;
+    expanded_by(alloc, paths.program.as_str(), model, &constants)
 }
 
 /// The run in which the constant of this name has this value.
@@ -91,7 +75,12 @@ fn run_for<'a>(
     value: u32,
 ) -> Result<Run<'a>, Ending> {
     let program = program_for(rt.alloc(), &asked.plan, &texts.model, name, value)?;
-    let ground = ground_on(rt, asked, &program, &texts.network)?;
+    let text = ProgramText {
+        text: &program,
+        names: &[],
+        seed: asked.start.seed,
+    };
+    let ground = ground_on(rt, asked, text, &texts.network)?;
     Ok(Run { value, ground })
 }
 

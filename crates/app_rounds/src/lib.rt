@@ -27,7 +27,7 @@ mod watch_request;
 
 pub use cells_request::{CellsFormat, CellsRequest, cells_command};
 pub use count::count_rounds;
-pub use count_request::{CountRequest, FigureWord, RunsWords, UntilWord, ValueWord, count_command};
+pub use count_request::{CountRequest, FigureWord, RunsWords, UntilWord, count_command};
 pub use csv_request::{CsvRequest, csv_command};
 pub use csv_text::print_csv;
 pub use cuts::tell_cuts;

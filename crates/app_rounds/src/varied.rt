@@ -4,7 +4,7 @@ ghost use Rattle.app_rounds.specs.Requests.{HasRuns};
 
 use app_commands::{CONSTANT, constants_of, given_twice, is_given, put_word, several_parts};
 use app_table::{Argument, Reading, WordsFault, number};
-use model_rules::Given;
+use app_files::ConstantWord;
 use run_counts::MOST_RUNS;
 use std::alloc::{AllocError, Global};
 
@@ -30,7 +30,7 @@ pub struct Varied {
 #[derive(Drop)]
 pub struct RunConstants {
     /// Those that have one value in all runs.
-    pub given: Vec<Given>,
+    pub given: Vec<ConstantWord>,
     /// The one that has another value in each run, where there is one.
     pub varied: Option<Varied>,
 }
@@ -175,7 +175,7 @@ fn words_with(alloc: Global, words: &[String], several: bool) -> Result<Vec<Stri
 }
 
 /// Refuses several values for a constant that has one, too.
-fn check_varied(alloc: Global, given: &[Given], varied: &Option<Varied>) -> Result<(), WordsFault> {
+fn check_varied(alloc: Global, given: &[ConstantWord], varied: &Option<Varied>) -> Result<(), WordsFault> {
     match varied {
         Some(varied) if is_given(given, varied.name.as_str()) => {
             Err(given_twice(alloc, varied.name.as_str()))
