@@ -24,6 +24,7 @@ mod shown_rounds;
 mod varied;
 mod watch;
 mod watch_request;
+mod window;
 
 pub use cells_request::{CellsFormat, CellsRequest, cells_command};
 pub use count::count_rounds;
@@ -42,3 +43,4 @@ pub use settle_request::{SettleRequest, settle_command};
 pub use varied::Varied;
 pub use watch::watch_rounds;
 pub use watch_request::{View, WatchRequest, watch_command};
+pub use window::Window;

@@ -1,6 +1,7 @@
 //! All commands of the program, in groups.
 
 use crate::expand_request::expand_command;
+use crate::life_rule::life_rule_command;
 use app_networks::{generate_command, import_command, info_command, init_command, pack_command};
 use app_pictures::{dot_command, image_command, page_command};
 use app_rounds::{
@@ -66,6 +67,7 @@ pub enum Task {
     Info,
     Init,
     Large,
+    LifeRule,
     Lockstep,
     Manual,
     Naive,
@@ -89,7 +91,7 @@ pub struct Group {
 pub const GROUPS: [Group; 5] = [
     Group {
         title: "Models",
-        tasks: &[Task::Expand],
+        tasks: &[Task::Expand, Task::LifeRule],
     },
     Group {
         title: "Runs in detail",
@@ -162,6 +164,7 @@ impl Task {
             Task::Info => info_command(),
             Task::Init => init_command(),
             Task::Large => large_command(),
+            Task::LifeRule => life_rule_command(),
             Task::Lockstep => lockstep_command(),
             Task::Manual => &MANUAL,
             Task::Naive => naive_command(),

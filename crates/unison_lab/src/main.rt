@@ -5,11 +5,14 @@ mod commands;
 mod expand;
 mod expand_request;
 mod help;
+mod life_notation;
+mod life_rule;
 mod why;
 
 use crate::commands::Task;
 use crate::expand::expand_model;
 use crate::help::{help_text, print_completion, print_manual};
+use crate::life_rule::print_life_rule;
 use crate::why::why_command;
 use app_files::{Ending, print_ending, words_of};
 use app_networks::{generate_network, import_network, init_network, pack_network, show_info};
@@ -52,6 +55,7 @@ fn run_task(
         Task::Info => show_info(rt, threads, words),
         Task::Init => init_network(rt, words),
         Task::Large => run_large(rt, threads, words),
+        Task::LifeRule => print_life_rule(rt, words),
         Task::Lockstep => report_round(rt, threads, words),
         Task::Manual => print_manual(rt, words),
         Task::Naive => tell_naive(rt, words),

@@ -1,0 +1,162 @@
+//! Rules of cells that count their living neighbours, as others write them: Life-like ones, as `B36/S23`, Generations, as
+//! `345/2/4`, and both over hexagons and the four nearest cells.
+
+use app_table::number;
+
+/// The most states that the cells of a model have.
+pub(crate) const MOST_STATES: u32 = 256;
+
+/// Which cells are neighbours of a cell.
+#[derive(Clone, Copy, PartialEq, Eq)]
+pub(crate) enum Neighbourhood {
+    /// The eight around it (Moore's).
+    Eight,
+    /// The six around a hexagon: a rule ends in `H`.
+    Hexagonal,
+    /// The four beside, above and below it (von Neumann's): a rule ends in `V`.
+    Four,
+}
+
+impl Neighbourhood {
+    /// How many neighbours a cell has.
+    pub(crate) fn cells(self) -> u32 {
+        match self {
+            Neighbourhood::Eight => 8,
+            Neighbourhood::Hexagonal => 6,
+            Neighbourhood::Four => 4,
+        }
+    }
+}
+
+/// A rule of cells that count their living neighbours.
+#[derive(Clone, Copy)]
+pub(crate) struct LifeRule {
+    /// With how many living neighbours a dead cell is born, a bit for each number.
+    pub(crate) born: u32,
+    /// With how many living neighbours a cell stays alive, a bit for each number.
+    pub(crate) stays: u32,
+    /// How many states a cell has: dead, alive, and above 2 those through which it goes when it dies.
+    pub(crate) states: u32,
+    pub(crate) neighbourhood: Neighbourhood,
+}
+
+/// What is wrong with the notation of a rule.
+#[derive(Clone, Copy, PartialEq, Eq)]
+pub(crate) enum NotationFault {
+    /// It has none of the forms.
+    NoForm,
+    /// A letter stands after a number, which names some arrangements of so many neighbours.
+    Arrangements,
+    /// A number of neighbours is greater than cells have.
+    TooMany,
+    /// There are fewer than 2 states, or more than `MOST_STATES`.
+    States,
+}
+
+/// The neighbourhood that a word's last letter names, and the word without it.
+fn neighbourhood_in(word: &str) -> (&str, Neighbourhood) {
+    if let Some(rest) = word.strip_suffix('H').or(word.strip_suffix('h')) {
+        return (rest, Neighbourhood::Hexagonal);
+    }
+    match word.strip_suffix('V').or(word.strip_suffix('v')) {
+        Some(rest) => (rest, Neighbourhood::Four),
+        None => (word, Neighbourhood::Eight),
+    }
+}
+
+/// What stands after one of two letters at the front of a word.
+fn after_letter(word: &str, upper: char, lower: char) -> Option<&str> {
+    word.strip_prefix(upper).or(word.strip_prefix(lower))
+}
+
+/// The parts of a rule: numbers with which cells are born, those with which they stay alive, and how many states there are.
+type Parts<'a> = (&'a str, &'a str, Option<&'a str>);
+
+/// The parts of what stands after `B`: `3/S23`, `3S23`, `2/S/C3` or `2/S/3`.
+fn lettered_parts(rest: &str) -> Option<Parts<'_>> {
+    let (born, rest) = rest.split_once('S').or(rest.split_once('s'))?;
+    let born = born.strip_suffix('/').unwrap_or(born);
+    match rest.split_once('/') {
+        Some((stays, states)) => {
+            let states = after_letter(states, 'C', 'c').unwrap_or(states);
+            Some((born, stays, Some(states)))
+        }
+        None => Some((born, rest, None)),
+    }
+}
+
+/// The parts of a rule without letters: `23/3` or `345/2/4`, those with which cells stay alive first.
+fn plain_parts(word: &str) -> Option<Parts<'_>> {
+    let (stays, rest) = word.split_once('/')?;
+    match rest.split_once('/') {
+        Some((born, states)) => Some((born, stays, Some(states))),
+        None => Some((rest, stays, None)),
+    }
+}
+
+/// The parts of a rule.
+fn parts_of(word: &str) -> Option<Parts<'_>> {
+    match after_letter(word, 'B', 'b') {
+        Some(rest) => lettered_parts(rest),
+        None => plain_parts(word),
+    }
+}
+
+/// What is wrong with a character that is no digit, after such numbers.
+fn letter_fault(numbers: u32, letter: u8) -> NotationFault {
+    if numbers > 0 && (letter.is_ascii_lowercase() || letter == b'-') {
+        NotationFault::Arrangements
+    } else {
+        NotationFault::NoForm
+    }
+}
+
+/// Adds the number of neighbours that a digit names to others, where cells have so many.
+fn with_digit(numbers: u32, digit: u8, most: u32) -> Result<u32, NotationFault> {
+    if !digit.is_ascii_digit() {
+        return Err(letter_fault(numbers, digit));
+    }
+    let count = u32::from(digit - b'0');
+    if count > most {
+        return Err(NotationFault::TooMany);
+    }
+    Ok(numbers | 1 << count)
+}
+
+/// The numbers of neighbours that digits name, a bit for each.
+fn numbers_of(digits: &str, most: u32) -> Result<u32, NotationFault> {
+    let mut numbers = 0;
+    for digit in digits.bytes() {
+        numbers = with_digit(numbers, digit, most)?;
+    }
+    Ok(numbers)
+}
+
+/// How many states a word names; two where there is none.
+fn states_of(word: Option<&str>) -> Result<u32, NotationFault> {
+    let Some(word) = word else {
+        return Ok(2);
+    };
+    match number(word, 2, MOST_STATES) {
+        Some(states) => Ok(states),
+        None if number(word, 0, u32::MAX).is_some() => Err(NotationFault::States),
+        None => Err(NotationFault::NoForm),
+    }
+}
+
+impl LifeRule {
+    /// The rule that a word writes.
+    pub(crate) fn of(word: &str) -> Result<LifeRule, NotationFault> {
+        let (word, neighbourhood) = neighbourhood_in(word);
+        let Some((born, stays, states)) = parts_of(word) else {
+            return Err(NotationFault::NoForm);
+        };
+        let most = neighbourhood.cells();
+        Ok(LifeRule {
+            born: numbers_of(born, most)?,
+            stays: numbers_of(stays, most)?,
+            states: states_of(states)?,
+            neighbourhood,
+        })
+    }
+}
