@@ -28,13 +28,87 @@ impl Neighbourhood {
     }
 }
 
+/// Some of the numbers of neighbours that a cell may have.
+#[derive(Clone, Copy)]
+pub(crate) struct Numbers {
+    /// A bit for each number that is there.
+    bits: u32,
+    /// The greatest number of neighbours.
+    most: u32,
+}
+
+impl Numbers {
+    /// The greatest number of neighbours.
+    pub(crate) fn most(self) -> u32 {
+        self.most
+    }
+
+    /// Whether a number is there.
+    pub(crate) fn has(self, count: u32) -> bool {
+        count < 32 && self.bits >> count & 1 == 1
+    }
+
+    /// Whether none is there.
+    pub(crate) fn is_empty(self) -> bool {
+        self.bits == 0
+    }
+
+    /// Whether all are there.
+    pub(crate) fn is_all(self) -> bool {
+        self.has(0) && self.last_from(0) == self.most
+    }
+
+    /// The last of the numbers that follow one another from one that is there.
+    pub(crate) fn last_from(self, first: u32) -> u32 {
+        for count in first..self.most {
+            if !self.has(count.saturating_add(1)) {
+                return count;
+            }
+        }
+        self.most
+    }
+
+    /// The same with the number of neighbours that a digit names.
+    fn with_digit(self, digit: u8) -> Result<Numbers, NotationFault> {
+        if !digit.is_ascii_digit() {
+            return Err(letter_fault(self, digit));
+        }
+        let count = u32::from(digit - b'0');
+        if count > self.most {
+            return Err(NotationFault::TooMany);
+        }
+        Ok(Numbers {
+            bits: self.bits | 1 << count,
+            most: self.most,
+        })
+    }
+
+    /// The numbers that digits name, of so many neighbours at most.
+    fn of(digits: &str, most: u32) -> Result<Numbers, NotationFault> {
+        let mut numbers = Numbers { bits: 0, most };
+        for digit in digits.bytes() {
+            numbers = numbers.with_digit(digit)?;
+        }
+        Ok(numbers)
+    }
+}
+
+/// What is wrong with a character that is no digit, after such numbers.
+fn letter_fault(numbers: Numbers, letter: u8) -> NotationFault {
+    if !numbers.is_empty() && (letter.is_ascii_lowercase() || letter == b'-') {
+        NotationFault::Arrangements
+    } else {
+        NotationFault::NoForm
+    }
+}
+
 /// A rule of cells that count their living neighbours.
 #[derive(Clone, Copy)]
 pub(crate) struct LifeRule {
-    /// With how many living neighbours a dead cell is born, a bit for each number.
-    pub(crate) born: u32,
-    /// With how many living neighbours a cell stays alive, a bit for each number.
-    pub(crate) stays: u32,
+    /// With how many living neighbours a dead cell is born.
+    pub(crate) born: Numbers,
+    /// With how many living neighbours a cell stays alive.
+    pub(crate) stays: Numbers,
     /// How many states a cell has: dead, alive, and above 2 those through which it goes when it dies.
     pub(crate) states: u32,
     pub(crate) neighbourhood: Neighbourhood,
@@ -102,36 +176,6 @@ fn parts_of(word: &str) -> Option<Parts<'_>> {
     }
 }
 
-/// What is wrong with a character that is no digit, after such numbers.
-fn letter_fault(numbers: u32, letter: u8) -> NotationFault {
-    if numbers > 0 && (letter.is_ascii_lowercase() || letter == b'-') {
-        NotationFault::Arrangements
-    } else {
-        NotationFault::NoForm
-    }
-}
-
-/// Adds the number of neighbours that a digit names to others, where cells have so many.
-fn with_digit(numbers: u32, digit: u8, most: u32) -> Result<u32, NotationFault> {
-    if !digit.is_ascii_digit() {
-        return Err(letter_fault(numbers, digit));
-    }
-    let count = u32::from(digit - b'0');
-    if count > most {
-        return Err(NotationFault::TooMany);
-    }
-    Ok(numbers | 1 << count)
-}
-
-/// The numbers of neighbours that digits name, a bit for each.
-fn numbers_of(digits: &str, most: u32) -> Result<u32, NotationFault> {
-    let mut numbers = 0;
-    for digit in digits.bytes() {
-        numbers = with_digit(numbers, digit, most)?;
-    }
-    Ok(numbers)
-}
-
 /// How many states a word names; two where there is none.
 fn states_of(word: Option<&str>) -> Result<u32, NotationFault> {
     let Some(word) = word else {
@@ -153,8 +197,8 @@ impl LifeRule {
         };
         let most = neighbourhood.cells();
         Ok(LifeRule {
-            born: numbers_of(born, most)?,
-            stays: numbers_of(stays, most)?,
+            born: Numbers::of(born, most)?,
+            stays: Numbers::of(stays, most)?,
             states: states_of(states)?,
             neighbourhood,
         })

@@ -1,6 +1,6 @@
 //! `life-rule RULE`: the model of a rule of cells that count their living neighbours.
 
-use crate::life_notation::{LifeRule, MOST_STATES, Neighbourhood, NotationFault};
+use crate::life_notation::{LifeRule, MOST_STATES, Neighbourhood, NotationFault, Numbers};
 use app_commands::asked_by;
 use app_files::{Ending, print_out};
 use app_table::{Argument, Command, Draft, Kind, OPTION, Reading, WordsFault};
@@ -87,30 +87,56 @@ fn put_states(draft: &mut Draft, states: u32) {
     draft.put(" }\n");
 }
 
-/// Adds the test for one of these numbers of living neighbours, a bit for each of them up to eight.
-fn put_numbers(draft: &mut Draft, numbers: u32) {
-    let mut is_first = true;
-    for count in 0..9u32 {
-        if numbers >> count & 1 == 1 {
-            draft.put(if is_first { "" } else { " or " });
-            draft.put("living == ");
-            draft.put_count(u64::from(count));
-            is_first = false;
+/// Adds a comparison of the number of living neighbours with another one.
+fn put_comparison(draft: &mut Draft, operator: &str, count: u32) {
+    draft.put("living ");
+    draft.put(operator);
+    draft.put(" ");
+    draft.put_count(u64::from(count));
+}
+
+/// Adds the test for a number of living neighbours from one to another, of so many at most.
+fn put_range(draft: &mut Draft, first: u32, last: u32, most: u32) {
+    if first == last {
+        put_comparison(draft, "==", first);
+    } else if last == most {
+        put_comparison(draft, ">=", first);
+    } else if first == 0 {
+        put_comparison(draft, "<=", last);
+    } else {
+        put_comparison(draft, ">=", first);
+        draft.put(" and ");
+        put_comparison(draft, "<=", last);
+    }
+}
+
+/// Adds the test for one of these numbers of living neighbours.
+fn put_numbers(draft: &mut Draft, numbers: Numbers) {
+    let mut next = 0;
+    for count in 0..=numbers.most() {
+        if count >= next && numbers.has(count) {
+            draft.put(if next == 0 { "" } else { " or " });
+            let last = numbers.last_from(count);
+            put_range(draft, count, last, numbers.most());
+            next = last.saturating_add(1);
         }
     }
 }
 
 /// Adds the arm by which cells of a state are alive in the next round with one of these numbers of living neighbours; none
 /// where there is no such number.
-fn put_arm(draft: &mut Draft, state: &str, numbers: u32) {
-    if numbers == 0 {
+fn put_arm(draft: &mut Draft, state: &str, numbers: Numbers) {
+    if numbers.is_empty() {
         return;
     }
     draft.put("    cell == ");
     draft.put(state);
-    draft.put(" and (");
-    put_numbers(draft, numbers);
-    draft.put("): alive;\n");
+    if !numbers.is_all() {
+        draft.put(" and (");
+        put_numbers(draft, numbers);
+        draft.put(")");
+    }
+    draft.put(": alive;\n");
 }
 
 /// Adds the arms by which cells of more than two states die.
