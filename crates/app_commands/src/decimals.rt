@@ -2,6 +2,7 @@
 
 use app_table::number;
 use net_initial::ALL_NODES;
+use std::alloc::{AllocError, Global};
 
 /// The greatest chance, in billionths.
 const ALL_BILLIONTHS: u32 = 1_000_000_000;
@@ -54,6 +55,19 @@ pub fn chance_of(word: &str) -> Option<u32> {
         Some(percents) => share_of(percents)?.checked_mul(10),
         None => billionths_of(word),
     }
+}
+
+/// The decimal of so many billionths, without zeros at its end.
+pub fn decimal_of(alloc: Global, billionths: u32) -> Result<String, AllocError> {
+    let (whole, rest) = (billionths / ALL_BILLIONTHS, billionths % ALL_BILLIONTHS);
+    if rest == 0 {
+        return format!(in alloc; "{whole}");
+    }
+    let padded = ALL_BILLIONTHS + rest;
+    let padded = format!(in alloc; "{padded}")?;
+    let digits = padded.as_str().strip_prefix('1').unwrap_or("");
+    let digits = digits.trim_end_matches('0');
+    format!(in alloc; "{whole}.{digits}")
 }
 
 /// So many times in so many.

@@ -8,7 +8,7 @@ use crate::plan_texts::{NamedPlan, plan_of};
 use crate::set_words::SetWord;
 use crate::start::RunTexts;
 use app_files::{
-    Ending, NamedProgram, PackedNetwork, bytes_at, bytes_where, is_packed, list_path,
+    ConstantValue, ConstantWord, Ending, NamedProgram, PackedNetwork, bytes_at, bytes_where, is_packed, list_path,
     named_program_at, network_at, path_in, read_once,
 };
 use app_jobs::{ServeFault, program_of};
@@ -321,12 +321,28 @@ fn program_for(rt: &HostRuntime, texts: &RunTexts) -> Result<NamedProgram, Endin
     named_program_at(rt, texts.plan.program.as_str(), &texts.plan.constants)
 }
 
+/// The number that words of `--const` give the constant `seed`, where they give it one.
+pub fn given_seed(constants: &[ConstantWord]) -> Option<u32> {
+    for constant in constants {
+        if let ("seed", ConstantValue::Number(seed)) = (constant.name.as_str(), &constant.value) {
+            return Some(*seed);
+        }
+    }
+    None
+}
+
+/// By what the one run of these words draws nodes: `--seed`, and without it the constant `seed` of the program.
+fn single_seed(texts: &RunTexts) -> u32 {
+    let given = given_seed(&texts.plan.constants);
+    texts.start.seed.or(given).unwrap_or(0)
+}
+
 /// The program, as the one run of these words begins with it.
 fn single_text<'a>(program: &'a NamedProgram, texts: &RunTexts) -> ProgramText<'a> {
     ProgramText {
         text: &program.text,
         names: &program.names,
-        seed: texts.start.seed,
+        seed: single_seed(texts),
     }
 }
 

@@ -184,11 +184,11 @@ fn text_for<R: Threads + Sync>(
     threads: &R,
     asked: &CountRequest,
 ) -> Result<Vec<u8>, Ending>
-    requires runs { IfSome asked.now.runs.varied HasRuns }
+    requires runs { IfSome asked.now.runs.sweep HasRuns }
 {
-    match &asked.runs.varied {
+    match &asked.runs.sweep {
         None => run_text(rt, threads, asked),
-        Some(varied) => runs_text(rt, threads, asked, varied),
+        Some(sweep) => runs_text(rt, threads, asked, sweep),
     }
 }
 
@@ -218,7 +218,7 @@ fn put_counts<R: Threads + Sync>(
     threads: &R,
     asked: &CountRequest,
 ) -> Result<u8, Ending>
-    requires runs { IfSome asked.now.runs.varied HasRuns }
+    requires runs { IfSome asked.now.runs.sweep HasRuns }
 {
     read_run_once(rt.alloc(), &asked.runs.texts, "")?;
     note_words(rt, asked)?;
