@@ -6,7 +6,7 @@ _unison() {
   if [ "$COMP_CWORD" -gt "$at" ]; then command=${COMP_WORDS[at]}; fi
   if [ "$COMP_CWORD" -gt $((at + 1)) ]; then form=${COMP_WORDS[at + 1]}; fi
   case $command:$form in
-  :) words="check lockstep run replay compare expand watch count settle cuts schedule explain naive verify page image dot generate import init info csv cells why completion manual" ;;
+  :) words="check lockstep run replay compare expand life-rule watch count settle cuts schedule explain naive verify page image dot generate import init info csv cells why completion manual" ;;
   check:*) options="" ;;
   lockstep:*) options="--rounds --from" ;;
   run:*) options="--rounds --workers --trace --from" ;;
@@ -16,6 +16,10 @@ _unison() {
     words=""
     options="--const"
     ;;
+  life-rule:*)
+    words=""
+    options=""
+    ;;
   watch:*)
     words=""
     options="--rounds --every --format --only --changes --names --from --set --set-file --set-names --set-random --overlap --seed --threads --sequential --const --quiet"
@@ -23,7 +27,7 @@ _unison() {
     ;;
   count:*)
     words=""
-    options="--rounds --every --field --until --sum --least --most --format --mean --from --set --set-file --set-names --set-random --overlap --seed --threads --sequential --const --quiet"
+    options="--rounds --every --field --until --sum --least --most --format --mean --over --from --set --set-file --set-names --set-random --overlap --seed --threads --sequential --const --quiet"
     [ "$previous" = --format ] && words="csv json"
     ;;
   settle:*)
@@ -171,7 +175,7 @@ _unison() {
     ;;
   init:* | open:*)
     words=""
-    options="--set --set-random --overlap --random --seed --cells --width --clear --names --phase --packed --quiet"
+    options="--set --set-random --overlap --random --seed --cells --width --clear --names --model --phase --packed --quiet"
     [ "$previous" = --phase ] && words="0 1 2"
     ;;
   info:* | show:*)
@@ -184,7 +188,7 @@ _unison() {
     ;;
   cells:*)
     words=""
-    options="--width --field --format --rule --quiet"
+    options="--width --window --field --format --rule --quiet"
     [ "$previous" = --format ] && words="rle text"
     ;;
   why:*)

@@ -1,5 +1,5 @@
 -- Lines of means.
-use Rattle.std.proofs.Common.{◌≡◌, ◌∙◌, ◌≤◌, ◌-◌, ◌++◌, ℕ, zero, suc, List, [], ◌∷◌, Global, String, Bool, true, false, if◌then◌else◌, Option, Some, None, Result, Ok, Err, OnOk, All, ap, append_assoc, arith, drop, inl, inr, is_ok, length, length-append, map, min, refl, subst, sym, take}
+use Rattle.std.proofs.Common.{◌≡◌, ◌∙◌, ◌≤◌, ◌-◌, ◌++◌, ℕ, zero, suc, List, [], ◌∷◌, Global, String, Bool, true, false, if◌then◌else◌, Option, Some, None, Result, Ok, Err, OnOk, All, ap, append_assoc, arith, inl, inr, is_ok, length, length-append, map, min, refl, subst, sym}
 use Rattle.std.proofs.lemmas.Option.{slice_get_cases}
 use Rattle.std.specs.List.{flat_map}
 use Rattle.std.specs.Option.{option_or, option_to_list}
@@ -77,17 +77,6 @@ all_fit span counting [] none k d inside = absurd (omega (arith, inside))
 all_fit span counting (v ∷ variants) none zero d inside = (neither (refusal_of v.plan.now span counting) (refusal_in span counting variants) none).0
 all_fit span counting (v ∷ variants) none (suc k) d inside =
     all_fit span counting variants (neither (refusal_of v.plan.now span counting) (refusal_in span counting variants) none).1 k d (omega (arith, inside))
-
--- the part of a list up to a number, or to its end where that comes first
-pub take_within : {A : Type 0} (n : ℕ) (xs : List A) → take (min n (length xs)) xs ≡ take n xs
-take_within zero xs = refl
-take_within (suc n) [] = refl
-take_within (suc n) (x ∷ xs) = ap (λ rest. x ∷ rest) (take_within n xs)
-
-pub drop_within : {A : Type 0} (n : ℕ) (xs : List A) → drop (min n (length xs)) xs ≡ drop n xs
-drop_within zero xs = refl
-drop_within (suc n) [] = refl
-drop_within (suc n) (x ∷ xs) = drop_within n xs
 
 -- parts that are put one after the other are their text
 pub put_in_turn : (before a b c d : List ℕ) → (((before ++ a) ++ b) ++ c) ++ d ≡ before ++ (a ++ (b ++ (c ++ d)))

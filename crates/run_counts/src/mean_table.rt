@@ -284,11 +284,11 @@ fn put_groups(
     requires few { ensemble.now.size ≤ most_runs }
     ensures text { OnOk result (string_bytes out.new ≡ string_bytes out.old ++ groups_text table.now.counting.now.format table.now.counting.now.names.now (names_of table.now.program.now) table.now.columns.now table.now.counting.now.until ensemble.now.size ensemble.now.groups.now runs.now) }
 {
-    let mut rest = runs;
+    let mut first = 0;
     for group in ensemble.groups {
-        let (part, others) = rest.split_at(ensemble.size.min(rest.len()));
-        put_group(alloc, out, table, group.settings, part)?;
-        rest = others;
+        let last = first + ensemble.size.min(runs.len() - first);
+        put_group(alloc, out, table, group.settings, &runs[first..last])?;
+        first = last;
     }
     Ok(())
 }
