@@ -7,6 +7,7 @@ from support import EXAMPLES, library_alone, network, raised
 
 import unison
 from unison import _library, _programs
+from unison.faults import Missing
 
 library_alone("many calls")
 
@@ -81,8 +82,8 @@ def test_chances_and_states_for_constants():
     assert model.with_constants(wanted="bright").constants["wanted"] == 1
     assert unison.Model(LIGHTS, {"wanted": "dark"}).constants["more"] == 1
     assert str(raised(ValueError, lambda: model.with_constants(half=1.5))) == "Model.with_constants: half is 1.5: a chance is a float from 0 to 1"
-    raised(KeyError, lambda: model.with_constants(wanted="dim"))
-    raised(KeyError, lambda: model.with_constants(wanted="x"))
+    raised(Missing, lambda: model.with_constants(wanted="dim"))
+    raised(Missing, lambda: model.with_constants(wanted="x"))
 
 
 def test_no_process_is_started_for_a_model():
