@@ -3,9 +3,9 @@ ghost use Rattle.std.specs.Prelude.{IfSome};
 ghost use Rattle.app_commands.specs.Requests.{IsWidthWithin};
 
 use crate::constants::constants_in;
+use app_files::ConstantWord;
 use app_table::{Argument, Kind, OPTION, Reading, Value, WordsFault, number};
 use link_net::MOST_NODES;
-use app_files::ConstantWord;
 use rounds_plan::MOST_ROUNDS;
 use run_watch::Span;
 use std::alloc::{AllocError, Global};

@@ -32,10 +32,7 @@ pub fn constant_value(alloc: Global, word: &str) -> Result<Option<ConstantValue>
 }
 
 /// The name and the value of a word of `--const`.
-fn constant_parts(
-    alloc: Global,
-    word: &str,
-) -> Result<Option<(&str, ConstantValue)>, AllocError> {
+fn constant_parts(alloc: Global, word: &str) -> Result<Option<(&str, ConstantValue)>, AllocError> {
     let Some((name, value)) = word.split_once('=') else {
         return Ok(None);
     };

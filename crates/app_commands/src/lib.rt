@@ -32,7 +32,7 @@ pub use constants::{
     CONSTANT, constant_value, constants_among, constants_in, constants_of, given_twice, is_given,
     put_word, several_parts,
 };
-pub use decimals::{Portion, chance_of, decimal_of, percent_of, share_of};
+pub use decimals::{Portion, chance_of, decimal_of, percent_of};
 pub use endings::{asked_by, no_rounds, told_text};
 pub use labels::{labels_at, names_for};
 pub use names::{names_at, names_from};
@@ -45,8 +45,8 @@ pub use plan_texts::{
 };
 pub use progress::{Stopwatch, Telling, seconds_for};
 pub use run_plan::{
-    Ground, ProgramText, RunNetwork, RunSource, file_run_at, ground_on, packed_source_at, program_in,
-    given_seed, read_run_once, run_network, source_at, threads_for,
+    Ground, ProgramText, RunNetwork, RunSource, file_run_at, given_seed, ground_on,
+    packed_source_at, program_in, read_run_once, run_network, source_at, threads_for,
 };
 pub use set_words::{
     OVERLAP, REPEATED, RandomWord, SEED, SET, SET_RANDOM, SET_RANDOM_ARGUMENT, SetWord, amounts_of,

@@ -8,8 +8,8 @@ use crate::plan_texts::{NamedPlan, plan_of};
 use crate::set_words::SetWord;
 use crate::start::RunTexts;
 use app_files::{
-    ConstantValue, ConstantWord, Ending, NamedProgram, PackedNetwork, bytes_at, bytes_where, is_packed, list_path,
-    named_program_at, network_at, path_in, read_once,
+    ConstantValue, ConstantWord, Ending, NamedProgram, PackedNetwork, bytes_at, bytes_where,
+    is_packed, list_path, named_program_at, network_at, path_in, read_once,
 };
 use app_jobs::{ServeFault, program_of};
 use large_net::LargeNetwork;

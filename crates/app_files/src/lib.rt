@@ -39,8 +39,8 @@ pub use networks::{
 pub use node_calls::{NodeCalls, list_path, listed_nodes};
 pub use output::{check_new, make_folder, print_out, write_file, write_new, write_out};
 pub use programs::{
-    NamedProgram, check_constants, check_model, expanded_by, expanded_text, is_model, named_program_at,
-    names_of_field, program_at, program_name, state_names,
+    NamedProgram, check_constants, check_model, expanded_by, expanded_text, is_model,
+    named_program_at, names_of_field, program_at, program_name, state_names,
 };
 pub use settling::{not_settled, settled_round, settling_line};
 pub use texts::{Told, edges_told, heading_told, matrix_told, on_line, put_matrix_detail};

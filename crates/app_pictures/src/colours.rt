@@ -169,7 +169,9 @@ fn put_colour(
     field: ColouredField<'_>,
     word: &ColourWord,
 ) -> Result<(), Ending> {
-    let value = word.value.value(alloc, "--colours", field.name, field.values)?;
+    let value = word
+        .value
+        .value(alloc, "--colours", field.name, field.values)?;
     if is_given(colours, value) {
         return Err(given_twice(alloc, value));
     }

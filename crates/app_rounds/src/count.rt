@@ -57,7 +57,9 @@ fn until_of(
 ) -> Result<Option<Until>, Ending> {
     let field = field_place(alloc, program, "--until", word.field.as_str())?;
     let names = names_of_field(names, field);
-    let value = word.value.value(alloc, "--until", word.field.as_str(), names)?;
+    let value = word
+        .value
+        .value(alloc, "--until", word.field.as_str(), names)?;
     let holders = word.holders.unwrap_or(Holders::NoNode);
     Ok(Some(Until {
         holders,

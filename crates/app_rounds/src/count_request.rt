@@ -100,8 +100,8 @@ static COUNT: Command = Command {
     about: "Count how many nodes have each value, round by round, with sums and extremes",
     notes: "Prints, for the rounds FIRST, FIRST + K, FIRST + 2 K and so on, up to LAST, how many nodes have each value of a field: a column for each state of the field, and for each value that occurs, or lines of round, value and nodes where there are more than 64.\nAn example: unison count examples/life.rules examples/glider.toml --rounds 0..4\nAnother one: unison count examples/distance.rules examples/path.toml --rounds 0..9 --until none:dist=4294967295\nThree runs of a model, with one of its constants at three values: unison count examples/models/pagerank.model examples/cookbook/pagerank.toml --rounds 100..100 --field rank --most rank --const passed_on=80,85,90\n",
     arguments: &[
-        PROGRAM, NETWORK, ROUNDS, EVERY, COUNTED, UNTIL, SUM, LEAST, MOST, FORMAT, MEAN, OVER, FROM,
-        SET, SET_FILE, SET_NAMES, DRAWN, OVERLAP, SEED, THREADS, SEQUENTIAL, VARIED, QUIET,
+        PROGRAM, NETWORK, ROUNDS, EVERY, COUNTED, UNTIL, SUM, LEAST, MOST, FORMAT, MEAN, OVER,
+        FROM, SET, SET_FILE, SET_NAMES, DRAWN, OVERLAP, SEED, THREADS, SEQUENTIAL, VARIED, QUIET,
     ],
     subcommands: &[],
 };

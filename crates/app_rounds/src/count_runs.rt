@@ -178,7 +178,14 @@ fn runs_counted<R: Threads + Sync>(
         size: 0,
     };
     let telling = RunsTelling::new(rt, variants.len());
-    let text = counted_runs(threads, rt.alloc(), &ensemble, &asked.span, counting, &telling);
+    let text = counted_runs(
+        threads,
+        rt.alloc(),
+        &ensemble,
+        &asked.span,
+        counting,
+        &telling,
+    );
     telling.end();
     text.map_err(no_rounds)
 }
@@ -195,7 +202,14 @@ fn means_counted<R: Threads + Sync>(
     requires size { IsMeanSize ensemble.now.size }
 {
     let telling = RunsTelling::new(rt, ensemble.variants.len());
-    let text = mean_counts(threads, rt.alloc(), ensemble, &asked.span, counting, &telling);
+    let text = mean_counts(
+        threads,
+        rt.alloc(),
+        ensemble,
+        &asked.span,
+        counting,
+        &telling,
+    );
     telling.end();
     text.map_err(no_rounds)
 }

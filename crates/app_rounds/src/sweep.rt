@@ -121,10 +121,7 @@ fn too_many_in_mean(alloc: Global, values: usize) -> WordsFault {
 }
 
 /// The constants with the one at a place last, and how many values that has; none where there is none at the place.
-fn with_last(
-    mut varied: Vec<Varied>,
-    place: usize,
-) -> Result<(Vec<Varied>, usize), AllocError> {
+fn with_last(mut varied: Vec<Varied>, place: usize) -> Result<(Vec<Varied>, usize), AllocError> {
     if place >= varied.len() {
         return Ok((varied, 0));
     }

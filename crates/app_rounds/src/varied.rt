@@ -170,11 +170,7 @@ pub(crate) fn is_varied(varied: &[Varied], name: &str) -> bool {
 }
 
 /// Puts the constant to which a word gives several values after the others.
-fn put_varied(
-    constants: &mut RunConstants,
-    alloc: Global,
-    word: &str,
-) -> Result<(), WordsFault> {
+fn put_varied(constants: &mut RunConstants, alloc: Global, word: &str) -> Result<(), WordsFault> {
     let varied = varied_of(alloc, word)?;
     let name = varied.name.as_str();
     if is_given(&constants.given, name) || is_varied(&constants.varied, name) {

@@ -315,7 +315,13 @@ pub(crate) fn means_table(
 {
     let mut out = String::new(alloc);
     let settings = first_settings(ensemble.groups);
-    put_means_opening(&mut out, table.counting, table.program, settings, table.columns)?;
+    put_means_opening(
+        &mut out,
+        table.counting,
+        table.program,
+        settings,
+        table.columns,
+    )?;
     put_groups(alloc, &mut out, table, ensemble, runs)?;
     Ok(out.into_bytes())
 }

@@ -37,11 +37,7 @@ fn put_json_value(out: &mut String, value: &SettingValue) -> Result<(), AllocErr
 }
 
 /// A value under what it is of.
-fn put_setting(
-    out: &mut String,
-    format: CountFormat,
-    setting: &Setting,
-) -> Result<(), AllocError>
+fn put_setting(out: &mut String, format: CountFormat, setting: &Setting) -> Result<(), AllocError>
     ensures text { OnOk result (string_bytes out.new ≡ string_bytes out.old ++ setting_cell format setting.now) }
 {
     if format == CountFormat::Csv {

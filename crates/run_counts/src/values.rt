@@ -69,7 +69,11 @@ pub fn values_of(alloc: Global, states: u32, rows: &[Row]) -> Result<Vec<u32>, A
 
 /// The states, of which there are so many, and the values that occur in one of the rounds of one of the runs, by rising
 /// number.
-pub(crate) fn values_in(alloc: Global, states: u32, runs: &[Run<'_>]) -> Result<Vec<u32>, AllocError>
+pub(crate) fn values_in(
+    alloc: Global,
+    states: u32,
+    runs: &[Run<'_>],
+) -> Result<Vec<u32>, AllocError>
     ensures values { IfOk result (λ values. AreValues states (rows_in runs.now) values.items) }
 {
     let mut keys = states_of(alloc, states)?;

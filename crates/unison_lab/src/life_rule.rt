@@ -62,7 +62,8 @@ fn no_rule(alloc: Global, word: &str, fault: NotationFault) -> Ending {
 /// On which networks a rule runs.
 fn networks_told(neighbourhood: Neighbourhood) -> &'static str {
     match neighbourhood {
-        Neighbourhood::Eight => "cells with eight neighbours: unison generate torus W H --diagonals",
+        Neighbourhood::Eight =>
+            "cells with eight neighbours: unison generate torus W H --diagonals",
         Neighbourhood::Hexagonal => "hexagons: unison generate hex W H",
         Neighbourhood::Four => "cells with four neighbours: unison generate torus W H",
     }
@@ -153,7 +154,9 @@ fn model_of(alloc: Global, word: &str, rule: LifeRule) -> Result<String, AllocEr
     let mut draft = Draft::new(alloc);
     put_comment(&mut draft, word, rule);
     put_states(&mut draft, rule.states);
-    draft.put("field cell: life = dead;\n\nlet living = count(n.cell == alive);\n\nnext cell = cases {\n");
+    draft.put(
+        "field cell: life = dead;\n\nlet living = count(n.cell == alive);\n\nnext cell = cases {\n",
+    );
     put_arm(&mut draft, "dead", rule.born);
     put_arm(&mut draft, "alive", rule.stays);
     put_dying(&mut draft, rule.states);

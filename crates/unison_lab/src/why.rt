@@ -3,7 +3,8 @@
 use app_commands::{PlanPaths, asked_by, constants_among, noted_plan_at};
 use app_files::{
     ConstantWord, Ending, ModelRefusal, Text, check_constants, given_constants, is_model,
-    network_where, path_in, print_fault, program_name, read_once, refusal_of, slips_in, text_at, text_where, write_out,
+    network_where, path_in, print_fault, program_name, read_once, refusal_of, slips_in, text_at,
+    text_where, write_out,
 };
 use app_jobs::ServeFault;
 use app_why::{Finding, Named, Texts, why};
@@ -306,11 +307,7 @@ fn put_request(
 }
 
 /// Tells what is found in the texts of the request that these words make. The status with which its command would end.
-fn put_words(
-    rt: &HostRuntime,
-    words: &[String],
-    constants: &[ConstantWord],
-) -> Result<u8, Ending> {
+fn put_words(rt: &HostRuntime, words: &[String], constants: &[ConstantWord]) -> Result<u8, Ending> {
     let request = request_of(rt.alloc(), words)?;
     put_request(rt, &request, constants)
 }
