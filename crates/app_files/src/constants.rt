@@ -46,10 +46,14 @@ fn is_no_chance(items: &[Item], constant: &str) -> bool {
 
 /// The place of the state of this name among others.
 fn place_of(members: &[Name], state: &str) -> Option<u32> {
-    let place = members
-        .iter()
-        .position(|member| member.name.as_str() == state)?;
-    Some(place as u32)
+    let mut place = 0u32;
+    for member in members {
+        if member.name.as_str() == state {
+            return Some(place);
+        }
+        place = place.saturating_add(1);
+    }
+    None
 }
 
 /// The number of the state of this name.

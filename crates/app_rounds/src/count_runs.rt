@@ -71,15 +71,15 @@ fn ground_for<'a>(
     ground_on(rt, asked, text, &texts.network)
 }
 
-/// A run of a sweep.
+/// The run of a sweep at a place, counted from 0.
 fn run_at<'a>(
     rt: &HostRuntime,
     asked: &RunTexts,
     texts: &'a Texts,
     sweep: &Sweep,
-    run: usize,
+    place: usize,
 ) -> Result<Run<'a>, Ending> {
-    let places = places_at(rt.alloc(), sweep, run)?;
+    let places = places_at(rt.alloc(), sweep, place)?;
     let settings = settings_at(rt.alloc(), &sweep.varied, &places)?;
     let constants = texts.constants.at(rt.alloc(), &places)?;
     let ground = ground_for(rt, asked, texts, &constants)?;
@@ -96,8 +96,8 @@ fn runs_of<'a>(
     ensures each { IfOk result (λ runs. length runs.items ≡ sweep.now.runs) }
 {
     let mut runs = Vec::new(rt.alloc());
-    for run in 0..sweep.runs {
-        let run = run_at(rt, asked, texts, sweep, run)?;
+    for place in 0..sweep.runs {
+        let run = run_at(rt, asked, texts, sweep, place)?;
         runs.push(run)?;
     }
     Ok(runs)
