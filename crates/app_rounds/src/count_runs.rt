@@ -236,12 +236,12 @@ fn column_names<'a>(names: &'a [String], settings: &[Setting]) -> &'a [String] {
 }
 
 /// The text of the means of these runs, of so many each, counted so.
-fn groups_text<R: Threads + Sync>(
+fn groups_text<'a, R: Threads + Sync>(
     rt: &HostRuntime,
     threads: &R,
     asked: &CountRequest,
     counting: &Counting<'_>,
-    runs: &[LentRun<'_>],
+    runs: &'a [LentRun<'a>],
     size: usize,
 ) -> Result<Vec<u8>, Ending>
     requires some { 1 ≤ length runs.now }
@@ -258,12 +258,12 @@ fn groups_text<R: Threads + Sync>(
 }
 
 /// The text of these runs, counted so.
-fn variants_text<R: Threads + Sync>(
+fn variants_text<'a, R: Threads + Sync>(
     rt: &HostRuntime,
     threads: &R,
     asked: &CountRequest,
     counting: &Counting<'_>,
-    runs: &[LentRun<'_>],
+    runs: &'a [LentRun<'a>],
 ) -> Result<Vec<u8>, Ending>
     requires some { 1 ≤ length runs.now }
 {
