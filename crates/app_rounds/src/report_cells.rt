@@ -1,4 +1,5 @@
 //! `cells REPORT --width W`: the states of a report as a pattern of cells.
+ghost use Rattle.std.specs.Prelude.{◌≤◌};
 
 use crate::cells_request::{CellsFormat, CellsRequest};
 use crate::csv_text::table_of;
@@ -127,7 +128,9 @@ fn rows_pattern(
     values: &[u32],
     width: u32,
     format: CellsFormat,
-) -> Result<Vec<u8>, Ending> {
+) -> Result<Vec<u8>, Ending>
+    requires width { 1 ≤ width }
+{
     match grid_pattern(alloc, values, width, pattern_format(format)) {
         Ok(text) => Ok(text),
         Err(fault) => Err(no_pattern(alloc, fault, format)),
