@@ -5,6 +5,5 @@ pub mod MeanTables
 pub mod Records
 pub mod Rows
 pub mod RunTables
-pub mod Settings
 pub mod Spread
 pub mod Tables
