@@ -27,7 +27,7 @@ _unison() {
     ;;
   count:*)
     words=""
-    options="--rounds --every --field --until --sum --least --most --format --mean --from --set --set-file --set-names --set-random --overlap --seed --threads --sequential --const --quiet"
+    options="--rounds --every --field --until --sum --least --most --format --mean --over --from --set --set-file --set-names --set-random --overlap --seed --threads --sequential --const --quiet"
     [ "$previous" = --format ] && words="csv json"
     ;;
   settle:*)
@@ -175,7 +175,7 @@ _unison() {
     ;;
   init:* | open:*)
     words=""
-    options="--set --set-random --overlap --random --seed --cells --width --clear --names --phase --packed --quiet"
+    options="--set --set-random --overlap --random --seed --cells --width --clear --names --model --phase --packed --quiet"
     [ "$previous" = --phase ] && words="0 1 2"
     ;;
   info:* | show:*)
@@ -188,7 +188,7 @@ _unison() {
     ;;
   cells:*)
     words=""
-    options="--width --field --format --rule --quiet"
+    options="--width --window --field --format --rule --quiet"
     [ "$previous" = --format ] && words="rle text"
     ;;
   why:*)

@@ -97,10 +97,31 @@ def test_runs_by_several_values_of_a_constant():
     assert counts.run(3).columns == counts.columns[1:] and counts.run(3).rows == [(0, 0, 0, 7, 0), (1, 0, 0, 0, 7)]
     assert str(raised(Missing, lambda: counts.run(2))) == "there is no run with start=2"
     assert unison.count(model.with_constants(start=9), tree, 0, constants={"start": 3}).rows == [(0, 7)], "the value of this call counts"
-    told = str(raised(ValueError, lambda: unison.count(model, tree, 1, constants={"start": [1, 2], "seed": [1, 2]})))
-    assert told == "count: constants start and seed have several values: one of them at most may"
+    both = unison.count(model, tree, 1, constants={"start": [1, 2], "seed": [8, 9]})
+    assert both.columns[:3] == ("start", "seed", "round")
+    assert [row[:3] for row in both.rows] == [(start, seed, at) for start in (1, 2) for seed in (8, 9) for at in (0, 1)]
+    assert both.run(2, 9) == both.run(2).run(9)
+    assert str(raised(Missing, lambda: both.run(2, 7))) == "there is no run with start=2, seed=7"
+    raised(TypeError, lambda: both.run(1, 8, 0))
     raised(unison.ModelError, lambda: unison.count(model, tree, 1, constants={"stat": 1}))
     raised(unison.UsageError, lambda: unison.count(model, tree, 1, constants={"start": [1, 1]}))
+
+
+def test_runs_by_chances_and_states():
+    model = unison.Model(
+        "states person { well, ill } const first = well; const rate = chance(0.25);"
+        " field state: person = first; field rest = rate;"
+    )
+    counts = unison.count(model, path(3), 0, "state", constants={"first": ["well", "ill"], "rate": [0.5, 1.0]})
+    assert counts.rows == [("well", 0.5, 0, 3, 0), ("well", 1, 0, 3, 0), ("ill", 0.5, 0, 0, 3), ("ill", 1, 0, 0, 3)]
+    rates = unison.count(model, path(3), 0, "rest", constants={"first": "ill", "rate": [0.05]}, sum="state")
+    assert rates.columns == ("rate", "round", "3277", "sum state") and rates.rows == [(0.05, 0, 3, 3)]
+    means = unison.count(model, path(3), 0, "state", constants={"first": ["well", "ill"], "seed": [1, 2]}, mean="first")
+    assert means.columns[:3] == ("seed", "round", "runs") and [row[0] for row in means.rows] == [1, 2]
+    assert plain(means["ill mean"]) == [1.5, 1.5]
+    told = str(raised(ValueError, lambda: unison.count(model, path(3), 0, "state", constants={"seed": [1, 2]}, mean="first")))
+    assert told == "count: mean is 'first', which is no constant that has several values: seed"
+    raised(TypeError, lambda: unison.count(model, path(3), 0, "state", constants={"first": [0.5, 0.6]}))
 
 
 def test_means_and_deviations():

@@ -7,6 +7,7 @@ from support import EXAMPLES, library_alone, network, raised
 
 import unison
 from unison import _library, _programs
+from unison.faults import Missing
 
 library_alone("many calls")
 
@@ -67,11 +68,22 @@ def test_constants_that_are_given_values():
     error = raised(unison.ModelError, lambda: model.with_constants(wnated=3))
     assert (error.part, error.name) == ("model", "UnknownGiven") and "wanted" in str(error)
     assert str(raised(TypeError, lambda: model.with_constants(wanted=1.5))) == (
-        "Model.with_constants: wanted is 1.5, a float: a whole number from 0 to 4294967295 is wanted"
+        "Model.with_constants: wanted is 1.5, a float: a whole number from 0 to 4294967295 is wanted, since the model does not say wanted = chance(..)"
     )
     assert str(raised(TypeError, lambda: unison.Model(LIGHTS, 5))) == (
-        "Model: constants is 5, an int: a dict from names of constants to whole numbers is wanted"
+        "Model: constants is 5, an int: a dict from names of constants to values is wanted"
     )
+
+
+def test_chances_and_states_for_constants():
+    model = unison.Model(LIGHTS)
+    for chance, number in ((0.05, 3277), (0.0, 0), (1.0, 65536), (0.000007629, 0), (0.00000763, 1)):
+        assert model.with_constants(half=chance).constants["half"] == number, chance
+    assert model.with_constants(wanted="bright").constants["wanted"] == 1
+    assert unison.Model(LIGHTS, {"wanted": "dark"}).constants["more"] == 1
+    assert str(raised(ValueError, lambda: model.with_constants(half=1.5))) == "Model.with_constants: half is 1.5: a chance is a float from 0 to 1"
+    raised(Missing, lambda: model.with_constants(wanted="dim"))
+    raised(Missing, lambda: model.with_constants(wanted="x"))
 
 
 def test_no_process_is_started_for_a_model():

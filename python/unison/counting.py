@@ -6,17 +6,18 @@ import csv
 import html
 import io
 from base64 import b64encode
+from decimal import Decimal
 from typing import Any, Dict, Iterator, List, Mapping, NamedTuple, Optional, Sequence, Tuple, Union
 
 from . import _checks, _files
 from .faults import Missing
-from .model import Model, constants_of
+from .model import COMMENT, Model, Value, number_of
 from .network import Network
 from .pictures import Image, image, value_of
 from .program import Program
 from .results import numpy, pandas_or_tell
 
-Values = Union[int, Sequence[int]]
+Values = Union[Value, Sequence[Value]]
 Cell = Union[int, float, str, None]
 CountTable = Tuple[List[str], List[List[Cell]]]
 SHOWN = 12  # rows in a table of a notebook
@@ -38,7 +39,7 @@ class Counts:
     """How many nodes have each value of a field: a row for each round, and a column for each value, called as the value is, or as the state
     of a `Model`. `unison.count` answers it.
 
-    Columns, from the left: the constant that has several values, where one has; `round`, the round, counted from round 0; the values,
+    Columns, from the left: the constants that have several values; `round`, the round, counted from round 0; the values,
     each the number of nodes that have it; `sum FIELD`, `least FIELD` and `most FIELD`, where they were asked for. A state that no node is in
     has a column of zeros. Where more than 64 values occur, each value has a row, with the columns `round`, `value` and `nodes`. With
     `mean=True` there are `round`, `runs`, and two columns for each of the others, `.. mean` and `.. deviation`, numbers with a point.
@@ -101,14 +102,19 @@ class Counts:
                 return dict(zip(self._columns, row))
         raise Missing(f"there is no row of round {asked}")
 
-    def run(self, value: int) -> Counts:
-        """The rows of one run, where a constant has several values: those in whose first column this value stands."""
-        if self._columns[0] == "round":
+    def run(self, *values: Cell) -> Counts:
+        """The rows of one run, or with `mean` of one choice, where constants have several values: those in whose first columns these values
+        stand, one for each constant or for the first ones alone."""
+        constants = self._columns.index("round")
+        if constants == 0:
             raise Missing("there is one run: no constant has several values")
-        rows = [row[1:] for row in self._rows if row[0] == value]
+        if not 0 < len(values) <= constants:
+            raise TypeError(f"Counts.run: a value for each of {', '.join(self._columns[:constants])} is wanted, or for the first ones")
+        rows = [row[len(values) :] for row in self._rows if row[: len(values)] == values]
         if not rows:
-            raise Missing(f"there is no run with {self._columns[0]}={value}")
-        return Counts(self._columns[1:], rows, self._field)
+            asked = ", ".join(f"{name}={value}" for name, value in zip(self._columns, values))
+            raise Missing(f"there is no run with {asked}")
+        return Counts(self._columns[len(values) :], rows, self._field)
 
     def __len__(self) -> int:
         """How many rows there are."""
@@ -125,7 +131,7 @@ class Counts:
     __hash__ = None  # type: ignore[assignment]
 
     def to_pandas(self) -> Any:
-        """A frame with a column for each column, whose index is `round`, or the constant that has several values and `round`. Needs
+        """A frame with a column for each column, whose index is `round`, or the constants that have several values and `round`. Needs
         pandas."""
         pandas = pandas_or_tell()
         frame = pandas.DataFrame({name: self._series(place) for place, name in enumerate(self._columns)}, columns=list(self._columns))
@@ -190,7 +196,15 @@ def cell_of(text: str, column: str) -> Cell:
     """A cell of CSV: a whole number, one with a point, nothing, or the name of a state."""
     if column.endswith((" mean", " deviation")):
         return float(text) if text else None
-    return int(text) if text.isdigit() else text
+    return number_in(text)
+
+
+def number_in(text: str) -> Cell:
+    """A whole number, one with a point, or else the text."""
+    if text.isdigit():
+        return int(text)
+    whole, _, rest = text.partition(".")
+    return float(text) if whole.isdigit() and rest.isdigit() else text
 
 
 def table_of(text: str) -> CountTable:
@@ -210,7 +224,7 @@ def count(
     most: Union[str, Sequence[str]] = (),
     until: Optional[Mapping[str, Union[int, str]]] = None,
     constants: Optional[Mapping[str, Values]] = None,
-    mean: bool = False,
+    mean: Union[bool, str] = False,
     from_: Any = None,
 ) -> Counts:
     """How many nodes have each value of a field, round by round: counted by the proved program in one pass.
@@ -222,10 +236,12 @@ def count(
     - `sum`, `least`, `most`: fields whose sum, least and greatest value over all nodes have a column each.
     - `until`: `{"none:state": "infected"}` or `{"all:state": "recovered"}`, a value or a state: the counts end behind the first round in
       which no node, or every node, has it. `{"state": "infected"}` is the first of them.
-    - `constants`: values for constants of a `Model`, as `{"seed": range(1, 21)}`; one of them may have several, 1000 at most: a run is
-      counted for each, by several threads.
-    - `mean`: in place of the runs their means and standard deviations. A run that has ended keeps the numbers of its last round; with
-      `until` the column `going` says how many runs go on to a round.
+    - `constants`: values for constants of a `Model`, as `{"seed": range(1, 21), "infection": [0.1, 0.2]}`: whole numbers, floats for chances,
+      names of states. Where a constant has several, a run is counted for each, and of several such constants for each choice of their values,
+      10,000 at most, by several threads.
+    - `mean`: in place of the runs their means and standard deviations over the values of `seed`, or of the only constant that has several;
+      or the name of another constant over whose values they are, 1000 at most. Each choice of the others has means of its own. A run that
+      has ended keeps the numbers of its last round; with `until` the column `going` says how many runs go on to a round.
     - `from_`: a result of `lockstep`, or the text of a report, to go on from.
 
     Raises TypeError, ValueError or KeyError for an argument that cannot be, ModelError, PlanError, ReportError or RunError where it is
@@ -238,15 +254,14 @@ def count(
     """
     rules = _checks.program("count", program)
     named = _checks.only_field("count", "field", field, rules)
-    given, several = constants_given(rules, constants), constant_of_several(constants)
-    if _checks.flag("count", "mean", mean) and several is None:
-        raise ValueError("count: mean is True, and no constant has several values, as constants={'seed': range(20)}, of which there are means")
+    given, several = constants_given(rules, constants), constants_of_several(constants)
+    means = mean_words(mean, several)
     job = _files.job_of("count", rules, network, from_, given)
     words = ["count", *_files.span_words("count", rounds), f"--field={named}", *column_words(rules, sum, least, most)]
     if until is not None:
         words.append(until_word(rules, until))
-    if mean:
-        return Counts(*table_of(job.run(*words, "--mean").decode("utf-8")), named)
+    if means:
+        return Counts(*table_of(job.run(*words, *means).decode("utf-8")), named)
     table = table_of(job.run(*words).decode("utf-8"))
     asked = None if given or until is not None else Asked(rules, network, range_of("count", rounds), named, from_)
     return counts_of(table, rules, named, asked)
@@ -279,21 +294,43 @@ def constants_given(program: Program, constants: Optional[Mapping[str, Values]])
         _checks.refuse("count", "constants", constants, "a dict from names of constants to values is wanted")
     if not isinstance(program, Model):
         raise ValueError("count: constants are given, and the program is no unison.Model: a Program has none")
-    several = [name for name, value in constants.items() if not _checks.is_whole(value)]
-    if len(several) > 1:
-        raise ValueError(f"count: constants {' and '.join(several)} have several values: one of them at most may")
-    return {name: constant_text(name, value) for name, value in constants.items()}
+    return {name: constant_text(program, name, value) for name, value in constants.items()}
 
 
-def constant_text(name: str, value: Any) -> str:
-    """One value of a constant, or several with commas between them; a list of one value is a range, so that there are runs, too."""
-    if _checks.is_whole(value):
-        return str(constants_of("count", {name: value})[name])
-    values = _checks.items("count", f"constants[{name!r}]", value, "a whole number, or a list of them,")
+def is_value(value: Any) -> bool:
+    """Whether this is one value of a constant."""
+    return isinstance(value, (float, str)) or _checks.is_whole(value)
+
+
+def value_text(program: Model, name: str, value: Any) -> str:
+    """A value of a constant, as a word has it: a chance as a decimal, a state by its name."""
+    number = number_of("count", COMMENT.sub("", program.source), name, value)
+    if isinstance(value, float):
+        return f"{Decimal(repr(value)):.9f}"
+    return value if isinstance(value, str) else str(number)
+
+
+def constant_text(program: Model, name: str, value: Any) -> str:
+    """One value of a constant, or several, each with a comma behind it."""
+    if is_value(value):
+        return value_text(program, name, value)
+    values = _checks.items("count", f"constants[{name!r}]", value, "a value, or a list of them,")
     if not values:
-        raise ValueError(f"count: constants[{name!r}] has no value: a whole number, or a list of them, is wanted")
-    numbers = [_checks.whole("count", f"constants[{name!r}][{place}]", one) for place, one in enumerate(values)]
-    return ",".join(map(str, numbers)) if len(numbers) > 1 else f"{numbers[0]}..{numbers[0]}"
+        raise ValueError(f"count: constants[{name!r}] has no value: a value, or a list of them, is wanted")
+    return "".join(f"{value_text(program, name, one)}," for one in values)
+
+
+def mean_words(mean: Any, several: Sequence[str]) -> List[str]:
+    """The words for means over the values of one of these constants."""
+    if isinstance(mean, str):
+        if mean not in several:
+            raise ValueError(f"count: mean is {mean!r}, which is no constant that has several values: {', '.join(several) or 'none has'}")
+        return ["--mean", f"--over={mean}"]
+    if not _checks.flag("count", "mean", mean):
+        return []
+    if not several:
+        raise ValueError("count: mean is True, and no constant has several values, as constants={'seed': range(20)}, of which there are means")
+    return ["--mean"]
 
 
 def column_words(program: Program, sum: Any, least: Any, most: Any) -> List[str]:
@@ -320,6 +357,6 @@ def split_holders(key: Any) -> Tuple[str, Any]:
     return "none", key
 
 
-def constant_of_several(constants: Optional[Mapping[str, Values]]) -> Optional[str]:
-    """The constant that has several values, where one has."""
-    return next((name for name, value in (constants or {}).items() if not _checks.is_whole(value)), None)
+def constants_of_several(constants: Optional[Mapping[str, Values]]) -> List[str]:
+    """The constants that have several values."""
+    return [name for name, value in (constants or {}).items() if not is_value(value)]

@@ -5,12 +5,14 @@ from __future__ import annotations
 import json
 import os
 import re
+from decimal import Decimal
 from functools import cached_property
 from pathlib import Path
 from typing import Any, Dict, List, Mapping, Optional, Sequence, Tuple, Union
 
 from . import _calls, _checks, _programs
 from ._document import Document, write
+from .faults import Missing
 from .program import Program
 
 FILE = "text.model"  # how messages call a model that has no file
@@ -20,6 +22,10 @@ COMMENT = re.compile(r"#[^\n]*")
 CONSTANT = re.compile(r"\bconst\s+([A-Za-z]\w*)\s*=[^;]*;")
 STATES = re.compile(r"\bstates\s+[A-Za-z]\w*\s*\{[^}]*\}")
 SEED = "seed"  # the constant that every model has
+CHANCE = r"\bconst\s+{}\s*=[\s(]*chance\b"  # a constant of this name that is a chance
+MEMBERS = re.compile(r"\bstates\s+[A-Za-z]\w*\s*\{([^}]*)\}")
+WANTED = "a whole number from 0 to 4294967295, a float from 0 to 1 for a chance, or the name of a state is wanted"
+Value = Union[int, float, str]
 
 
 class Model(Program):
@@ -27,7 +33,8 @@ class Model(Program):
     made, and stands wherever a `Program` may.
 
     - `text`: the model, as text or bytes (docs/models.md).
-    - `constants`: values for constants of the model, whole numbers from 0 to 4294967295, in place of those that its text gives them.
+    - `constants`: values for constants of the model, in place of those that its text gives them: whole numbers from 0 to 4294967295, a float
+      from 0 to 1 where the constant is a chance, or the name of a state.
 
     Raises `ModelError`, with the place, where the text is no model, or has no such constant.
 
@@ -45,8 +52,9 @@ class Model(Program):
     next lamp = if (count (n.lamp == 1) >= 1) then 1 else lamp;
     """
 
-    def __init__(self, text: Union[str, bytes], constants: Optional[Mapping[str, int]] = None) -> None:
-        self._take(_checks.text("Model", "text", text), constants_of("Model", constants), FILE)
+    def __init__(self, text: Union[str, bytes], constants: Optional[Mapping[str, Value]] = None) -> None:
+        source = _checks.text("Model", "text", text)
+        self._take(source, constants_of("Model", constants, source), FILE)
 
     def _take(self, source: bytes, given: Dict[str, int], called: str) -> None:
         """Takes the program to which a model of this text, in a file that is called so, is expanded."""
@@ -54,7 +62,7 @@ class Model(Program):
         super().__init__(_calls.expand(source, given, called))
 
     @classmethod
-    def from_file(cls, path: Union[str, os.PathLike[str]], constants: Optional[Mapping[str, int]] = None) -> Model:
+    def from_file(cls, path: Union[str, os.PathLike[str]], constants: Optional[Mapping[str, Value]] = None) -> Model:
         """The model in a file, by whose name mistakes are told.
 
         `unison.Model.from_file("examples/models/epidemic.model", {"seed": 3})`
@@ -62,15 +70,17 @@ class Model(Program):
         file = Path(_checks.path("Model.from_file", "path", path))
         model = cls.__new__(cls)
         called = file.name if file.suffix == ".model" else f"{file.name}.model"
-        model._take(file.read_bytes(), constants_of("Model.from_file", constants), called)
+        source = file.read_bytes()
+        model._take(source, constants_of("Model.from_file", constants, source), called)
         return model
 
-    def with_constants(self, constants: Optional[Mapping[str, int]] = None, **more: int) -> Model:
+    def with_constants(self, constants: Optional[Mapping[str, Value]] = None, **more: Value) -> Model:
         """The same model with these values for these constants, given by name or in a dict; constants that are not named keep theirs.
 
         Each model has the constant `seed`, 0 where its text has none, by which its random numbers are drawn.
         """
-        given = {**constants_of("Model.with_constants", constants), **constants_of("Model.with_constants", more)}
+        call = "Model.with_constants"
+        given = {**constants_of(call, constants, self._source), **constants_of(call, more, self._source)}
         other = type(self).__new__(type(self))
         other._take(self._source, {**self._given, **given}, self._called)
         return other
@@ -115,16 +125,50 @@ class Model(Program):
         return f"<Model with the fields {', '.join(self.fields)}{given}>"
 
 
-def constants_of(call: str, given: Any) -> Dict[str, int]:
-    """Values for constants, by their names; none for None."""
+def constants_of(call: str, given: Any, source: bytes) -> Dict[str, int]:
+    """Values for constants of a model of this text, by their names; none for None."""
     if given is None:
         return {}
     if not isinstance(given, Mapping):
-        _checks.refuse(call, "constants", given, "a dict from names of constants to whole numbers is wanted")
+        _checks.refuse(call, "constants", given, "a dict from names of constants to values is wanted")
     for name in given:
         if not isinstance(name, str):
             _checks.refuse(call, "constants", given, f"a dict is wanted whose keys are names of constants, and {name!r} is none")
-    return {name: _checks.whole(call, name, value) for name, value in given.items()}
+    text = COMMENT.sub("", source.decode("utf-8", "surrogateescape"))
+    return {name: number_of(call, text, name, value) for name, value in given.items()}
+
+
+def number_of(call: str, text: str, name: str, value: Any) -> int:
+    """The number of a value for a constant: a chance is the number nearest to 65536 times it, a state is counted from 0 among those that stand
+    with it."""
+    if isinstance(value, str):
+        return state_number(call, text, name, value)
+    if isinstance(value, float):
+        return chance_number(call, text, name, value)
+    return _checks.whole(call, name, value)
+
+
+def is_chance(text: str, name: str) -> bool:
+    """Whether the constant of this name is a chance in a model's text without comments; one that is not there may be."""
+    return bool(re.search(CHANCE.format(re.escape(name)), text)) or name not in (found[1] for found in CONSTANT.finditer(text))
+
+
+def chance_number(call: str, text: str, name: str, value: float) -> int:
+    """The number nearest to 65536 times a float from 0 to 1, for a constant that is a chance."""
+    if not is_chance(text, name):
+        _checks.refuse(call, name, value, f"a whole number from 0 to 4294967295 is wanted, since the model does not say {name} = chance(..)")
+    if not 0 <= value <= 1:
+        raise ValueError(f"{call}: {name} is {value}: a chance is a float from 0 to 1")
+    return int(Decimal(value) * 65536 + Decimal("0.5"))
+
+
+def state_number(call: str, text: str, name: str, value: str) -> int:
+    """The number of a state of this name."""
+    for found in MEMBERS.finditer(text):
+        members = [member.strip() for member in found[1].split(",")]
+        if value in members:
+            return members.index(value)
+    raise Missing(f"{call}: {name} is {value!r}, which is no state of the model: {WANTED}")
 
 
 def values_of(items: Sequence[str], names: Sequence[str], given: Mapping[str, int]) -> Dict[str, int]:

@@ -3,9 +3,9 @@ ghost use Rattle.std.specs.Prelude.{IfSome};
 ghost use Rattle.app_commands.specs.Requests.{IsWidthWithin};
 
 use crate::constants::constants_in;
+use app_files::ConstantWord;
 use app_table::{Argument, Kind, OPTION, Reading, Value, WordsFault, number};
 use link_net::MOST_NODES;
-use model_rules::Given;
 use rounds_plan::MOST_ROUNDS;
 use run_watch::Span;
 use std::alloc::{AllocError, Global};
@@ -219,8 +219,8 @@ fn has_value(line: &[String], place: usize) -> bool {
 #[derive(Drop)]
 pub struct PlanPaths {
     pub program: String,
-    /// The constants of the program that are given values, where it is a model.
-    pub constants: Vec<Given>,
+    /// The constants of the program that words give values, where it is a model.
+    pub constants: Vec<ConstantWord>,
     pub network: String,
     /// The report from which the plan goes on, where it does.
     pub from: Option<String>,
@@ -234,7 +234,7 @@ impl PlanPaths {
     }
 
     /// The paths that the words name, where the constants are read.
-    pub fn with(reading: &mut Reading, constants: Vec<Given>) -> PlanPaths {
+    pub fn with(reading: &mut Reading, constants: Vec<ConstantWord>) -> PlanPaths {
         let program = reading.needed_text(&PROGRAM_ARGUMENT);
         let network = reading.needed_text(&NETWORK_ARGUMENT);
         let from = reading.text(&FROM_ARGUMENT);

@@ -2,6 +2,7 @@
 
 use app_table::number;
 use net_initial::ALL_NODES;
+use std::alloc::{AllocError, Global};
 
 /// The greatest chance, in billionths.
 const ALL_BILLIONTHS: u32 = 1_000_000_000;
@@ -36,7 +37,7 @@ pub fn share_of(percents: &str) -> Option<u32> {
 }
 
 /// The billionths that a decimal from 0 to 1 writes, with nine decimals at most.
-pub fn billionths_of(word: &str) -> Option<u32> {
+fn billionths_of(word: &str) -> Option<u32> {
     let (whole, digits) = parts_of(word);
     let whole = number(whole, 0, 1)?;
     let rest = fraction(digits, 9)?;
@@ -45,6 +46,28 @@ pub fn billionths_of(word: &str) -> Option<u32> {
         return None;
     }
     Some(chance)
+}
+
+/// The billionths of a chance that a word writes: a decimal from 0 to 1, with nine decimals at most, or percents from 0% to
+/// 100%, with six decimals at most.
+pub fn chance_of(word: &str) -> Option<u32> {
+    match word.strip_suffix('%') {
+        Some(percents) => share_of(percents)?.checked_mul(10),
+        None => billionths_of(word),
+    }
+}
+
+/// The decimal of so many billionths, without zeros at its end.
+pub fn decimal_of(alloc: Global, billionths: u32) -> Result<String, AllocError> {
+    let (whole, rest) = (billionths / ALL_BILLIONTHS, billionths % ALL_BILLIONTHS);
+    if rest == 0 {
+        return format!(in alloc; "{whole}");
+    }
+    let padded = ALL_BILLIONTHS + rest;
+    let padded = format!(in alloc; "{padded}")?;
+    let digits = padded.as_str().strip_prefix('1').unwrap_or("");
+    let digits = digits.trim_end_matches('0');
+    format!(in alloc; "{whole}.{digits}")
 }
 
 /// So many times in so many.

@@ -4,11 +4,49 @@ use crate::arrays::column_at;
 use crate::names::names_at;
 use crate::set_words::{RandomWord, SetWord, amounts_of};
 use crate::start::{FileWord, StartWords};
-use app_files::{Ending, NodeCalls, drawn_parts, field_place, listed_nodes};
+use app_files::{
+    Ending, NodeCalls, ValueWord, drawn_parts, field_place, listed_nodes, names_of_field,
+};
 use net_initial::Chosen;
 use rounds_walk::{set_all_values, set_value};
 use rule_check::{Program, State};
 use std::alloc::Global;
+
+/// A program whose nodes begin.
+#[derive(Clone, Copy)]
+pub(crate) struct StartProgram<'a> {
+    pub(crate) program: &'a Program,
+    /// For each of its fields, in order, the names of its values; none where a field has no states, or nothing is known.
+    pub(crate) names: &'a [Vec<String>],
+    /// By what nodes are drawn.
+    pub(crate) seed: u32,
+}
+
+/// A value for a field, by its place.
+#[derive(Clone, Copy)]
+struct FieldValue {
+    field: u32,
+    value: u32,
+}
+
+impl StartProgram<'_> {
+    /// The value that a word after an option names, for the field that another one names.
+    fn value_for(
+        &self,
+        alloc: Global,
+        option: &str,
+        field: &str,
+        word: &ValueWord,
+    ) -> Result<FieldValue, Ending> {
+        let place = field_place(alloc, self.program, option, field)?;
+        let names = names_of_field(self.names, place);
+        let value = word.value(alloc, option, field, names)?;
+        Ok(FieldValue {
+            field: place,
+            value,
+        })
+    }
+}
 
 /// The ending where a word of `--set` names no node.
 fn no_node(alloc: Global, calls: &NodeCalls<'_>, word: &SetWord) -> Ending {
@@ -21,82 +59,64 @@ fn no_node(alloc: Global, calls: &NodeCalls<'_>, word: &SetWord) -> Ending {
     }
 }
 
-/// Gives a node's field the value that a word of `--set` names.
-fn put_value(
-    states: &mut [State],
-    alloc: Global,
-    program: &Program,
-    calls: &NodeCalls<'_>,
-    field: u32,
-    word: &SetWord,
-) -> Result<(), Ending> {
-    let Some(node) = calls.node(word.node.as_str()) else {
-        return Err(no_node(alloc, calls, word));
-    };
-    let _ = set_value(program, states, node, field, word.value);
-    Ok(())
-}
-
 /// Gives a field of these nodes a value.
-fn put_values(states: &mut [State], program: &Program, nodes: &[u32], field: u32, value: u32) {
+fn put_values(states: &mut [State], program: &Program, nodes: &[u32], own: FieldValue) {
     for node in nodes {
-        let _ = set_value(program, states, *node, field, value);
+        let _ = set_value(program, states, *node, own.field, own.value);
     }
 }
 
 /// Gives a field of the nodes from one to another a value.
-fn put_range(
-    states: &mut [State],
-    program: &Program,
-    first: u32,
-    last: u32,
-    field: u32,
-    value: u32,
-) {
+fn put_range(states: &mut [State], program: &Program, first: u32, last: u32, own: FieldValue) {
     for node in first..=last {
-        let _ = set_value(program, states, node, field, value);
+        let _ = set_value(program, states, node, own.field, own.value);
     }
 }
 
 /// Gives a field of the nodes that are chosen a value.
-fn put_chosen(states: &mut [State], program: &Program, chosen: &Chosen, field: u32, value: u32) {
+fn put_chosen(states: &mut [State], program: &Program, chosen: &Chosen, own: FieldValue) {
     match chosen {
         Chosen::Every => {
-            let _ = set_all_values(program, states, field, value);
+            let _ = set_all_values(program, states, own.field, own.value);
         }
         Chosen::One(node) => {
-            let _ = set_value(program, states, *node, field, value);
+            let _ = set_value(program, states, *node, own.field, own.value);
         }
-        Chosen::Range { first, last } => put_range(states, program, *first, *last, field, value),
-        Chosen::These(nodes) => put_values(states, program, nodes, field, value),
+        Chosen::Range { first, last } => put_range(states, program, *first, *last, own),
+        Chosen::These(nodes) => put_values(states, program, nodes, own),
     }
 }
 
-/// The nodes that a word of `--set` names, where they are not one alone.
-fn nodes_for(
-    rt: &HostRuntime,
-    calls: &NodeCalls<'_>,
-    word: &SetWord,
-) -> Result<Option<Chosen>, Ending> {
-    if word.node.as_str() == "*" {
-        return Ok(Some(Chosen::Every));
+/// The node that a word of `--set` names.
+fn node_for(alloc: Global, calls: &NodeCalls<'_>, word: &SetWord) -> Result<Chosen, Ending> {
+    match calls.node(word.node.as_str()) {
+        Some(node) => Ok(Chosen::One(node)),
+        None => Err(no_node(alloc, calls, word)),
     }
-    listed_nodes(rt, calls, word.field.as_str(), word.node.as_str())
+}
+
+/// The nodes that a word of `--set` names.
+fn nodes_for(rt: &HostRuntime, calls: &NodeCalls<'_>, word: &SetWord) -> Result<Chosen, Ending> {
+    if word.node.as_str() == "*" {
+        return Ok(Chosen::Every);
+    }
+    match listed_nodes(rt, calls, word.field.as_str(), word.node.as_str())? {
+        Some(chosen) => Ok(chosen),
+        None => node_for(rt.alloc(), calls, word),
+    }
 }
 
 /// Gives the values that a word of `--set` names.
 fn put_set(
     states: &mut [State],
     rt: &HostRuntime,
-    program: &Program,
+    start: StartProgram<'_>,
     calls: &NodeCalls<'_>,
     word: &SetWord,
 ) -> Result<(), Ending> {
-    let field = field_place(rt.alloc(), program, "--set", word.field.as_str())?;
-    let Some(nodes) = nodes_for(rt, calls, word)? else {
-        return put_value(states, rt.alloc(), program, calls, field, word);
-    };
-    put_chosen(states, program, &nodes, field, word.value);
+    let own = start.value_for(rt.alloc(), "--set", word.field.as_str(), &word.value)?;
+    let nodes = nodes_for(rt, calls, word)?;
+    put_chosen(states, start.program, &nodes, own);
     Ok(())
 }
 
@@ -104,7 +124,7 @@ fn put_set(
 fn put_sets(
     states: &mut [State],
     rt: &HostRuntime,
-    program: &Program,
+    start: StartProgram<'_>,
     nodes: u32,
     words: &StartWords,
 ) -> Result<(), Ending> {
@@ -114,7 +134,7 @@ fn put_sets(
         names: names.as_ref(),
     };
     for word in &words.sets {
-        put_set(states, rt, program, &calls, word)?;
+        put_set(states, rt, start, &calls, word)?;
     }
     Ok(())
 }
@@ -123,12 +143,12 @@ fn put_sets(
 fn put_random(
     states: &mut [State],
     alloc: Global,
-    program: &Program,
+    start: StartProgram<'_>,
     word: &RandomWord,
     nodes: &[u32],
 ) -> Result<(), Ending> {
-    let field = field_place(alloc, program, "--set-random", word.field.as_str())?;
-    put_values(states, program, nodes, field, word.value);
+    let own = start.value_for(alloc, "--set-random", word.field.as_str(), &word.value)?;
+    put_values(states, start.program, nodes, own);
     Ok(())
 }
 
@@ -136,12 +156,12 @@ fn put_random(
 fn put_drawn(
     states: &mut [State],
     alloc: Global,
-    program: &Program,
+    start: StartProgram<'_>,
     words: &[RandomWord],
     drawn: &[Vec<u32>],
 ) -> Result<(), Ending> {
     for (word, part) in words.iter().zip(drawn) {
-        put_random(states, alloc, program, word, part)?;
+        put_random(states, alloc, start, word, part)?;
     }
     Ok(())
 }
@@ -151,13 +171,13 @@ fn put_drawn(
 fn put_randoms(
     states: &mut [State],
     alloc: Global,
-    program: &Program,
+    start: StartProgram<'_>,
     nodes: u32,
     words: &StartWords,
 ) -> Result<(), Ending> {
     let amounts = amounts_of(alloc, &words.random)?;
-    let drawn = drawn_parts(alloc, nodes, &amounts, words.seed, words.overlap)?;
-    put_drawn(states, alloc, program, &words.random, &drawn)
+    let drawn = drawn_parts(alloc, nodes, &amounts, start.seed, words.overlap)?;
+    put_drawn(states, alloc, start, &words.random, &drawn)
 }
 
 /// Gives a field of each of so many nodes its value.
@@ -200,11 +220,11 @@ fn put_files(
 pub(crate) fn put_start(
     states: &mut [State],
     rt: &HostRuntime,
-    program: &Program,
+    start: StartProgram<'_>,
     nodes: u32,
     words: &StartWords,
 ) -> Result<(), Ending> {
-    put_randoms(states, rt.alloc(), program, nodes, words)?;
-    put_files(states, rt, program, nodes, words.files.as_slice())?;
-    put_sets(states, rt, program, nodes, words)
+    put_randoms(states, rt.alloc(), start, nodes, words)?;
+    put_files(states, rt, start.program, nodes, words.files.as_slice())?;
+    put_sets(states, rt, start, nodes, words)
 }

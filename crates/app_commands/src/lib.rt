@@ -29,10 +29,10 @@ pub use arguments::{
 pub use arrays::array_of;
 pub use binary::check_output;
 pub use constants::{
-    CONSTANT, constants_among, constants_in, constants_of, given_twice, is_given, put_word,
-    several_parts,
+    CONSTANT, constant_value, constants_among, constants_in, constants_of, given_twice, is_given,
+    put_word, several_parts,
 };
-pub use decimals::{Portion, billionths_of, percent_of, share_of};
+pub use decimals::{Portion, chance_of, decimal_of, percent_of};
 pub use endings::{asked_by, no_rounds, told_text};
 pub use labels::{labels_at, names_for};
 pub use names::{names_at, names_from};
@@ -45,12 +45,12 @@ pub use plan_texts::{
 };
 pub use progress::{Stopwatch, Telling, seconds_for};
 pub use run_plan::{
-    Ground, RunNetwork, RunSource, file_run_at, ground_on, packed_source_at, program_in,
-    read_run_once, run_network, source_at, threads_for,
+    Ground, ProgramText, RunNetwork, RunSource, file_run_at, given_seed, ground_on,
+    packed_source_at, program_in, read_run_once, run_network, source_at, threads_for,
 };
 pub use set_words::{
     OVERLAP, REPEATED, RandomWord, SEED, SET, SET_RANDOM, SET_RANDOM_ARGUMENT, SetWord, amounts_of,
-    overlap_in, random_in, sets_in,
+    overlap_in, random_in, sets_in, value_word,
 };
 pub use start::{FileWord, RunTexts, SEQUENTIAL, SET_FILE, SET_NAMES, StartWords, THREADS};
 pub use steps::{no_world, steps_at};

@@ -1,15 +1,15 @@
 //! What rounds go over: a program on the network of a network file or of a packed one, and how the nodes begin.
 
 use crate::arguments::PlanPaths;
-use crate::initial::put_start;
+use crate::initial::{StartProgram, put_start};
 use crate::notes::put_program_notes;
 use crate::packed::{packed_in, report_at};
 use crate::plan_texts::{NamedPlan, plan_of};
 use crate::set_words::SetWord;
 use crate::start::RunTexts;
 use app_files::{
-    Ending, NamedProgram, PackedNetwork, bytes_at, bytes_where, is_packed, list_path,
-    named_program_at, network_at, path_in, read_once,
+    ConstantValue, ConstantWord, Ending, NamedProgram, PackedNetwork, bytes_at, bytes_where,
+    is_packed, list_path, named_program_at, network_at, path_in, read_once,
 };
 use app_jobs::{ServeFault, program_of};
 use large_net::LargeNetwork;
@@ -78,6 +78,27 @@ impl Ground<'_> {
         match self {
             Ground::File(plan) => Ok(PlanRef::of_plan(plan)),
             Ground::Packed(packed) => packed.lent(alloc),
+        }
+    }
+}
+
+/// The text of a program, as a run begins with it.
+#[derive(Clone, Copy)]
+pub struct ProgramText<'a> {
+    pub text: &'a [u8],
+    /// For each field, in order, the names of its values; none where it has no states.
+    pub names: &'a [Vec<String>],
+    /// By what nodes are drawn that begin with other values.
+    pub seed: u32,
+}
+
+impl<'a> ProgramText<'a> {
+    /// The program, as the nodes of a run begin with it.
+    fn start(&self, program: &'a Program) -> StartProgram<'a> {
+        StartProgram {
+            program,
+            names: self.names,
+            seed: self.seed,
         }
     }
 }
@@ -152,13 +173,13 @@ fn set_states(
 /// words ask for over them.
 fn states_for(
     rt: &HostRuntime,
-    program: &Program,
+    start: StartProgram<'_>,
     packed: &PackedNetwork,
     texts: &RunTexts,
 ) -> Result<Vec<State>, Ending> {
     let nodes = packed.network.nodes();
-    let mut states = set_states(rt.alloc(), program, nodes, packed.settings.sets())?;
-    put_start(&mut states, rt, program, nodes, &texts.start)?;
+    let mut states = set_states(rt.alloc(), start.program, nodes, packed.settings.sets())?;
+    put_start(&mut states, rt, start, nodes, &texts.start)?;
     Ok(states)
 }
 
@@ -176,16 +197,16 @@ fn check_settings(alloc: Global, program: &Program, packed: &PackedNetwork) -> R
 /// their initial states at round 0.
 fn opening_for(
     rt: &HostRuntime,
-    program: &Program,
+    start: StartProgram<'_>,
     packed: &PackedNetwork,
     texts: &RunTexts,
 ) -> Result<Opening, Ending> {
     let Some(path) = &texts.plan.from else {
-        let states = states_for(rt, program, packed, texts)?;
+        let states = states_for(rt, start, packed, texts)?;
         return Ok(Opening { round: 0, states });
     };
-    check_settings(rt.alloc(), program, packed)?;
-    let report = report_at(rt, path.as_str(), program, &packed.network)?;
+    check_settings(rt.alloc(), start.program, packed)?;
+    let report = report_at(rt, path.as_str(), start.program, &packed.network)?;
     Ok(Opening {
         round: report.rounds(),
         states: report.into_states(),
@@ -196,11 +217,11 @@ fn opening_for(
 fn packed_plan<'a>(
     rt: &HostRuntime,
     texts: &RunTexts,
-    text: &[u8],
+    text: ProgramText<'_>,
     packed: &'a PackedNetwork,
 ) -> Result<PackedPlan<'a>, Ending> {
-    let program = program_in(rt.alloc(), text)?;
-    let opening = opening_for(rt, &program, packed, texts)?;
+    let program = program_in(rt.alloc(), text.text)?;
+    let opening = opening_for(rt, text.start(&program), packed, texts)?;
     Ok(PackedPlan {
         program,
         network: &packed.network,
@@ -209,24 +230,29 @@ fn packed_plan<'a>(
 }
 
 /// The states with which the nodes of a plan begin, with the values that the words ask for.
-fn begun_states(rt: &HostRuntime, plan: &Plan, texts: &RunTexts) -> Result<Vec<State>, Ending> {
+fn begun_states(
+    rt: &HostRuntime,
+    plan: &Plan,
+    texts: &RunTexts,
+    text: ProgramText<'_>,
+) -> Result<Vec<State>, Ending> {
+    let (start, nodes) = (text.start(plan.program()), plan.network().nodes());
     let mut states = plan.openings().to_vec(rt.alloc())?;
-    put_start(
-        &mut states,
-        rt,
-        plan.program(),
-        plan.network().nodes(),
-        &texts.start,
-    )?;
+    put_start(&mut states, rt, start, nodes, &texts.start)?;
     Ok(states)
 }
 
 /// A plan, with the initial values that the words ask for.
-fn begun_plan(rt: &HostRuntime, plan: Plan, texts: &RunTexts) -> Result<Plan, Ending> {
+fn begun_plan(
+    rt: &HostRuntime,
+    plan: Plan,
+    texts: &RunTexts,
+    text: ProgramText<'_>,
+) -> Result<Plan, Ending> {
     if texts.start.is_empty() {
         return Ok(plan);
     }
-    let states = begun_states(rt, &plan, texts)?;
+    let states = begun_states(rt, &plan, texts, text)?;
     match begun_with(plan, states) {
         Ok(plan) => Ok(plan),
         Err(fault) => Err(no_plan(rt.alloc(), fault)),
@@ -237,19 +263,19 @@ fn begun_plan(rt: &HostRuntime, plan: Plan, texts: &RunTexts) -> Result<Plan, En
 fn file_plan(
     rt: &HostRuntime,
     texts: &RunTexts,
-    text: &[u8],
+    text: ProgramText<'_>,
     network: &[u8],
     report: &Option<Vec<u8>>,
 ) -> Result<Plan, Ending> {
-    let plan = plan_of(rt.alloc(), text, network, report)?;
-    begun_plan(rt, plan, texts)
+    let plan = plan_of(rt.alloc(), text.text, network, report)?;
+    begun_plan(rt, plan, texts, text)
 }
 
 /// The plan of the program of a text on a network.
 pub fn ground_on<'a>(
     rt: &HostRuntime,
     texts: &RunTexts,
-    text: &[u8],
+    text: ProgramText<'_>,
     network: &'a RunNetwork,
 ) -> Result<Ground<'a>, Ending> {
     match network {
@@ -295,6 +321,31 @@ fn program_for(rt: &HostRuntime, texts: &RunTexts) -> Result<NamedProgram, Endin
     named_program_at(rt, texts.plan.program.as_str(), &texts.plan.constants)
 }
 
+/// The number that words of `--const` give the constant `seed`, where they give it one.
+pub fn given_seed(constants: &[ConstantWord]) -> Option<u32> {
+    for constant in constants {
+        if let ("seed", ConstantValue::Number(seed)) = (constant.name.as_str(), &constant.value) {
+            return Some(*seed);
+        }
+    }
+    None
+}
+
+/// By what the one run of these words draws nodes: `--seed`, and without it the constant `seed` of the program.
+fn single_seed(texts: &RunTexts) -> u32 {
+    let given = given_seed(&texts.plan.constants);
+    texts.start.seed.or(given).unwrap_or(0)
+}
+
+/// The program, as the one run of these words begins with it.
+fn single_text<'a>(program: &'a NamedProgram, texts: &RunTexts) -> ProgramText<'a> {
+    ProgramText {
+        text: &program.text,
+        names: &program.names,
+        seed: single_seed(texts),
+    }
+}
+
 /// The texts that the words of a run name; the network is a network file or a packed one.
 pub fn source_at(
     rt: &HostRuntime,
@@ -322,7 +373,7 @@ pub fn packed_source_at(
 impl RunSource {
     /// What rounds go over by these words.
     pub fn ground(&self, rt: &HostRuntime, texts: &RunTexts) -> Result<Ground<'_>, Ending> {
-        ground_on(rt, texts, &self.program.text, &self.network)
+        ground_on(rt, texts, single_text(&self.program, texts), &self.network)
     }
 
     /// The same. Notes on the program are printed on standard error before anything is computed, unless they are left out.
@@ -358,7 +409,7 @@ pub fn file_run_at(rt: &HostRuntime, texts: &RunTexts) -> Result<NamedPlan, Endi
     let program = program_for(rt, texts)?;
     let network = network_at(rt, texts.plan.network.as_str())?;
     let report = bytes_where(rt, &texts.plan.from)?;
-    let plan = file_plan(rt, texts, &program.text, &network, &report)?;
+    let plan = file_plan(rt, texts, single_text(&program, texts), &network, &report)?;
     let NamedProgram { names, .. } = program;
     Ok(NamedPlan { plan, names })
 }

@@ -2,6 +2,7 @@
 
 use crate::arguments::{FLAG, NUMBER};
 use crate::decimals::share_of;
+use app_files::{VALUE_WORDS, ValueWord};
 use app_table::{Argument, Kind, OPTION, Reading, WordsFault, number};
 use net_initial::Amount;
 use std::alloc::{AllocError, Global};
@@ -15,7 +16,7 @@ pub const REPEATED: Argument = Argument {
 pub const SET: Argument = Argument {
     name: "set",
     value_name: "FIELD=NODE:VALUE",
-    help: "Give a field of nodes an initial value: NODE is a node, A..B for those from A to B, both included, @FILE for those that a file lists, a line each, or * for all; as often as wanted",
+    help: "Give a field of nodes an initial value, a number, none, or the name of a state: NODE is a node, A..B for those from A to B, both included, @FILE for those that a file lists, a line each, or * for all; as often as wanted",
     ..REPEATED
 };
 
@@ -25,7 +26,7 @@ pub(crate) static SET_ARGUMENT: Argument = SET;
 pub const SET_RANDOM: Argument = Argument {
     name: "set-random",
     value_name: "FIELD=VALUE:COUNT",
-    help: "Give a field of so many nodes, or of a share of all as 5%, drawn by the seed, an initial value; as often as wanted",
+    help: "Give a field of so many nodes, or of a share of all as 5%, drawn by the seed, an initial value, a number, none, or the name of a state; as often as wanted",
     needs: Some("seed"),
     ..REPEATED
 };
@@ -57,14 +58,14 @@ pub struct SetWord {
     pub field: String,
     /// A node's number or name, `A..B` for the nodes from A to B, `@FILE` for those that a file lists, or `*` for all nodes.
     pub node: String,
-    pub value: u32,
+    pub value: ValueWord,
 }
 
 /// A word of `--set-random FIELD=VALUE:COUNT`.
 #[derive(Drop)]
 pub struct RandomWord {
     pub field: String,
-    pub value: u32,
+    pub value: ValueWord,
     /// How many nodes are drawn.
     pub amount: Amount,
 }
@@ -78,25 +79,36 @@ pub fn amounts_of(alloc: Global, words: &[RandomWord]) -> Result<Vec<Amount>, Al
     Ok(amounts)
 }
 
-/// The parts of a word of `--set`: what stands before the first `=`, what follows up to the last colon, and the number
+/// The value that a word writes, where it is one.
+pub fn value_word(reading: &mut Reading, word: &str) -> Option<ValueWord> {
+    match ValueWord::of(reading.alloc(), word) {
+        Ok(value) => value,
+        Err(_) => {
+            reading.refuse(WordsFault::Memory);
+            None
+        }
+    }
+}
+
+/// The parts of a word of `--set`: what stands before the first `=`, what follows up to the last colon, and what stands
 /// after it.
-fn set_parts(word: &str) -> Option<(&str, &str, u32)> {
+fn set_parts(word: &str) -> Option<(&str, &str, &str)> {
     let (field, rest) = word.split_once('=')?;
     let (node, value) = rest.rsplit_once(':')?;
-    let value = number(value, 0, 4_294_967_295)?;
     Some((field, node, value))
 }
 
 /// Notes that a word of `--set` has not its parts.
 fn refuse_set(reading: &mut Reading, word: &str) {
     reading.refuse_as(format!(in reading.alloc();
-        "--set: expected FIELD=NODE:VALUE, with a whole number from 0 to 4294967295 after the last colon, found `{word}`"
+        "--set: expected FIELD=NODE:VALUE, with {VALUE_WORDS} after the last colon, found `{word}`"
     ));
 }
 
 /// The word of `--set`, where it has its parts.
 fn set_word(reading: &mut Reading, word: &str) -> Option<SetWord> {
     let (field, node, value) = set_parts(word)?;
+    let value = value_word(reading, value)?;
     let field = reading.copied(field);
     let node = reading.copied(node);
     Some(SetWord { field, node, value })
@@ -135,10 +147,9 @@ fn amount_of(word: &str) -> Option<Amount> {
 }
 
 /// The parts of a word of `--set-random`.
-fn random_parts(word: &str) -> Option<(&str, u32, Amount)> {
+fn random_parts(word: &str) -> Option<(&str, &str, Amount)> {
     let (field, rest) = word.split_once('=')?;
     let (value, amount) = rest.split_once(':')?;
-    let value = number(value, 0, 4_294_967_295)?;
     let amount = amount_of(amount)?;
     Some((field, value, amount))
 }
@@ -146,13 +157,14 @@ fn random_parts(word: &str) -> Option<(&str, u32, Amount)> {
 /// Notes that a word of `--set-random` has not its parts.
 fn refuse_random(reading: &mut Reading, word: &str) {
     reading.refuse_as(format!(in reading.alloc();
-        "--set-random: expected FIELD=VALUE:COUNT, with a whole number from 0 to 4294967295 after the first =, and after the colon another one or a share from 0% to 100% with six decimals at most, found `{word}`"
+        "--set-random: expected FIELD=VALUE:COUNT, with {VALUE_WORDS} after the first =, and after the colon a whole number or a share from 0% to 100% with six decimals at most, found `{word}`"
     ));
 }
 
 /// The word of `--set-random`, where it has its parts.
 fn random_word(reading: &mut Reading, word: &str) -> Option<RandomWord> {
     let (field, value, amount) = random_parts(word)?;
+    let value = value_word(reading, value)?;
     let field = reading.copied(field);
     Some(RandomWord {
         field,

@@ -75,8 +75,8 @@ pub struct StartWords {
     pub sets: Vec<SetWord>,
     /// The path of the names by which `sets` call nodes, where they do.
     pub names: Option<String>,
-    /// By what nodes are drawn; where none are, 0.
-    pub seed: u32,
+    /// By what nodes are drawn, where it is said.
+    pub seed: Option<u32>,
 }
 
 impl StartWords {
@@ -92,7 +92,7 @@ impl StartWords {
             files: Vec::new(alloc),
             sets: Vec::new(alloc),
             names: None,
-            seed: 0,
+            seed: None,
         }
     }
 
@@ -152,6 +152,16 @@ fn files_in(reading: &mut Reading) -> Vec<FileWord> {
     files
 }
 
+/// By what nodes are drawn, where it is said.
+fn seed_in(reading: &mut Reading) -> Option<u32> {
+    let seed = reading.number_or(&SEED_ARGUMENT, 0);
+    if reading.has(&SEED_ARGUMENT) {
+        Some(seed)
+    } else {
+        None
+    }
+}
+
 /// The initial values that the words ask for.
 fn start_in(reading: &mut Reading) -> StartWords {
     let random = random_in(reading);
@@ -159,7 +169,7 @@ fn start_in(reading: &mut Reading) -> StartWords {
     let files = files_in(reading);
     let sets = sets_in(reading);
     let names = reading.text(&SET_NAMES_ARGUMENT);
-    let seed = reading.number_or(&SEED_ARGUMENT, 0);
+    let seed = seed_in(reading);
     StartWords {
         random,
         overlap,

@@ -3,6 +3,7 @@
 #![tactic(auto)]
 
 mod command_line;
+mod constants;
 mod draws;
 mod ending;
 mod fields;
@@ -19,8 +20,10 @@ mod settling;
 mod texts;
 mod told;
 mod usage;
+mod values;
 
 pub use command_line::words_of;
+pub use constants::{ConstantValue, ConstantWord, given_constants};
 pub use draws::{drawn_for, drawn_parts, next_draw};
 pub use ending::{Ending, refused};
 pub use fields::{all_fields, coloured_field, field_place, shown_fields, value_named};
@@ -36,9 +39,10 @@ pub use networks::{
 pub use node_calls::{NodeCalls, list_path, listed_nodes};
 pub use output::{check_new, make_folder, print_out, write_file, write_new, write_out};
 pub use programs::{
-    NamedProgram, check_constants, check_model, expanded_text, is_model, named_program_at,
-    names_of_field, program_at, program_name, state_names,
+    NamedProgram, check_constants, check_model, expanded_by, expanded_text, is_model,
+    named_program_at, names_of_field, program_at, program_name, state_names,
 };
 pub use settling::{not_settled, settled_round, settling_line};
 pub use texts::{Told, edges_told, heading_told, matrix_told, on_line, put_matrix_detail};
 pub use told::{print_ending, print_fault};
+pub use values::{VALUE_WORDS, ValueWord, begins_with_letter, number_or_none};

@@ -1,5 +1,6 @@
 //! Programs that are read: their texts, or those that models are expanded to, and the names of their fields' values.
 
+use crate::constants::{ConstantWord, given_constants};
 use crate::ending::Ending;
 use crate::files::{bytes_at, name_at};
 use crate::model_told::refusal_of;
@@ -38,8 +39,8 @@ fn refused(
     Ending::refused(told)
 }
 
-/// The program text that the model of this text is expanded to, where these constants are given values.
-pub fn expanded_text(
+/// The program text that the model of this text is expanded to, where these constants have these values.
+pub fn expanded_by(
     alloc: Global,
     name: &str,
     text: &[u8],
@@ -49,6 +50,17 @@ pub fn expanded_text(
         Ok(bytes) => Ok(bytes),
         Err(fault) => Err(refused(alloc, name, text, constants, fault)),
     }
+}
+
+/// The program text that the model of this text is expanded to, where these words give constants values.
+pub fn expanded_text(
+    alloc: Global,
+    name: &str,
+    text: &[u8],
+    constants: &[ConstantWord],
+) -> Result<Vec<u8>, Ending> {
+    let constants = given_constants(alloc, text, constants)?;
+    expanded_by(alloc, name, text, &constants)
 }
 
 /// The names of the values of each field of the model of this text, in order: those of the states that it has; none of a
@@ -85,7 +97,11 @@ pub fn check_model(alloc: Global, path: &str) -> Result<(), Ending> {
 }
 
 /// The same, where there are such constants.
-pub fn check_constants(alloc: Global, path: &str, constants: &[Given]) -> Result<(), Ending> {
+pub fn check_constants(
+    alloc: Global,
+    path: &str,
+    constants: &[ConstantWord],
+) -> Result<(), Ending> {
     if constants.is_empty() {
         return Ok(());
     }
@@ -104,12 +120,12 @@ pub struct NamedProgram {
     pub model: Option<Vec<u8>>,
 }
 
-/// The program of the model of this text, where these constants are given values.
+/// The program of the model of this text, where these words give constants values.
 fn named_model(
     alloc: Global,
     name: &str,
     model: Vec<u8>,
-    constants: &[Given],
+    constants: &[ConstantWord],
 ) -> Result<NamedProgram, Ending> {
     let text = expanded_text(alloc, name, &model, constants)?;
     let names = state_names(alloc, name, &model)?;
@@ -117,12 +133,12 @@ fn named_model(
     Ok(NamedProgram { text, names, model })
 }
 
-/// The program at a path, `-` for standard input: its text, of a model that to which it is expanded, where these constants
-/// are given values, with the names of the model's states. Constants are refused where there is no model.
+/// The program at a path, `-` for standard input: its text, of a model that to which it is expanded, where these words give
+/// constants values, with the names of the model's states. Constants are refused where there is no model.
 pub fn named_program_at(
     rt: &(impl Files + Input + AllocGlobal),
     path: &str,
-    constants: &[Given],
+    constants: &[ConstantWord],
 ) -> Result<NamedProgram, Ending> {
     check_constants(rt.alloc(), path, constants)?;
     let text = bytes_at(rt, path)?;
@@ -141,7 +157,7 @@ pub fn named_program_at(
 pub fn program_at(
     rt: &(impl Files + Input + AllocGlobal),
     path: &str,
-    constants: &[Given],
+    constants: &[ConstantWord],
 ) -> Result<Vec<u8>, Ending> {
     let program = named_program_at(rt, path, constants)?;
     let NamedProgram { text, .. } = program;

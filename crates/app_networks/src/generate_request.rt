@@ -2,8 +2,7 @@
 ghost use Rattle.std.specs.Prelude.{◌≤◌, IfOk, IfSome};
 
 use app_commands::{
-    AS_PACKED, AS_PACKED_ARGUMENT, FLAG, NUMBER, Portion, billionths_of, no_share, percent_of,
-    share_of,
+    AS_PACKED, AS_PACKED_ARGUMENT, FLAG, NUMBER, Portion, chance_of, no_share, percent_of,
 };
 use app_table::{Argument, Command, Draft, Kind, OPTION, Reading, Subcommand, WordsFault, number};
 use net_random::RandomNetwork;
@@ -541,14 +540,6 @@ fn refuse_chance(reading: &mut Reading, found: &str) {
     reading.refuse_as(format!(in reading.alloc();
         "--probability: expected a decimal from 0 to 1, with nine decimals at most, or percents as 5%, found `{found}`"
     ));
-}
-
-/// The billionths that a decimal from 0 to 1 writes, or a number of percents with `%` after it.
-fn chance_of(word: &str) -> Option<u32> {
-    match word.strip_suffix('%') {
-        Some(percents) => share_of(percents)?.checked_mul(10),
-        None => billionths_of(word),
-    }
 }
 
 /// A network each of whose pairs is linked with a chance. Where the words name none, an invalid argument is noted.

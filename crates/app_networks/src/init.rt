@@ -2,7 +2,8 @@
 
 use crate::init_cells::put_cells;
 use crate::init_request::{InitRequest, RangeWord};
-use app_commands::{SetWord, amounts_of, asked_by, check_output, names_at};
+use crate::init_values::{ModelFields, fields_at, value_for};
+use app_commands::{RandomWord, SetWord, amounts_of, asked_by, check_output, names_at};
 use app_files::{
     Ending, NodeCalls, PackedNetwork, bytes_at, drawn_parts, file_at, file_of, is_packed,
     list_path, listed_nodes, next_draw, packed_of, path_in, print_out, read_once,
@@ -108,22 +109,25 @@ fn nodes_for(
     }
 }
 
+/// What words of initial values name: nodes by names or numbers, and values by the states of a model's fields.
+#[derive(Drop)]
+struct Calls {
+    names: Option<NodeNames>,
+    fields: Option<ModelFields>,
+}
+
 /// Puts the opening that a word of `--set` asks for.
 fn put_set_word(
     openings: &mut Vec<Opening>,
     rt: &HostRuntime,
     nodes: u32,
-    names: &Option<NodeNames>,
+    calls: &Calls,
     word: &SetWord,
 ) -> Result<(), Ending> {
-    let chosen = nodes_for(rt, nodes, names, word)?;
-    put_same(
-        openings,
-        rt.alloc(),
-        word.field.as_str(),
-        chosen,
-        word.value,
-    )
+    let (alloc, field) = (rt.alloc(), word.field.as_str());
+    let value = value_for(alloc, &calls.fields, "--set", field, &word.value)?;
+    let chosen = nodes_for(rt, nodes, &calls.names, word)?;
+    put_same(openings, alloc, field, chosen, value)
 }
 
 /// Puts the openings that the words of `--set` ask for.
@@ -131,11 +135,11 @@ fn put_set(
     openings: &mut Vec<Opening>,
     rt: &HostRuntime,
     nodes: u32,
-    names: &Option<NodeNames>,
+    calls: &Calls,
     words: &[SetWord],
 ) -> Result<(), Ending> {
     for word in words {
-        put_set_word(openings, rt, nodes, names, word)?;
+        put_set_word(openings, rt, nodes, calls, word)?;
     }
     Ok(())
 }
@@ -146,17 +150,30 @@ fn drawn_for(alloc: Global, nodes: u32, asked: &InitRequest) -> Result<Vec<Vec<u
     drawn_parts(alloc, nodes, &amounts, asked.seed, asked.overlap)
 }
 
+/// Puts the opening that a word of `--set-random` asks for, which draws these nodes.
+fn put_random_word(
+    openings: &mut Vec<Opening>,
+    alloc: Global,
+    calls: &Calls,
+    word: &RandomWord,
+    drawn: Vec<u32>,
+) -> Result<(), Ending> {
+    let field = word.field.as_str();
+    let value = value_for(alloc, &calls.fields, "--set-random", field, &word.value)?;
+    put_same(openings, alloc, field, Chosen::These(drawn), value)
+}
+
 /// Puts the openings that the words of `--set-random` ask for.
 fn put_random(
     openings: &mut Vec<Opening>,
     alloc: Global,
     nodes: u32,
+    calls: &Calls,
     asked: &InitRequest,
 ) -> Result<(), Ending> {
     let drawn = drawn_for(alloc, nodes, asked)?;
     for (word, part) in asked.random.iter().zip(drawn) {
-        let chosen = Chosen::These(part);
-        put_same(openings, alloc, word.field.as_str(), chosen, word.value)?;
+        put_random_word(openings, alloc, calls, word, part)?;
     }
     Ok(())
 }
@@ -235,6 +252,7 @@ fn no_opening(alloc: Global, fault: OpenFault) -> Ending {
 fn put_paths<'a>(paths: &mut Vec<&'a str>, asked: &'a InitRequest) -> Result<(), AllocError> {
     paths.push(asked.network.as_str())?;
     paths.push(path_in(&asked.names))?;
+    paths.push(path_in(&asked.model))?;
     for word in &asked.cells {
         paths.push(word.path.as_str())?;
     }
@@ -268,30 +286,27 @@ fn put_openings(
     rt: &HostRuntime,
     asked: &InitRequest,
     nodes: u32,
-    names: &Option<NodeNames>,
+    calls: &Calls,
 ) -> Result<(), Ending> {
     put_ranges(openings, rt.alloc(), nodes, asked)?;
-    put_random(openings, rt.alloc(), nodes, asked)?;
+    put_random(openings, rt.alloc(), nodes, calls, asked)?;
     put_cells(openings, rt, nodes, asked)?;
-    put_set(openings, rt, nodes, names, asked.sets.as_slice())
+    put_set(openings, rt, nodes, calls, asked.sets.as_slice())
 }
 
-/// The openings that the words ask for of a network of so many nodes that have these names.
-fn openings_with(
-    rt: &HostRuntime,
-    asked: &InitRequest,
-    nodes: u32,
-    names: &Option<NodeNames>,
-) -> Result<Vec<Opening>, Ending> {
-    let mut openings = Vec::new(rt.alloc());
-    put_openings(&mut openings, rt, asked, nodes, names)?;
-    Ok(openings)
+/// What the words of initial values name.
+fn calls_for(rt: &HostRuntime, asked: &InitRequest) -> Result<Calls, Ending> {
+    let names = names_at(rt, &asked.names)?;
+    let fields = fields_at(rt, &asked.model)?;
+    Ok(Calls { names, fields })
 }
 
 /// The openings that the words ask for of a network of so many nodes, in the order in which they count.
 fn openings_for(rt: &HostRuntime, asked: &InitRequest, nodes: u32) -> Result<Vec<Opening>, Ending> {
-    let names = names_at(rt, &asked.names)?;
-    openings_with(rt, asked, nodes, &names)
+    let calls = calls_for(rt, asked)?;
+    let mut openings = Vec::new(rt.alloc());
+    put_openings(&mut openings, rt, asked, nodes, &calls)?;
+    Ok(openings)
 }
 
 /// The network file with these openings, over the file's values but for those of the fields that are cleared.

@@ -65,6 +65,15 @@ const GRID_WIDTH: Argument = Argument {
 /// `GRID_WIDTH`, as it is read.
 static GRID_WIDTH_ARGUMENT: Argument = GRID_WIDTH;
 
+const MODEL: Argument = Argument {
+    name: "model",
+    help: "The model whose fields are given values, by which --set and --set-random take the names of its states: a file whose name ends in .model",
+    ..FILE_OPTION
+};
+
+/// `MODEL`, as it is read.
+static MODEL_ARGUMENT: Argument = MODEL;
+
 const PHASE: Argument = Argument {
     name: "phase",
     value: Value::Choice(&[
@@ -98,7 +107,7 @@ static INIT: Command = Command {
     notes: "Prints the network with other initial values, as a network file, or with --packed as a packed network of any size; where several give one to the same field and node, the last one counts; --set counts over --cells, that over --set-random, and that over --random.\nAn example: unison init examples/path.toml --set 'dist=*:9' --set dist=0:0 > start.toml\nAnother: unison init examples/path.toml --set state=0..1:2 --set-random state=1:33.3% --seed 7 > start.toml\nAnother: unison init road.net --set-random state=1:100 --seed 7 --packed > start.net\n",
     arguments: &[
         NETWORK, SET, SET_RANDOM, OVERLAP, RANDOM, DRAWS_SEED, CELLS, GRID_WIDTH, CLEAR, NAMES,
-        PHASE, AS_PACKED, QUIET,
+        MODEL, PHASE, AS_PACKED, QUIET,
     ],
     subcommands: &[],
 };
@@ -137,6 +146,8 @@ pub struct InitRequest {
     pub network: String,
     /// The path of the names by which nodes are called, where they are.
     pub names: Option<String>,
+    /// The path of the model by whose states values are called, where they are.
+    pub model: Option<String>,
     pub sets: Vec<SetWord>,
     pub random: Vec<RandomWord>,
     /// Whether each word of `random` draws among all nodes, and not among those that the others leave.
@@ -292,10 +303,12 @@ fn request_in(reading: &mut Reading) -> InitRequest
     let cells = cells_in(reading);
     let sets = sets_in(reading);
     let names = reading.text(&NAMES_ARGUMENT);
+    let model = reading.text(&MODEL_ARGUMENT);
     let network = reading.needed_text(&NETWORK_ARGUMENT);
     InitRequest {
         network,
         names,
+        model,
         sets,
         random,
         overlap,

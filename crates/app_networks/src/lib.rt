@@ -13,6 +13,7 @@ mod info_request;
 mod init;
 mod init_cells;
 mod init_request;
+mod init_values;
 mod json_refusals;
 mod pack;
 mod pack_refusals;

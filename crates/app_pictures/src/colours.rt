@@ -1,14 +1,16 @@
 //! `--colours`: values that have colours of their own.
 ghost use Rattle.std.specs.Prelude.{◌≤◌, IfSome};
 
-use app_table::{Argument, OPTION, Reading, WordsFault, number};
+use app_commands::value_word;
+use app_files::{Ending, VALUE_WORDS, ValueWord};
+use app_table::{Argument, OPTION, Reading, WordsFault};
 use run_picture::{Colour, MOST_COLOURS, ValueColour};
 use std::alloc::Global;
 
 pub(crate) const COLOURS: Argument = Argument {
     name: "colours",
     value_name: "VALUE:COLOUR,..",
-    help: "Show values in colours of their own, 64 at most: #rrggbb, or black, silver, gray, white, maroon, red, purple, fuchsia, green, lime, olive, yellow, navy, blue, teal or aqua",
+    help: "Show values, numbers, none or names of states, in colours of their own, 64 at most: #rrggbb, or black, silver, gray, white, maroon, red, purple, fuchsia, green, lime, olive, yellow, navy, blue, teal or aqua",
     ..OPTION
 };
 
@@ -77,31 +79,77 @@ fn colour_of(word: &str) -> Option<Colour> {
     mixed(red, green, blue)
 }
 
+/// A value as it is written, and its colour.
+#[derive(Drop)]
+pub struct ColourWord {
+    value: ValueWord,
+    colour: Colour,
+}
+
 /// The value and the colour of `VALUE:COLOUR`.
-fn value_colour_of(part: &str) -> Option<ValueColour> {
+fn colour_word(reading: &mut Reading, part: &str) -> Option<ColourWord> {
     let (value, word) = part.split_once(':')?;
-    let value = number(value, 0, 4_294_967_295)?;
     let colour = colour_of(word)?;
-    Some(ValueColour { value, colour })
+    let value = value_word(reading, value)?;
+    Some(ColourWord { value, colour })
 }
 
-/// What is told where a part has not its value and its colour.
-fn no_colour(alloc: Global, part: &str) -> WordsFault {
-    WordsFault::told(format!(in alloc;
-        "--colours: expected VALUE:COLOUR, a whole number from 0 to 4294967295 and #rrggbb or one of black, silver, gray, white, maroon, red, purple, fuchsia, green, lime, olive, yellow, navy, blue, teal and aqua, with a comma between two; found `{part}`"
+/// Notes that a part has not its value and its colour.
+fn refuse_colour(reading: &mut Reading, part: &str) {
+    reading.refuse_as(format!(in reading.alloc();
+        "--colours: expected VALUE:COLOUR, {VALUE_WORDS}, and #rrggbb or one of black, silver, gray, white, maroon, red, purple, fuchsia, green, lime, olive, yellow, navy, blue, teal and aqua, with a comma between two; found `{part}`"
     ))
 }
 
-/// What is told where a value is given two colours.
-fn given_twice(alloc: Global, value: u32) -> WordsFault {
-    WordsFault::told(format!(in alloc; "--colours: the value {value} is given two colours"))
-}
-
-/// What is told where too many values are given colours.
-fn too_many(alloc: Global) -> WordsFault {
-    WordsFault::told(format!(in alloc;
+/// Notes that too many values are given colours.
+fn refuse_many(reading: &mut Reading) {
+    reading.refuse_as(format!(in reading.alloc();
         "--colours: at most {MOST_COLOURS} values have colours of their own"
-    ))
+    ));
+}
+
+/// Puts the value and the colour of a part after the others.
+fn put_colour_word(colours: &mut Vec<ColourWord>, reading: &mut Reading, part: &str) {
+    let Some(word) = colour_word(reading, part) else {
+        return refuse_colour(reading, part);
+    };
+    if colours.len() >= MOST_COLOURS {
+        return refuse_many(reading);
+    }
+    if colours.push(word).is_err() {
+        reading.refuse(WordsFault::Memory);
+    }
+}
+
+/// The values and colours between the commas of a text.
+fn colours_from(reading: &mut Reading, text: &str) -> Vec<ColourWord> {
+    let mut colours = Vec::new(reading.alloc());
+    for part in text.split(',') {
+        put_colour_word(&mut colours, reading, part);
+    }
+    colours
+}
+
+/// The values that `--colours` gives colours of their own, and these.
+pub(crate) fn colours_in(reading: &mut Reading) -> Vec<ColourWord> {
+    match reading.text(&COLOURS_ARGUMENT) {
+        Some(text) => colours_from(reading, text.as_str()),
+        None => Vec::new(reading.alloc()),
+    }
+}
+
+/// The field by which is coloured.
+#[derive(Clone, Copy)]
+pub(crate) struct ColouredField<'a> {
+    pub(crate) place: u32,
+    pub(crate) name: &'a str,
+    /// The names of its values, 0 and so on; none where it has no states.
+    pub(crate) values: &'a [String],
+}
+
+/// The ending where a value is given two colours.
+fn given_twice(alloc: Global, value: u32) -> Ending {
+    Ending::usage(format!(in alloc; "--colours: the value {value} is given two colours"))
 }
 
 /// Whether one of these values has a colour already.
@@ -114,57 +162,33 @@ fn is_given(colours: &[ValueColour], value: u32) -> bool {
     false
 }
 
-/// The value and the colour of a part after others.
-fn value_colour(
+/// Puts the colour of the value of a field that a word names after the others.
+fn put_colour(
+    colours: &mut Vec<ValueColour>,
     alloc: Global,
-    colours: &[ValueColour],
-    part: &str,
-) -> Result<ValueColour, WordsFault> {
-    let Some(own) = value_colour_of(part) else {
-        return Err(no_colour(alloc, part));
-    };
-    if is_given(colours, own.value) {
-        return Err(given_twice(alloc, own.value));
+    field: ColouredField<'_>,
+    word: &ColourWord,
+) -> Result<(), Ending> {
+    let value = word
+        .value
+        .value(alloc, "--colours", field.name, field.values)?;
+    if is_given(colours, value) {
+        return Err(given_twice(alloc, value));
     }
-    if colours.len() >= MOST_COLOURS {
-        return Err(too_many(alloc));
-    }
-    Ok(own)
+    let colour = word.colour;
+    colours.push(ValueColour { value, colour })?;
+    Ok(())
 }
 
-/// Puts the value and the colour of a part after the others.
-fn put_colour(colours: &mut Vec<ValueColour>, alloc: Global, part: &str) -> Result<(), WordsFault> {
-    let own = value_colour(alloc, colours, part)?;
-    match colours.push(own) {
-        Ok(()) => Ok(()),
-        Err(_) => Err(WordsFault::Memory),
-    }
-}
-
-/// The values and colours between the commas of a text, no value twice.
-fn colours_of(alloc: Global, text: &str) -> Result<Vec<ValueColour>, WordsFault> {
+/// The values of a field that words give colours of their own, none twice.
+pub(crate) fn colours_for(
+    alloc: Global,
+    field: ColouredField<'_>,
+    words: &[ColourWord],
+) -> Result<Vec<ValueColour>, Ending> {
     let mut colours = Vec::new(alloc);
-    for part in text.split(',') {
-        put_colour(&mut colours, alloc, part)?;
+    for word in words {
+        put_colour(&mut colours, alloc, field, word)?;
     }
     Ok(colours)
-}
-
-/// The colours of these words, no value twice; where they cannot be read, that is noted.
-fn colours_from(reading: &mut Reading, text: &str) -> Vec<ValueColour> {
-    match colours_of(reading.alloc(), text) {
-        Ok(colours) => colours,
-        Err(fault) => {
-            reading.refuse(fault);
-            Vec::new(reading.alloc())
-        }
-    }
-}
-
-/// The values that `--colours` gives colours of their own, none twice.
-pub(crate) fn colours_in(reading: &mut Reading) -> Vec<ValueColour> {
-    match reading.text(&COLOURS_ARGUMENT) {
-        Some(text) => colours_from(reading, text.as_str()),
-        None => Vec::new(reading.alloc()),
-    }
 }

@@ -3,14 +3,13 @@ ghost use Rattle.std.specs.Prelude.{◌≤◌, IfOk, IfSome};
 ghost use Rattle.app_commands.specs.Requests.{AreThreadsWithin, IsWidthWithin};
 ghost use Rattle.rounds_plan.specs.Configs.{most_rounds};
 
-use crate::colours::{COLOURS, colours_in};
+use crate::colours::{COLOURS, ColourWord, colours_in};
 use app_commands::{
     CONSTANT, EVERY, FIELD, FIELD_ARGUMENT, FILE_OPTION, FLAG, FROM, GridWidth, NAMES,
     NAMES_ARGUMENT, NETWORK, OVERLAP, PROGRAM, PlanPaths, ROUND, ROUNDS, RunTexts, SEED, SET,
     SET_FILE, SET_NAMES, SET_RANDOM, grid_in, span_in, with_lone,
 };
 use app_table::{Argument, Command, Kind, OPTION, Reading, Value, WordsFault};
-use run_picture::ValueColour;
 use run_watch::Span;
 use std::alloc::Global;
 
@@ -153,8 +152,8 @@ pub struct ImageRequest {
     pub frame_time: Option<u32>,
     /// The folder into which a picture of each round goes, where each has a file of its own; nothing moves then.
     pub frames: Option<String>,
-    /// The values that have colours of their own, none twice.
-    pub colours: Vec<ValueColour>,
+    /// The values that have colours of their own.
+    pub colours: Vec<ColourWord>,
 }
 
 /// What `dot` is asked for.
@@ -167,8 +166,8 @@ pub struct DotRequest {
     pub field: Option<String>,
     /// The path of the names of the nodes, where they are shown.
     pub names: Option<String>,
-    /// The values that have colours of their own, none twice.
-    pub colours: Vec<ValueColour>,
+    /// The values that have colours of their own.
+    pub colours: Vec<ColourWord>,
 }
 
 /// How the picture shows rounds, of what words say of it.

@@ -1,6 +1,7 @@
 //! `image PROGRAM NETWORK` and `dot PROGRAM NETWORK`: rounds as pictures, and networks for Graphviz.
 
 use crate::colour_notes::put_colour_notes;
+use crate::colours::{ColourWord, ColouredField, colours_for};
 use crate::drawing_request::{DotRequest, ImageRequest};
 use crate::grid::{cell_shape, grid_width};
 use crate::picture_files::RoundFiles;
@@ -12,6 +13,7 @@ use app_files::{Ending, coloured_field, names_of_field, path_in, print_out};
 use link_net::NetRows;
 use rounds_plan::Plan;
 use rounds_walk::PlanRef;
+use rule_check::Program;
 use run_picture::{
     CellShape, Colouring, Drawing, Layout, MOST_CELLS, MOST_CURVES, MOST_FRAMES, MOST_POINTS,
     MOST_STROKES, MovingGrid, PictureFault, StylesFault, ValueColour, ValueStyles, count_picture,
@@ -95,18 +97,35 @@ fn styles_with<'a>(
     Ok(styles)
 }
 
-/// The same. Words give no value two colours, and no more values colours than there may be, so that memory alone is wanting
-/// where there are none.
+/// How the values of a field are shown, some in the colours that words give them, on which notes are printed. No value has
+/// two, and no more values have colours than may, so that memory alone is wanting where there are none.
 fn styles_for<'a>(
-    alloc: Global,
-    names: &'a [String],
-    colours: &[ValueColour],
+    rt: &HostRuntime,
+    field: ColouredField<'a>,
+    words: &[ColourWord],
     shape: CellShape,
 ) -> Result<ValueStyles<'a>, Ending> {
-    match styles_with(alloc, names, colours, shape) {
+    let colours = colours_for(rt.alloc(), field, words)?;
+    put_colour_notes(rt, &colours)?;
+    match styles_with(rt.alloc(), field.values, &colours, shape) {
         Ok(styles) => Ok(styles),
         Err(_) => Err(Ending::Memory),
     }
+}
+
+/// The field that is named, or the only one, of a program the values of whose fields have these names.
+fn field_for<'a>(
+    alloc: Global,
+    program: &'a Program,
+    names: &'a [Vec<String>],
+    word: &Option<String>,
+) -> Result<ColouredField<'a>, Ending> {
+    let place = coloured_field(alloc, program, word)?;
+    Ok(ColouredField {
+        place,
+        name: program.field_name(place).unwrap_or(""),
+        values: names_of_field(names, place),
+    })
 }
 
 /// The shape of the cells of a picture: that of the grid on which the nodes stand by their links, where they are drawn as one.
@@ -212,14 +231,12 @@ fn styled_cells(
     rt: &HostRuntime,
     threads: &(impl Threads + Sync),
     plan: &PlanRef<'_>,
-    names: &[Vec<String>],
     asked: &ImageRequest,
-    field: u32,
+    field: ColouredField<'_>,
 ) -> Result<Vec<u8>, Ending> {
-    let names = names_of_field(names, field);
     let shape = shape_for(&plan.rows(), asked);
-    let styles = styles_for(rt.alloc(), names, &asked.colours, shape)?;
-    let drawing = drawing_of(asked, field, &styles);
+    let styles = styles_for(rt, field, &asked.colours, shape)?;
+    let drawing = drawing_of(asked, field.place, &styles);
     let drawn = drawn_cells(rt, threads, plan, asked, &drawing);
     picture_in(rt.alloc(), drawn)
 }
@@ -232,8 +249,8 @@ fn cells_of(
     names: &[Vec<String>],
     asked: &ImageRequest,
 ) -> Result<Vec<u8>, Ending> {
-    let field = coloured_field(rt.alloc(), plan.program(), &asked.field)?;
-    styled_cells(rt, threads, plan, names, asked, field)
+    let field = field_for(rt.alloc(), plan.program(), names, &asked.field)?;
+    styled_cells(rt, threads, plan, asked, field)
 }
 
 /// The picture of a plan's network, coloured by a field.
@@ -242,11 +259,10 @@ fn styled_network(
     threads: &(impl Threads + Sync),
     named: &NamedPlan,
     asked: &ImageRequest,
-    field: u32,
+    field: ColouredField<'_>,
 ) -> Result<Vec<u8>, Ending> {
-    let names = names_of_field(&named.names, field);
-    let styles = styles_for(rt.alloc(), names, &asked.colours, CellShape::Square)?;
-    let drawing = drawing_of(asked, field, &styles);
+    let styles = styles_for(rt, field, &asked.colours, CellShape::Square)?;
+    let drawing = drawing_of(asked, field.place, &styles);
     let drawn = drawn_network(rt, threads, &named.plan, asked, &drawing);
     picture_in(rt.alloc(), drawn)
 }
@@ -258,7 +274,7 @@ fn network_picture_of(
     named: &NamedPlan,
     asked: &ImageRequest,
 ) -> Result<Vec<u8>, Ending> {
-    let field = coloured_field(rt.alloc(), named.plan.program(), &asked.field)?;
+    let field = field_for(rt.alloc(), named.plan.program(), &named.names, &asked.field)?;
     styled_network(rt, threads, named, asked, field)
 }
 
@@ -295,12 +311,11 @@ fn round_texts(
     threads: &(impl Threads + Sync),
     named: &NamedPlan,
     asked: &ImageRequest,
-    field: u32,
+    field: ColouredField<'_>,
 ) -> Result<Vec<Vec<u8>>, Ending> {
-    let names = names_of_field(&named.names, field);
     let shape = shape_for(&named.plan.network().rows(), asked);
-    let styles = styles_for(rt.alloc(), names, &asked.colours, shape)?;
-    let drawing = drawing_of(asked, field, &styles);
+    let styles = styles_for(rt, field, &asked.colours, shape)?;
+    let drawing = drawing_of(asked, field.place, &styles);
     drawn_in_rounds(rt, threads, &named.plan, asked, &drawing)
 }
 
@@ -318,7 +333,7 @@ fn put_rounds(
     threads: &(impl Threads + Sync),
     named: &NamedPlan,
     asked: &ImageRequest,
-    field: u32,
+    field: ColouredField<'_>,
     files: &RoundFiles,
 ) -> Result<u8, Ending> {
     let texts = round_texts(rt, threads, named, asked, field)?;
@@ -332,7 +347,7 @@ fn put_coloured(
     threads: &(impl Threads + Sync),
     named: &NamedPlan,
     asked: &ImageRequest,
-    field: u32,
+    field: ColouredField<'_>,
     folder: &str,
 ) -> Result<u8, Ending> {
     let files = files_in(rt, asked, folder)?;
@@ -347,7 +362,7 @@ fn put_files_of(
     asked: &ImageRequest,
     folder: &str,
 ) -> Result<u8, Ending> {
-    let field = coloured_field(rt.alloc(), named.plan.program(), &asked.field)?;
+    let field = field_for(rt.alloc(), named.plan.program(), &named.names, &asked.field)?;
     put_coloured(rt, threads, named, asked, field, folder)
 }
 
@@ -373,7 +388,7 @@ fn set_width(rt: &HostRuntime, rows: &NetRows<'_>, asked: &mut ImageRequest) -> 
         let width = grid_width(rt, rows, grid)?;
         asked.grid = Some(GridWidth::Given(width));
     }
-    put_colour_notes(rt, &asked.colours)
+    Ok(())
 }
 
 /// Prints the picture of a network file's network, or writes those of all rounds into files. The status with which the program
@@ -431,13 +446,12 @@ fn labelled(
     threads: &(impl Threads + Sync),
     named: &NamedPlan,
     asked: &DotRequest,
-    field: u32,
+    field: ColouredField<'_>,
     labels: &[String],
 ) -> Result<Vec<u8>, Ending> {
-    let names = names_of_field(&named.names, field);
-    let styles = styles_for(rt.alloc(), names, &asked.colours, CellShape::Square)?;
+    let styles = styles_for(rt, field, &asked.colours, CellShape::Square)?;
     let colouring = Colouring {
-        field,
+        field: field.place,
         styles: &styles,
     };
     let (alloc, plan, round) = (rt.alloc(), &named.plan, asked.round);
@@ -453,7 +467,7 @@ fn network_of(
     asked: &DotRequest,
 ) -> Result<Vec<u8>, Ending> {
     let plan = &named.plan;
-    let field = coloured_field(rt.alloc(), plan.program(), &asked.field)?;
+    let field = field_for(rt.alloc(), plan.program(), &named.names, &asked.field)?;
     let labels = labels_at(rt, Format::Report, &asked.names, plan.network().nodes())?;
     labelled(rt, threads, named, asked, field, &labels)
 }
@@ -476,7 +490,6 @@ fn put_dot(
 ) -> Result<u8, Ending> {
     read_plan_once(rt.alloc(), &asked.plan, path_in(&asked.names), "", "")?;
     let text = network_for(rt, threads, asked)?;
-    put_colour_notes(rt, &asked.colours)?;
     print_out(rt, &text)
 }
 

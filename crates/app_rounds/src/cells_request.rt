@@ -1,6 +1,7 @@
 //! `cells`: the states of a report as a pattern of cells.
 ghost use Rattle.std.specs.Prelude.{◌≤◌, IfOk};
 
+use crate::window::{WINDOW, Window, window_in};
 use app_commands::{FILE, QUIET, QUIET_ARGUMENT, WIDTH};
 use app_table::{Argument, Choice, Command, Kind, OPTION, Reading, Value, WordsFault};
 use link_net::MOST_NODES;
@@ -75,7 +76,7 @@ static CELLS: Command = Command {
     called: "unison cells",
     about: "Print the states of a report on a grid as a pattern of cells",
     notes: "Prints a pattern as Golly reads it, and init --cells: runs (RLE) of two states where all values are 0 and 1, else of many, or rows of plain text.\nAn example: unison lockstep examples/life.rules examples/glider.toml --rounds 8 | unison cells - --width 8 > later.rle\n",
-    arguments: &[REPORT, GRID_WIDTH, FIELD, FORMAT, RULE, QUIET],
+    arguments: &[REPORT, GRID_WIDTH, WINDOW, FIELD, FORMAT, RULE, QUIET],
     subcommands: &[],
 };
 
@@ -100,6 +101,8 @@ pub struct CellsRequest {
     pub report: String,
     /// How many columns the grid has.
     pub width: u32,
+    /// The part of the grid that is written, where it is not all of it.
+    pub window: Option<Window>,
     /// The field whose values are the states, where one is named.
     pub field: Option<String>,
     pub format: CellsFormat,
@@ -141,6 +144,7 @@ fn request_in(reading: &mut Reading) -> CellsRequest
     ensures width { (1 ≤ result.width) × (result.width ≤ MOST_NODES) }
 {
     let width = reading.number_or(&GRID_WIDTH_ARGUMENT, 1);
+    let window = window_in(reading);
     let format = format_in(reading);
     let rule = rule_in(reading, format);
     let field = reading.text(&FIELD_ARGUMENT);
@@ -148,6 +152,7 @@ fn request_in(reading: &mut Reading) -> CellsRequest
     CellsRequest {
         report,
         width,
+        window,
         field,
         format,
         rule,

@@ -2,10 +2,10 @@
 ghost use Rattle.std.specs.Prelude.{IfSome};
 ghost use Rattle.app_rounds.specs.Requests.{HasRuns};
 
-use crate::count_request::{CountRequest, FigureWord, UntilWord, ValueWord};
+use crate::count_request::{CountRequest, FigureWord, UntilWord};
 use crate::count_runs::runs_text;
 use app_commands::{Telling, no_rounds, put_note, read_run_once, source_at, threads_for};
-use app_files::{Ending, coloured_field, field_place, names_of_field, print_out, value_named};
+use app_files::{Ending, coloured_field, field_place, names_of_field, print_out};
 use rounds_walk::PlanRef;
 use rule_check::Program;
 use run_counts::{CountFormat, Counting, Figure, FigureKind, Holders, Until, counted};
@@ -48,20 +48,6 @@ fn figures_for(
     Ok(figures)
 }
 
-/// The value that a word of `--until` names, of a field whose values have these names.
-fn until_value(alloc: Global, names: &[String], word: &UntilWord) -> Result<u32, Ending> {
-    match &word.value {
-        ValueWord::Number(value) => Ok(*value),
-        ValueWord::Name(name) => value_named(
-            alloc,
-            "--until",
-            word.field.as_str(),
-            names,
-            name.as_str(),
-        ),
-    }
-}
-
 /// When the rounds end by a word of `--until`; the values of fields have these names.
 fn until_of(
     alloc: Global,
@@ -70,7 +56,10 @@ fn until_of(
     word: &UntilWord,
 ) -> Result<Option<Until>, Ending> {
     let field = field_place(alloc, program, "--until", word.field.as_str())?;
-    let value = until_value(alloc, names_of_field(names, field), word)?;
+    let names = names_of_field(names, field);
+    let value = word
+        .value
+        .value(alloc, "--until", word.field.as_str(), names)?;
     let holders = word.holders.unwrap_or(Holders::NoNode);
     Ok(Some(Until {
         holders,
@@ -197,11 +186,11 @@ fn text_for<R: Threads + Sync>(
     threads: &R,
     asked: &CountRequest,
 ) -> Result<Vec<u8>, Ending>
-    requires runs { IfSome asked.now.runs.varied HasRuns }
+    requires runs { IfSome asked.now.runs.sweep HasRuns }
 {
-    match &asked.runs.varied {
+    match &asked.runs.sweep {
         None => run_text(rt, threads, asked),
-        Some(varied) => runs_text(rt, threads, asked, varied),
+        Some(sweep) => runs_text(rt, threads, asked, sweep),
     }
 }
 
@@ -231,7 +220,7 @@ fn put_counts<R: Threads + Sync>(
     threads: &R,
     asked: &CountRequest,
 ) -> Result<u8, Ending>
-    requires runs { IfSome asked.now.runs.varied HasRuns }
+    requires runs { IfSome asked.now.runs.sweep HasRuns }
 {
     read_run_once(rt.alloc(), &asked.runs.texts, "")?;
     note_words(rt, asked)?;

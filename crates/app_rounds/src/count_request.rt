@@ -3,13 +3,15 @@ ghost use Rattle.std.specs.Prelude.{IfOk, IfSome};
 ghost use Rattle.app_commands.specs.Requests.{AreThreadsWithin};
 ghost use Rattle.app_rounds.specs.Requests.{HasRuns};
 
-use crate::varied::{RunConstants, VARIED, Varied, run_constants_in};
+use crate::sweep::{MEAN, OVER, Sweep, sweep_in};
+use crate::varied::{RunConstants, VARIED, is_varied, run_constants_in};
 use app_commands::{
-    EVERY, FIELD, FIELD_ARGUMENT, FLAG, FROM, NETWORK, OVERLAP, PROGRAM, PlanPaths, QUIET,
+    EVERY, FIELD, FIELD_ARGUMENT, FROM, NETWORK, OVERLAP, PROGRAM, PlanPaths, QUIET,
     QUIET_ARGUMENT, ROUNDS, RunTexts, SEED, SEQUENTIAL, SET, SET_FILE, SET_NAMES, SET_RANDOM,
-    THREADS, span_in,
+    THREADS, given_seed, span_in, value_word,
 };
-use app_table::{Argument, Choice, Command, Kind, OPTION, Reading, Value, WordsFault, number};
+use app_files::{VALUE_WORDS, ValueWord};
+use app_table::{Argument, Choice, Command, Kind, OPTION, Reading, Value, WordsFault};
 use run_counts::{CountFormat, FigureKind, Holders};
 use run_watch::Span;
 use std::alloc::Global;
@@ -22,7 +24,7 @@ const COUNTED: Argument = Argument {
 const UNTIL: Argument = Argument {
     name: "until",
     value_name: "none:FIELD=VALUE",
-    help: "End after the first shown round in which no node has this value in this field, or with all:FIELD=VALUE every node: a number, or the name of a state; FIELD=VALUE alone is none:FIELD=VALUE",
+    help: "End after the first shown round in which no node has this value in this field, or with all:FIELD=VALUE every node: a number, none, or the name of a state; FIELD=VALUE alone is none:FIELD=VALUE",
     ..OPTION
 };
 
@@ -83,14 +85,12 @@ const FORMAT: Argument = Argument {
 /// `FORMAT`, as it is read.
 static FORMAT_ARGUMENT: Argument = FORMAT;
 
-const MEAN: Argument = Argument {
-    name: "mean",
-    help: "In place of each run the means of them all, where --const gives a constant several values: for each round how many runs there are, with --until how many of them go on to it, and for each column the mean and the standard deviation of the sample; a run that has ended keeps its last numbers",
-    ..FLAG
+/// `SET_RANDOM` where runs of several seeds draw nodes by them.
+const DRAWN: Argument = Argument {
+    help: "Give a field of so many nodes, or of a share of all as 5%, an initial value, a number, none, or the name of a state; they are drawn by --seed, and without it by the constant seed of each run; as often as wanted",
+    needs: None,
+    ..SET_RANDOM
 };
-
-/// `MEAN`, as it is read.
-static MEAN_ARGUMENT: Argument = MEAN;
 
 /// `count` and what it takes.
 static COUNT: Command = Command {
@@ -100,8 +100,8 @@ static COUNT: Command = Command {
     about: "Count how many nodes have each value, round by round, with sums and extremes",
     notes: "Prints, for the rounds FIRST, FIRST + K, FIRST + 2 K and so on, up to LAST, how many nodes have each value of a field: a column for each state of the field, and for each value that occurs, or lines of round, value and nodes where there are more than 64.\nAn example: unison count examples/life.rules examples/glider.toml --rounds 0..4\nAnother one: unison count examples/distance.rules examples/path.toml --rounds 0..9 --until none:dist=4294967295\nThree runs of a model, with one of its constants at three values: unison count examples/models/pagerank.model examples/cookbook/pagerank.toml --rounds 100..100 --field rank --most rank --const passed_on=80,85,90\n",
     arguments: &[
-        PROGRAM, NETWORK, ROUNDS, EVERY, COUNTED, UNTIL, SUM, LEAST, MOST, FORMAT, MEAN, FROM, SET,
-        SET_FILE, SET_NAMES, SET_RANDOM, OVERLAP, SEED, THREADS, SEQUENTIAL, VARIED, QUIET,
+        PROGRAM, NETWORK, ROUNDS, EVERY, COUNTED, UNTIL, SUM, LEAST, MOST, FORMAT, MEAN, OVER,
+        FROM, SET, SET_FILE, SET_NAMES, DRAWN, OVERLAP, SEED, THREADS, SEQUENTIAL, VARIED, QUIET,
     ],
     subcommands: &[],
 };
@@ -118,14 +118,6 @@ pub struct FigureWord {
     pub field: String,
 }
 
-/// A value of a field, as it is written.
-#[derive(Drop)]
-pub enum ValueWord {
-    Number(u32),
-    /// What may be the name of a state: it begins with a letter.
-    Name(String),
-}
-
 /// A word of `--until`: `none:FIELD=VALUE`, `all:FIELD=VALUE`, or `FIELD=VALUE`, which is the first of them.
 #[derive(Drop)]
 pub struct UntilWord {
@@ -140,10 +132,8 @@ pub struct UntilWord {
 pub struct RunsWords {
     /// What each run begins with, with the constants that have one value.
     pub texts: RunTexts,
-    /// The constant that has another value in each run; where there is none, one run is counted.
-    pub varied: Option<Varied>,
-    /// Whether the means of the runs are shown in place of each run: only where a constant has several values.
-    pub means: bool,
+    /// The runs by the constants that have several values; where there are none, one run is counted.
+    pub sweep: Option<Sweep>,
 }
 
 /// What `count` is asked for.
@@ -163,25 +153,6 @@ pub struct CountRequest {
     pub format: CountFormat,
     /// Whether notes are left out.
     pub quiet: bool,
-}
-
-/// Whether a word begins with a letter.
-fn begins_with_letter(word: &str) -> bool {
-    match word.as_bytes().first() {
-        Some(byte) => byte.is_ascii_alphabetic(),
-        None => false,
-    }
-}
-
-/// A value as it is written, where it is a number or may be a name.
-fn value_word(reading: &mut Reading, word: &str) -> Option<ValueWord> {
-    if let Some(value) = number(word, 0, 4_294_967_295) {
-        return Some(ValueWord::Number(value));
-    }
-    if begins_with_letter(word) {
-        return Some(ValueWord::Name(reading.copied(word)));
-    }
-    None
 }
 
 /// At which nodes a value is to stand by a word of `--until`, where the word says it, and what stands after that.
@@ -213,7 +184,7 @@ fn until_word(reading: &mut Reading, word: &str) -> Option<UntilWord> {
     let until = until_parts(reading, word);
     if until.is_none() {
         reading.refuse_as(format!(in reading.alloc();
-            "--until: expected none:FIELD=VALUE or all:FIELD=VALUE, with a whole number from 0 to 4294967295 or the name of a state after the first =, found `{word}`"
+            "--until: expected none:FIELD=VALUE or all:FIELD=VALUE, with {VALUE_WORDS} after the first =, found `{word}`"
         ));
     }
     until
@@ -283,36 +254,38 @@ fn format_in(reading: &mut Reading) -> CountFormat {
     }
 }
 
-/// Whether means are asked for, which is refused where no constant has several values.
-fn means_in(reading: &mut Reading, several: bool) -> bool {
-    let means = reading.has(&MEAN_ARGUMENT);
-    if means && !several {
+/// Refuses nodes that are drawn where nothing says by what.
+fn check_seed(reading: &mut Reading, texts: &RunTexts, has_seed: bool) {
+    if !texts.start.random.is_empty() && texts.start.seed.is_none() && !has_seed {
         reading.refuse_words(
-            "--mean: there are means of several runs alone; --const NAME=FIRST..LAST asks for them",
+            "--set-random: nodes are drawn by a seed, which --seed S says, or --const seed=FIRST..LAST for each run",
         );
     }
-    means
+}
+
+/// Whether the constant `seed` is given a value, or several.
+fn has_seed(constants: &RunConstants) -> bool {
+    given_seed(&constants.given).is_some() || is_varied(&constants.varied, "seed")
 }
 
 /// The runs that are asked for.
 fn runs_in(reading: &mut Reading) -> RunsWords
-    ensures runs { IfSome result.varied HasRuns }
+    ensures runs { IfSome result.sweep HasRuns }
     ensures threads { AreThreadsWithin result.texts }
 {
-    let RunConstants { given, varied } = run_constants_in(reading);
-    let means = means_in(reading, varied.is_some());
+    let constants = run_constants_in(reading);
+    let has_seed = has_seed(&constants);
+    let RunConstants { given, varied } = constants;
+    let sweep = sweep_in(reading, varied);
     let plan = PlanPaths::with(reading, given);
     let texts = RunTexts::with(reading, plan);
-    RunsWords {
-        texts,
-        varied,
-        means,
-    }
+    check_seed(reading, &texts, has_seed);
+    RunsWords { texts, sweep }
 }
 
 /// What plain words ask for, where they name rounds.
 fn request_in(reading: &mut Reading) -> Option<CountRequest>
-    ensures runs { IfSome result (λ r. IfSome r.runs.varied HasRuns) }
+    ensures runs { IfSome result (λ r. IfSome r.runs.sweep HasRuns) }
     ensures threads { IfSome result (λ r. AreThreadsWithin r.runs.texts) }
 {
     let figures = figures_in(reading);
@@ -335,7 +308,7 @@ fn request_in(reading: &mut Reading) -> Option<CountRequest>
 impl CountRequest {
     /// What the words ask for, the command's name first.
     pub fn parse(alloc: Global, line: &[String]) -> Result<CountRequest, WordsFault>
-        ensures runs { IfOk result (λ r. IfSome r.runs.varied HasRuns) }
+        ensures runs { IfOk result (λ r. IfSome r.runs.sweep HasRuns) }
         ensures threads { IfOk result (λ r. AreThreadsWithin r.runs.texts) }
     {
         let mut reading = Reading::of(alloc, count_command(), line)?;

@@ -1,17 +1,18 @@
-//! `count` of several runs of a model, in each of which a constant has another value.
+//! `count` of several runs of a model: one for each choice of the values of its constants that have several.
 ghost use Rattle.std.specs.Prelude.{◌≡◌, ◌≤◌, IfOk, length};
-ghost use Rattle.app_rounds.specs.Requests.{HasRuns};
-ghost use Rattle.run_counts.specs.Ensembles.{most_runs};
+ghost use Rattle.app_rounds.specs.Requests.{HasRuns, IsMeanSize};
 
 use crate::count::Counted;
 use crate::count_request::CountRequest;
 use crate::runs_telling::RunsTelling;
-use crate::varied::Varied;
-use app_commands::{Ground, PlanPaths, RunNetwork, RunTexts, ground_on, no_rounds, run_network};
-use app_files::{Ending, bytes_at, check_model, expanded_text, state_names};
+use crate::sweep::{Constants, Sweep, places_at, seed_among, settings_at};
+use app_commands::{
+    Ground, PlanPaths, ProgramText, RunNetwork, RunTexts, ground_on, no_rounds, run_network,
+};
+use app_files::{Ending, bytes_at, check_model, expanded_by, state_names};
 use model_rules::Given;
 use rounds_walk::PlanRef;
-use run_counts::{Counting, Ensemble, Variant, counted_runs, mean_counts};
+use run_counts::{Counting, Ensemble, Group, Setting, Variant, counted_runs, mean_counts};
 use std::alloc::{AllocError, Global};
 use std::thread::Threads;
 
@@ -19,94 +20,84 @@ use std::thread::Threads;
 #[derive(Drop)]
 struct Texts {
     model: Vec<u8>,
+    /// For each field of the model, in order, the names of its values.
+    names: Vec<Vec<String>>,
+    constants: Constants,
     network: RunNetwork,
 }
 
 /// A run that can be made.
 #[derive(Drop)]
 struct Run<'a> {
-    /// The value that the constant has in it.
-    value: u32,
+    /// The constants that have several values, with those that they have in it.
+    settings: Vec<Setting>,
     ground: Ground<'a>,
 }
 
 /// The texts at these paths; the program is to be a model.
-fn texts_at(rt: &HostRuntime, threads: &impl Threads, paths: &PlanPaths) -> Result<Texts, Ending> {
+fn texts_at(
+    rt: &HostRuntime,
+    threads: &impl Threads,
+    paths: &PlanPaths,
+    sweep: &Sweep,
+) -> Result<Texts, Ending> {
     check_model(rt.alloc(), paths.program.as_str())?;
     let model = bytes_at(rt, paths.program.as_str())?;
     let network = run_network(rt, threads, paths)?;
-    Ok(Texts { model, network })
+    let constants = Constants::of(rt.alloc(), &model, &paths.constants, &sweep.varied)?;
+    let names = state_names(rt.alloc(), paths.program.as_str(), &model)?;
+    Ok(Texts {
+        model,
+        names,
+        constants,
+        network,
+    })
 }
 
-/// Puts a constant with this value after the others.
-fn put_given(
-    constants: &mut Vec<Given>,
-    alloc: Global,
-    name: &str,
-    value: u32,
-) -> Result<(), AllocError> {
-    let name = String::from_str(alloc, name)?;
-    constants.push(Given { name, value })?;
-    Ok(())
-}
-
-/// The constants of a run: those of all runs, and after them the one that has this value.
-fn constants_with(
-    alloc: Global,
-    given: &[Given],
-    name: &str,
-    value: u32,
-) -> Result<Vec<Given>, AllocError> {
-    let mut constants = Vec::new(alloc);
-    for constant in given {
-        put_given(
-            &mut constants,
-            alloc,
-            constant.name.as_str(),
-            constant.value,
-        )?;
-    }
-    put_given(&mut constants, alloc, name, value)?;
-    Ok(constants)
-}
-
-/// The program of the run in which the constant of this name has this value.
-fn program_for(
-    alloc: Global,
-    paths: &PlanPaths,
-    model: &[u8],
-    name: &str,
-    value: u32,
-) -> Result<Vec<u8>, Ending> {
-    let constants = constants_with(alloc, &paths.constants, name, value)?;
-    expanded_text(alloc, paths.program.as_str(), model, &constants)
-}
-
-/// The run in which the constant of this name has this value.
-fn run_for<'a>(
+/// What a run goes over in which the constants have these values.
+fn ground_for<'a>(
     rt: &HostRuntime,
     asked: &RunTexts,
     texts: &'a Texts,
-    name: &str,
-    value: u32,
-) -> Result<Run<'a>, Ending> {
-    let program = program_for(rt.alloc(), &asked.plan, &texts.model, name, value)?;
-    let ground = ground_on(rt, asked, &program, &texts.network)?;
-    Ok(Run { value, ground })
+    constants: &[Given],
+) -> Result<Ground<'a>, Ending> {
+    let path = asked.plan.program.as_str();
+    let program = expanded_by(rt.alloc(), path, &texts.model, constants)?;
+    let text = ProgramText {
+        text: &program,
+        names: &texts.names,
+        seed: asked.start.seed.or(seed_among(constants)).unwrap_or(0),
+    };
+    ground_on(rt, asked, text, &texts.network)
 }
 
-/// The runs of these texts, one for each value of the constant.
+/// The run of a sweep at a place, counted from 0.
+fn run_at<'a>(
+    rt: &HostRuntime,
+    asked: &RunTexts,
+    texts: &'a Texts,
+    sweep: &Sweep,
+    place: usize,
+) -> Result<Run<'a>, Ending> {
+    let places = places_at(rt.alloc(), sweep, place)?;
+    let settings = settings_at(rt.alloc(), &sweep.varied, &places)?;
+    let constants = texts.constants.at(rt.alloc(), &places)?;
+    let ground = ground_for(rt, asked, texts, &constants)?;
+    Ok(Run { settings, ground })
+}
+
+/// The runs of a sweep, in their order.
 fn runs_of<'a>(
     rt: &HostRuntime,
     asked: &RunTexts,
     texts: &'a Texts,
-    varied: &Varied,
+    sweep: &Sweep,
 ) -> Result<Vec<Run<'a>>, Ending>
-    ensures each { IfOk result (λ runs. length runs.items ≡ length varied.now.values.items) }
+    ensures each { IfOk result (λ runs. length runs.items ≡ sweep.now.runs) }
 {
     let mut runs = Vec::new(rt.alloc());
-    for value in &varied.values {
-        let run = run_for(rt, asked, texts, varied.name.as_str(), *value)?;
+    for place in 0..sweep.runs {
+        let run = run_at(rt, asked, texts, sweep, place)?;
         runs.push(run)?;
     }
     Ok(runs)
@@ -115,7 +106,7 @@ fn runs_of<'a>(
 /// A run, lent.
 #[derive(Drop)]
 struct LentRun<'a> {
-    value: u32,
+    settings: &'a [Setting],
     plan: PlanRef<'a>,
 }
 
@@ -125,8 +116,9 @@ fn lent_runs<'a>(alloc: Global, runs: &'a [Run<'_>]) -> Result<Vec<LentRun<'a>>,
 {
     let mut lent = Vec::with_capacity(alloc, runs.len())?;
     for run in runs {
-        let (value, plan) = (run.value, run.ground.lent(alloc)?);
-        lent.push(LentRun { value, plan })?;
+        let settings = run.settings.as_slice();
+        let plan = run.ground.lent(alloc)?;
+        lent.push(LentRun { settings, plan })?;
     }
     Ok(lent)
 }
@@ -137,15 +129,69 @@ fn variants_of<'a>(alloc: Global, runs: &'a [LentRun<'a>]) -> Result<Vec<Variant
 {
     let mut variants = Vec::with_capacity(alloc, runs.len())?;
     for run in runs {
-        let value = run.value;
+        let settings = run.settings;
         let plan = &run.plan;
-        variants.push(Variant { value, plan })?;
+        variants.push(Variant { settings, plan })?;
     }
     Ok(variants)
 }
 
-/// The text of runs, of each or of their means, counted so.
-fn ensemble_text<R: Threads + Sync>(
+/// The settings without the last one, over whose values means are.
+fn without_last(settings: &[Setting]) -> &[Setting] {
+    match settings {
+        [others @ .., _] => others,
+        [] => &[],
+    }
+}
+
+/// The groups of so many runs each of which means are.
+fn groups_of<'a>(
+    alloc: Global,
+    runs: &[LentRun<'a>],
+    size: usize,
+) -> Result<Vec<Group<'a>>, AllocError>
+    requires some { 1 ≤ size }
+{
+    let mut groups = Vec::new(alloc);
+    for (place, run) in runs.iter().enumerate() {
+        if place % size == 0 {
+            let settings = without_last(run.settings);
+            groups.push(Group { settings })?;
+        }
+    }
+    Ok(groups)
+}
+
+/// The text of runs, each counted so.
+fn runs_counted<R: Threads + Sync>(
+    rt: &HostRuntime,
+    threads: &R,
+    asked: &CountRequest,
+    counting: &Counting<'_>,
+    variants: &[Variant<'_>],
+) -> Result<Vec<u8>, Ending>
+    requires some { 1 ≤ length variants.now }
+{
+    let ensemble = Ensemble {
+        variants,
+        groups: &[],
+        size: 0,
+    };
+    let telling = RunsTelling::new(rt, variants.len());
+    let text = counted_runs(
+        threads,
+        rt.alloc(),
+        &ensemble,
+        &asked.span,
+        counting,
+        &telling,
+    );
+    telling.end();
+    text.map_err(no_rounds)
+}
+
+/// The text of the means of so many runs each, counted so.
+fn means_counted<R: Threads + Sync>(
     rt: &HostRuntime,
     threads: &R,
     asked: &CountRequest,
@@ -153,36 +199,62 @@ fn ensemble_text<R: Threads + Sync>(
     ensemble: &Ensemble<'_>,
 ) -> Result<Vec<u8>, Ending>
     requires some { 1 ≤ length ensemble.now.variants.now }
-    requires few { length ensemble.now.variants.now ≤ most_runs }
+    requires size { IsMeanSize ensemble.now.size }
 {
-    let (alloc, span) = (rt.alloc(), &asked.span);
     let telling = RunsTelling::new(rt, ensemble.variants.len());
-    let text = if asked.runs.means {
-        mean_counts(threads, alloc, ensemble, span, counting, &telling)
-    } else {
-        counted_runs(threads, alloc, ensemble, span, counting, &telling)
-    };
+    let text = mean_counts(
+        threads,
+        rt.alloc(),
+        ensemble,
+        &asked.span,
+        counting,
+        &telling,
+    );
     telling.end();
     text.map_err(no_rounds)
 }
 
-/// Whether one of the names is this one.
-fn has_name(names: &[String], name: &str) -> bool {
-    for other in names {
-        if other.as_str() == name {
+/// Whether one of the names is that of a constant.
+fn has_setting(names: &[String], settings: &[Setting]) -> bool {
+    for setting in settings {
+        if names
+            .iter()
+            .any(|name| name.as_str() == setting.name.as_str())
+        {
             return true;
         }
     }
     false
 }
 
-/// The names by which columns are called: none where the constant that varies, whose column stands before them, has one of
-/// them.
-fn column_names<'a>(names: &'a [String], constant: &str) -> &'a [String] {
-    if has_name(names, constant) {
+/// The names by which columns are called: none where a constant, whose column stands before them, has one of them.
+fn column_names<'a>(names: &'a [String], settings: &[Setting]) -> &'a [String] {
+    if has_setting(names, settings) {
         return &[];
     }
     names
+}
+
+/// The text of the means of these runs, of so many each, counted so.
+fn groups_text<'a, R: Threads + Sync>(
+    rt: &HostRuntime,
+    threads: &R,
+    asked: &CountRequest,
+    counting: &Counting<'_>,
+    runs: &'a [LentRun<'a>],
+    size: usize,
+) -> Result<Vec<u8>, Ending>
+    requires some { 1 ≤ length runs.now }
+    requires size { IsMeanSize size }
+{
+    let variants = variants_of(rt.alloc(), runs)?;
+    let groups = groups_of(rt.alloc(), runs, size)?;
+    let ensemble = Ensemble {
+        variants: &variants,
+        groups: &groups,
+        size,
+    };
+    means_counted(rt, threads, asked, counting, &ensemble)
 }
 
 /// The text of these runs, counted so.
@@ -190,79 +262,59 @@ fn variants_text<'a, R: Threads + Sync>(
     rt: &HostRuntime,
     threads: &R,
     asked: &CountRequest,
-    name: &str,
     counting: &Counting<'_>,
     runs: &'a [LentRun<'a>],
 ) -> Result<Vec<u8>, Ending>
     requires some { 1 ≤ length runs.now }
-    requires few { length runs.now ≤ most_runs }
 {
     let variants = variants_of(rt.alloc(), runs)?;
-    let ensemble = Ensemble {
-        name,
-        variants: &variants,
-    };
-    ensemble_text(rt, threads, asked, counting, &ensemble)
+    runs_counted(rt, threads, asked, counting, &variants)
 }
 
-/// The text of these runs, of which the first says which fields there are; their values have these names.
+/// The text of these runs of a sweep, of which the first says which fields there are; their values have these names.
 fn text_of<R: Threads + Sync>(
     rt: &HostRuntime,
     threads: &R,
     asked: &CountRequest,
-    name: &str,
+    sweep: &Sweep,
     names: &[Vec<String>],
     runs: &[Run<'_>],
 ) -> Result<Vec<u8>, Ending>
     requires some { 1 ≤ length runs.now }
-    requires few { length runs.now ≤ most_runs }
+    requires runs { HasRuns sweep.now }
 {
     let lent = lent_runs(rt.alloc(), runs)?;
     let found = Counted::of(rt.alloc(), lent[0].plan.program(), names, asked)?;
-    let counting = found.counting(column_names(found.names_among(names), name));
-    variants_text(rt, threads, asked, name, &counting, &lent)
+    let counting = found.counting(column_names(found.names_among(names), lent[0].settings));
+    match sweep.means {
+        Some(size) => groups_text(rt, threads, asked, &counting, &lent, size),
+        None => variants_text(rt, threads, asked, &counting, &lent),
+    }
 }
 
-/// The text of these runs of the model of this text.
-fn model_text<R: Threads + Sync>(
-    rt: &HostRuntime,
-    threads: &R,
-    asked: &CountRequest,
-    name: &str,
-    model: &[u8],
-    runs: &[Run<'_>],
-) -> Result<Vec<u8>, Ending>
-    requires some { 1 ≤ length runs.now }
-    requires few { length runs.now ≤ most_runs }
-{
-    let names = state_names(rt.alloc(), asked.runs.texts.plan.program.as_str(), model)?;
-    text_of(rt, threads, asked, name, &names, runs)
-}
-
-/// The text of the runs of these texts, one for each value of a constant.
+/// The text of the runs of a sweep of these texts.
 fn texts_text<R: Threads + Sync>(
     rt: &HostRuntime,
     threads: &R,
     asked: &CountRequest,
-    varied: &Varied,
+    sweep: &Sweep,
     texts: &Texts,
 ) -> Result<Vec<u8>, Ending>
-    requires runs { HasRuns varied.now }
+    requires runs { HasRuns sweep.now }
 {
-    let runs = runs_of(rt, &asked.runs.texts, texts, varied)?;
-    let name = varied.name.as_str();
-    model_text(rt, threads, asked, name, &texts.model, &runs)
+    let runs = runs_of(rt, &asked.runs.texts, texts, sweep)?;
+    text_of(rt, threads, asked, sweep, &texts.names, &runs)
 }
 
-/// The text of the runs that are asked for, one for each value of a constant.
+/// The text of the runs that are asked for, one for each choice of the values of the constants that have several.
 pub(crate) fn runs_text<R: Threads + Sync>(
     rt: &HostRuntime,
     threads: &R,
     asked: &CountRequest,
-    varied: &Varied,
+    sweep: &Sweep,
 ) -> Result<Vec<u8>, Ending>
-    requires runs { HasRuns varied.now }
+    requires runs { HasRuns sweep.now }
 {
-    let texts = texts_at(rt, threads, &asked.runs.texts.plan)?;
-    texts_text(rt, threads, asked, varied, &texts)
+    let texts = texts_at(rt, threads, &asked.runs.texts.plan, sweep)?;
+    texts_text(rt, threads, asked, sweep, &texts)
 }

@@ -1,7 +1,9 @@
 //! `cells REPORT --width W`: the states of a report as a pattern of cells.
+ghost use Rattle.std.specs.Prelude.{◌≤◌};
 
 use crate::cells_request::{CellsFormat, CellsRequest};
 use crate::csv_text::table_of;
+use crate::window::{Window, window_values};
 use app_commands::{asked_by, put_note};
 use app_files::{Ending, bytes_at, name_at, print_out};
 use app_table::Draft;
@@ -94,13 +96,22 @@ fn great_value(
     }
 }
 
+/// What is told where there are more cells than a pattern has.
+fn too_many(alloc: Global) -> Result<String, AllocError> {
+    String::from_str(
+        alloc,
+        "cells TooMany\na pattern has at most 65536 cells, dead ones among them; --window X,Y,W,H writes a part of the grid",
+    )
+}
+
 /// The ending where values are no pattern.
 fn no_pattern(alloc: Global, fault: ValueFault, format: CellsFormat) -> Ending {
     match fault {
         ValueFault::TooGreat { node, value } => {
             Ending::refused(great_value(alloc, node, value, format))
         }
-        ValueFault::TooMany | ValueFault::Memory => Ending::Memory,
+        ValueFault::TooMany => Ending::refused(too_many(alloc)),
+        ValueFault::Memory => Ending::Memory,
     }
 }
 
@@ -111,15 +122,56 @@ fn no_rows(alloc: Global, nodes: usize, width: u32) -> Ending {
     ))
 }
 
+/// The pattern of whole rows of values of this width.
+fn rows_pattern(
+    alloc: Global,
+    values: &[u32],
+    width: u32,
+    format: CellsFormat,
+) -> Result<Vec<u8>, Ending>
+    requires width { 1 ≤ width }
+{
+    match grid_pattern(alloc, values, width, pattern_format(format)) {
+        Ok(text) => Ok(text),
+        Err(fault) => Err(no_pattern(alloc, fault, format)),
+    }
+}
+
+/// The fault of a part of a grid of this width, with the node as the grid has it.
+fn placed(fault: ValueFault, width: u32, window: Window) -> ValueFault {
+    match fault {
+        ValueFault::TooGreat { node, value } => ValueFault::TooGreat {
+            node: window.node_at(width, node),
+            value,
+        },
+        fault => fault,
+    }
+}
+
+/// The pattern of a part of values of this width.
+fn part_pattern(
+    alloc: Global,
+    values: &[u32],
+    asked: &CellsRequest,
+    window: Window,
+) -> Result<Vec<u8>, Ending> {
+    let part = window_values(alloc, values, asked.width, window)?;
+    let (columns, format) = (window.columns.max(1), pattern_format(asked.format));
+    match grid_pattern(alloc, &part, columns, format) {
+        Ok(text) => Ok(text),
+        Err(fault) => Err(no_pattern(alloc, placed(fault, asked.width, window), asked.format)),
+    }
+}
+
 /// The pattern of values, whose header names no rule.
 fn plain_pattern(alloc: Global, values: &[u32], asked: &CellsRequest) -> Result<Vec<u8>, Ending> {
     let width = asked.width.max(1);
     if values.len() % width as usize != 0 {
         return Err(no_rows(alloc, values.len(), width));
     }
-    match grid_pattern(alloc, values, width, pattern_format(asked.format)) {
-        Ok(text) => Ok(text),
-        Err(fault) => Err(no_pattern(alloc, fault, asked.format)),
+    match asked.window {
+        Some(window) => part_pattern(alloc, values, asked, window),
+        None => rows_pattern(alloc, values, width, asked.format),
     }
 }
 

@@ -1,7 +1,7 @@
 -- Lines of means.
 use Rattle.std.proofs.Common.{◌≡◌, ◌∙◌, ◌≤◌, ◌-◌, ◌++◌, ℕ, zero, suc, List, [], ◌∷◌, Global, String, Bool, true, false, if◌then◌else◌, Option, Some, None, Result, Ok, Err, OnOk, All, ap, append_assoc, arith, inl, inr, is_ok, length, length-append, map, min, refl, subst, sym}
 use Rattle.std.proofs.lemmas.Option.{slice_get_cases}
-use Rattle.std.specs.List.{AllZip, flat_map}
+use Rattle.std.specs.List.{flat_map}
 use Rattle.std.specs.Option.{option_or, option_to_list}
 use Rattle.std.specs.Prelude.{slice_get}
 use Rattle.run_watch.specs.declared.fault.WatchFault.{WatchFault}
@@ -32,18 +32,18 @@ behind format labels names columns until total rows n =
     runs_cells format until total n ++ (flat_map (λ (c : Column). mean_cells format labels names c (map (number_in c) rows)) columns ++ line_end format)
 
 -- the line of a round to which some runs go on, the first of them in this round
-pub line_is : (format : CountFormat) (labels : List (String Global)) (names : List (List ℕ)) (columns : List Column) (until : Option Until) (total : ℕ) (going rows : List RowView) (t : ℕ)
+pub line_is : (format : CountFormat) (head : List ℕ) (labels : List (String Global)) (names : List (List ℕ)) (columns : List Column) (until : Option Until) (total : ℕ) (going rows : List RowView) (t : ℕ)
     → slice_get (map (λ (r : RowView). r.round) going) 0 ≡ Some t
-    → mean_text format labels names columns until total going rows
-    ≡ line_start format [] t
+    → mean_text format head labels names columns until total going rows
+    ≡ line_start format head t
     ++ (runs_cells format until total (length (map (λ (r : RowView). r.round) going))
     ++ (flat_map (λ (c : Column). mean_cells format labels names c (map (number_in c) rows)) columns ++ line_end format))
-line_is format labels names columns until total [] rows t first = let none : None ≡ Some t = first in absurd cc
-line_is format labels names columns until total (row ∷ going) rows t first =
+line_is format head labels names columns until total [] rows t first = let none : None ≡ Some t = first in absurd cc
+line_is format head labels names columns until total (row ∷ going) rows t first =
     let some : Some row.round ≡ Some t = first in
     let same : row.round ≡ t = cc in
-    ap (λ (r : ℕ). line_start format [] r ++ behind format labels names columns until total rows (length (row ∷ going))) same
-    ∙ ap (λ (n : ℕ). line_start format [] t ++ behind format labels names columns until total rows n) (sym (counted (row ∷ going)))
+    ap (λ (r : ℕ). line_start format head r ++ behind format labels names columns until total rows (length (row ∷ going))) same
+    ∙ ap (λ (n : ℕ). line_start format head t ++ behind format labels names columns until total rows n) (sym (counted (row ∷ going)))
 
 -- where a run goes on, a row stands for it
 held_of : (rows : List RowView) (place : ℕ) → length (option_to_list (slice_get rows place)) ≤ length (option_to_list (held_row place rows))
@@ -77,13 +77,6 @@ all_fit span counting [] none k d inside = absurd (omega (arith, inside))
 all_fit span counting (v ∷ variants) none zero d inside = (neither (refusal_of v.plan.now span counting) (refusal_in span counting variants) none).0
 all_fit span counting (v ∷ variants) none (suc k) d inside =
     all_fit span counting variants (neither (refusal_of v.plan.now span counting) (refusal_in span counting variants) none).1 k d (omega (arith, inside))
-
--- lists that match are as long
-pub as_many : {A B : Type 0} (R : A → B → Type 0) (xs : List A) (ys : List B) → AllZip R xs ys → length xs ≡ length ys
-as_many R [] [] all = refl
-as_many R [] (y ∷ ys) all = absurd all
-as_many R (x ∷ xs) [] all = absurd all
-as_many R (x ∷ xs) (y ∷ ys) all = ap suc (as_many R xs ys all.1)
 
 -- parts that are put one after the other are their text
 pub put_in_turn : (before a b c d : List ℕ) → (((before ++ a) ++ b) ++ c) ++ d ≡ before ++ (a ++ (b ++ (c ++ d)))

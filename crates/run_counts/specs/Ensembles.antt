@@ -6,22 +6,23 @@ use Rattle.rule_check.specs.Value.{names_of}
 use Rattle.run_watch.specs.declared.fault.WatchFault.{WatchFault}
 use Rattle.run_watch.specs.Spans.{SpanView}
 use Rattle.run_counts.specs.declared.asked.Counting.{Counting}
+use Rattle.run_counts.specs.declared.ensemble.Setting.{Setting}
 use Rattle.run_counts.specs.declared.ensemble.Variant.{Variant}
 use Rattle.run_counts.specs.Rows.{AreRows, RowView}
 use Rattle.run_counts.specs.Counts.{refusal_of}
 
--- so many runs are counted together at most
+-- there is a mean of so many runs at most
 abbrev pub most_runs : ℕ
 most_runs = 1000
 
--- a run that is counted: the value by which it is told from the others, and the rounds that are counted
+-- a run that is counted: what varies, with its values, and the rounds that are counted
 pub record RunView : Type 0 where
-  pub value : ℕ
+  pub settings : List Setting
   pub rows : List RowView
 
 -- the run is that of a variant, counted by itself
 pub record IsRunOf (span : SpanView) (counting : Counting) (variant : Variant) (run : RunView) : Type 0 where
-  pub value : run.value ≡ variant.value
+  pub settings : run.settings ≡ variant.settings.now
   pub rows : AreRows variant.plan.now span counting run.rows
 
 -- the rounds that are counted, of one run after the other

@@ -5,5 +5,6 @@ pub mod MeanTables
 pub mod Records
 pub mod Rows
 pub mod RunTables
+pub mod Settings
 pub mod Spread
 pub mod Tables

@@ -1,5 +1,5 @@
 -- The text of the means of runs that are counted together.
-use Rattle.std.specs.Prelude.{◌≡◌, ℕ, List, [], ◌∷◌, ◌++◌, ◌-◌, Option, Some, None, String, codes, length, map, max, min, nat_lt, slice_get, slice_index_or, if◌then◌else◌}
+use Rattle.std.specs.Prelude.{◌≡◌, ℕ, List, [], ◌∷◌, ◌++◌, ◌-◌, Option, Some, None, String, codes, drop, length, map, max, min, nat_lt, slice_get, slice_index_or, take, if◌then◌else◌}
 use Rattle.std.specs.Global.{Global}
 use Rattle.std.specs.List.{AllZip, enumerate_from, flat_map, range_with_len}
 use Rattle.std.specs.Option.{option_to_list}
@@ -10,10 +10,13 @@ use Rattle.run_counts.specs.declared.asked.Counting.{Counting}
 use Rattle.run_counts.specs.declared.asked.Figure.{Figure}
 use Rattle.run_counts.specs.declared.asked.Until.{Until}
 use Rattle.run_counts.specs.declared.ensemble.Ensemble.{Ensemble}
+use Rattle.run_counts.specs.declared.ensemble.Group.{Group}
+use Rattle.run_counts.specs.declared.ensemble.Setting.{Setting}
 use Rattle.run_counts.specs.declared.mean_columns.Column.{Column}
 use Rattle.run_counts.specs.declared.mean_columns.Column.TheVariants.{Nodes, Further}
 use Rattle.run_counts.specs.Ensembles.{IsRunOf, RunView, names_in, rows_in}
 use Rattle.run_counts.specs.Rows.{AreValues, RowView, count_in}
+use Rattle.run_counts.specs.Settings.{head_text, names_text, settings_of}
 use Rattle.run_counts.specs.Spread.{deviation_of, four_digits, mean_of}
 use Rattle.run_counts.specs.Tables.{cell_text, figure_name, has_columns, line_end, line_start, value_label}
 
@@ -82,12 +85,12 @@ going_text format (Some until) going = cell_text format (codes "going") going
 abbrev pub runs_cells : CountFormat → Option Until → ℕ → ℕ → List ℕ
 runs_cells format until total going = cell_text format (codes "runs") total ++ going_text format until going
 
--- the line of a round to which some of so many runs go on, with these rows, where these rows stand for all runs: the round, the numbers of runs, and the
+-- the line, after this head, of a round to which some of so many runs go on, with these rows, where these rows stand for all runs: the round, the numbers of runs, and the
 -- mean and the deviation of each column over all runs; none where no run goes on
-abbrev pub mean_text : CountFormat → List (String Global) → List (List ℕ) → List Column → Option Until → ℕ → List RowView → List RowView → List ℕ
-mean_text format labels names columns until total [] rows = []
-mean_text format labels names columns until total (first ∷ going) rows =
-    line_start format [] first.round
+abbrev pub mean_text : CountFormat → List ℕ → List (String Global) → List (List ℕ) → List Column → Option Until → ℕ → List RowView → List RowView → List ℕ
+mean_text format head labels names columns until total [] rows = []
+mean_text format head labels names columns until total (first ∷ going) rows =
+    line_start format head first.round
     ++ (runs_cells format until total (length (first ∷ going)) ++ (flat_map (λ c. mean_cells format labels names c (map (number_in c) rows)) columns ++ line_end format))
 
 -- the heading above how many runs go on, where runs may end early
@@ -95,24 +98,36 @@ abbrev pub going_heading : Option Until → List ℕ
 going_heading None = []
 going_heading (Some until) = codes ",going"
 
--- the line of the headings, in CSV alone
-abbrev pub means_opening : CountFormat → List (String Global) → List (List ℕ) → List Column → Option Until → List ℕ
-means_opening Csv labels names columns until = codes "round,runs" ++ (going_heading until ++ (flat_map (headings_text labels names) columns ++ codes "\n"))
-means_opening Json labels names columns until = []
+-- the line of the headings, in CSV alone: what varies from group to group comes first
+abbrev pub means_opening : CountFormat → List Setting → List (String Global) → List (List ℕ) → List Column → Option Until → List ℕ
+means_opening Csv settings labels names columns until =
+    names_text settings ++ (codes "round,runs" ++ (going_heading until ++ (flat_map (headings_text labels names) columns ++ codes "\n")))
+means_opening Json settings labels names columns until = []
 
 -- the line of the round at a place
-abbrev pub line_at : CountFormat → List (String Global) → List (List ℕ) → List Column → Option Until → List RunView → ℕ → List ℕ
-line_at format labels names columns until runs k = mean_text format labels names columns until (length runs) (going_at k runs) (rows_at k runs)
+abbrev pub line_at : CountFormat → List ℕ → List (String Global) → List (List ℕ) → List Column → Option Until → List RunView → ℕ → List ℕ
+line_at format head labels names columns until runs k = mean_text format head labels names columns until (length runs) (going_at k runs) (rows_at k runs)
 
--- the lines of all rounds after the headings
-abbrev pub means_text : CountFormat → List (String Global) → List (List ℕ) → List Column → Option Until → List RunView → List ℕ
-means_text format labels names columns until runs =
-    means_opening format labels names columns until ++ flat_map (line_at format labels names columns until runs) (range_with_len 0 (longest runs))
+-- the lines of all rounds of the runs of a group, after the values that they have in common
+abbrev pub group_text : CountFormat → List (String Global) → List (List ℕ) → List Column → Option Until → List Setting → List RunView → List ℕ
+group_text format labels names columns until settings runs =
+    flat_map (line_at format (head_text format settings) labels names columns until runs) (range_with_len 0 (longest runs))
 
--- the text is that of the means of exactly the rounds that are counted of each run, with columns for each state, and for each value that occurs in one of them
+-- the lines of groups, each of so many runs: the first of the runs are those of the first group
+abbrev pub groups_text : CountFormat → List (String Global) → List (List ℕ) → List Column → Option Until → ℕ → List Group → List RunView → List ℕ
+groups_text format labels names columns until size [] runs = []
+groups_text format labels names columns until size (g ∷ groups) runs =
+    group_text format labels names columns until g.settings.now (take size runs) ++ groups_text format labels names columns until size groups (drop size runs)
+
+-- the lines of all groups after the headings
+abbrev pub means_text : CountFormat → List (String Global) → List (List ℕ) → List Column → Option Until → ℕ → List Group → List RunView → List ℕ
+means_text format labels names columns until size groups runs =
+    means_opening format (settings_of groups) labels names columns until ++ groups_text format labels names columns until size groups runs
+
+-- the text is that of the means, over the runs of each group, of exactly the rounds that are counted of each run, with columns for each state, and for each value that occurs in one of them
 pub record AreMeans (e : Ensemble) (span : SpanView) (counting : Counting) (text : List ℕ) : Type 0 where
   pub runs : List RunView
   pub values : List ℕ
   pub runs_are : AllZip (IsRunOf span counting) e.variants.now runs
   pub values_are : AreValues counting.states (rows_in runs) values
-  pub spelled : text ≡ means_text counting.format counting.names.now (names_in e.variants.now) (columns_of values counting.figures.now) counting.until runs
+  pub spelled : text ≡ means_text counting.format counting.names.now (names_in e.variants.now) (columns_of values counting.figures.now) counting.until e.size e.groups.now runs

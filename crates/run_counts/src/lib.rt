@@ -14,6 +14,7 @@ mod mean_table;
 mod rows;
 mod run_table;
 mod runs;
+mod settings;
 mod spread;
 mod table;
 mod together;
@@ -22,7 +23,7 @@ mod wide;
 
 pub use asked::{CountFormat, Counting, Figure, FigureKind, Holders, Until};
 pub use counting::counted;
-pub use ensemble::{Ensemble, Variant};
+pub use ensemble::{Ensemble, Group, Setting, SettingValue, Variant};
 pub use laws::{cells_are_counts, csv_is_read_back, means_are_nearest};
 pub use rows::counted_rows;
 pub use runs::RunsProgress;

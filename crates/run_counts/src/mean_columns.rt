@@ -8,6 +8,8 @@ ghost use Rattle.run_counts.specs.Tables.{has_columns};
 
 use crate::asked::{CountFormat, Counting, Figure, Until};
 use crate::columns::{has_columns, put_figure_name};
+use crate::ensemble::Setting;
+use crate::settings::put_names;
 use crate::table::Row;
 use rule_check::Program;
 use run_watch::put_label;
@@ -128,18 +130,20 @@ fn going_heading(until: Option<Until>) -> &'static str
     }
 }
 
-/// The line of the headings, in CSV.
+/// The line of the headings, in CSV: what varies comes first.
 pub(crate) fn put_means_opening(
     out: &mut String,
     counting: &Counting<'_>,
     program: &Program,
+    settings: &[Setting],
     columns: &[Column],
 ) -> Result<(), AllocError>
-    ensures text { OnOk result (string_bytes out.new ≡ string_bytes out.old ++ means_opening counting.now.format counting.now.names.now (names_of program.now) columns.now counting.now.until) }
+    ensures text { OnOk result (string_bytes out.new ≡ string_bytes out.old ++ means_opening counting.now.format settings.now counting.now.names.now (names_of program.now) columns.now counting.now.until) }
 {
     if counting.format != CountFormat::Csv {
         return Ok(());
     }
+    put_names(out, settings)?;
     out.push_str("round,runs")?;
     out.push_str(going_heading(counting.until))?;
     put_all_headings(out, counting.names, program, columns)?;

@@ -4,30 +4,43 @@ ghost use Rattle.std.specs.List.{flat_map, range_with_len};
 ghost use Rattle.std.specs.Option.{option_to_list};
 ghost use Rattle.rule_check.specs.Value.{names_of};
 ghost use Rattle.run_counts.specs.Ensembles.{most_runs};
-ghost use Rattle.run_counts.specs.MeanTables.{cell_start, column_name, deviation_text, going_at, going_text, held_row, line_at, longest, mean_cells, means_text, number_in, rows_at, runs_cells};
+ghost use Rattle.run_counts.specs.MeanTables.{cell_start, column_name, deviation_text, going_at, going_text, group_text, groups_text, held_row, line_at, longest, mean_cells, means_text, number_in, rows_at, runs_cells};
+ghost use Rattle.run_counts.specs.Settings.{settings_of};
 
 use crate::asked::{CountFormat, Counting, Until};
+use crate::ensemble::{Ensemble, Group, Setting};
 use crate::lines::{end_of, put_named, put_start};
 use crate::mean_columns::{Column, put_means_opening};
 use crate::runs::Run;
+use crate::settings::head_of;
 use crate::spread::{deviation_of, mean_of, put_four_digits};
 use rule_check::Program;
 use std::alloc::{AllocError, Global};
 
-/// The means of columns of what is counted in runs of this program.
+/// The table of means: of which columns of what is counted in runs of this program.
 #[derive(Clone, Copy)]
-pub(crate) struct Means<'a> {
+pub(crate) struct MeansTable<'a> {
     pub(crate) counting: &'a Counting<'a>,
     pub(crate) program: &'a Program,
     pub(crate) columns: &'a [Column],
-    pub(crate) runs: &'a [Run],
+}
+
+/// The means of some runs.
+#[derive(Clone, Copy)]
+struct Means<'a> {
+    counting: &'a Counting<'a>,
+    program: &'a Program,
+    columns: &'a [Column],
+    /// What stands before the round in each line.
+    head: &'a str,
+    runs: &'a [Run<'a>],
 }
 
 /// Puts the number that stands for a run in a column at a place after the others: that of its last row where it has
 /// ended before.
 fn put_number(
     numbers: &mut Vec<u64>,
-    run: &Run,
+    run: &Run<'_>,
     place: usize,
     column: Column,
 ) -> Result<(), AllocError>
@@ -42,7 +55,7 @@ fn put_number(
 }
 
 /// Puts the round that a run has at a place after the others, where it has so many rows.
-fn put_round(rounds: &mut Vec<u32>, run: &Run, place: usize) -> Result<(), AllocError>
+fn put_round(rounds: &mut Vec<u32>, run: &Run<'_>, place: usize) -> Result<(), AllocError>
     ensures rounds { OnOk result (rounds.new.items ≡ rounds.old.items ++ map (λ row. row.round) (option_to_list (slice_get run.now.rows place))) }
     ensures few { OnOk result (length rounds.new.items ≤ length rounds.old.items + 1) }
 {
@@ -55,7 +68,7 @@ fn put_round(rounds: &mut Vec<u32>, run: &Run, place: usize) -> Result<(), Alloc
 /// The numbers that stand for the runs in a column at a place.
 fn numbers_at(
     alloc: Global,
-    runs: &[Run],
+    runs: &[Run<'_>],
     place: usize,
     column: Column,
 ) -> Result<Vec<u64>, AllocError>
@@ -70,7 +83,7 @@ fn numbers_at(
 }
 
 /// The round of each row that the runs have at a place: as many as go on to it.
-fn rounds_at(alloc: Global, runs: &[Run], place: usize) -> Result<Vec<u32>, AllocError>
+fn rounds_at(alloc: Global, runs: &[Run<'_>], place: usize) -> Result<Vec<u32>, AllocError>
     ensures rounds { IfOk result (λ rounds. rounds.items ≡ map (λ row. row.round) (going_at place runs.now)) }
     ensures few { IfOk result (λ rounds. length rounds.items ≤ length runs.now) }
 {
@@ -201,7 +214,7 @@ fn put_line(
     place: usize,
 ) -> Result<(), AllocError>
     requires few { length means.now.runs.now ≤ most_runs }
-    ensures text { OnOk result (string_bytes out.new ≡ string_bytes out.old ++ line_at means.now.counting.now.format means.now.counting.now.names.now (names_of means.now.program.now) means.now.columns.now means.now.counting.now.until means.now.runs.now place) }
+    ensures text { OnOk result (string_bytes out.new ≡ string_bytes out.old ++ line_at means.now.counting.now.format means.now.head.now means.now.counting.now.names.now (names_of means.now.program.now) means.now.columns.now means.now.counting.now.until means.now.runs.now place) }
 {
     let counting = means.counting;
     let rounds = rounds_at(alloc, means.runs, place)?;
@@ -210,14 +223,14 @@ fn put_line(
     };
     let total = means.runs.len() as u64;
     let going = rounds.len() as u64;
-    put_start(out, counting.format, "", *round)?;
+    put_start(out, counting.format, means.head, *round)?;
     put_runs(out, counting.format, counting.until, total, going)?;
     put_columns(alloc, out, means, place)?;
     out.push_str(end_of(counting.format))
 }
 
 /// How many rows the runs have at most.
-fn longest(runs: &[Run]) -> usize
+fn longest(runs: &[Run<'_>]) -> usize
     ensures longest { result ≡ longest runs.now }
 {
     let mut most = 0;
@@ -230,7 +243,7 @@ fn longest(runs: &[Run]) -> usize
 /// The lines of all rounds.
 fn put_lines(alloc: Global, out: &mut String, means: &Means<'_>) -> Result<(), AllocError>
     requires few { length means.now.runs.now ≤ most_runs }
-    ensures text { OnOk result (string_bytes out.new ≡ string_bytes out.old ++ flat_map (line_at means.now.counting.now.format means.now.counting.now.names.now (names_of means.now.program.now) means.now.columns.now means.now.counting.now.until means.now.runs.now) (range_with_len 0 (longest means.now.runs.now))) }
+    ensures text { OnOk result (string_bytes out.new ≡ string_bytes out.old ++ flat_map (line_at means.now.counting.now.format means.now.head.now means.now.counting.now.names.now (names_of means.now.program.now) means.now.columns.now means.now.counting.now.until means.now.runs.now) (range_with_len 0 (longest means.now.runs.now))) }
 {
     for place in 0..longest(means.runs) {
         put_line(alloc, out, means, place)?;
@@ -238,13 +251,77 @@ fn put_lines(alloc: Global, out: &mut String, means: &Means<'_>) -> Result<(), A
     Ok(())
 }
 
-/// The text of the means of columns.
-pub(crate) fn means_table(alloc: Global, means: &Means<'_>) -> Result<Vec<u8>, AllocError>
-    requires few { length means.now.runs.now ≤ most_runs }
-    ensures text { IfOk result (λ v. v.items ≡ means_text means.now.counting.now.format means.now.counting.now.names.now (names_of means.now.program.now) means.now.columns.now means.now.counting.now.until means.now.runs.now) }
+/// The lines of the means of some runs, which have these values in common.
+fn put_group(
+    alloc: Global,
+    out: &mut String,
+    table: &MeansTable<'_>,
+    settings: &[Setting],
+    runs: &[Run<'_>],
+) -> Result<(), AllocError>
+    requires few { length runs.now ≤ most_runs }
+    ensures text { OnOk result (string_bytes out.new ≡ string_bytes out.old ++ group_text table.now.counting.now.format table.now.counting.now.names.now (names_of table.now.program.now) table.now.columns.now table.now.counting.now.until settings.now runs.now) }
+{
+    let head = head_of(alloc, table.counting.format, settings)?;
+    let means = Means {
+        counting: table.counting,
+        program: table.program,
+        columns: table.columns,
+        head: head.as_str(),
+        runs,
+    };
+    put_lines(alloc, out, &means)
+}
+
+/// The lines of the means of groups, each of which has so many of the runs, in their order.
+fn put_groups(
+    alloc: Global,
+    out: &mut String,
+    table: &MeansTable<'_>,
+    ensemble: &Ensemble<'_>,
+    runs: &[Run<'_>],
+) -> Result<(), AllocError>
+    requires few { ensemble.now.size ≤ most_runs }
+    ensures text { OnOk result (string_bytes out.new ≡ string_bytes out.old ++ groups_text table.now.counting.now.format table.now.counting.now.names.now (names_of table.now.program.now) table.now.columns.now table.now.counting.now.until ensemble.now.size ensemble.now.groups.now runs.now) }
+{
+    let mut first = 0;
+    for group in ensemble.groups {
+        let last = first + ensemble.size.min(runs.len() - first);
+        put_group(alloc, out, table, group.settings, &runs[first..last])?;
+        first = last;
+    }
+    Ok(())
+}
+
+/// What the groups have in common of what varies: as in the first of them.
+fn first_settings<'a>(groups: &[Group<'a>]) -> &'a [Setting]
+    ensures settings { result.now ≡ settings_of groups.now }
+{
+    match groups {
+        [group, ..] => group.settings,
+        [] => &[],
+    }
+}
+
+/// The text of the means of columns over the runs of each group.
+pub(crate) fn means_table(
+    alloc: Global,
+    table: &MeansTable<'_>,
+    ensemble: &Ensemble<'_>,
+    runs: &[Run<'_>],
+) -> Result<Vec<u8>, AllocError>
+    requires few { ensemble.now.size ≤ most_runs }
+    ensures text { IfOk result (λ v. v.items ≡ means_text table.now.counting.now.format table.now.counting.now.names.now (names_of table.now.program.now) table.now.columns.now table.now.counting.now.until ensemble.now.size ensemble.now.groups.now runs.now) }
 {
     let mut out = String::new(alloc);
-    put_means_opening(&mut out, means.counting, means.program, means.columns)?;
-    put_lines(alloc, &mut out, means)?;
+    let settings = first_settings(ensemble.groups);
+    put_means_opening(
+        &mut out,
+        table.counting,
+        table.program,
+        settings,
+        table.columns,
+    )?;
+    put_groups(alloc, &mut out, table, ensemble, runs)?;
     Ok(out.into_bytes())
 }

@@ -2,48 +2,38 @@
 ghost use Rattle.std.specs.Prelude.{◌≡◌, ◌++◌, IfOk, OnOk, string_bytes};
 ghost use Rattle.std.specs.List.{flat_map};
 ghost use Rattle.rule_check.specs.Value.{names_of};
-ghost use Rattle.run_counts.specs.RunTables.{head_text, run_text, runs_opening, runs_text};
+ghost use Rattle.run_counts.specs.RunTables.{run_text, runs_opening, runs_text};
 
 use crate::asked::{CountFormat, Counting};
 use crate::columns::put_opening;
+use crate::ensemble::Setting;
 use crate::lines::put_rows;
 use crate::runs::Run;
+use crate::settings::{head_of, put_names};
 use rule_check::Program;
 use std::alloc::{AllocError, Global};
 
-/// The table of runs: what is counted in runs of this program, which values occur, and what the value is called that each run
-/// has of its own.
+/// The table of runs: what varies, what is counted in runs of this program, and which values occur.
 #[derive(Clone, Copy)]
 pub(crate) struct RunsTable<'a> {
-    pub(crate) name: &'a str,
+    pub(crate) settings: &'a [Setting],
     pub(crate) program: &'a Program,
     pub(crate) counting: &'a Counting<'a>,
     pub(crate) values: &'a [u32],
 }
 
-/// What stands before the round in the lines of a run.
-fn head_of(alloc: Global, format: CountFormat, name: &str, value: u32) -> Result<String, AllocError>
-    ensures text { IfOk result (λ head. string_bytes head ≡ head_text format name.now value) }
-{
-    match format {
-        CountFormat::Csv => format!(in alloc; "{value},"),
-        CountFormat::Json => format!(in alloc; "\"{name}\":{value},"),
-    }
-}
-
 /// The line of the headings, in CSV.
 fn put_runs_opening(
     out: &mut String,
-    name: &str,
+    settings: &[Setting],
     program: &Program,
     counting: &Counting<'_>,
     values: &[u32],
 ) -> Result<(), AllocError>
-    ensures text { OnOk result (string_bytes out.new ≡ string_bytes out.old ++ runs_opening counting.now.format counting.now.names.now name.now (names_of program.now) counting.now.figures.now values.now) }
+    ensures text { OnOk result (string_bytes out.new ≡ string_bytes out.old ++ runs_opening counting.now.format counting.now.names.now settings.now (names_of program.now) counting.now.figures.now values.now) }
 {
     if counting.format == CountFormat::Csv {
-        out.push_str(name)?;
-        out.push_str(",")?;
+        put_names(out, settings)?;
     }
     put_opening(out, program, counting, values)
 }
@@ -53,11 +43,11 @@ fn put_run(
     alloc: Global,
     out: &mut String,
     table: &RunsTable<'_>,
-    run: &Run,
+    run: &Run<'_>,
 ) -> Result<(), AllocError>
-    ensures text { OnOk result (string_bytes out.new ≡ string_bytes out.old ++ run_text table.now.counting.now.format table.now.counting.now.names.now table.now.name.now (names_of table.now.program.now) table.now.values.now run.now) }
+    ensures text { OnOk result (string_bytes out.new ≡ string_bytes out.old ++ run_text table.now.counting.now.format table.now.counting.now.names.now (names_of table.now.program.now) table.now.values.now run.now) }
 {
-    let head = head_of(alloc, table.counting.format, table.name, run.value())?;
+    let head = head_of(alloc, table.counting.format, run.settings())?;
     put_rows(
         out,
         table.counting,
@@ -73,9 +63,9 @@ fn put_runs(
     alloc: Global,
     out: &mut String,
     table: &RunsTable<'_>,
-    runs: &[Run],
+    runs: &[Run<'_>],
 ) -> Result<(), AllocError>
-    ensures text { OnOk result (string_bytes out.new ≡ string_bytes out.old ++ flat_map (run_text table.now.counting.now.format table.now.counting.now.names.now table.now.name.now (names_of table.now.program.now) table.now.values.now) runs.now) }
+    ensures text { OnOk result (string_bytes out.new ≡ string_bytes out.old ++ flat_map (run_text table.now.counting.now.format table.now.counting.now.names.now (names_of table.now.program.now) table.now.values.now) runs.now) }
 {
     for run in runs {
         put_run(alloc, out, table, run)?;
@@ -87,14 +77,14 @@ fn put_runs(
 pub(crate) fn runs_table(
     alloc: Global,
     table: &RunsTable<'_>,
-    runs: &[Run],
+    runs: &[Run<'_>],
 ) -> Result<Vec<u8>, AllocError>
-    ensures text { IfOk result (λ v. v.items ≡ runs_text table.now.counting.now.format table.now.counting.now.names.now table.now.name.now (names_of table.now.program.now) table.now.counting.now.figures.now table.now.values.now runs.now) }
+    ensures text { IfOk result (λ v. v.items ≡ runs_text table.now.counting.now.format table.now.counting.now.names.now table.now.settings.now (names_of table.now.program.now) table.now.counting.now.figures.now table.now.values.now runs.now) }
 {
     let mut out = String::new(alloc);
     put_runs_opening(
         &mut out,
-        table.name,
+        table.settings,
         table.program,
         table.counting,
         table.values,

@@ -5,7 +5,7 @@ ghost use Rattle.run_counts.specs.Counts.{refusal_of};
 ghost use Rattle.run_counts.specs.Ensembles.{IsRunOf};
 
 use crate::asked::Counting;
-use crate::ensemble::Variant;
+use crate::ensemble::{Setting, Variant};
 use crate::rows::rows_of;
 use crate::table::Row;
 use rayon::prelude::*;
@@ -17,25 +17,25 @@ use std::thread::Threads;
 
 /// The rounds of a run, as they are counted. A contract sees its parts.
 #[derive(Drop)]
-pub(crate) struct Run {
-    value: u32,
+pub(crate) struct Run<'a> {
+    settings: &'a [Setting],
     rows: Vec<Row>,
 }
 
-impl Model for Run {
+impl<'a> Model for Run<'a> {
     ghost use Rattle.run_counts.specs.Ensembles.{RunView};
 
     ghost Value = { RunView };
 
-    ghost view = { λ r. record { value = r.value; rows = r.rows.items } };
+    ghost view = { λ r. record { settings = r.settings.now; rows = r.rows.items } };
 }
 
-impl Run {
-    /// The value of what varies.
-    pub(crate) fn value(&self) -> u32
-        ensures value { result ≡ self.now.value }
+impl<'a> Run<'a> {
+    /// What varies, with its values.
+    pub(crate) fn settings(&self) -> &'a [Setting]
+        ensures settings { result.now ≡ self.now.settings }
     {
-        self.value
+        self.settings
     }
 
     /// The rounds, in order.
@@ -61,14 +61,14 @@ impl Progress for Silent {
 }
 
 /// The run of a variant, in one thread.
-fn run_of<P: RunsProgress>(
+fn run_of<'a, P: RunsProgress>(
     rt: &(impl Threads + Sync),
     alloc: Global,
-    variant: &Variant<'_>,
+    variant: &Variant<'a>,
     span: &Span,
     counting: &Counting<'_>,
     progress: &P,
-) -> Result<Run, AllocError>
+) -> Result<Run<'a>, AllocError>
     requires fits { refusal_of variant.now.plan.now span.now counting.now ≡ None }
     ensures run { IfOk result (IsRunOf span.now counting.now variant.now) }
 {
@@ -77,20 +77,20 @@ fn run_of<P: RunsProgress>(
     let rows = rows_of(rt, alloc, &mut walk, span, counting, &mut Silent)?;
     progress.made();
     Ok(Run {
-        value: variant.value,
+        settings: variant.settings,
         rows,
     })
 }
 
 /// The runs of variants, in their order, made side by side by as many threads as there are processors.
-pub(crate) fn runs_of<R: Threads + Sync, P: RunsProgress + Sync>(
+pub(crate) fn runs_of<'a, R: Threads + Sync, P: RunsProgress + Sync>(
     rt: &R,
     alloc: Global,
-    variants: &[Variant<'_>],
+    variants: &[Variant<'a>],
     span: &Span,
     counting: &Counting<'_>,
     progress: &P,
-) -> Result<Vec<Run>, AllocError>
+) -> Result<Vec<Run<'a>>, AllocError>
     requires fits { All (λ v. refusal_of v.plan.now span.now counting.now ≡ None) variants.now }
     ensures runs { IfOk result (λ runs. AllZip (IsRunOf span.now counting.now) variants.now runs.items) }
 {
@@ -98,11 +98,11 @@ pub(crate) fn runs_of<R: Threads + Sync, P: RunsProgress + Sync>(
         .par_iter()
         .with_min_len(1)
         .map(
-            |variant: &Variant<'_>| -> Result<Run, AllocError>
+            |variant: &Variant<'_>| -> Result<Run<'_>, AllocError>
                 requires { refusal_of variant.now.plan.now span.now counting.now ≡ None }
                 ensures { IfOk result (IsRunOf span.entry.now counting.entry.now variant.now) }
             { run_of(rt, alloc, variant, span, counting, progress) },
         )
-        .collect::<Result<Vec<Run>, AllocError>>(rt, alloc)?;
+        .collect::<Result<Vec<Run<'_>>, AllocError>>(rt, alloc)?;
     runs
 }

@@ -5,12 +5,13 @@ ghost use Rattle.run_watch.specs.declared.fault.WatchFault.TheVariants.{Memory};
 ghost use Rattle.run_counts.specs.Ensembles.{most_runs, names_in, refusal_in};
 ghost use Rattle.run_counts.specs.MeanTables.{AreMeans};
 ghost use Rattle.run_counts.specs.RunTables.{AreCounted};
+ghost use Rattle.run_counts.specs.Settings.{settings_in};
 
 use crate::asked::Counting;
 use crate::counting::refusal;
-use crate::ensemble::{Ensemble, Variant};
+use crate::ensemble::{Ensemble, Setting, Variant};
 use crate::mean_columns::columns_of;
-use crate::mean_table::{Means, means_table};
+use crate::mean_table::{MeansTable, means_table};
 use crate::run_table::{RunsTable, runs_table};
 use crate::runs::{RunsProgress, runs_of};
 use crate::values::values_in;
@@ -19,7 +20,7 @@ use run_watch::{Span, WatchFault};
 use std::alloc::{AllocError, Global};
 use std::thread::Threads;
 
-/// How many runs are counted together at most.
+/// Of how many runs there is a mean at most.
 pub const MOST_RUNS: usize = 1000;
 
 /// Why the first of the runs that cannot be counted cannot, whatever memory there is.
@@ -42,6 +43,14 @@ fn first_program<'a>(variants: &[Variant<'a>]) -> &'a Program
     variants[0].plan.program()
 }
 
+/// What varies, with its values in the first run.
+fn first_settings<'a>(variants: &[Variant<'a>]) -> &'a [Setting]
+    requires some { 1 ≤ length variants.now }
+    ensures settings { result.now ≡ settings_in variants.now }
+{
+    variants[0].settings
+}
+
 /// The text of runs, where nothing refuses them.
 fn counted_text<R: Threads + Sync, P: RunsProgress + Sync>(
     rt: &R,
@@ -59,7 +68,7 @@ fn counted_text<R: Threads + Sync, P: RunsProgress + Sync>(
     let values = values_in(alloc, counting.states, &runs)?;
     let program = first_program(ensemble.variants);
     let table = RunsTable {
-        name: ensemble.name,
+        settings: first_settings(ensemble.variants),
         program,
         counting,
         values: &values,
@@ -78,7 +87,7 @@ fn means_text<R: Threads + Sync, P: RunsProgress + Sync>(
     progress: &P,
 ) -> Result<Vec<u8>, AllocError>
     requires some { 1 ≤ length ensemble.now.variants.now }
-    requires few { length ensemble.now.variants.now ≤ most_runs }
+    requires few { ensemble.now.size ≤ most_runs }
     requires fits { refusal_in span.now counting.now ensemble.now.variants.now ≡ None }
     ensures text { IfOk result (λ v. AreMeans ensemble.now span.now counting.now v.items) }
 {
@@ -86,18 +95,17 @@ fn means_text<R: Threads + Sync, P: RunsProgress + Sync>(
     let values = values_in(alloc, counting.states, &runs)?;
     let columns = columns_of(alloc, &values, counting.figures)?;
     let program = first_program(ensemble.variants);
-    let means = Means {
+    let table = MeansTable {
         counting,
         program,
         columns: &columns,
-        runs: &runs,
     };
-    let text = means_table(alloc, &means)?;
+    let text = means_table(alloc, &table, ensemble, &runs)?;
     Ok(text)
 }
 
 /// What `counted` gives of each of several runs, in one table: the lines of a run after those of the run before, each
-/// with the run's value of what varies in a column in front. A column for each state, and for each value that occurs in
+/// with the run's values of what varies in columns in front. A column for each state, and for each value that occurs in
 /// one of the rounds of one of the runs, stands there where these are 64 at most. The runs are made side by side by as many threads as there are processors, and
 /// `progress` is told of each that is made.
 ///
@@ -124,11 +132,12 @@ pub fn counted_runs<R: Threads + Sync, P: RunsProgress + Sync>(
     Ok(text)
 }
 
-/// The mean and the standard deviation, over several runs, of what `counted` gives of each of them: for each round to
-/// which a run goes on a line of the round, how many runs there are and, where runs may end early, how many go on to this
-/// round, and for each column the mean of its numbers in all runs and the standard deviation of the sample, both with
-/// four digits after the point and rounded to the nearest. A run that has ended keeps the numbers of its last round.
-/// There is no deviation where there is one run. Where there are more than 64 states and values that occur in all rounds
+/// The mean and the standard deviation, over the runs of each group, of what `counted` gives of each of them, one group after
+/// the other: for each round to which a run of the group goes on a line with what varies and the group has in common in
+/// columns in front, the round, how many runs there are and, where runs may end early, how many go on to this round, and for
+/// each column the mean of its numbers in all runs of the group and the standard deviation of the sample, both with four
+/// digits after the point and rounded to the nearest. A run that has ended keeps the numbers of its last round. There is no
+/// deviation where there is one run. Where there are more than 64 states and values that occur in all rounds
 /// of all runs, there are columns for the further numbers alone. The runs are made, and told, as those of `counted_runs`.
 ///
 /// The fault is that of the first run that has one, as `counted` tells it, before anything is done; `Memory` only where
@@ -142,7 +151,7 @@ pub fn mean_counts<R: Threads + Sync, P: RunsProgress + Sync>(
     progress: &P,
 ) -> Result<Vec<u8>, WatchFault>
     requires some { 1 ≤ length ensemble.now.variants.now }
-    requires few { length ensemble.now.variants.now ≤ most_runs }
+    requires few { ensemble.now.size ≤ most_runs }
     ensures text { IfOk result (λ v. AreMeans ensemble.now span.now counting.now v.items) }
     ensures fits { IfOk result (λ _. refusal_in span.now counting.now ensemble.now.variants.now ≡ None) }
     ensures refused { IfErr result (λ fault. fault ≢ Memory → refusal_in span.now counting.now ensemble.now.variants.now ≡ Some fault) }

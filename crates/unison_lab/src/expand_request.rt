@@ -1,8 +1,8 @@
 //! `expand`: the program that a model is expanded to.
 
 use app_commands::{CONSTANT, FILE, constants_in};
+use app_files::ConstantWord;
 use app_table::{Argument, Command, Reading, WordsFault};
-use model_rules::Given;
 use std::alloc::Global;
 
 const MODEL: Argument = Argument {
@@ -16,7 +16,7 @@ const MODEL: Argument = Argument {
 static MODEL_ARGUMENT: Argument = MODEL;
 
 const MODEL_CONSTANT: Argument = Argument {
-    help: "Give a constant of the model this value, a whole number from 0 to 4294967295; as often as wanted",
+    help: "Give a constant of the model this value, a whole number from 0 to 4294967295, none, the name of a state, or, where it is a chance, a decimal as 0.05 or percents as 5%; as often as wanted",
     ..CONSTANT
 };
 
@@ -41,8 +41,8 @@ pub fn expand_command() -> &'static Command {
 pub struct ExpandRequest {
     /// The path of the model.
     pub model: String,
-    /// The constants that are given values.
-    pub constants: Vec<Given>,
+    /// The constants that words give values.
+    pub constants: Vec<ConstantWord>,
 }
 
 /// What plain words ask for.

@@ -2,8 +2,9 @@
 
 use app_commands::{PlanPaths, asked_by, constants_among, noted_plan_at};
 use app_files::{
-    Ending, ModelRefusal, Text, check_constants, is_model, network_where, path_in, print_fault,
-    program_name, read_once, refusal_of, slips_in, text_at, text_where, write_out,
+    ConstantWord, Ending, ModelRefusal, Text, check_constants, given_constants, is_model,
+    network_where, path_in, print_fault, program_name, read_once, refusal_of, slips_in, text_at,
+    text_where, write_out,
 };
 use app_jobs::ServeFault;
 use app_why::{Finding, Named, Texts, why};
@@ -256,11 +257,16 @@ fn noted_in(
 }
 
 /// What is found in the texts of a request.
-fn found_for(rt: &HostRuntime, request: &Request, constants: &[Given]) -> Result<Found, Ending> {
+fn found_for(
+    rt: &HostRuntime,
+    request: &Request,
+    constants: &[ConstantWord],
+) -> Result<Found, Ending> {
     check_paths(rt.alloc(), request)?;
     check_constants(rt.alloc(), request.program.as_str(), constants)?;
     let read = read(rt, request)?;
-    noted_in(rt.alloc(), request, constants, &read).map_err(Ending::from)
+    let constants = given_constants(rt.alloc(), &read.program.bytes, constants)?;
+    noted_in(rt.alloc(), request, &constants, &read).map_err(Ending::from)
 }
 
 /// The status with which a command would end that has this fault, which is printed, or none.
@@ -291,19 +297,23 @@ fn put_found(rt: &HostRuntime, found: &Found) -> Result<u8, Ending> {
 }
 
 /// Tells what is found in the texts of a request. The status with which its command would end.
-fn put_request(rt: &HostRuntime, request: &Request, constants: &[Given]) -> Result<u8, Ending> {
+fn put_request(
+    rt: &HostRuntime,
+    request: &Request,
+    constants: &[ConstantWord],
+) -> Result<u8, Ending> {
     let found = found_for(rt, request, constants)?;
     put_found(rt, &found)
 }
 
 /// Tells what is found in the texts of the request that these words make. The status with which its command would end.
-fn put_words(rt: &HostRuntime, words: &[String], constants: &[Given]) -> Result<u8, Ending> {
+fn put_words(rt: &HostRuntime, words: &[String], constants: &[ConstantWord]) -> Result<u8, Ending> {
     let request = request_of(rt.alloc(), words)?;
     put_request(rt, &request, constants)
 }
 
 /// The paths of the plan of a request, where its command has a network, and none of its texts comes from standard input.
-fn plan_paths(request: Request, constants: Vec<Given>) -> Option<PlanPaths> {
+fn plan_paths(request: Request, constants: Vec<ConstantWord>) -> Option<PlanPaths> {
     let Request {
         program,
         network,
@@ -331,7 +341,11 @@ fn put_plan_notes(rt: &HostRuntime, paths: &PlanPaths) {
 }
 
 /// Prints the notes on what a command accepts, on standard error, and nothing besides. The status is 0.
-fn put_notes(rt: &HostRuntime, words: &[String], constants: Vec<Given>) -> Result<u8, Ending> {
+fn put_notes(
+    rt: &HostRuntime,
+    words: &[String],
+    constants: Vec<ConstantWord>,
+) -> Result<u8, Ending> {
     let request = request_of(rt.alloc(), words)?;
     if let Some(paths) = plan_paths(request, constants) {
         put_plan_notes(rt, &paths);

@@ -1,5 +1,5 @@
 use Rattle.std.proofs.Common.{◌≡◌, length}
 use Rattle.app_rounds.proofs.count_runs.runs_of.Given as goal
 
-abbrev pub invariant-loop-value : goal.invariant-loop-value
-invariant-loop-value l = length l.runs.items ≡ l.value-index
+abbrev pub invariant-loop-place : goal.invariant-loop-place
+invariant-loop-place l = length l.runs.items ≡ l.place

@@ -1,4 +1,4 @@
-use Rattle.std.proofs.Common.{◌≡◌, ◌∙◌, ◌++◌, ℕ, List, [], Some, ap, arith, length, map, slice_get, string_bytes, sym}
+use Rattle.std.proofs.Common.{◌≡◌, ◌∙◌, ◌++◌, ℕ, List, Some, ap, arith, length, map, slice_get, string_bytes, sym}
 use Rattle.std.proofs.lemmas.Result.{on_ok_weaker}
 use Rattle.std.specs.List.{flat_map}
 use Rattle.rule_check.specs.Value.{names_of}
@@ -23,6 +23,7 @@ put_columns-requires c =
 pub returns : goal.returns
 returns c =
     let format = c.args.means.now.counting.now.format in
+    let head = c.args.means.now.head.now in
     let labels = c.args.means.now.counting.now.names.now in
     let until = c.args.means.now.counting.now.until in
     let names = names_of c.args.means.now.program.now in
@@ -32,7 +33,7 @@ returns c =
     let rounds = map (λ (row : RowView). row.round) going in
     let round = c.in-Some.round.now in
     let before = string_bytes c.args.out.now in
-    let start = line_start format [] round in
+    let start = line_start format head round in
     let cells = flat_map (λ (column : Column). mean_cells format labels names column (map (number_in column) rows)) c.args.means.now.columns.now in
     let last = c.end_of.result.now in
     let total = length runs in
@@ -55,6 +56,6 @@ returns c =
           ∙ ap (λ (text : List ℕ). text ++ last) put
           ∙ put_in_turn before start counts cells last
           ∙ line
-          ∙ sym (ap (λ (text : List ℕ). before ++ text) (line_is format labels names c.args.means.now.columns.now until (length runs) going rows round first)))
+          ∙ sym (ap (λ (text : List ℕ). before ++ text) (line_is format head labels names c.args.means.now.columns.now until (length runs) going rows round first)))
           (put_last c.push_str.result (string_bytes c.put_columns.new.out) last (string_bytes c.push_str.new.self) c.push_str.ensures.bytes);
     }

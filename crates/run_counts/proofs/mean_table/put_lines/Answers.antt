@@ -11,7 +11,7 @@ loop-place-preserved c =
     let l = c.loop-place in
     let k = l.place in
     let n = longest runs in
-    let line = line_at c.args.means.now.counting.now.format c.args.means.now.counting.now.names.now (names_of c.args.means.now.program.now) c.args.means.now.columns.now c.args.means.now.counting.now.until runs in
+    let line = line_at c.args.means.now.counting.now.format c.args.means.now.head.now c.args.means.now.counting.now.names.now (names_of c.args.means.now.program.now) c.args.means.now.columns.now c.args.means.now.counting.now.until runs in
     let rest = flat_map line (range_with_len (k + 1) (n - (k + 1))) in
     let inside : k < n = omega (arith, c.loop-place-test.true, c.longest-place-end.ensures.longest) in
     ap (λ (text : List ℕ). text ++ rest) c.in_ok-put_line.ensures.text

@@ -7,5 +7,5 @@ use Rattle.run_counts.proofs.mean_table.put_lines.Given as goal
 abbrev pub invariant-loop-place : goal.invariant-loop-place
 invariant-loop-place l =
     string_bytes l.out
-    ++ flat_map (line_at l.means.counting.now.format l.means.counting.now.names.now (names_of l.means.program.now) l.means.columns.now l.means.counting.now.until l.means.runs.now) (range_with_len l.place (longest l.means.runs.now - l.place))
-    ≡ string_bytes l.initial.out ++ flat_map (line_at l.means.counting.now.format l.means.counting.now.names.now (names_of l.means.program.now) l.means.columns.now l.means.counting.now.until l.means.runs.now) (range_with_len 0 (longest l.means.runs.now))
+    ++ flat_map (line_at l.means.counting.now.format l.means.head.now l.means.counting.now.names.now (names_of l.means.program.now) l.means.columns.now l.means.counting.now.until l.means.runs.now) (range_with_len l.place (longest l.means.runs.now - l.place))
+    ≡ string_bytes l.initial.out ++ flat_map (line_at l.means.counting.now.format l.means.head.now l.means.counting.now.names.now (names_of l.means.program.now) l.means.columns.now l.means.counting.now.until l.means.runs.now) (range_with_len 0 (longest l.means.runs.now))

@@ -1,6 +1,9 @@
 use Rattle.std.proofs.Common.{◌∙◌, ℕ, List, ap, rules, subst}
 use Rattle.run_counts.specs.Ensembles.{RunView, names_in, rows_in}
+use Rattle.rule_check.specs.Value.{names_of}
+use Rattle.run_counts.specs.declared.ensemble.Setting.{Setting}
 use Rattle.run_counts.specs.Rows.{AreValues}
+use Rattle.run_counts.specs.Settings.{settings_in}
 use Rattle.run_counts.specs.RunTables.{runs_text}
 use Rattle.run_counts.proofs.Means.{all_fit}
 use Rattle.run_counts.proofs.together.counted_text.Goals as goal
@@ -15,7 +18,8 @@ returns g c =
     let runs = c.in_ok-runs.runs.items in
     let values = c.in_ok-values.values.items in
     let names = names_in e.variants.now in
-    let text = λ (ns : List (List ℕ)) (vs : List ℕ) (rs : List RunView). runs_text counting.format counting.names.now e.name.now ns counting.figures.now vs rs in
+    let settings = settings_in e.variants.now in
+    let text = λ (ss : List Setting) (ns : List (List ℕ)) (vs : List ℕ) (rs : List RunView). runs_text counting.format counting.names.now ss ns counting.figures.now vs rs in
     record {
       text = record {
         runs = runs;
@@ -24,8 +28,9 @@ returns g c =
         values_are = subst (λ (rs : List RunView). AreValues counting.states (rows_in rs) values) c.deref.ensures.value c.in_ok-values.ensures.values;
         spelled =
             c.in_ok-text.ensures.text
-            ∙ ap (λ (ns : List (List ℕ)). text ns c.deref-2.result.now c.deref-3.result.now) c.first_program-program.ensures.names
-            ∙ ap (λ (vs : List ℕ). text names vs c.deref-3.result.now) c.deref-2.ensures.value
-            ∙ ap (text names values) c.deref-3.ensures.value;
+            ∙ ap (λ (ss : List Setting). text ss (names_of c.first_program-program.result.now) c.deref-2.result.now c.deref-3.result.now) c.first_settings.ensures.settings
+            ∙ ap (λ (ns : List (List ℕ)). text settings ns c.deref-2.result.now c.deref-3.result.now) c.first_program-program.ensures.names
+            ∙ ap (λ (vs : List ℕ). text settings names vs c.deref-3.result.now) c.deref-2.ensures.value
+            ∙ ap (text settings names values) c.deref-3.ensures.value;
       };
     }

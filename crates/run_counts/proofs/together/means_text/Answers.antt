@@ -1,19 +1,13 @@
-use Rattle.std.proofs.Common.{◌∙◌, ◌≤◌, ℕ, List, ap, length, rules, subst, sym}
+use Rattle.std.proofs.Common.{◌∙◌, ℕ, List, ap, rules, subst}
 use Rattle.run_counts.specs.declared.mean_columns.Column.{Column}
-use Rattle.run_counts.specs.Ensembles.{IsRunOf, RunView, most_runs, names_in, rows_in}
+use Rattle.run_counts.specs.Ensembles.{RunView, names_in, rows_in}
 use Rattle.run_counts.specs.MeanTables.{columns_of, means_text}
 use Rattle.run_counts.specs.Rows.{AreValues}
-use Rattle.run_counts.proofs.Means.{all_fit, as_many}
+use Rattle.run_counts.proofs.Means.{all_fit}
 use Rattle.run_counts.proofs.together.means_text.Goals as goal
 
 pub runs_of-requires : goal.runs_of-requires
 runs_of-requires g c = (search rules, (search rules, all_fit c.args.span.now c.args.counting.now c.args.ensemble.now.variants.now c.requires.fits))
-
-pub means_table-requires : goal.means_table-requires
-means_table-requires g c =
-    let e = c.args.ensemble.now in
-    let same = as_many (IsRunOf c.args.span.now c.args.counting.now) e.variants.now c.in_ok-runs.runs.items c.in_ok-runs.ensures.runs ∙ ap (λ (rs : List RunView). length rs) (sym c.deref-4.ensures.value) in
-    record { few = subst (λ (n : ℕ). n ≤ most_runs) same c.requires.few }
 
 pub returns : goal.returns
 returns g c =
@@ -23,7 +17,7 @@ returns g c =
     let values = c.in_ok-values.values.items in
     let names = names_in e.variants.now in
     let columns = columns_of values counting.figures.now in
-    let text = λ (ns : List (List ℕ)) (cs : List Column) (rs : List RunView). means_text counting.format counting.names.now ns cs counting.until rs in
+    let text = λ (ns : List (List ℕ)) (cs : List Column) (rs : List RunView). means_text counting.format counting.names.now ns cs counting.until e.size e.groups.now rs in
     record {
       text = record {
         runs = runs;
