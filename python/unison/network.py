@@ -215,6 +215,13 @@ class Network(Makers):
 
         return from_networkx(graph, weight, kind=cls, **how)
 
+    @classmethod
+    def from_graph_file(cls, path: Union[str, os.PathLike[str]], weight: Optional[str] = "weight", **how: Any) -> Network:
+        """The network of a GraphML, GEXF or Pajek file, by NetworkX: see `unison.graph_files.from_graph_file`."""
+        from .graph_files import from_graph_file
+
+        return from_graph_file(path, weight, kind=cls, **how)
+
     @staticmethod
     def from_arrays(indptr: Any, indices: Any, weights: Any = None, **how: Any) -> Network:
         """The network of any size whose node u has the neighbours `indices[indptr[u]:indptr[u + 1]]`, as in a sparse matrix of SciPy by rows, with
@@ -275,6 +282,12 @@ class Network(Makers):
         from .graphs import to_networkx
 
         return to_networkx(self, values)
+
+    def save_graph(self, path: Union[str, os.PathLike[str]], values: Any = None, *, format: Optional[str] = None) -> Path:
+        """Writes a GraphML, GEXF or Pajek file by NetworkX: see `unison.graph_files.save_graph`."""
+        from .graph_files import save_graph
+
+        return save_graph(self, path, values, format=format)
 
     def with_set(self, set: Mapping[str, InitialValues]) -> Network:
         """The same nodes and links with these initial values, and no others.
