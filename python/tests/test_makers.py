@@ -235,8 +235,9 @@ def test_random_networks_with_weights_beyond_the_limits():
     complete = Network.gnp(800, 1, 1)
     assert type(complete) is unison.LargeNetwork and complete.ends == 800 * 799 and complete.neighbours(799) == list(range(799))
     assert type(Network.gnp(700, 1, 1)) is Network
-    sides = Network.block([1, 5_000], 0, 1, 1, weights=(3, 3))
-    assert type(sides) is unison.LargeNetwork and sides.ends == 10_000 and set(sides.weights) == {3} and sides.neighbours(5_000) == [0]
+    sides = Network.block([600, 600], 0, 1, 1, weights=(3, 3))
+    assert type(sides) is unison.LargeNetwork and sides.ends == 720_000 and set(sides.weights) == {3}
+    assert sides.neighbours(600) == list(range(600))
 
 
 def test_large_makers_make_the_same_networks():
