@@ -126,6 +126,13 @@ def chance_links(draws, nodes, billionths):
     return links_at(nodes, [place for place in range(nodes * (nodes - 1) // 2) if draws.below(10**9, 32) < billionths])
 
 
+def block_links(draws, sizes, within, between):
+    """Links of those pairs for which a number is drawn that is below so many billionths, in one block or between two."""
+    blocks = [block for block, size in enumerate(sizes) for _ in range(size)]
+    pairs = links_at(len(blocks), range(len(blocks) * (len(blocks) - 1) // 2))
+    return [pair for pair in pairs if draws.below(10**9, 32) < (within if blocks[pair[0]] == blocks[pair[1]] else between)]
+
+
 def preferential_links(draws, nodes, each):
     """Each node with so many before it, which are drawn as ends of links, 64 times at most for each; then the lowest that are left."""
     links = []

@@ -136,6 +136,9 @@ _unison() {
   generate:gnp | make:gnp)
     options="--probability --seed --weights --packed"
     ;;
+  generate:block | make:block)
+    options="--within --between --seed --weights --packed"
+    ;;
   generate:random-tree | make:random-tree)
     options="--seed --weights --packed"
     ;;
@@ -149,7 +152,7 @@ _unison() {
     options="--near --rewire --seed --weights --packed"
     ;;
   generate:* | make:*)
-    words="path ring star complete bipartite tree hypercube grid hex torus random gnp random-tree preferential regular small-world"
+    words="path ring star complete bipartite tree hypercube grid hex torus random gnp block random-tree preferential regular small-world"
     options=""
     ;;
   import:edges | take:edges)

@@ -60,6 +60,8 @@ SHAPES = [
     (lambda: Network.small_world(12, near=2, rewire=0, seed=1), 12, lambda a, b: min(b - a, 12 - b + a) <= 2),
     (lambda: Network.gnp(9, 1, 4), 9, lambda a, b: True),
     (lambda: Network.gnp(9, 0.0, 4), 9, lambda a, b: False),
+    (lambda: Network.block([4, 0, 5], 1, 0, 4), 9, lambda a, b: (a < 4) == (b < 4)),
+    (lambda: Network.block((2, 3), within=0, between=1.0, seed=4), 5, lambda a, b: (a < 2) != (b < 2)),
 ]
 
 
@@ -105,6 +107,7 @@ def test_a_seed_gives_the_same_network_again():
     for make in (
         lambda seed: Network.random(30, 50, seed),
         lambda seed: Network.gnp(30, 0.1, seed),
+        lambda seed: Network.block([10, 20], 0.2, 0.1, seed),
         lambda seed: Network.random_tree(30, seed),
         lambda seed: Network.preferential(30, 3, seed),
         lambda seed: Network.regular(30, 4, seed),
@@ -210,6 +213,7 @@ def test_which_networks_are_beyond_the_limits():
         (lambda: Network.random(1000, 262_145, 1), "generate random 1000 --links=262145 --seed=1 --packed"),
         (lambda: Network.random(1000, 262_145, 1, weights=(2, 9)), "generate random 1000 --links=262145 --seed=1 --weights=2..9 --packed"),
         (lambda: Network.gnp(70_000, 1, 1), "generate gnp 70000 --probability=1.000000000 --seed=1"),
+        (lambda: Network.block([3, 4], 0.25, 1, 1), "generate block 3,4 --within=0.250000000 --between=1.000000000 --seed=1"),
         (lambda: Network.small_world(1024, 256, 0, 1), "generate small-world 1024 --near=256 --rewire=0.000000% --seed=1"),
         (lambda: Network.small_world(1025, 256, 0, 1), "generate small-world 1025 --near=256 --rewire=0.000000% --seed=1 --packed"),
         (lambda: Network.preferential(65_538, 4, 1), "generate preferential 65538 --links-each=4 --seed=1 --packed"),
@@ -231,6 +235,9 @@ def test_random_networks_with_weights_beyond_the_limits():
     complete = Network.gnp(800, 1, 1)
     assert type(complete) is unison.LargeNetwork and complete.ends == 800 * 799 and complete.neighbours(799) == list(range(799))
     assert type(Network.gnp(700, 1, 1)) is Network
+    sides = Network.block([600, 600], 0, 1, 1, weights=(3, 3))
+    assert type(sides) is unison.LargeNetwork and sides.ends == 720_000 and set(sides.weights) == {3}
+    assert sides.neighbours(600) == list(range(600))
 
 
 def test_large_makers_make_the_same_networks():

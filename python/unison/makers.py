@@ -4,7 +4,7 @@ from __future__ import annotations
 
 from fractions import Fraction
 from numbers import Rational, Real
-from typing import TYPE_CHECKING, Any, Mapping, Optional, Tuple
+from typing import TYPE_CHECKING, Any, Iterable, Mapping, Optional, Tuple
 
 from . import _checks, _programs, faults
 
@@ -48,6 +48,13 @@ class Recipe:
             _checks.refuse(self.call, name, value, wanted, ValueError)
         before, behind = divmod(round(number * 10**digits), 10**digits)
         self.words.append(f"--{name}={before}.{behind:0{digits}d}{unit}")
+
+    def blocks(self, value: Any) -> None:
+        """The number of nodes of each block."""
+        sizes = _checks.items(self.call, "sizes", value, "a list, the number of nodes of each block,")
+        if not sizes:
+            _checks.refuse(self.call, "sizes", value, "the number of nodes of one block or more is wanted", ValueError)
+        self.words.append(",".join(str(_checks.whole(self.call, f"sizes[{place}]", size)) for place, size in enumerate(sizes)))
 
     def diagonals(self, value: Any) -> bool:
         """Whether nodes are linked across corners, too."""
@@ -231,6 +238,23 @@ class Makers:
         (Gilbert 1959). A number is drawn for each pair, so the time grows with the square of `n`; that of `random` grows with its links."""
         recipe = Recipe("gnp", "gnp", {"n": n})
         recipe.decimal("probability", probability, 1, 9)
+        recipe.drawn(weights, seed)
+        return recipe.made_as_drawn(cls, set)
+
+    @classmethod
+    def block(cls, sizes: Iterable[int], within: float, between: float, seed: int, *, weights: Weights = None, set: Sets = None) -> Network:
+        """Nodes in blocks of these sizes, those of the first block first: two nodes of one block are linked with the chance `within`, two of
+        different blocks with the chance `between`, each 0 to 1 and rounded to nine digits behind the point (the stochastic block model,
+        Holland, Laskey and Leinhardt 1983). A number is drawn for each pair, as for `gnp`.
+
+        >>> import unison
+        >>> unison.Network.block([2, 1, 2], within=1, between=0, seed=7).links
+        ((0, 1, 1), (3, 4, 1))
+        """
+        recipe = Recipe("block", "block", {})
+        recipe.blocks(sizes)
+        recipe.decimal("within", within, 1, 9)
+        recipe.decimal("between", between, 1, 9)
         recipe.drawn(weights, seed)
         return recipe.made_as_drawn(cls, set)
 

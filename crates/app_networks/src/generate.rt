@@ -1,12 +1,12 @@
 //! `generate SHAPE NUMBERS..`: a network of a shape, or at random, as a network file or packed.
 
 use crate::generate_request::{GenerateRequest, Topology, Weights};
-use crate::pack::{chance_bytes, random_bytes, shape_bytes, text_bytes, undrawn};
+use crate::pack::{block_bytes, chance_bytes, random_bytes, shape_bytes, text_bytes, undrawn};
 use app_commands::{asked_by, check_output};
 use app_files::{Ending, print_out};
 use net_random::{
-    RandomFault, RandomNetwork, WeightDraw, WeightFault, chance_list, chance_text, drawn,
-    drawn_text, large_random_refusal, weighted_text,
+    BlockChances, RandomFault, RandomNetwork, WeightDraw, WeightFault, block_list, block_text,
+    block_total, chance_list, chance_text, drawn, drawn_text, large_random_refusal, weighted_text,
 };
 use net_shapes::{Shape, ShapeFault, large_refusal, links_of, made_text};
 use net_text::LinkList;
@@ -64,6 +64,19 @@ fn no_chance(alloc: Global, fault: RandomFault) -> Ending {
     Ending::usage(String::from_str(alloc, text))
 }
 
+/// The ending where no network of blocks is drawn.
+fn no_block(alloc: Global, fault: RandomFault) -> Ending {
+    let text = match fault {
+        RandomFault::NodeCount => "all blocks together have 1 to 65536 nodes",
+        RandomFault::TooManyLinks =>
+            "--within, --between: more than 262144 links came out, which a network may not have: take smaller ones",
+        RandomFault::TooManyNeighbours =>
+            "--within, --between: a node came out with more than 4096 neighbours: take another seed, or smaller ones",
+        RandomFault::OddEnds | RandomFault::Undrawn | RandomFault::Memory => return Ending::Memory,
+    };
+    Ending::usage(String::from_str(alloc, text))
+}
+
 /// The ending where links get no weights.
 fn no_weights(alloc: Global, fault: WeightFault) -> Ending {
     match fault {
@@ -99,6 +112,19 @@ fn chance_links(alloc: Global, nodes: u32, billionths: u32, seed: u32) -> Result
     }
 }
 
+/// The links that are drawn between the nodes of blocks.
+fn block_links(
+    alloc: Global,
+    sizes: &[u32],
+    chances: BlockChances,
+    seed: u32,
+) -> Result<LinkList, Ending> {
+    match block_list(alloc, sizes, chances, seed as u64) {
+        Ok(links) => Ok(links),
+        Err(fault) => Err(no_block(alloc, fault)),
+    }
+}
+
 /// The links that are asked for, all with weight 1.
 fn links_for(alloc: Global, asked: &GenerateRequest) -> Result<LinkList, Ending> {
     match &asked.topology {
@@ -107,6 +133,7 @@ fn links_for(alloc: Global, asked: &GenerateRequest) -> Result<LinkList, Ending>
         Topology::Chance { nodes, billionths } => {
             chance_links(alloc, *nodes, *billionths, asked.seed)
         }
+        Topology::Block { sizes, chances } => block_links(alloc, sizes, *chances, asked.seed),
     }
 }
 
@@ -152,6 +179,19 @@ fn chance_file(alloc: Global, nodes: u32, billionths: u32, seed: u32) -> Result<
     }
 }
 
+/// The network file of links that are drawn between the nodes of blocks, all of weight 1.
+fn block_file(
+    alloc: Global,
+    sizes: &[u32],
+    chances: BlockChances,
+    seed: u32,
+) -> Result<Vec<u8>, Ending> {
+    match block_text(alloc, sizes, chances, seed as u64) {
+        Ok(text) => Ok(text),
+        Err(fault) => Err(no_block(alloc, fault)),
+    }
+}
+
 /// The network file with weights that are drawn.
 fn weighted_for(
     alloc: Global,
@@ -173,6 +213,7 @@ fn text_for(alloc: Global, asked: &GenerateRequest) -> Result<Vec<u8>, Ending> {
         Topology::Chance { nodes, billionths } => {
             chance_file(alloc, *nodes, *billionths, asked.seed)
         }
+        Topology::Block { sizes, chances } => block_file(alloc, sizes, *chances, asked.seed),
     }
 }
 
@@ -182,6 +223,7 @@ fn fits_packed_alone(asked: &GenerateRequest) -> bool {
         Topology::Shape(shape) => large_refusal(shape).is_none(),
         Topology::RandomNetwork(random) => large_random_refusal(random).is_none(),
         Topology::Chance { nodes, .. } => *nodes > 0,
+        Topology::Block { sizes, .. } => block_total(sizes, u32::MAX).is_some(),
     }
 }
 
@@ -242,6 +284,9 @@ fn large_for(alloc: Global, asked: &GenerateRequest) -> Option<Result<Vec<u8>, E
         }
         Topology::Chance { nodes, billionths } => {
             Some(chance_bytes(alloc, *nodes, *billionths, weight_draw(asked), asked.seed))
+        }
+        Topology::Block { sizes, chances } => {
+            Some(block_bytes(alloc, sizes, *chances, weight_draw(asked), asked.seed))
         }
     }
 }

@@ -1,11 +1,10 @@
 //! `generate`: a network of a shape, or at random.
 ghost use Rattle.std.specs.Prelude.{◌≤◌, IfOk, IfSome};
 
-use app_commands::{
-    AS_PACKED, AS_PACKED_ARGUMENT, FLAG, NUMBER, Portion, chance_of, no_share, percent_of,
-};
+use crate::block_request::{BETWEEN, SIZES, WITHIN, billionths_in, block_in};
+use app_commands::{AS_PACKED, AS_PACKED_ARGUMENT, FLAG, NUMBER, Portion, no_share, percent_of};
 use app_table::{Argument, Command, Draft, Kind, OPTION, Reading, Subcommand, WordsFault, number};
-use net_random::RandomNetwork;
+use net_random::{BlockChances, RandomNetwork};
 use net_shapes::Shape;
 use std::alloc::{AllocError, Global};
 
@@ -220,7 +219,7 @@ const SHAPE_SEED: Argument = Argument {
 };
 
 /// Shapes and random networks.
-const SHAPES: [Subcommand; 16] = [
+const SHAPES: [Subcommand; 17] = [
     Subcommand {
         name: "path",
         about: "Each node is linked with the next one",
@@ -294,6 +293,12 @@ const SHAPES: [Subcommand; 16] = [
         arguments: &[NODES, PROBABILITY, SEED],
     },
     Subcommand {
+        name: "block",
+        about: "Nodes stand in blocks, and two of one block are linked with another chance than two of different ones",
+        notes: "",
+        arguments: &[SIZES, WITHIN, BETWEEN, SEED],
+    },
+    Subcommand {
         name: "random-tree",
         about: "Each node but node 0 is linked with one before it",
         notes: "",
@@ -331,7 +336,7 @@ static GENERATE: Command = Command {
 };
 
 /// What networks are called elsewhere, and the name that they have here.
-const OTHER_NAMES: [(&str, &str); 21] = [
+const OTHER_NAMES: [(&str, &str); 23] = [
     ("ba", "preferential"),
     ("barabasi-albert", "preferential"),
     ("scale-free", "preferential"),
@@ -339,6 +344,8 @@ const OTHER_NAMES: [(&str, &str); 21] = [
     ("er", "gnp"),
     ("erdos-renyi", "gnp"),
     ("gilbert", "gnp"),
+    ("sbm", "block"),
+    ("stochastic-block-model", "block"),
     ("gnm", "random"),
     ("circle", "ring"),
     ("circular", "ring"),
@@ -389,12 +396,20 @@ pub fn generate_command() -> &'static Command {
 }
 
 /// Of which network the file is.
-#[derive(Clone, Copy)]
+#[derive(Drop)]
 pub enum Topology {
     Shape(Shape),
     RandomNetwork(RandomNetwork),
     /// Each pair of so many nodes is linked with a chance of so many billionths.
-    Chance { nodes: u32, billionths: u32 },
+    Chance {
+        nodes: u32,
+        billionths: u32,
+    },
+    /// Nodes stand in blocks of these sizes, and each pair of them is linked with a chance.
+    Block {
+        sizes: Vec<u32>,
+        chances: BlockChances,
+    },
 }
 
 /// Weights that are to be drawn, from a least to a greatest one, both included.
@@ -405,7 +420,7 @@ pub struct Weights {
 }
 
 /// What `generate` is asked for.
-#[derive(Clone, Copy)]
+#[derive(Drop)]
 pub struct GenerateRequest {
     pub topology: Topology,
     /// The weights of the links, where they are to be drawn.
@@ -535,25 +550,11 @@ fn small_world_in(reading: &mut Reading, nodes: u32) -> RandomNetwork {
     }
 }
 
-/// Notes that a text is no chance.
-fn refuse_chance(reading: &mut Reading, found: &str) {
-    reading.refuse_as(format!(in reading.alloc();
-        "--probability: expected a decimal from 0 to 1, with nine decimals at most, or percents as 5%, found `{found}`"
-    ));
-}
-
 /// A network each of whose pairs is linked with a chance. Where the words name none, an invalid argument is noted.
 fn chance_in(reading: &mut Reading) -> Topology {
     let nodes = size(reading, &NODES_ARGUMENT);
-    let found = reading.needed_text(&PROBABILITY_ARGUMENT);
-    let chance = chance_of(found.as_str());
-    if chance.is_none() {
-        refuse_chance(reading, found.as_str());
-    }
-    Topology::Chance {
-        nodes,
-        billionths: chance.unwrap_or(0),
-    }
+    let billionths = billionths_in(reading, &PROBABILITY_ARGUMENT);
+    Topology::Chance { nodes, billionths }
 }
 
 /// The random network that is named, with its numbers.
@@ -581,6 +582,7 @@ fn random_network_in(reading: &mut Reading) -> RandomNetwork {
 fn topology_in(reading: &mut Reading) -> Topology {
     match reading.subcommand() {
         "gnp" => chance_in(reading),
+        "block" => block_in(reading),
         "random" | "random-tree" | "preferential" | "regular" | "small-world" => {
             let random = random_network_in(reading);
             Topology::RandomNetwork(random)

@@ -1,6 +1,7 @@
 //! The commands that make, import, change and describe networks.
 #![tactic(auto)]
 
+mod block_request;
 mod generate;
 mod generate_request;
 mod import;

@@ -10,7 +10,9 @@ use large_net::{LargeNetwork, large_bytes};
 use large_pack::{PackOptions, Packed, pack_edges};
 use link_net::NetFile;
 use net_names::list_text;
-use net_random::{RandomFault, RandomNetwork, WeightDraw, large_chance, large_random};
+use net_random::{
+    BlockChances, RandomFault, RandomNetwork, WeightDraw, large_block, large_chance, large_random,
+};
 use net_shapes::{LargeShapeFault, Shape, large_shape};
 use std::alloc::{AllocError, Global};
 use std::thread::Threads;
@@ -206,6 +208,20 @@ pub(crate) fn chance_bytes(
     drawn_bytes(
         alloc,
         large_chance(alloc, nodes, billionths, weights, seed as u64),
+    )
+}
+
+/// The binary file of links that are drawn between the nodes of blocks.
+pub(crate) fn block_bytes(
+    alloc: Global,
+    sizes: &[u32],
+    chances: BlockChances,
+    weights: Option<WeightDraw>,
+    seed: u32,
+) -> Result<Vec<u8>, Ending> {
+    drawn_bytes(
+        alloc,
+        large_block(alloc, sizes, chances, weights, seed as u64),
     )
 }
 

@@ -1,13 +1,15 @@
 -- Places that are drawn.
-use Rattle.std.proofs.Common.{◌≡◌, ◌≢◌, ℕ, zero, suc, ◌+◌, ◌-◌, ◌<◌, ◌≤◌, List, [], ◌∷◌, ◌++◌, length, map, nat_lt, refl, ap, sym, ◌∙◌, arith, inl, inr}
+use Rattle.std.proofs.Common.{◌≡◌, ◌≢◌, ℕ, zero, suc, ◌+◌, ◌-◌, ◌<◌, ◌≤◌, List, [], ◌∷◌, ◌++◌, length, map, nat_lt, refl, ap, sym, ◌∙◌, arith, inl, inr, Bool, true, false, get_or, ◌==◌, if◌then◌else◌}
 use Rattle.std.specs.Prelude.{All, AllPairs}
 use Rattle.std.proofs.lemmas.Bool.{cases_Bool}
 use Rattle.std.proofs.lemmas.List.{length-map}
 use Rattle.rand_core.specs.Stream.{Stream}
 use Rattle.rand.specs.Sample.{IsSampleOf}
-use Rattle.net_random.specs.Chances.{chance_links, number_in, places_from, stream_by}
+use Rattle.net_text.specs.Listing.{Link}
+use Rattle.net_random.specs.Blocks.{pair_chance}
+use Rattle.net_random.specs.Chances.{chance_at, chance_links, links_by_chance, number_in, place_before, places_from, stream_by}
 use Rattle.net_random.specs.Pairs.{link_at, place_count}
-use Rattle.net_random.specs.RandomNetworks.{AreSimpleLinks}
+use Rattle.net_random.specs.RandomNetworks.{pair_count, AreSimpleLinks}
 use Rattle.net_random.proofs.Places.{places_are_pairs, simple_at}
 
 all_none : (P : ℕ → Type 0) → All P []
@@ -21,12 +23,12 @@ all_weaker : (P Q : ℕ → Type 0) (xs : List ℕ) → ((x : ℕ) → P x → Q
 all_weaker P Q xs f all i d low = f _ (all i d low)
 
 -- the places are those from one on
-above : (k place b : ℕ) (s : Stream) → All (λ x. (place ≤ x) × (x < place + k)) (places_from k place b s)
-above zero place b s = all_none (λ x. (place ≤ x) × (x < place + zero))
-above (suc k) place b s =
-    let rest = all_weaker (λ x. (place + 1 ≤ x) × (x < place + 1 + k)) (λ x. (place ≤ x) × (x < place + suc k)) (places_from k (place + 1) b (number_in s).1) (λ x h. (omega (arith, h.0), omega (arith, h.1))) (above k (place + 1) b (number_in s).1) in
-    elim (cases_Bool (nat_lt (number_in s).0 b)) [
-      | inl hit ↦ rw hit (all_more (λ x. (place ≤ x) × (x < place + suc k)) place (places_from k (place + 1) b (number_in s).1) (omega arith, omega arith) rest)
+above : (f : ℕ → ℕ) (k place : ℕ) (s : Stream) → All (λ x. (place ≤ x) × (x < place + k)) (places_from f k place s)
+above f zero place s = all_none (λ x. (place ≤ x) × (x < place + zero))
+above f (suc k) place s =
+    let rest = all_weaker (λ x. (place + 1 ≤ x) × (x < place + 1 + k)) (λ x. (place ≤ x) × (x < place + suc k)) (places_from f k (place + 1) (number_in s).1) (λ x h. (omega (arith, h.0), omega (arith, h.1))) (above f k (place + 1) (number_in s).1) in
+    elim (cases_Bool (nat_lt (number_in s).0 (f place))) [
+      | inl hit ↦ rw hit (all_more (λ x. (place ≤ x) × (x < place + suc k)) place (places_from f k (place + 1) (number_in s).1) (omega arith, omega arith) rest)
       | inr none ↦ rw none rest
     ]
 
@@ -41,46 +43,78 @@ pairs_more x xs all apart (suc i) (suc j) d before low = apart i j d (omega (ari
 different : (x y : ℕ) → x + 1 ≤ y → x ≢ y
 different x y later same = absurd (omega (arith, later, same))
 
-apart_all : (k place b : ℕ) (s : Stream) → AllPairs (λ x y. x ≢ y) (places_from k place b s)
-apart_all zero place b s = pairs_none
-apart_all (suc k) place b s =
-    let rest = apart_all k (place + 1) b (number_in s).1 in
-    elim (cases_Bool (nat_lt (number_in s).0 b)) [
+apart_all : (f : ℕ → ℕ) (k place : ℕ) (s : Stream) → AllPairs (λ x y. x ≢ y) (places_from f k place s)
+apart_all f zero place s = pairs_none
+apart_all f (suc k) place s =
+    let rest = apart_all f k (place + 1) (number_in s).1 in
+    elim (cases_Bool (nat_lt (number_in s).0 (f place))) [
       | inl hit ↦
           rw hit
-          (pairs_more place (places_from k (place + 1) b (number_in s).1)
-          (all_weaker (λ x. (place + 1 ≤ x) × (x < place + 1 + k)) (λ y. place ≢ y) (places_from k (place + 1) b (number_in s).1) (λ x h. different place x h.0) (above k (place + 1) b (number_in s).1))
+          (pairs_more place (places_from f k (place + 1) (number_in s).1)
+          (all_weaker (λ x. (place + 1 ≤ x) × (x < place + 1 + k)) (λ y. place ≢ y) (places_from f k (place + 1) (number_in s).1) (λ x h. different place x h.0) (above f k (place + 1) (number_in s).1))
           rest)
       | inr none ↦ rw none rest
     ]
 
-pub are_places : (count b : ℕ) (s : Stream) → All (λ x. x < count) (places_from count 0 b s)
-are_places count b s = all_weaker (λ x. (0 ≤ x) × (x < 0 + count)) (λ x. x < count) (places_from count 0 b s) (λ x h. omega (arith, h.1)) (above count 0 b s)
+pub are_places : (f : ℕ → ℕ) (count : ℕ) (s : Stream) → All (λ x. x < count) (places_from f count 0 s)
+are_places f count s = all_weaker (λ x. (0 ≤ x) × (x < 0 + count)) (λ x. x < count) (places_from f count 0 s) (λ x h. omega (arith, h.1)) (above f count 0 s)
 
-sampled : (count b : ℕ) (s : Stream) → IsSampleOf count (length (places_from count 0 b s)) (places_from count 0 b s)
-sampled count b s = record { len = refl; in_range = are_places count b s; distinct = apart_all count 0 b s }
+sampled : (f : ℕ → ℕ) (count : ℕ) (s : Stream) → IsSampleOf count (length (places_from f count 0 s)) (places_from f count 0 s)
+sampled f count s = record { len = refl; in_range = are_places f count s; distinct = apart_all f count 0 s }
 
 -- the links at drawn places
-pub chance_simple : (n b : ℕ) (s : Stream) → 1 ≤ n → AreSimpleLinks n (map (link_at n) (places_from (place_count n) 0 b s))
-chance_simple n b s some = simple_at n some (length (places_from (place_count n) 0 b s)) (places_from (place_count n) 0 b s) (sampled (place_count n) b s)
+pub chance_simple : (f : ℕ → ℕ) (n : ℕ) (s : Stream) → 1 ≤ n → AreSimpleLinks n (map (link_at n) (places_from f (place_count n) 0 s))
+chance_simple f n s some = simple_at n some (length (places_from f (place_count n) 0 s)) (places_from f (place_count n) 0 s) (sampled f (place_count n) s)
 
-pub chance_places : (n b seed : ℕ) → map (link_at n) (places_from (place_count n) 0 b (stream_by seed)) ≡ chance_links n b seed
-chance_places n b seed = ap (λ count. map (link_at n) (places_from count 0 b (stream_by seed))) (sym (places_are_pairs n))
+pub chance_places : (chance : Link → ℕ) (n seed : ℕ) → map (link_at n) (places_from (chance_at chance n) (place_count n) 0 (stream_by seed)) ≡ links_by_chance chance n seed
+chance_places chance n seed = ap (λ count. map (link_at n) (places_from (chance_at chance n) count 0 (stream_by seed))) (sym (places_are_pairs n))
+
+-- one place: its number, and what that leaves of the stream
+pub next_place : (f : ℕ → ℕ) (k place number : ℕ) (s after : Stream) (hit : Bool) → (number, after) ≡ number_in s → hit ≡ nat_lt number (f place)
+    → place_before hit place (places_from f k (place + 1) after) ≡ places_from f (suc k) place s
+next_place f k place number s after hit drawn is =
+    ap (λ h. place_before h place (places_from f k (place + 1) after)) is
+    ∙ ap (λ (p : ℕ × Stream). place_before (nat_lt p.0 (f place)) place (places_from f k (place + 1) p.1)) drawn
 
 -- the places so far, and those that are left
-module _ (count place b : ℕ) (s : Stream) (done whole : List ℕ) (less : place < count) (before : done ++ places_from (count - place) place b s ≡ whole) where
-  next_places : done ++ places_from (suc (count - (place + 1))) place b s ≡ whole
-  next_places = ap (λ k. done ++ places_from k place b s) (later count place less) ∙ before where
+module _ (f : ℕ → ℕ) (count place : ℕ) (s : Stream) (done whole : List ℕ) (less : place < count) (before : done ++ places_from f (count - place) place s ≡ whole) where
+  pub next_places : done ++ places_from f (suc (count - (place + 1))) place s ≡ whole
+  next_places = ap (λ k. done ++ places_from f k place s) (later count place less) ∙ before where
     later : (count place : ℕ) → place < count → suc (count - (place + 1)) ≡ count - place
     later count place less = omega arith
 
-  pub places_left : {all : List ℕ} → all ≡ done ++ places_from (suc (count - (place + 1))) place b s → all ≡ whole
-  places_left same = same ∙ next_places
+  -- one number more is drawn
+  module _ (number : ℕ) (after : Stream) (hit : Bool) (drawn : (number, after) ≡ number_in s) (is : hit ≡ nat_lt number (f place)) where
+    whole_is : done ++ place_before hit place (places_from f (count - (place + 1)) (place + 1) after) ≡ whole
+    whole_is = ap (λ ps. done ++ ps) (next_place f (count - (place + 1)) place number s after hit drawn is) ∙ next_places
 
-  pub places_many : (most : ℕ) → most < length (done ++ places_from (suc (count - (place + 1))) place b s) → most < length whole
-  places_many most more = rw next_places at more
+    pub places_left : {all : List ℕ} → all ≡ done ++ place_before hit place (places_from f (count - (place + 1)) (place + 1) after) → all ≡ whole
+    places_left same = same ∙ whole_is
 
-pub chance_many : (n b seed most : ℕ) → most < length (places_from (place_count n) 0 b (stream_by seed)) → most < length (chance_links n b seed)
-chance_many n b seed most more =
-    let same = ap length (sym (chance_places n b seed)) ∙ length-map (places_from (place_count n) 0 b (stream_by seed)) (link_at n) in
+    pub places_many : (most : ℕ) → most < length (done ++ place_before hit place (places_from f (count - (place + 1)) (place + 1) after)) → most < length whole
+    places_many most more = rw whole_is at more
+
+pub chance_many : (chance : Link → ℕ) (n seed most : ℕ) → most < length (places_from (chance_at chance n) (place_count n) 0 (stream_by seed)) → most < length (links_by_chance chance n seed)
+chance_many chance n seed most more =
+    let same = ap length (sym (chance_places chance n seed)) ∙ length-map (places_from (chance_at chance n) (place_count n) 0 (stream_by seed)) (link_at n) in
     omega (arith, same, more)
+
+-- chances that are the same of each place draw the same places
+places_same : (f g : ℕ → ℕ) → ((place : ℕ) → f place ≡ g place) → (k place : ℕ) (s : Stream) → places_from f k place s ≡ places_from g k place s
+places_same f g same zero place s = refl
+places_same f g same (suc k) place s =
+    ap (λ b. place_before (nat_lt (number_in s).0 b) place (places_from f k (place + 1) (number_in s).1)) (same place)
+    ∙ ap (place_before (nat_lt (number_in s).0 (g place)) place) (places_same f g same k (place + 1) (number_in s).1)
+
+even_chance : (blocks : List ℕ) (b : ℕ) (l : Link) → pair_chance blocks (record { within = b; between = b }) l ≡ b
+even_chance blocks b l = either (get_or blocks l.0 0 == get_or blocks l.1 0) where
+  either : (same : Bool) → (if same then b else b) ≡ b
+  either true = refl
+  either false = refl
+
+-- one chance of all pairs, whatever the blocks
+pub chance_even : (blocks : List ℕ) (n b seed : ℕ) → links_by_chance (pair_chance blocks (record { within = b; between = b })) n seed ≡ chance_links n b seed
+chance_even blocks n b seed =
+    ap (map (link_at n)) (
+    places_same (chance_at (pair_chance blocks (record { within = b; between = b })) n) (chance_at (λ l. b) n) (λ place. even_chance blocks b (link_at n place)) (pair_count n) 0 (stream_by seed)
+    )

@@ -11,6 +11,7 @@ mod Changing
 mod Ring
 mod Degrees
 mod Chances
+mod Blocks
 mod Mapped
 mod Directions
 mod Fits

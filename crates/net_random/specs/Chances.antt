@@ -1,4 +1,4 @@
--- Networks each of whose pairs of nodes is linked with the same chance.
+-- Networks each of whose pairs of nodes is linked with a chance.
 use Rattle.std.specs.Prelude.{◌≡◌, ◌<◌, ◌≤◌, ◌⊎◌, true, ℕ, zero, suc, ◌+◌, Bool, List, [], ◌∷◌, length, map, nat_lt, Ok, if◌then◌else◌}
 use Rattle.rand_core.specs.Stream.{Stream}
 use Rattle.rand_core.specs.Steps.{stream_of, steps_u64_low}
@@ -26,14 +26,22 @@ number_in s = usize_between canon 0 999999999 s
 abbrev pub place_before : Bool → ℕ → List ℕ → List ℕ
 place_before wanted place places = if wanted then place ∷ places else places
 
--- of so many places from this one on, those whose numbers, drawn one after another, are below so many billionths
-abbrev pub places_from : ℕ → ℕ → ℕ → Stream → List ℕ
-places_from zero place billionths s = []
-places_from (suc k) place billionths s = place_before (nat_lt (number_in s).0 billionths) place (places_from k (place + 1) billionths (number_in s).1)
+-- of so many places from this one on, those whose numbers, drawn one after another, are below the chance of the place, in billionths
+abbrev pub places_from : (ℕ → ℕ) → ℕ → ℕ → Stream → List ℕ
+places_from chance zero place s = []
+places_from chance (suc k) place s = place_before (nat_lt (number_in s).0 (chance place)) place (places_from chance k (place + 1) (number_in s).1)
 
--- the links of the pairs of n nodes whose numbers are below so many billionths; a seed draws one for each pair
+-- the chance, in billionths, with which the pair at a place is linked
+abbrev pub chance_at : (Link → ℕ) → ℕ → ℕ → ℕ
+chance_at chance n place = chance (link_at n place)
+
+-- the links of the pairs of n nodes whose numbers are below the chance of the pair, in billionths; a seed draws one for each pair
+abbrev pub links_by_chance : (Link → ℕ) → ℕ → ℕ → List Link
+links_by_chance chance n seed = map (link_at n) (places_from (chance_at chance n) (pair_count n) 0 (stream_by seed))
+
+-- the same where each pair of nodes has the same chance, of so many billionths
 abbrev pub chance_links : ℕ → ℕ → ℕ → List Link
-chance_links n billionths seed = map (link_at n) (places_from (pair_count n) 0 billionths (stream_by seed))
+chance_links n billionths seed = links_by_chance (λ l. billionths) n seed
 
 -- a network file may have so many nodes
 abbrev pub IsNodeCount : ℕ → Type 0

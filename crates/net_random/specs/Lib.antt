@@ -3,6 +3,7 @@ pub mod RandomNetworks
 pub mod Sizes
 pub mod Pairs
 pub mod Chances
+pub mod Blocks
 pub mod Growth
 pub mod Weights
 pub mod Changed

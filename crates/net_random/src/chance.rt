@@ -1,16 +1,18 @@
-//! Networks each of whose pairs of nodes is linked with the same chance.
-ghost use Rattle.std.specs.Prelude.{◌≡◌, ◌≢◌, ◌≤◌, ◌<◌, ◌+◌, ◌++◌, ℕ, suc, length, map, All, IfOk, IfErr, OnOk, MatchResult};
+//! Networks each of whose pairs of nodes is linked with a chance.
+ghost use Rattle.std.specs.Prelude.{◌≡◌, ◌≢◌, ◌≤◌, ◌<◌, ◌+◌, ◌++◌, ℕ, List, length, IfOk, IfErr, OnOk};
 ghost use Rattle.rand_core.specs.Steps.{stream_of, steps_u64_low};
 ghost use Rattle.rand_pcg.specs.Pcg.{pcg64};
 ghost use Rattle.link_net.specs.Limits.{most_nodes};
 ghost use Rattle.net_random.specs.declared.fault.RandomFault.TheVariants.{TooManyLinks, Memory};
-ghost use Rattle.net_random.specs.Chances.{IsChanceFault, IsChanceText, chance_links, number_in, places_from};
+ghost use Rattle.net_random.specs.Blocks.{pair_chance};
+ghost use Rattle.net_random.specs.Chances.{IsChanceFault, IsChanceText, chance_at, chance_links, links_by_chance, number_in, place_before, places_from};
 ghost use Rattle.net_random.specs.Pairs.{place_count};
 ghost use Rattle.net_random.specs.RandomNetworks.{AreSimpleLinks};
 
-use crate::RandomFault;
 use crate::listed::listed;
+use crate::pair_chance::is_hit;
 use crate::pairs::{links_at, place_count};
+use crate::{BlockChances, RandomFault};
 use link_net::{FieldSet, Link, MOST_LINKS, MOST_NODES};
 use net_text::{LinkList, write_network};
 use rand::RngExt;
@@ -28,20 +30,19 @@ fn number_in(rng: &mut Pcg64) -> usize
     rng.random_range(0..=GREATEST)
 }
 
-/// Puts a place after others, of which there are so many at most, where the number that is drawn for it is below so many
-/// billionths.
+/// Puts a place after others, of which there are so many at most, where it is hit.
 fn put_place(
     places: &mut Vec<usize>,
-    rng: &mut Pcg64,
     place: usize,
-    billionths: u32,
+    hit: bool,
     most: usize,
 ) -> Result<(), RandomFault>
     requires few { length places.old.items ≤ most }
     ensures few { OnOk result (length places.new.items ≤ most) }
-    ensures drawn { MatchResult result (λ _. (k : ℕ) → places.new.items ++ places_from k (place + 1) billionths (stream_of (steps_u64_low pcg64) rng.new) ≡ places.old.items ++ places_from (suc k) place billionths (stream_of (steps_u64_low pcg64) rng.old)) (λ fault. fault ≢ Memory → (fault ≡ TooManyLinks) × ((k : ℕ) → most < length (places.old.items ++ places_from (suc k) place billionths (stream_of (steps_u64_low pcg64) rng.old)))) }
+    ensures put { OnOk result ((rest : List ℕ) → places.new.items ++ rest ≡ places.old.items ++ place_before hit place rest) }
+    ensures many { IfErr result (λ fault. fault ≢ Memory → (fault ≡ TooManyLinks) × ((rest : List ℕ) → most < length (places.old.items ++ place_before hit place rest))) }
 {
-    if number_in(rng) >= billionths as usize {
+    if !hit {
         return Ok(());
     }
     if places.len() >= most {
@@ -51,28 +52,54 @@ fn put_place(
     Ok(())
 }
 
-/// The places of all pairs whose numbers are below so many billionths, of which there are so many at most.
+/// The places of all pairs whose numbers are below their chance, of which there are so many at most.
 fn hit_places(
     alloc: Global,
     rng: &mut Pcg64,
     nodes: u32,
-    billionths: u32,
+    blocks: &[usize],
+    chances: BlockChances,
     most: usize,
 ) -> Result<Vec<usize>, RandomFault>
     requires some { 1 ≤ nodes }
     ensures few { IfOk result (λ v. length v.items ≤ most) }
-    ensures drawn { IfOk result (λ v. v.items ≡ places_from (place_count nodes) 0 billionths (stream_of (steps_u64_low pcg64) rng.old)) }
-    ensures many { IfErr result (λ fault. fault ≢ Memory → (fault ≡ TooManyLinks) × (most < length (places_from (place_count nodes) 0 billionths (stream_of (steps_u64_low pcg64) rng.old)))) }
+    ensures drawn { IfOk result (λ v. v.items ≡ places_from (chance_at (pair_chance blocks.now chances) nodes) (place_count nodes) 0 (stream_of (steps_u64_low pcg64) rng.old)) }
+    ensures many { IfErr result (λ fault. fault ≢ Memory → (fault ≡ TooManyLinks) × (most < length (places_from (chance_at (pair_chance blocks.now chances) nodes) (place_count nodes) 0 (stream_of (steps_u64_low pcg64) rng.old)))) }
 {
     let mut places = Vec::new(alloc);
     for place in 0..place_count(nodes) {
-        put_place(&mut places, rng, place, billionths, most)?;
+        let number = number_in(rng);
+        let hit = is_hit(nodes, blocks, chances, place, number);
+        put_place(&mut places, place, hit, most)?;
     }
     Ok(places)
 }
 
-/// The links of the pairs that are drawn, of which there are so many at most.
+/// The links of the pairs whose numbers are below their chance, of which there are so many at most; each node stands in the
+/// block that is told for it.
 pub(crate) fn hit_links(
+    alloc: Global,
+    nodes: u32,
+    blocks: &[usize],
+    chances: BlockChances,
+    most: usize,
+    seed: u64,
+) -> Result<Vec<Link>, RandomFault>
+    requires some { 1 ≤ nodes }
+    ensures few { IfOk result (λ v. length v.items ≤ most) }
+    ensures simple { IfOk result (λ v. AreSimpleLinks nodes v.items) }
+    ensures links { IfOk result (λ v. v.items ≡ links_by_chance (pair_chance blocks.now chances) nodes seed) }
+    ensures many { IfErr result (λ fault. fault ≢ Memory → (fault ≡ TooManyLinks) × (most < length (links_by_chance (pair_chance blocks.now chances) nodes seed))) }
+{
+    let mut rng = Pcg64::seed_from_u64(seed);
+    let places = hit_places(alloc, &mut rng, nodes, blocks, chances, most)?;
+    let links = links_at(alloc, nodes, &places)?;
+    Ok(links)
+}
+
+/// The links of the pairs that are drawn with the same chance, of which there are so many at most. Where nodes of one block
+/// and of two blocks have the same chance, it does not matter in which block they stand.
+pub(crate) fn even_links(
     alloc: Global,
     nodes: u32,
     billionths: u32,
@@ -85,10 +112,11 @@ pub(crate) fn hit_links(
     ensures links { IfOk result (λ v. v.items ≡ chance_links nodes billionths seed) }
     ensures many { IfErr result (λ fault. fault ≢ Memory → (fault ≡ TooManyLinks) × (most < length (chance_links nodes billionths seed))) }
 {
-    let mut rng = Pcg64::seed_from_u64(seed);
-    let places = hit_places(alloc, &mut rng, nodes, billionths, most)?;
-    let links = links_at(alloc, nodes, &places)?;
-    Ok(links)
+    let chances = BlockChances {
+        within: billionths,
+        between: billionths,
+    };
+    hit_links(alloc, nodes, &[], chances, most, seed)
 }
 
 /// The random network of so many nodes each pair of which is linked with the same chance, of so many billionths (Gilbert
@@ -112,7 +140,7 @@ pub fn chance_list(
     if nodes < 1 || nodes > MOST_NODES {
         return Err(RandomFault::NodeCount);
     }
-    let links = hit_links(alloc, nodes, billionths, MOST_LINKS as usize, seed)?;
+    let links = even_links(alloc, nodes, billionths, MOST_LINKS as usize, seed)?;
     let list = listed(alloc, nodes, links)?;
     Ok(list)
 }

@@ -1,16 +1,20 @@
 //! Networks of any size that memory holds, drawn at random. The same seed gives the same network on every machine.
 ghost use Rattle.std.specs.Prelude.{◌≡◌, ◌≤◌, length, None, IfOk, IfErr};
+ghost use Rattle.link_net.specs.Limits.{most_rows};
 ghost use Rattle.link_net.specs.Links.{network_of};
+ghost use Rattle.std.specs.List.{sum};
+ghost use Rattle.net_random.specs.Blocks.{IsLargeBlockFault, block_links};
 ghost use Rattle.net_random.specs.Chances.{IsLargeChanceFault, chance_links};
 ghost use Rattle.net_random.specs.RandomNetworks.{AreSimpleLinks};
 ghost use Rattle.net_random.specs.LargeDrawn.{IsDrawn};
 ghost use Rattle.net_random.specs.Sizes.{IsFaultIn, large_bounds, most_large_links, refusal_in};
 ghost use Rattle.net_random.specs.Weights.{IsWeightedNetwork};
 
-use crate::chance::hit_links;
+use crate::block::{block_links, block_total};
+use crate::chance::even_links;
 use crate::sizes::{node_count, refusal};
 use crate::weight_draw::with_weights;
-use crate::{NetworkBounds, RandomFault, RandomNetwork, WeightDraw, drawn_links};
+use crate::{BlockChances, NetworkBounds, RandomFault, RandomNetwork, WeightDraw, drawn_links};
 use large_net::LargeNetwork;
 use large_pack::network_of_arcs;
 use link_net::{Link, arcs};
@@ -103,7 +107,31 @@ pub fn large_chance(
     if nodes < 1 {
         return Err(RandomFault::NodeCount);
     }
-    let links = hit_links(alloc, nodes, billionths, MOST_LARGE_LINKS, seed)?;
+    let links = even_links(alloc, nodes, billionths, MOST_LARGE_LINKS, seed)?;
+    let network = weighted_network(alloc, nodes, links, weights)?;
+    Ok(network)
+}
+
+/// The random network of any size whose nodes stand in blocks of these sizes, as [`crate::block_list`] draws it where that
+/// takes it: for each pair a number. Each link is seen from both ends, with weight 1 or with the weights that are drawn.
+///
+/// `NodeCount` comes where there is no node or more than 4,294,967,295, before any memory is taken, else `TooManyLinks`
+/// where more than 2,147,483,647 links are drawn, and `Memory` only where the number of nodes is not at fault.
+pub fn large_block(
+    alloc: Global,
+    sizes: &[u32],
+    chances: BlockChances,
+    weights: Option<WeightDraw>,
+    seed: u64,
+) -> Result<LargeNetwork, RandomFault>
+    ensures drawn { IfOk result (IsWeightedNetwork (sum sizes.now) weights (block_links sizes.now chances seed)) }
+    ensures size { IfOk result (λ _. (1 ≤ sum sizes.now) × (sum sizes.now ≤ most_rows)) }
+    ensures refused { IfErr result (IsLargeBlockFault (sum sizes.now) (block_links sizes.now chances seed)) }
+{
+    let Some(nodes) = block_total(sizes, LARGE_BOUNDS.nodes) else {
+        return Err(RandomFault::NodeCount);
+    };
+    let links = block_links(alloc, sizes, nodes, chances, MOST_LARGE_LINKS, seed)?;
     let network = weighted_network(alloc, nodes, links, weights)?;
     Ok(network)
 }

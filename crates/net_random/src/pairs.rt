@@ -26,7 +26,7 @@ pub(crate) fn place_count(nodes: u32) -> usize
 }
 
 /// The link at a place of the rectangle.
-fn link_at(nodes: u32, place: usize) -> Link
+pub(crate) fn link_at(nodes: u32, place: usize) -> Link
     requires some { 1 ≤ nodes }
     requires low { place < place_count nodes }
     ensures { result ≡ link_at nodes place }
