@@ -147,6 +147,23 @@ def test_means_and_deviations():
     assert told.startswith("count: mean is True, and no constant has several values, as constants={'seed': range(20)}, ")
 
 
+def test_quantiles():
+    """The least number that so many percent of the runs do not exceed, by counting those that do not."""
+    model, club = unison.Model.from_file(EXAMPLES / "models" / "epidemic.model"), network("karate").with_set({"state": {0: 1, 33: 1}})
+    seeds, percents = range(1, 8), [0, 14, 15, 50, 95, 100]
+    runs = unison.count(model, club, [0, 6], constants={"seed": seeds})
+    means = unison.count(model, club, [0, 6], constants={"seed": seeds}, mean=True, quantiles=percents)
+    assert means.columns[:8] == ("round", "runs", "susceptible mean", "susceptible deviation", *(f"susceptible {p}%" for p in percents[:4]))
+    column = [plain(runs.run(seed)["infected"])[1] for seed in seeds]
+    for percent in percents:
+        wanted = min(number for number in column if 100 * sum(other <= number for other in column) >= percent * len(column))
+        assert plain(means[f"infected {percent}%"])[1] == wanted, percent
+    told = str(raised(ValueError, lambda: unison.count(model, club, 6, constants={"seed": seeds}, quantiles=[50])))
+    assert told == "count: quantiles are told beside means alone: mean=True asks for these"
+    raised(ValueError, lambda: unison.count(model, club, 6, constants={"seed": seeds}, mean=True, quantiles=[101]))
+    raised(TypeError, lambda: unison.count(model, club, 6, constants={"seed": seeds}, mean=True, quantiles="5,50"))
+
+
 def test_means_of_runs_that_have_ended():
     """A run that has ended keeps its last numbers: means by the module `statistics`, of runs that are counted to the end."""
     model, club = unison.Model.from_file(EXAMPLES / "models" / "epidemic.model"), network("karate").with_set({"state": {0: 1, 33: 1}})

@@ -42,7 +42,8 @@ class Counts:
     Columns, from the left: the constants that have several values; `round`, the round, counted from round 0; the values,
     each the number of nodes that have it; `sum FIELD`, `least FIELD` and `most FIELD`, where they were asked for. A state that no node is in
     has a column of zeros. Where more than 64 values occur, each value has a row, with the columns `round`, `value` and `nodes`. With
-    `mean=True` there are `round`, `runs`, and two columns for each of the others, `.. mean` and `.. deviation`, numbers with a point.
+    `mean=True` there are `round`, `runs`, and two columns for each of the others, `.. mean` and `.. deviation`, numbers with a point, and one
+    for each of the `quantiles`, as `.. 5%`.
 
     >>> import unison
     >>> path = unison.Network(4, [(0, 1), (1, 2), (2, 3)], set={"s": {0: 1}})
@@ -225,6 +226,7 @@ def count(
     until: Optional[Mapping[str, Union[int, str]]] = None,
     constants: Optional[Mapping[str, Values]] = None,
     mean: Union[bool, str] = False,
+    quantiles: Sequence[int] = (),
     from_: Any = None,
 ) -> Counts:
     """How many nodes have each value of a field, round by round: counted by the proved program in one pass.
@@ -242,6 +244,8 @@ def count(
     - `mean`: in place of the runs their means and standard deviations over the values of `seed`, or of the only constant that has several;
       or the name of another constant over whose values they are, 1000 at most. Each choice of the others has means of its own. A run that
       has ended keeps the numbers of its last round; with `until` the column `going` says how many runs go on to a round.
+    - `quantiles`: percents, as `[5, 50, 95]`, whole numbers from 0 to 100: with `mean`, columns `.. 5%` and so on of the least number that at
+      least so many percent of the runs do not exceed.
     - `from_`: a result of `lockstep`, or the text of a report, to go on from.
 
     Raises TypeError, ValueError or KeyError for an argument that cannot be, ModelError, PlanError, ReportError or RunError where it is
@@ -256,6 +260,7 @@ def count(
     named = _checks.only_field("count", "field", field, rules)
     given, several = constants_given(rules, constants), constants_of_several(constants)
     means = mean_words(mean, several)
+    means += quantile_words(quantiles, bool(means))
     job = _files.job_of("count", rules, network, from_, given)
     words = ["count", *_files.span_words("count", rounds), f"--field={named}", *column_words(rules, sum, least, most)]
     if until is not None:
@@ -331,6 +336,15 @@ def mean_words(mean: Any, several: Sequence[str]) -> List[str]:
     if not several:
         raise ValueError("count: mean is True, and no constant has several values, as constants={'seed': range(20)}, of which there are means")
     return ["--mean"]
+
+
+def quantile_words(quantiles: Any, means: bool) -> List[str]:
+    """The word for the quantiles beside means."""
+    listed = _checks.items("count", "quantiles", quantiles, "a list of percents, as [5, 50, 95],")
+    percents = [_checks.whole("count", f"quantiles[{place}]", percent, 0, 100) for place, percent in enumerate(listed)]
+    if percents and not means:
+        raise ValueError("count: quantiles are told beside means alone: mean=True asks for these")
+    return [f"--quantiles={','.join(map(str, percents))}"] if percents else []
 
 
 def column_words(program: Program, sum: Any, least: Any, most: Any) -> List[str]:

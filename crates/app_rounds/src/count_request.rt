@@ -3,6 +3,7 @@ ghost use Rattle.std.specs.Prelude.{IfOk, IfSome};
 ghost use Rattle.app_commands.specs.Requests.{AreThreadsWithin};
 ghost use Rattle.app_rounds.specs.Requests.{HasRuns};
 
+use crate::quantiles::{QUANTILES, quantiles_in};
 use crate::sweep::{MEAN, OVER, Sweep, sweep_in};
 use crate::varied::{RunConstants, VARIED, is_varied, run_constants_in};
 use app_commands::{
@@ -101,7 +102,8 @@ static COUNT: Command = Command {
     notes: "Prints, for the rounds FIRST, FIRST + K, FIRST + 2 K and so on, up to LAST, how many nodes have each value of a field: a column for each state of the field, and for each value that occurs, or lines of round, value and nodes where there are more than 64.\nAn example: unison count examples/life.rules examples/glider.toml --rounds 0..4\nAnother one: unison count examples/distance.rules examples/path.toml --rounds 0..9 --until none:dist=4294967295\nThree runs of a model, with one of its constants at three values: unison count examples/models/pagerank.model examples/cookbook/pagerank.toml --rounds 100..100 --field rank --most rank --const passed_on=80,85,90\n",
     arguments: &[
         PROGRAM, NETWORK, ROUNDS, EVERY, COUNTED, UNTIL, SUM, LEAST, MOST, FORMAT, MEAN, OVER,
-        FROM, SET, SET_FILE, SET_NAMES, DRAWN, OVERLAP, SEED, THREADS, SEQUENTIAL, VARIED, QUIET,
+        QUANTILES, FROM, SET, SET_FILE, SET_NAMES, DRAWN, OVERLAP, SEED, THREADS, SEQUENTIAL,
+        VARIED, QUIET,
     ],
     subcommands: &[],
 };
@@ -149,6 +151,8 @@ pub struct CountRequest {
     pub figures: Vec<FigureWord>,
     /// When the rounds end early, where they may.
     pub until: Option<UntilWord>,
+    /// The quantiles that are told beside means, in percents from 0 to 100.
+    pub quantiles: Vec<u8>,
     /// The form of the text.
     pub format: CountFormat,
     /// Whether notes are left out.
@@ -290,6 +294,7 @@ fn request_in(reading: &mut Reading) -> Option<CountRequest>
 {
     let figures = figures_in(reading);
     let until = until_in(reading);
+    let quantiles = quantiles_in(reading);
     let format = format_in(reading);
     let span = span_in(reading)?;
     let field = reading.text(&FIELD_ARGUMENT);
@@ -300,6 +305,7 @@ fn request_in(reading: &mut Reading) -> Option<CountRequest>
         field,
         figures,
         until,
+        quantiles,
         format,
         quiet: reading.has(&QUIET_ARGUMENT),
     })

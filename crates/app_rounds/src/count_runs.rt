@@ -176,6 +176,7 @@ fn runs_counted<R: Threads + Sync>(
         variants,
         groups: &[],
         size: 0,
+        quantiles: &[],
     };
     let telling = RunsTelling::new(rt, variants.len());
     let text = counted_runs(
@@ -253,6 +254,7 @@ fn groups_text<'a, R: Threads + Sync>(
         variants: &variants,
         groups: &groups,
         size,
+        quantiles: &asked.quantiles,
     };
     means_counted(rt, threads, asked, counting, &ensemble)
 }

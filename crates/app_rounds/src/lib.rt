@@ -15,6 +15,7 @@ mod large;
 mod large_request;
 mod large_watch;
 mod lockstep_request;
+mod quantiles;
 mod report_cells;
 mod round_report;
 mod runs_telling;

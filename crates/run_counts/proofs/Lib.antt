@@ -3,6 +3,7 @@ pub mod Collected
 pub mod Deviations
 pub mod Means
 pub mod Numbers
+pub mod Ranks
 pub mod Roots
 pub mod Sorting
 pub mod Steps

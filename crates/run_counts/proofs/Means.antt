@@ -13,7 +13,7 @@ use Rattle.run_counts.specs.declared.mean_columns.Column.{Column}
 use Rattle.run_counts.specs.Counts.{refusal_of}
 use Rattle.run_counts.specs.Ensembles.{RunView, refusal_in}
 use Rattle.run_counts.specs.declared.asked.Until.{Until}
-use Rattle.run_counts.specs.MeanTables.{going_at, held_row, mean_cells, mean_text, number_in, rows_at, runs_cells}
+use Rattle.run_counts.specs.MeanTables.{cell_of, going_at, held_row, mean_text, number_in, rows_at, runs_cells}
 use Rattle.run_counts.specs.Rows.{RowView}
 use Rattle.run_counts.specs.Tables.{line_end, line_start}
 
@@ -29,7 +29,7 @@ some_first (y ∷ xs) x first = omega arith
 -- what a line of means has after its round
 abbrev behind : CountFormat → List (String Global) → List (List ℕ) → List Column → Option Until → ℕ → List RowView → ℕ → List ℕ
 behind format labels names columns until total rows n =
-    runs_cells format until total n ++ (flat_map (λ (c : Column). mean_cells format labels names c (map (number_in c) rows)) columns ++ line_end format)
+    runs_cells format until total n ++ (flat_map (λ (c : Column). cell_of format labels names c (map (number_in c.source) rows)) columns ++ line_end format)
 
 -- the line of a round to which some runs go on, the first of them in this round
 pub line_is : (format : CountFormat) (head : List ℕ) (labels : List (String Global)) (names : List (List ℕ)) (columns : List Column) (until : Option Until) (total : ℕ) (going rows : List RowView) (t : ℕ)
@@ -37,7 +37,7 @@ pub line_is : (format : CountFormat) (head : List ℕ) (labels : List (String Gl
     → mean_text format head labels names columns until total going rows
     ≡ line_start format head t
     ++ (runs_cells format until total (length (map (λ (r : RowView). r.round) going))
-    ++ (flat_map (λ (c : Column). mean_cells format labels names c (map (number_in c) rows)) columns ++ line_end format))
+    ++ (flat_map (λ (c : Column). cell_of format labels names c (map (number_in c.source) rows)) columns ++ line_end format))
 line_is format head labels names columns until total [] rows t first = let none : None ≡ Some t = first in absurd cc
 line_is format head labels names columns until total (row ∷ going) rows t first =
     let some : Some row.round ≡ Some t = first in

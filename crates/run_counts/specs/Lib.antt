@@ -2,6 +2,7 @@ pub mod Counts
 pub mod Ensembles
 pub mod Figures
 pub mod MeanTables
+pub mod Quantiles
 pub mod Records
 pub mod Rows
 pub mod RunTables

@@ -1,5 +1,6 @@
 -- The text of the means of runs that are counted together.
 use Rattle.std.specs.Prelude.{◌≡◌, ℕ, List, [], ◌∷◌, ◌++◌, ◌-◌, Option, Some, None, String, codes, drop, length, map, max, min, nat_lt, slice_get, slice_index_or, take, if◌then◌else◌}
+use Rattle.std.specs.Fmt.{decimal}
 use Rattle.std.specs.Global.{Global}
 use Rattle.std.specs.List.{AllZip, enumerate_from, flat_map, range_with_len}
 use Rattle.std.specs.Option.{option_to_list}
@@ -13,26 +14,49 @@ use Rattle.run_counts.specs.declared.ensemble.Ensemble.{Ensemble}
 use Rattle.run_counts.specs.declared.ensemble.Group.{Group}
 use Rattle.run_counts.specs.declared.ensemble.Setting.{Setting}
 use Rattle.run_counts.specs.declared.mean_columns.Column.{Column}
-use Rattle.run_counts.specs.declared.mean_columns.Column.TheVariants.{Nodes, Further}
+use Rattle.run_counts.specs.declared.mean_columns.Source.{Source}
+use Rattle.run_counts.specs.declared.mean_columns.Source.TheVariants.{Nodes, Further}
+use Rattle.run_counts.specs.declared.mean_columns.Statistic.{Statistic}
+use Rattle.run_counts.specs.declared.mean_columns.Statistic.TheVariants.{Mean, Deviation, Quantile}
 use Rattle.run_counts.specs.Ensembles.{IsRunOf, RunView, names_in, rows_in}
 use Rattle.run_counts.specs.Rows.{AreValues, RowView, count_in}
+use Rattle.run_counts.specs.Quantiles.{quantile}
 use Rattle.run_counts.specs.Settings.{head_text, names_text, settings_of}
 use Rattle.run_counts.specs.Spread.{deviation_of, four_digits, mean_of}
 use Rattle.run_counts.specs.Tables.{cell_text, figure_name, has_columns, line_end, line_start, value_label}
 
--- the columns of which there are means: one for each value, where there are not too many, and one for each figure, with its place
-abbrev pub columns_of : List ℕ → List Figure → List Column
-columns_of values figures = (if has_columns values then map Nodes values else []) ++ map (λ f. Further f.0 f.1) (enumerate_from 0 figures)
+-- the numbers of a row that are told over all runs: one for each value, where there are not too many, and one for each figure, with its place
+abbrev pub sources_of : List ℕ → List Figure → List Source
+sources_of values figures = (if has_columns values then map Nodes values else []) ++ map (λ f. Further f.0 f.1) (enumerate_from 0 figures)
 
--- the number that a row has in a column: how many nodes have the value, or the figure at the place
-abbrev pub number_in : Column → RowView → ℕ
+-- what is told of such a number: its mean, its deviation, and these quantiles
+abbrev pub columns_for : List ℕ → Source → List Column
+columns_for percents source =
+    record { source = source; statistic = Mean } ∷ record { source = source; statistic = Deviation } ∷ map (λ p. record { source = source; statistic = Quantile p }) percents
+
+-- the columns, one number after the other
+abbrev pub columns_of : List ℕ → List Figure → List ℕ → List Column
+columns_of values figures percents = flat_map (columns_for percents) (sources_of values figures)
+
+-- the number that a row has: how many nodes have the value, or the figure at the place
+abbrev pub number_in : Source → RowView → ℕ
 number_in (Nodes value) row = count_in row.counts value
 number_in (Further place figure) row = slice_index_or (map (λ f. f.1) row.figures) place 0
 
--- what a column is called: as in the text of one run
+-- what a number is called: as in the text of one run
+abbrev pub source_name : List (String Global) → List (List ℕ) → Source → List ℕ
+source_name labels names (Nodes value) = value_label labels value
+source_name labels names (Further place figure) = figure_name names figure
+
+-- what is behind it: what is told of it
+abbrev pub statistic_name : Statistic → List ℕ
+statistic_name Mean = codes " mean"
+statistic_name Deviation = codes " deviation"
+statistic_name (Quantile percent) = codes " " ++ (decimal percent ++ codes "%")
+
+-- what a column is called
 abbrev pub column_name : List (String Global) → List (List ℕ) → Column → List ℕ
-column_name labels names (Nodes value) = value_label labels value
-column_name labels names (Further place figure) = figure_name names figure
+column_name labels names column = source_name labels names column.source ++ statistic_name column.statistic
 
 -- the rows at a place, of the runs that have so many: those of a round, of the runs that go on to it, in the order of the runs
 abbrev pub going_at : ℕ → List RunView → List RowView
@@ -65,16 +89,19 @@ no_deviation Json = codes "null"
 abbrev pub deviation_text : CountFormat → List ℕ → List ℕ
 deviation_text format numbers = if nat_lt 1 (length numbers) then four_digits (deviation_of numbers) else no_deviation format
 
--- the headings of a column: of its means, and of its deviations
-abbrev pub headings_text : List (String Global) → List (List ℕ) → Column → List ℕ
-headings_text labels names column =
-    codes "," ++ (column_name labels names column ++ (codes " mean" ++ (codes "," ++ (column_name labels names column ++ codes " deviation"))))
+-- what is told of the numbers of runs; a percent above 100 is as 100
+abbrev pub statistic_text : CountFormat → Statistic → List ℕ → List ℕ
+statistic_text format Mean numbers = four_digits (mean_of numbers)
+statistic_text format Deviation numbers = deviation_text format numbers
+statistic_text format (Quantile percent) numbers = decimal (quantile (min percent 100) numbers)
 
--- the mean of a column's numbers, and their standard deviation
-abbrev pub mean_cells : CountFormat → List (String Global) → List (List ℕ) → Column → List ℕ → List ℕ
-mean_cells format labels names column numbers =
-    cell_start format (column_name labels names column ++ codes " mean")
-    ++ (four_digits (mean_of numbers) ++ (cell_start format (column_name labels names column ++ codes " deviation") ++ deviation_text format numbers))
+-- the heading of a column
+abbrev pub heading_text : List (String Global) → List (List ℕ) → Column → List ℕ
+heading_text labels names column = codes "," ++ column_name labels names column
+
+-- what stands in a column, where its number is these in the runs
+abbrev pub cell_of : CountFormat → List (String Global) → List (List ℕ) → Column → List ℕ → List ℕ
+cell_of format labels names column numbers = cell_start format (column_name labels names column) ++ statistic_text format column.statistic numbers
 
 -- how many runs go on to a round, where runs may end early
 abbrev pub going_text : CountFormat → Option Until → ℕ → List ℕ
@@ -85,13 +112,13 @@ going_text format (Some until) going = cell_text format (codes "going") going
 abbrev pub runs_cells : CountFormat → Option Until → ℕ → ℕ → List ℕ
 runs_cells format until total going = cell_text format (codes "runs") total ++ going_text format until going
 
--- the line, after this head, of a round to which some of so many runs go on, with these rows, where these rows stand for all runs: the round, the numbers of runs, and the
--- mean and the deviation of each column over all runs; none where no run goes on
+-- the line, after this head, of a round to which some of so many runs go on, with these rows, where these rows stand for all runs: the round, the numbers of runs, and
+-- what is told of each column over all runs; none where no run goes on
 abbrev pub mean_text : CountFormat → List ℕ → List (String Global) → List (List ℕ) → List Column → Option Until → ℕ → List RowView → List RowView → List ℕ
 mean_text format head labels names columns until total [] rows = []
 mean_text format head labels names columns until total (first ∷ going) rows =
     line_start format head first.round
-    ++ (runs_cells format until total (length (first ∷ going)) ++ (flat_map (λ c. mean_cells format labels names c (map (number_in c) rows)) columns ++ line_end format))
+    ++ (runs_cells format until total (length (first ∷ going)) ++ (flat_map (λ c. cell_of format labels names c (map (number_in c.source) rows)) columns ++ line_end format))
 
 -- the heading above how many runs go on, where runs may end early
 abbrev pub going_heading : Option Until → List ℕ
@@ -101,7 +128,7 @@ going_heading (Some until) = codes ",going"
 -- the line of the headings, in CSV alone: what varies from group to group comes first
 abbrev pub means_opening : CountFormat → List Setting → List (String Global) → List (List ℕ) → List Column → Option Until → List ℕ
 means_opening Csv settings labels names columns until =
-    names_text settings ++ (codes "round,runs" ++ (going_heading until ++ (flat_map (headings_text labels names) columns ++ codes "\n")))
+    names_text settings ++ (codes "round,runs" ++ (going_heading until ++ (flat_map (heading_text labels names) columns ++ codes "\n")))
 means_opening Json settings labels names columns until = []
 
 -- the line of the round at a place
@@ -124,10 +151,10 @@ abbrev pub means_text : CountFormat → List (String Global) → List (List ℕ)
 means_text format labels names columns until size groups runs =
     means_opening format (settings_of groups) labels names columns until ++ groups_text format labels names columns until size groups runs
 
--- the text is that of the means, over the runs of each group, of exactly the rounds that are counted of each run, with columns for each state, and for each value that occurs in one of them
+-- the text is that of the means, and of the ensemble's quantiles, over the runs of each group, of exactly the rounds that are counted of each run, with columns for each state, and for each value that occurs in one of them
 pub record AreMeans (e : Ensemble) (span : SpanView) (counting : Counting) (text : List ℕ) : Type 0 where
   pub runs : List RunView
   pub values : List ℕ
   pub runs_are : AllZip (IsRunOf span counting) e.variants.now runs
   pub values_are : AreValues counting.states (rows_in runs) values
-  pub spelled : text ≡ means_text counting.format counting.names.now (names_in e.variants.now) (columns_of values counting.figures.now) counting.until e.size e.groups.now runs
+  pub spelled : text ≡ means_text counting.format counting.names.now (names_in e.variants.now) (columns_of values counting.figures.now e.quantiles.now) counting.until e.size e.groups.now runs

@@ -46,4 +46,6 @@ pub struct Ensemble<'a> {
     pub groups: &'a [Group<'a>],
     /// How many runs each group has.
     pub size: usize,
+    /// Of which quantiles there are columns beside the means, in percents from 0 to 100; a greater one is as 100.
+    pub quantiles: &'a [u8],
 }

@@ -11,6 +11,7 @@ mod laws;
 mod lines;
 mod mean_columns;
 mod mean_table;
+mod quantiles;
 mod rows;
 mod run_table;
 mod runs;

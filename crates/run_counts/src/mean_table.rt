@@ -1,16 +1,19 @@
 //! The text of the means of runs that are counted together.
-ghost use Rattle.std.specs.Prelude.{◌≡◌, ◌≤◌, ◌+◌, ◌++◌, IfOk, OnOk, length, map, slice_get, string_bytes};
+ghost use Rattle.std.specs.Prelude.{◌≡◌, ◌≤◌, ◌+◌, ◌++◌, IfOk, OnOk, length, map, min, slice_get, string_bytes};
+ghost use Rattle.std.specs.Fmt.{decimal};
 ghost use Rattle.std.specs.List.{flat_map, range_with_len};
 ghost use Rattle.std.specs.Option.{option_to_list};
 ghost use Rattle.rule_check.specs.Value.{names_of};
 ghost use Rattle.run_counts.specs.Ensembles.{most_runs};
-ghost use Rattle.run_counts.specs.MeanTables.{cell_start, column_name, deviation_text, going_at, going_text, group_text, groups_text, held_row, line_at, longest, mean_cells, means_text, number_in, rows_at, runs_cells};
+ghost use Rattle.run_counts.specs.MeanTables.{cell_of, cell_start, column_name, deviation_text, going_at, going_text, group_text, groups_text, held_row, line_at, longest, means_text, number_in, rows_at, runs_cells, statistic_text};
+ghost use Rattle.run_counts.specs.Quantiles.{quantile};
 ghost use Rattle.run_counts.specs.Settings.{settings_of};
 
 use crate::asked::{CountFormat, Counting, Until};
 use crate::ensemble::{Ensemble, Group, Setting};
 use crate::lines::{end_of, put_named, put_start};
-use crate::mean_columns::{Column, put_means_opening};
+use crate::mean_columns::{Column, Source, Statistic, put_means_opening};
+use crate::quantiles::{quantile_of, sort};
 use crate::runs::Run;
 use crate::settings::head_of;
 use crate::spread::{deviation_of, mean_of, put_four_digits};
@@ -36,20 +39,19 @@ struct Means<'a> {
     runs: &'a [Run<'a>],
 }
 
-/// Puts the number that stands for a run in a column at a place after the others: that of its last row where it has
-/// ended before.
+/// Puts the number that stands for a run at a place after the others: that of its last row where it has ended before.
 fn put_number(
     numbers: &mut Vec<u64>,
     run: &Run<'_>,
     place: usize,
-    column: Column,
+    source: Source,
 ) -> Result<(), AllocError>
-    ensures numbers { OnOk result (numbers.new.items ≡ numbers.old.items ++ map (number_in column) (option_to_list (held_row place run.now.rows))) }
+    ensures numbers { OnOk result (numbers.new.items ≡ numbers.old.items ++ map (number_in source) (option_to_list (held_row place run.now.rows))) }
     ensures few { OnOk result (length numbers.new.items ≤ length numbers.old.items + 1) }
 {
     let last = run.rows().len().saturating_sub(1);
     if let Some(row) = run.rows().get(place.min(last)) {
-        numbers.push(column.number_in(row))?;
+        numbers.push(source.number_in(row))?;
     }
     Ok(())
 }
@@ -65,19 +67,19 @@ fn put_round(rounds: &mut Vec<u32>, run: &Run<'_>, place: usize) -> Result<(), A
     Ok(())
 }
 
-/// The numbers that stand for the runs in a column at a place.
+/// The numbers that stand for the runs at a place.
 fn numbers_at(
     alloc: Global,
     runs: &[Run<'_>],
     place: usize,
-    column: Column,
+    source: Source,
 ) -> Result<Vec<u64>, AllocError>
-    ensures numbers { IfOk result (λ numbers. numbers.items ≡ map (number_in column) (rows_at place runs.now)) }
+    ensures numbers { IfOk result (λ numbers. numbers.items ≡ map (number_in source) (rows_at place runs.now)) }
     ensures few { IfOk result (λ numbers. length numbers.items ≤ length runs.now) }
 {
     let mut numbers = Vec::new(alloc);
     for run in runs {
-        put_number(&mut numbers, run, place, column)?;
+        put_number(&mut numbers, run, place, source)?;
     }
     Ok(numbers)
 }
@@ -100,16 +102,15 @@ fn put_cell_start(
     counting: &Counting<'_>,
     program: &Program,
     column: Column,
-    kind: &str,
 ) -> Result<(), AllocError>
-    ensures text { OnOk result (string_bytes out.new ≡ string_bytes out.old ++ cell_start counting.now.format (column_name counting.now.names.now (names_of program.now) column ++ kind.now)) }
+    ensures text { OnOk result (string_bytes out.new ≡ string_bytes out.old ++ cell_start counting.now.format (column_name counting.now.names.now (names_of program.now) column)) }
 {
     if counting.format == CountFormat::Csv {
         return out.push_str(",");
     }
     out.push_str(",\"")?;
     column.put_name(out, counting.names, program)?;
-    write!(out, "{kind}\":")
+    out.push_str("\":")
 }
 
 /// The standard deviation of numbers.
@@ -126,25 +127,36 @@ fn put_deviation(out: &mut String, format: CountFormat, numbers: &[u64]) -> Resu
     }
 }
 
-/// The mean of a column's numbers, and their standard deviation.
-fn put_cells(
-    out: &mut String,
-    counting: &Counting<'_>,
-    program: &Program,
-    column: Column,
-    numbers: &[u64],
-) -> Result<(), AllocError>
-    requires some { 1 ≤ length numbers.now }
-    requires few { length numbers.now ≤ most_runs }
-    ensures text { OnOk result (string_bytes out.new ≡ string_bytes out.old ++ mean_cells counting.now.format counting.now.names.now (names_of program.now) column numbers.now) }
+/// A quantile of numbers, which are put in order for it.
+fn put_quantile(out: &mut String, percent: u8, numbers: Vec<u64>) -> Result<(), AllocError>
+    requires some { 1 ≤ length numbers.items }
+    requires few { length numbers.items ≤ most_runs }
+    ensures text { OnOk result (string_bytes out.new ≡ string_bytes out.old ++ decimal (quantile (min percent 100) numbers.items)) }
 {
-    put_cell_start(out, counting, program, column, " mean")?;
-    put_four_digits(out, mean_of(numbers))?;
-    put_cell_start(out, counting, program, column, " deviation")?;
-    put_deviation(out, counting.format, numbers)
+    let mut sorted = numbers;
+    sort(&mut sorted);
+    write!(out, "{}", quantile_of(&sorted, percent.min(100)))
 }
 
-/// The means and deviations of a column at a place.
+/// What is told of numbers.
+fn put_statistic(
+    out: &mut String,
+    format: CountFormat,
+    statistic: Statistic,
+    numbers: Vec<u64>,
+) -> Result<(), AllocError>
+    requires some { 1 ≤ length numbers.items }
+    requires few { length numbers.items ≤ most_runs }
+    ensures text { OnOk result (string_bytes out.new ≡ string_bytes out.old ++ statistic_text format statistic numbers.items) }
+{
+    match statistic {
+        Statistic::Mean => put_four_digits(out, mean_of(&numbers)),
+        Statistic::Deviation => put_deviation(out, format, &numbers),
+        Statistic::Quantile { percent } => put_quantile(out, percent, numbers),
+    }
+}
+
+/// What stands in a column at a place.
 fn put_column(
     alloc: Global,
     out: &mut String,
@@ -154,13 +166,14 @@ fn put_column(
 ) -> Result<(), AllocError>
     requires some { 1 ≤ length (rows_at place means.now.runs.now) }
     requires few { length means.now.runs.now ≤ most_runs }
-    ensures text { OnOk result (string_bytes out.new ≡ string_bytes out.old ++ mean_cells means.now.counting.now.format means.now.counting.now.names.now (names_of means.now.program.now) column (map (number_in column) (rows_at place means.now.runs.now))) }
+    ensures text { OnOk result (string_bytes out.new ≡ string_bytes out.old ++ cell_of means.now.counting.now.format means.now.counting.now.names.now (names_of means.now.program.now) column (map (number_in column.source) (rows_at place means.now.runs.now))) }
 {
-    let numbers = numbers_at(alloc, means.runs, place, column)?;
-    put_cells(out, means.counting, means.program, column, &numbers)
+    let numbers = numbers_at(alloc, means.runs, place, column.source)?;
+    put_cell_start(out, means.counting, means.program, column)?;
+    put_statistic(out, means.counting.format, column.statistic, numbers)
 }
 
-/// The means and deviations of all columns at a place.
+/// What stands in all columns at a place.
 fn put_columns(
     alloc: Global,
     out: &mut String,
@@ -169,7 +182,7 @@ fn put_columns(
 ) -> Result<(), AllocError>
     requires some { 1 ≤ length (rows_at place means.now.runs.now) }
     requires few { length means.now.runs.now ≤ most_runs }
-    ensures text { OnOk result (string_bytes out.new ≡ string_bytes out.old ++ flat_map (λ c. mean_cells means.now.counting.now.format means.now.counting.now.names.now (names_of means.now.program.now) c (map (number_in c) (rows_at place means.now.runs.now))) means.now.columns.now) }
+    ensures text { OnOk result (string_bytes out.new ≡ string_bytes out.old ++ flat_map (λ c. cell_of means.now.counting.now.format means.now.counting.now.names.now (names_of means.now.program.now) c (map (number_in c.source) (rows_at place means.now.runs.now))) means.now.columns.now) }
 {
     for column in means.columns {
         put_column(alloc, out, means, *column, place)?;

@@ -93,7 +93,7 @@ fn means_text<R: Threads + Sync, P: RunsProgress + Sync>(
 {
     let runs = runs_of(rt, alloc, ensemble.variants, span, counting, progress)?;
     let values = values_in(alloc, counting.states, &runs)?;
-    let columns = columns_of(alloc, &values, counting.figures)?;
+    let columns = columns_of(alloc, &values, counting.figures, ensemble.quantiles)?;
     let program = first_program(ensemble.variants);
     let table = MeansTable {
         counting,
@@ -135,8 +135,8 @@ pub fn counted_runs<R: Threads + Sync, P: RunsProgress + Sync>(
 /// The mean and the standard deviation, over the runs of each group, of what `counted` gives of each of them, one group after
 /// the other: for each round to which a run of the group goes on a line with what varies and the group has in common in
 /// columns in front, the round, how many runs there are and, where runs may end early, how many go on to this round, and for
-/// each column the mean of its numbers in all runs of the group and the standard deviation of the sample, both with four
-/// digits after the point and rounded to the nearest. A run that has ended keeps the numbers of its last round. There is no
+/// each number of `counted` its mean in all runs of the group and the standard deviation of the sample, both with four
+/// digits after the point and rounded to the nearest, and the ensemble's quantiles. A run that has ended keeps the numbers of its last round. There is no
 /// deviation where there is one run. Where there are more than 64 states and values that occur in all rounds
 /// of all runs, there are columns for the further numbers alone. The runs are made, and told, as those of `counted_runs`.
 ///

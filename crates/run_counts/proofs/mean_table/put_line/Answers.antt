@@ -3,7 +3,7 @@ use Rattle.std.proofs.lemmas.Result.{on_ok_weaker}
 use Rattle.std.specs.List.{flat_map}
 use Rattle.rule_check.specs.Value.{names_of}
 use Rattle.run_counts.specs.declared.mean_columns.Column.{Column}
-use Rattle.run_counts.specs.MeanTables.{going_at, mean_cells, number_in, rows_at, runs_cells}
+use Rattle.run_counts.specs.MeanTables.{cell_of, going_at, number_in, rows_at, runs_cells}
 use Rattle.run_counts.specs.Rows.{RowView}
 use Rattle.run_counts.specs.Tables.{line_end, line_start}
 use Rattle.run_counts.proofs.Means.{counted, going_held, line_is, put_in_turn, put_last, some_first}
@@ -34,7 +34,7 @@ returns c =
     let round = c.in-Some.round.now in
     let before = string_bytes c.args.out.now in
     let start = line_start format head round in
-    let cells = flat_map (λ (column : Column). mean_cells format labels names column (map (number_in column) rows)) c.args.means.now.columns.now in
+    let cells = flat_map (λ (column : Column). cell_of format labels names column (map (number_in column.source) rows)) c.args.means.now.columns.now in
     let last = c.end_of.result.now in
     let total = length runs in
     let number = c.len-going.result in

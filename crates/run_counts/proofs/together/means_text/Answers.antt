@@ -16,7 +16,7 @@ returns g c =
     let runs = c.in_ok-runs.runs.items in
     let values = c.in_ok-values.values.items in
     let names = names_in e.variants.now in
-    let columns = columns_of values counting.figures.now in
+    let columns = columns_of values counting.figures.now e.quantiles.now in
     let text = λ (ns : List (List ℕ)) (cs : List Column) (rs : List RunView). means_text counting.format counting.names.now ns cs counting.until e.size e.groups.now rs in
     record {
       text = record {
@@ -28,7 +28,7 @@ returns g c =
             c.in_ok-text.ensures.text
             ∙ ap (λ (ns : List (List ℕ)). text ns c.deref-3.result.now c.deref-4.result.now) c.first_program-program.ensures.names
             ∙ ap (λ (cs : List Column). text names cs c.deref-4.result.now)
-            (c.deref-3.ensures.value ∙ c.in_ok-columns.ensures.columns ∙ ap (λ (vs : List ℕ). columns_of vs counting.figures.now) c.deref-2.ensures.value)
+            (c.deref-3.ensures.value ∙ c.in_ok-columns.ensures.columns ∙ ap (λ (vs : List ℕ). columns_of vs counting.figures.now e.quantiles.now) c.deref-2.ensures.value)
             ∙ ap (text names columns) c.deref-4.ensures.value;
       };
     }
