@@ -34,6 +34,12 @@ fn percent_in(word: &str) -> Option<u8> {
     u8::try_from(percent).ok()
 }
 
+/// Puts a percent after the others.
+fn put_percent(percents: &mut Vec<u8>, percent: u8) -> Result<(), AllocError> {
+    percents.push(percent)?;
+    Ok(())
+}
+
 /// The percents between commas.
 fn percents_in(alloc: Global, text: &str) -> Result<Vec<u8>, WordsFault> {
     let mut percents = Vec::new(alloc);
@@ -44,7 +50,7 @@ fn percents_in(alloc: Global, text: &str) -> Result<Vec<u8>, WordsFault> {
         if percents.as_slice().contains(&percent) {
             return Err(percent_twice(alloc, percent));
         }
-        percents.push(percent)?;
+        put_percent(&mut percents, percent)?;
     }
     Ok(percents)
 }

@@ -29,10 +29,13 @@ use Rattle.run_counts.specs.Tables.{cell_text, figure_name, has_columns, line_en
 abbrev pub sources_of : List ℕ → List Figure → List Source
 sources_of values figures = (if has_columns values then map Nodes values else []) ++ map (λ f. Further f.0 f.1) (enumerate_from 0 figures)
 
+-- the column of a quantile of such a number
+abbrev pub quantile_column : Source → ℕ → Column
+quantile_column source percent = record { source = source; statistic = Quantile percent }
+
 -- what is told of such a number: its mean, its deviation, and these quantiles
 abbrev pub columns_for : List ℕ → Source → List Column
-columns_for percents source =
-    record { source = source; statistic = Mean } ∷ record { source = source; statistic = Deviation } ∷ map (λ p. record { source = source; statistic = Quantile p }) percents
+columns_for percents source = record { source = source; statistic = Mean } ∷ record { source = source; statistic = Deviation } ∷ map (quantile_column source) percents
 
 -- the columns, one number after the other
 abbrev pub columns_of : List ℕ → List Figure → List ℕ → List Column

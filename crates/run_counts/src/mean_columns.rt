@@ -3,7 +3,7 @@ ghost use Rattle.std.specs.Prelude.{◌≡◌, ◌++◌, IfOk, OnOk, [], map, st
 ghost use Rattle.std.specs.List.{enumerate_from, flat_map};
 ghost use Rattle.rule_check.specs.Value.{names_of};
 ghost use Rattle.run_counts.specs.declared.mean_columns.Source.TheVariants.{Further, Nodes};
-ghost use Rattle.run_counts.specs.MeanTables.{column_name, columns_for, columns_of, going_heading, heading_text, means_opening, number_in, source_name, sources_of, statistic_name};
+ghost use Rattle.run_counts.specs.MeanTables.{column_name, columns_for, columns_of, going_heading, heading_text, means_opening, number_in, quantile_column, source_name, sources_of, statistic_name};
 ghost use Rattle.run_counts.specs.Tables.{has_columns};
 
 use crate::asked::{CountFormat, Counting, Figure, Until};
@@ -143,6 +143,21 @@ fn sources_of(alloc: Global, values: &[u32], figures: &[Figure]) -> Result<Vec<S
     Ok(sources)
 }
 
+/// Puts the columns of a number's quantiles after the others.
+fn put_quantiles(
+    columns: &mut Vec<Column>,
+    source: Source,
+    quantiles: &[u8],
+) -> Result<(), AllocError>
+    ensures columns { OnOk result (columns.new.items ≡ columns.old.items ++ map (quantile_column source) quantiles.now) }
+{
+    for percent in quantiles {
+        let statistic = Statistic::Quantile { percent: *percent };
+        columns.push(Column { source, statistic })?;
+    }
+    Ok(())
+}
+
 /// Puts the columns of what is told of a number after the others.
 fn put_statistics(
     columns: &mut Vec<Column>,
@@ -155,11 +170,22 @@ fn put_statistics(
     columns.push(Column { source, statistic })?;
     let statistic = Statistic::Deviation;
     columns.push(Column { source, statistic })?;
-    for percent in quantiles {
-        let statistic = Statistic::Quantile { percent: *percent };
-        columns.push(Column { source, statistic })?;
+    put_quantiles(columns, source, quantiles)
+}
+
+/// The columns of what is told of some numbers.
+fn columns_among(
+    alloc: Global,
+    sources: &[Source],
+    quantiles: &[u8],
+) -> Result<Vec<Column>, AllocError>
+    ensures columns { IfOk result (λ columns. columns.items ≡ flat_map (columns_for quantiles.now) sources.now) }
+{
+    let mut columns = Vec::new(alloc);
+    for source in sources {
+        put_statistics(&mut columns, *source, quantiles)?;
     }
-    Ok(())
+    Ok(columns)
 }
 
 /// The columns of which there are means.
@@ -172,11 +198,7 @@ pub(crate) fn columns_of(
     ensures columns { IfOk result (λ columns. columns.items ≡ columns_of values.now figures.now quantiles.now) }
 {
     let sources = sources_of(alloc, values, figures)?;
-    let mut columns = Vec::new(alloc);
-    for source in &sources {
-        put_statistics(&mut columns, *source, quantiles)?;
-    }
-    Ok(columns)
+    columns_among(alloc, &sources, quantiles)
 }
 
 /// The headings of all columns, in CSV.

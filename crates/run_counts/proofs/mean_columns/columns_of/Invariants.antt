@@ -1,8 +1,0 @@
-use Rattle.std.proofs.Common.{◌≡◌, ◌++◌, drop}
-use Rattle.std.specs.List.{flat_map}
-use Rattle.run_counts.specs.MeanTables.{columns_for, columns_of}
-use Rattle.run_counts.proofs.mean_columns.columns_of.Given as goal
-
-abbrev pub invariant-loop-source : goal.invariant-loop-source
-invariant-loop-source l =
-    l.columns.items ++ flat_map (columns_for l.quantiles) (drop l.source-index l.sources.items) ≡ columns_of l.values l.figures l.quantiles
