@@ -41,7 +41,7 @@ def page_files(places: Places) -> Dict[str, Path]:
     """The files that the page asks for, by their names: those of the page, and the modules of the viewer. Nothing else is served."""
     own = {path.name: path for path in (places.home / "page").iterdir() if path.suffix in (".html", ".js", ".css")}
     viewer = {f"viewer/{path.name}": path for path in places.viewer.glob("*.js")}
-    return {**own, **viewer}
+    return {**own, **viewer, "viewer.css": places.viewer / "style.css"}
 
 
 def script_hash(page: Path) -> str:

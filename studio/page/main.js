@@ -1,0 +1,679 @@
+// The studio: what is changed at the left and at the top is run at once, and shown in the middle and at the right.
+
+import { fetched, Lane, leave, run } from "./calls.js";
+import { countCurves, drawChart, meanCurves, readTable } from "./chart.js";
+import { Commands, spread } from "./commands.js";
+import { Editor } from "./editor.js";
+import { advice, faultsOf } from "./faults.js";
+import { Form, offer } from "./forms.js";
+import { Frames } from "./frames.js";
+import { Hand } from "./hand.js";
+import { Manners } from "./manners.js";
+import { partsOf, pieces } from "./model.js";
+import { hasSeed, linked, make, reseeded, withNodes, withStep } from "./network.js";
+import { Outputs, outputsOf, save } from "./outputs.js";
+import { Values } from "./values.js";
+import { colouringOf } from "./viewer/colours.js";
+import { byId, element } from "./viewer/panel.js";
+import { fileName, Workspace } from "./workspace.js";
+
+/** For how many milliseconds nothing is typed before the text is run. */
+const PAUSE = 200;
+
+/** Over how many seeds a band goes. */
+const BAND = 20;
+
+/** Shapes whose nodes are shown as cells. */
+const CELLS = ["grid", "torus", "hex"];
+
+/** How a dropped file is imported, by the end of its name. */
+const IMPORTS = { mtx: "matrix-market", gv: "dot", dot: "dot", json: "json", txt: "edges", csv: "edges", edges: "edges", tsv: "edges" };
+
+/** The page. */
+class Studio {
+  constructor(start, shapes) {
+    Object.assign(this, { start, shapes, workspace: new Workspace(), timer: 0, isWell: true, place: null, band: null });
+    this.parts = partsOf("", true);
+    this.bindParts();
+    this.bindLanes();
+    this.bindHead();
+    this.bindValues();
+    this.bindNetwork();
+    this.bindMiddle();
+    this.bindRight();
+    this.bindFiles();
+    this.bindWindow();
+  }
+
+  get commands() {
+    return new Commands(this.workspace, this.parts.fields);
+  }
+
+  get isSteps() {
+    return this.workspace.manner !== "rounds";
+  }
+
+  /** The parts of the page that have a class of their own. */
+  bindParts() {
+    const { workspace } = this;
+    this.model = new Editor(byId("model-editor"), "The model", (text) => pieces(text, this.parts), (text) => this.typed("model", text));
+    this.network = new Editor(byId("network-editor"), "The network file", (text) => [[text, ""]], (text) => this.typed("network", text));
+    this.values = new Values(byId("constants"), workspace, () => this.refresh());
+    this.hand = new Hand(() => byId("click").value !== "choose", (nodes) => this.drawn(nodes));
+    this.frames = new Frames(byId("frames"), () => this.framed());
+    this.manners = new Manners(workspace, this.start.manners, (place) => {
+      this.place = place;
+      this.refresh();
+    });
+    this.outputs = new Outputs(byId("outputs"), this.start.called, (words) => this.tell("copied", words), () => this.files());
+  }
+
+  /** What is asked for in each place of the page. */
+  bindLanes() {
+    const fail = (fault) => this.trouble(fault);
+    this.lanes = {
+      why: new Lane("why", (done) => this.toldFaults(done), fail),
+      shown: new Lane("shown", (done) => this.shown(done), fail),
+      counts: new Lane("counts", (done) => this.counted(done), fail),
+      band: new Lane("band", (done, kept) => this.banded(done, kept), fail),
+      sweep: new Lane("sweep", (done, kept) => this.swept(done, kept), fail),
+      info: new Lane("info", (done) => this.tell("network-about", done.isWell ? done.text.trim().split("\n").slice(0, 5).join(", ") : ""), fail),
+      network: new Lane("network", (done, kept) => this.madeNetwork(done, kept), fail),
+    };
+  }
+
+  bindHead() {
+    const { start } = this;
+    const parts = [...new Set(start.gallery.map(({ part }) => part))];
+    const groups = parts.map((part) => {
+      const group = element("optgroup");
+      group.label = part;
+      const entries = start.gallery.filter((entry) => entry.part === part);
+      group.append(...entries.map(({ name, about }) => Object.assign(element("option", `${name.split("/").pop()}: ${about}`.slice(0, 110)), { value: name })));
+      return group;
+    });
+    byId("gallery").append(...groups);
+    byId("gallery").addEventListener("change", () => byId("gallery").value !== "" && this.pick(byId("gallery").value));
+    const answers = start.note === "" ? "Answers come from the proved program." : `Answers come from a program that is not proved, and slow: ${start.note}`;
+    byId("answers").textContent = `${start.version}. ${answers}`.replace(/^\. /, "");
+    byId("open").addEventListener("click", () => byId("opened").click());
+    byId("opened").addEventListener("change", () => this.opened([...byId("opened").files]));
+    byId("save").addEventListener("click", () => save(`${this.workspace.modelName.replace(/\.\w+$/, "")}.unison`, this.workspace.text()));
+    byId("model-name").addEventListener("change", () => this.rename(byId("model-name").value));
+  }
+
+  bindValues() {
+    const { workspace } = this;
+    const take = (input) => {
+      workspace.rounds = Math.max(0, Math.min(100000, Math.round(Number(input.value)) || 0));
+      byId("rounds").value = String(workspace.rounds);
+      byId("rounds-slider").value = String(workspace.rounds);
+      this.refresh();
+    };
+    byId("rounds-slider").addEventListener("input", () => take(byId("rounds-slider")));
+    byId("rounds").addEventListener("change", () => take(byId("rounds")));
+    const seed = (value) => {
+      workspace.seed = String(Math.max(0, Math.min(4294967295, Math.round(value) || 0)));
+      byId("seed").value = workspace.seed;
+      this.refresh();
+    };
+    byId("seed").addEventListener("change", () => seed(Number(byId("seed").value)));
+    byId("seed-next").addEventListener("click", () => seed(Number(workspace.seed) + 1));
+  }
+
+  /** The form of shapes, and changes of the network by hand. */
+  bindNetwork() {
+    offer(byId("shape"), this.shapes, [["", "as it is"]]);
+    byId("shape").addEventListener("change", () => this.shape(byId("shape").value, true));
+    byId("draw-form").addEventListener("submit", (event) => {
+      event.preventDefault();
+      this.initial(["--set", `${byId("field").value}=${byId("node").value.trim()}:${byId("value").value.trim()}`]);
+    });
+    byId("set-random").addEventListener("click", () => {
+      const drawn = `${byId("field").value}=${byId("value").value.trim()}:${byId("share").value.trim()}`;
+      this.initial(["--set-random", drawn, "--seed", "1"]);
+    });
+    byId("clear").addEventListener("click", () => this.initial(["--clear", byId("field").value]));
+    byId("field").addEventListener("change", () => this.chooseField(byId("field").value));
+    const ends = () => [Number(byId("link-from").value), Number(byId("link-to").value)];
+    byId("link-form").addEventListener("submit", (event) => {
+      event.preventDefault();
+      this.byHand((text) => linked(text, ...ends(), true));
+    });
+    byId("unlink").addEventListener("click", () => this.byHand((text) => linked(text, ...ends(), false)));
+    byId("add-node").addEventListener("click", () => this.byHand((text) => withNodes(text, 1)));
+    byId("remove-node").addEventListener("click", () => this.byHand((text) => withNodes(text, -1)));
+  }
+
+  bindMiddle() {
+    byId("cells").addEventListener("change", () => {
+      this.workspace.isCells = byId("cells").checked;
+      this.refresh();
+    });
+  }
+
+  bindRight() {
+    byId("band").addEventListener("click", () => {
+      const isOn = byId("band").getAttribute("aria-pressed") === "true";
+      byId("band").setAttribute("aria-pressed", String(!isOn));
+      this.band = null;
+      this.askCounts();
+    });
+    byId("sweep-form").addEventListener("submit", (event) => {
+      event.preventDefault();
+      this.sweep();
+    });
+    byId("sweep-constant").addEventListener("change", () => this.sweepBounds());
+  }
+
+  /** Files that are dropped anywhere. */
+  bindFiles() {
+    document.addEventListener("dragover", (event) => event.preventDefault());
+    document.addEventListener("drop", (event) => {
+      event.preventDefault();
+      this.opened([...event.dataTransfer.files]);
+    });
+  }
+
+  bindWindow() {
+    const dark = window.matchMedia("(prefers-color-scheme: dark)");
+    const take = () => (document.documentElement.dataset.scheme = dark.matches ? "dark" : "light");
+    take();
+    dark.addEventListener("change", take);
+    window.addEventListener("pagehide", leave);
+  }
+
+  /** Says something in a part of the page. */
+  tell(id, words) {
+    byId(id).textContent = words;
+  }
+
+  /** Says what is wrong with the studio itself. */
+  trouble(fault) {
+    const isGone = fault instanceof TypeError;
+    this.tell("trouble", isGone ? `The studio does not answer: it has ended. Start it again by ${this.start.called} studio, and open its new link.` : fault.message);
+  }
+
+  /** Shows a workspace that was opened, or begun. */
+  begin(parts) {
+    const { workspace } = this;
+    workspace.begin(parts);
+    this.place = 0;
+    byId("model-name").value = workspace.modelName;
+    byId("rounds").value = String(workspace.rounds);
+    byId("rounds-slider").max = String(Math.max(100, 2 * workspace.rounds));
+    byId("rounds-slider").value = String(workspace.rounds);
+    byId("seed").value = workspace.seed;
+    byId("cells").checked = workspace.isCells;
+    byId("shape").value = "";
+    this.values.shape = "";
+    this.showShape();
+    this.manners.show();
+    this.take();
+    this.refresh();
+  }
+
+  /** Takes the texts of the workspace into the editors. */
+  take() {
+    this.parts = partsOf(this.workspace.model, this.workspace.isModel);
+    this.model.text = this.workspace.model;
+    this.network.text = this.workspace.network;
+  }
+
+  /** A text was typed. */
+  typed(which, text) {
+    this.workspace[which] = text;
+    if (which === "network") {
+      this.workspace.made = [];
+      this.showShape();
+    }
+    clearTimeout(this.timer);
+    this.timer = setTimeout(() => this.refresh(), PAUSE);
+  }
+
+  /** Gives the model another name, which the commands that made the network may name, too. */
+  rename(name) {
+    const before = this.workspace.modelName;
+    this.workspace.modelName = fileName(name, [".model", ".rules"]);
+    this.workspace.made = this.workspace.made.map((words) => words.map((word) => (word === before ? this.workspace.modelName : word)));
+    byId("model-name").value = this.workspace.modelName;
+    this.refresh();
+  }
+
+  /** Takes an entry of the gallery. */
+  async pick(name) {
+    try {
+      const entry = await fetched(`gallery/${name}`);
+      const parts = { modelName: entry.name, model: entry.model, networkName: entry.networkName, names: entry.names, rounds: entry.rounds };
+      if (entry.made.length === 0) {
+        this.begin({ ...parts, network: entry.network });
+        return;
+      }
+      const isCells = CELLS.includes(entry.made[0][1]);
+      const done = await make((words, files, input) => run("network", words, files, input), entry.made, { [entry.name]: entry.model });
+      this.begin({ ...parts, network: done.text, made: entry.made, isCells });
+    } catch (fault) {
+      this.trouble(fault);
+    }
+  }
+
+  /** Runs all that is shown anew. */
+  refresh() {
+    clearTimeout(this.timer);
+    const { workspace, lanes, commands } = this;
+    workspace.keep();
+    this.parts = partsOf(workspace.model, workspace.isModel);
+    this.model.draw();
+    this.offerParts();
+    this.values.show(this.parts.constants);
+    const files = this.files();
+    this.tell("running", "running ..");
+    lanes.why.ask((go) => go(commands.why(), files));
+    lanes.shown.ask(this.job(commands, files));
+    lanes.info.ask((go) => go(commands.info(), files));
+    this.band = null;
+    this.askCounts();
+    this.showOutputs();
+  }
+
+  /** The files that runs are given. */
+  files() {
+    const script = this.workspace.manner === "write" ? { "script.txt": this.workspace.script } : {};
+    return { ...this.workspace.files, ...script };
+  }
+
+  /** The job that makes the page in the middle: of rounds, or of the steps of a schedule. */
+  job(commands, files) {
+    const [page, schedule, steps] = [commands.page(), this.isSteps ? commands.schedule() : [], commands.steps()];
+    if (!this.isSteps) {
+      return (go) => go(page, files);
+    }
+    return async (go) => {
+      const made = await go(schedule, files);
+      return made.isWell ? go(steps, { ...files, "steps.txt": made.text }) : made;
+    };
+  }
+
+  /** Fills the choices of fields, of their values and of constants. */
+  offerParts() {
+    const { fields, constants } = this.parts;
+    const names = fields.map(({ name }) => name);
+    const { workspace } = this;
+    workspace.field = names.includes(workspace.field) ? workspace.field : (names[0] ?? "");
+    refill(byId("field"), names, workspace.field);
+    const states = fields.find(({ name }) => name === workspace.field)?.states ?? [];
+    byId("value-names").replaceChildren(...states.map((name) => Object.assign(element("option"), { value: name })));
+    byId("value").value ||= states[1] ?? "1";
+    const swept = constants.filter(({ kind, name }) => kind !== "other" && name !== "seed").map(({ name }) => name);
+    if (refill(byId("sweep-constant"), swept, byId("sweep-constant").value)) {
+      this.sweepBounds();
+    }
+    byId("sweep-part").hidden = swept.length === 0;
+    byId("seed-label").hidden = !workspace.isModel;
+    byId("band").hidden = !workspace.isModel;
+  }
+
+  /** Takes another field for counts, colours and initial values. */
+  chooseField(name) {
+    this.workspace.field = name;
+    const states = this.parts.fields.find((field) => field.name === name)?.states ?? [];
+    byId("value").value = states[1] ?? "1";
+    const at = this.parts.fields.findIndex((field) => field.name === name);
+    this.frames.face?.field(at);
+    this.refresh();
+  }
+
+  /** Shows what `why` tells, at its place and in words. */
+  toldFaults(done) {
+    const told = faultsOf(done);
+    this.isWell = done.isWell;
+    const marks = (name) => told.filter(({ file, line }) => file === name && line !== undefined);
+    this.model.mark(marks(this.workspace.modelName));
+    this.network.mark(marks(this.workspace.networkName));
+    byId("faults").replaceChildren(...told.map((one) => this.faultEntry(one)));
+    byId("old").hidden = this.isWell;
+    if (marks(this.workspace.networkName).some(({ isNote }) => !isNote)) {
+      byId("network-details").open = true;
+    }
+  }
+
+  /** A fault or a note in words, with a button that goes to its place. */
+  faultEntry({ isNote, file, line, column, sentence, rest }) {
+    const entry = element("p", "", isNote ? "note" : "fault");
+    const editor = { [this.workspace.modelName]: this.model, [this.workspace.networkName]: this.network }[file];
+    if (editor && line !== undefined) {
+      const go = element("button", `${file}, line ${line}`);
+      go.type = "button";
+      go.addEventListener("click", () => editor.go(line, column));
+      entry.append(go, " ");
+    }
+    entry.append(sentence, ...advice(rest).flatMap((words) => [element("br"), words]));
+    return entry;
+  }
+
+  /** Shows the page of the run, or what is wrong where `why` does not tell it. */
+  shown(done) {
+    this.tell("running", done.isWell ? `${done.seconds.toFixed(2)} s` : "");
+    this.tell("trouble", done.isWell || !this.isWell ? "" : done.reason);
+    if (done.isWell) {
+      const place = this.place;
+      this.place = null;
+      this.frames.show(done.bytes, place).catch((fault) => this.trouble(fault));
+    } else if (done.ended !== "" || this.isSteps) {
+      this.tell("trouble", done.reason);
+    }
+  }
+
+  /** Listens to the page that is seen now. */
+  framed() {
+    this.hand.bind(this.frames);
+    this.showOutputs();
+    this.manners.framed(this.frames);
+    window.studio = this.face;
+  }
+
+  /** For tests, and for people at the console: what is shown. */
+  get face() {
+    return {
+      run: this.frames.face,
+      workspace: this.workspace,
+      faults: () => [...byId("faults").children].map((entry) => entry.textContent),
+      begin: (parts) => this.begin(parts),
+      isBusy: () => Object.values(this.lanes).some((lane) => lane.isGoing || lane.waits !== null),
+    };
+  }
+
+  /** Asks for the counts, or for the means of a band where that is wanted. */
+  askCounts() {
+    const { commands, lanes } = this;
+    const files = this.files();
+    const isBand = this.workspace.isModel && byId("band").getAttribute("aria-pressed") === "true";
+    lanes.counts.ask((go) => go(commands.count(), files));
+    if (isBand) {
+      const words = commands.band(BAND);
+      this.tell("curves-told", `counting over ${BAND} seeds ..`);
+      lanes.band.ask((go) => go(words, files), words);
+    }
+  }
+
+  /** Draws the curves of one run, where no band is drawn. */
+  counted(done) {
+    if (done.isWell && this.band === null) {
+      this.curves(byId("curves-chart"), countCurves(readTable(done.text)), "How many nodes have each value, round by round");
+      this.tell("curves-told", byId("band").getAttribute("aria-pressed") === "true" ? byId("curves-told").textContent : "");
+    }
+  }
+
+  banded(done, words) {
+    if (byId("band").getAttribute("aria-pressed") !== "true") {
+      return;
+    }
+    this.tell("curves-told", done.isWell ? `means of ${BAND} runs, seeds from ${this.workspace.seed} on, and the standard deviation about them` : done.reason);
+    if (done.isWell) {
+      this.band = words;
+      this.curves(byId("curves-chart"), meanCurves(readTable(done.text)), `Means over ${BAND} seeds of how many nodes have each value`);
+      this.showOutputs();
+    }
+  }
+
+  /** Draws curves in the colours of the values. */
+  curves(host, curves, words) {
+    if (curves.length === 0) {
+      host.replaceChildren(element("p", "More than 64 values occur: there are no curves of them.", "soft"));
+      return;
+    }
+    const states = this.parts.fields.find(({ name }) => name === this.workspace.field)?.states ?? [];
+    const valueOf = (name) => (states.includes(name) ? states.indexOf(name) : Number(name));
+    const values = Uint32Array.from(curves, ({ name }) => valueOf(name));
+    const run = { fields: ["f"], legend: [states.map((name) => name)], states: [values], written: [], nodes: values.length };
+    const colouring = colouringOf(run, 0, null);
+    drawChart(host, curves.map((curve) => ({ ...curve, colour: colouring.colour(valueOf(curve.name)) })), words);
+  }
+
+  /** Begins a sweep with bounds that suit the constant. */
+  sweepBounds() {
+    const constant = this.parts.constants.find(({ name }) => name === byId("sweep-constant").value);
+    if (constant) {
+      const [from, to] = this.workspace.bounds[constant.name] ?? (constant.kind === "chance" ? [0, 1] : [0, Math.max(10, 2 * Number(constant.value))]);
+      byId("sweep-from").value = String(from);
+      byId("sweep-to").value = String(to);
+    }
+  }
+
+  sweep() {
+    const constant = this.parts.constants.find(({ name }) => name === byId("sweep-constant").value);
+    const [from, to, many, seeds] = ["from", "to", "many", "seeds"].map((part) => Number(byId(`sweep-${part}`).value));
+    const values = constant ? spread(from, to, many, constant.kind === "chance") : [];
+    if (values.length === 0 || values.some((value) => value.includes("NaN"))) {
+      this.tell("sweep-told", "from and to are numbers, as 0.1 and 0.5");
+      return;
+    }
+    const words = this.commands.sweep(constant.name, values, seeds);
+    const files = this.files();
+    this.tell("sweep-told", `counting ${values.length * seeds} runs ..`);
+    this.lanes.sweep.ask((go) => go(words, files), { words, round: this.workspace.rounds, name: constant.name });
+  }
+
+  swept(done, { words, round, name }) {
+    this.tell("sweep-told", done.isWell ? `round ${round} by ${name}: means, and the standard deviation about them` : done.reason);
+    if (done.isWell) {
+      this.sweptWords = words;
+      this.curves(byId("sweep-chart"), meanCurves(readTable(done.text)), `How many nodes have each value in round ${round}, by the constant ${name}`);
+      this.showOutputs();
+    }
+  }
+
+  /** Shows the form of a shape, and makes the network where it was chosen just now. */
+  shape(name, isChosen) {
+    const manner = this.shapes.find((shape) => shape.name === name);
+    if (!manner) {
+      this.showShape();
+      return;
+    }
+    this.tell("shape-about", manner.about);
+    this.form = new Form(byId("shape-form"), manner, () => this.generate());
+    const next = element("button", "Next seed");
+    next.type = "button";
+    next.addEventListener("click", () => this.remake(reseeded(this.workspace.made, 1)));
+    byId("shape-form").append(next);
+    if (isChosen) {
+      this.generate();
+    }
+  }
+
+  /** Shows the form of the shape of which the network was made, with its words. */
+  showShape() {
+    const [first] = this.workspace.made;
+    byId("shape-form").replaceChildren();
+    this.tell("shape-about", "");
+    byId("shape").value = first?.[0] === "generate" ? first[1] : "";
+    if (byId("shape").value === "") {
+      return;
+    }
+    this.shape(first[1], false);
+    const many = this.form.manner.arguments.length;
+    this.form.take({ before: first.slice(2, 2 + many), after: first.slice(2 + many) });
+  }
+
+  /** Makes the network that the form says; initial values that were drawn at random are drawn anew. */
+  generate() {
+    const { before, after } = this.form.words();
+    const drawn = this.workspace.made.slice(1).filter((words) => words.includes("--set-random") || words.includes("--clear"));
+    this.workspace.isCells = CELLS.includes(this.form.manner.name);
+    byId("cells").checked = this.workspace.isCells;
+    this.remake([["generate", this.form.manner.name, ...before, ...after], ...drawn]);
+  }
+
+  /** Makes the network by these commands. */
+  remake(made) {
+    if (made.length === 0 || (!hasSeed(made) && made === this.workspace.made)) {
+      return;
+    }
+    const files = this.workspace.files;
+    this.lanes.network.ask((go) => make(go, made, files), { made, names: "" });
+  }
+
+  /** Gives nodes initial values by one more command. */
+  initial(words) {
+    const step = ["init", "-", ...words, ...(this.workspace.isModel ? ["--model", this.workspace.modelName] : [])];
+    const { files, network, made } = this.workspace;
+    this.lanes.network.ask((go) => go(step, files, network), { made: withStep(made, step) });
+  }
+
+  /** Changes the network file by hand, as `init` spells it. */
+  byHand(change) {
+    const { files, network } = this.workspace;
+    this.lanes.network.ask((go) => go(["init", "-"], files, network), { made: [], change });
+  }
+
+  /** Takes a network that was made. */
+  madeNetwork(done, { made, names, change }) {
+    if (!done.isWell) {
+      this.tell("trouble", done.reason);
+      return;
+    }
+    try {
+      this.workspace.network = change ? change(done.text) : done.text;
+    } catch (fault) {
+      this.trouble(fault);
+      return;
+    }
+    this.tell("trouble", "");
+    this.workspace.made = made;
+    this.workspace.names = done.files["network.names"] ?? names ?? this.workspace.names;
+    this.place = this.isSteps ? this.place : 0;
+    this.showShape();
+    this.network.text = this.workspace.network;
+    this.refresh();
+  }
+
+  /** Nodes were met by a stroke: they are given the value, or two are linked. */
+  drawn(nodes) {
+    if (byId("click").value === "link") {
+      this.meetLink(nodes[nodes.length - 1]);
+      return;
+    }
+    const [field, value] = [byId("field").value, byId("value").value.trim()];
+    this.initial(nodes.flatMap((node) => ["--set", `${field}=${node}:${value}`]));
+  }
+
+  /** Links the node that was met before with this one, or parts them where they are linked. */
+  meetLink(node) {
+    const first = this.linkFrom ?? -1;
+    this.linkFrom = first < 0 || first === node ? node : -1;
+    byId("link-from").value = String(first < 0 ? node : first);
+    this.tell("running", this.linkFrom >= 0 ? `node ${node}: click the other one` : "");
+    if (first >= 0 && first !== node) {
+      byId("link-to").value = String(node);
+      this.byHand((text) => {
+        const more = linked(text, first, node, true);
+        return more === text ? linked(text, first, node, false) : more;
+      });
+    }
+  }
+
+  /** Opens files: a workspace, a model, a network, a pattern of cells, or what `import` reads. */
+  async opened(files) {
+    for (const file of files) {
+      try {
+        await this.open(file.name, await file.text());
+      } catch (fault) {
+        this.tell("trouble", `${file.name}: ${fault.message}`);
+      }
+    }
+    byId("opened").value = "";
+  }
+
+  async open(name, text) {
+    const end = name.split(".").pop().toLowerCase();
+    if (end === "unison") {
+      this.begin(Workspace.read(text));
+    } else if (end === "model" || end === "rules") {
+      Object.assign(this.workspace, { model: text, modelName: fileName(name, [`.${end}`]), values: {}, bounds: {} });
+      byId("model-name").value = this.workspace.modelName;
+      this.take();
+      this.refresh();
+    } else if (end === "toml") {
+      Object.assign(this.workspace, { network: text, networkName: fileName(name, [".toml"]), made: [], names: "" });
+      this.take();
+      this.showShape();
+      this.refresh();
+    } else if (end === "rle" || end === "cells") {
+      this.pattern(fileName(name, [`.${end}`]), text);
+    } else if (IMPORTS[end]) {
+      this.imported(fileName(name, [`.${end}`]), text, IMPORTS[end]);
+    } else {
+      throw new Error(`a workspace (.unison), a model (.model), a program (.rules), a network (.toml), cells (.rle, .cells) or one of .${Object.keys(IMPORTS).join(", .")} is wanted`);
+    }
+  }
+
+  /** Lays a pattern of cells on the grid. */
+  pattern(name, text) {
+    const { files, network, isModel, modelName } = this.workspace;
+    const width = this.workspace.made[0]?.[2] ?? "";
+    const words = ["init", "-", "--cells", `${byId("field").value}=${name}@1,1`, "--width", width, ...(isModel ? ["--model", modelName] : [])];
+    this.lanes.network.ask((go) => go(words, { ...files, [name]: text }, network), { made: [] });
+  }
+
+  /** Imports a network. */
+  imported(name, text, format) {
+    const named = format === "matrix-market" ? [] : ["--names", "network.names"];
+    const words = ["import", format, name, ...named];
+    this.lanes.network.ask((go) => go(words, { [name]: text }), { made: [words], names: "" });
+  }
+
+  /** Shows what can be taken along. */
+  showOutputs() {
+    const { commands, workspace, frames } = this;
+    const shown = this.isSteps ? null : frames.face?.shown();
+    const outputs = outputsOf(commands, workspace, shown?.round ?? 0, this.isSteps);
+    if (this.band) {
+      outputs.push({ title: `Means over ${BAND} seeds`, file: "means.csv", words: this.band });
+    }
+    if (this.sweptWords) {
+      outputs.push({ title: "The sweep", file: "sweep.csv", words: this.sweptWords });
+    }
+    this.outputs.show(outputs, () => this.picture());
+  }
+
+  /** The network that is seen, as PNG. */
+  picture() {
+    const canvas = this.frames.seen.contentDocument.getElementById("network");
+    return new Promise((done) => canvas.toBlob(done, "image/png"));
+  }
+}
+
+/** Fills a choice where it has others than these, keeps what is chosen, and says whether it was filled. */
+function refill(select, names, chosen) {
+  const isSame = [...select.options].map((option) => option.value).join(" ") === names.join(" ");
+  if (!isSame) {
+    select.replaceChildren(...names.map((name) => Object.assign(element("option", name), { value: name })));
+  }
+  select.value = names.includes(chosen) ? chosen : (names[0] ?? "");
+  return !isSame;
+}
+
+/** With what the page begins: what is kept of this tab, what was named, or an entry of the gallery. */
+async function begin() {
+  const start = await fetched("start");
+  const [shapes, manners] = await Promise.all(["generate", "schedule"].map((command) => fetched(`table/${command}`)));
+  const studio = new Studio({ ...start, manners }, shapes);
+  window.studio = studio.face;
+  const kept = Workspace.kept();
+  if (kept) {
+    studio.begin(kept);
+  } else if (start.modelName !== "" || start.gallery.length === 0) {
+    const named = start.modelName === "" ? {} : { modelName: start.modelName, model: start.model };
+    const network = start.networkName === "" ? {} : { networkName: start.networkName, network: start.network };
+    studio.begin({ ...named, ...network });
+    if (start.networkName === "") {
+      studio.remake([["generate", "grid", "8", "8"]]);
+    }
+  } else {
+    await studio.pick((start.gallery.find(({ name }) => name.endsWith("/epidemic.model")) ?? start.gallery[0]).name);
+  }
+}
+
+begin().catch((fault) => {
+  byId("trouble").textContent = `The page cannot begin: ${fault.message}`;
+});
