@@ -22,9 +22,9 @@ export function placeOf(text, line, column) {
   return begin + before.length;
 }
 
-/** How long what stands at a place is: a word, or a character. */
+/** How long what stands at a place is: a word, also one as `n.state`, or a character. */
 function lengthAt(text, place) {
-  return /^\w+/.exec(text.slice(place))?.[0].length ?? 1;
+  return /^\w+(\.\w+)?/.exec(text.slice(place))?.[0].length ?? 1;
 }
 
 /** An editor in a part of the page. `colour` gives the pieces of a text with their kinds. */

@@ -32,7 +32,7 @@ const IMPORTS = { mtx: "matrix-market", gv: "dot", dot: "dot", json: "json", txt
 /** The page. */
 class Studio {
   constructor(start, shapes) {
-    Object.assign(this, { start, shapes, workspace: new Workspace(), timer: 0, isWell: true, place: null, band: null });
+    Object.assign(this, { start, shapes, workspace: new Workspace(), timer: 0, isWell: true, place: null, band: null, drawnCurves: {} });
     this.parts = partsOf("", true);
     this.bindParts();
     this.bindLanes();
@@ -303,7 +303,10 @@ class Studio {
     refill(byId("field"), names, workspace.field);
     const states = fields.find(({ name }) => name === workspace.field)?.states ?? [];
     byId("value-names").replaceChildren(...states.map((name) => Object.assign(element("option"), { value: name })));
-    byId("value").value ||= states[1] ?? "1";
+    if (byId("value").dataset.of !== `${workspace.field} ${states}`) {
+      byId("value").dataset.of = `${workspace.field} ${states}`;
+      byId("value").value = states[1] ?? "1";
+    }
     const swept = constants.filter(({ kind, name }) => kind !== "other" && name !== "seed").map(({ name }) => name);
     if (refill(byId("sweep-constant"), swept, byId("sweep-constant").value)) {
       this.sweepBounds();
@@ -316,8 +319,6 @@ class Studio {
   /** Takes another field for counts, colours and initial values. */
   chooseField(name) {
     this.workspace.field = name;
-    const states = this.parts.fields.find((field) => field.name === name)?.states ?? [];
-    byId("value").value = states[1] ?? "1";
     const at = this.parts.fields.findIndex((field) => field.name === name);
     this.frames.face?.field(at);
     this.refresh();
@@ -378,7 +379,9 @@ class Studio {
       run: this.frames.face,
       workspace: this.workspace,
       faults: () => [...byId("faults").children].map((entry) => entry.textContent),
+      curves: () => this.drawnCurves,
       begin: (parts) => this.begin(parts),
+      open: (name, text) => this.open(name, text),
       isBusy: () => Object.values(this.lanes).some((lane) => lane.isGoing || lane.waits !== null),
     };
   }
@@ -427,6 +430,7 @@ class Studio {
     const values = Uint32Array.from(curves, ({ name }) => valueOf(name));
     const run = { fields: ["f"], legend: [states.map((name) => name)], states: [values], written: [], nodes: values.length };
     const colouring = colouringOf(run, 0, null);
+    this.drawnCurves[host.id] = curves;
     drawChart(host, curves.map((curve) => ({ ...curve, colour: colouring.colour(valueOf(curve.name)) })), words);
   }
 

@@ -97,7 +97,7 @@ export class Outputs {
   }
 
   async saved(one) {
-    save(one.file, one.content ?? (await printed("output", one.words, this.given())));
+    save(one.file, one.content ?? (await printed(`output-${one.file}`, one.words, this.given())));
     return `${one.file} is saved`;
   }
 

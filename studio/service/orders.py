@@ -16,6 +16,9 @@ COMMANDS = frozenset(
 #: Options that no page may give: they write many files, or name what is the studio's own.
 NEVER = ("--frames", "--viewer", "--packed", "--trace")
 
+#: The command whose words name no files, so that a rule may be written as B36/S23.
+WITHOUT_FILES = "life-rule"
+
 NAME = re.compile(r"[A-Za-z0-9_][A-Za-z0-9_.-]{0,63}")  # of a file
 LONGEST_WORD = 65536
 
@@ -62,7 +65,7 @@ def read_words(words: List[Any]) -> List[str]:
     for word in words:
         demand(isinstance(word, str) and len(word) <= LONGEST_WORD, f"a word is a text of {LONGEST_WORD} characters at most")
         demand("\0" not in word, "a word has no zero character")
-        demand("/" not in word, f"`{word[:80]}` has a /: a run sees the files that it is given alone, which are named without folders")
+        demand("/" not in word or words[0] == WITHOUT_FILES, f"`{word[:80]}` has a /: a run sees the files that it is given alone, which are named without folders")
         demand(not word.startswith(NEVER), f"{word[:80]} is not for pages: give the command in a terminal")
     demand(words[0] in COMMANDS, f"`{words[0][:80]}` is no command that the studio runs; it runs {', '.join(sorted(COMMANDS))}")
     return words
