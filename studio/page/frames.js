@@ -26,6 +26,12 @@ export class Frames {
     this.seen = this.frames[0];
     this.bytes = null;
     this.number = 0;
+    this.turned = 0;
+  }
+
+  /** Whether a page is on its way that is not seen yet. */
+  get isLoading() {
+    return this.turned !== this.number;
   }
 
   /** The face of the page that is seen, or null. */
@@ -59,10 +65,13 @@ export class Frames {
     if (mine !== this.number) {
       return;
     }
-    this.settle(next, place);
-    await drawn(next.contentWindow);
-    if (mine === this.number) {
-      this.turn(next, bytes);
+    try {
+      this.settle(next, place);
+      await drawn(next.contentWindow);
+    } finally {
+      if (mine === this.number) {
+        this.turn(next, bytes);
+      }
     }
   }
 
@@ -96,8 +105,7 @@ export class Frames {
     if (this.seen.contentWindow?.unison?.isPlaying?.()) {
       this.seen.contentDocument.getElementById("play").click();
     }
-    this.seen = next;
-    this.bytes = bytes;
+    Object.assign(this, { seen: next, bytes, turned: this.number });
     this.ready(this);
   }
 }

@@ -260,6 +260,7 @@ class Studio {
   /** Runs all that is shown anew. */
   refresh() {
     clearTimeout(this.timer);
+    this.timer = 0;
     const { workspace, lanes, commands } = this;
     workspace.keep();
     this.parts = partsOf(workspace.model, workspace.isModel);
@@ -382,7 +383,7 @@ class Studio {
       curves: () => this.drawnCurves,
       begin: (parts) => this.begin(parts),
       open: (name, text) => this.open(name, text),
-      isBusy: () => Object.values(this.lanes).some((lane) => lane.isGoing || lane.waits !== null),
+      isBusy: () => this.timer !== 0 || this.frames.isLoading || Object.values(this.lanes).some((lane) => lane.isGoing || lane.waits !== null),
     };
   }
 

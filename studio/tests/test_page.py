@@ -82,9 +82,8 @@ class Page(Case):
     def settled(self):
         """Waits until nothing runs any more and all is drawn."""
         self.until(QUIET)
-        time.sleep(0.35)
+        time.sleep(0.1)
         self.until(QUIET)
-        time.sleep(0.2)
         self.browser.frame()
 
     def spot(self, id):
