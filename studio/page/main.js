@@ -94,8 +94,7 @@ class Studio {
     });
     byId("gallery").append(...groups);
     byId("gallery").addEventListener("change", () => byId("gallery").value !== "" && this.pick(byId("gallery").value));
-    const answers = start.note === "" ? "Answers come from the proved program." : `Answers come from a program that is not proved, and slow: ${start.note}`;
-    byId("answers").textContent = `${start.version}. ${answers}`.replace(/^\. /, "");
+    byId("answers").textContent = [start.version, start.answers].filter((words) => words !== "").join(". ");
     byId("open").addEventListener("click", () => byId("opened").click());
     byId("opened").addEventListener("change", () => this.opened([...byId("opened").files]));
     byId("save").addEventListener("click", () => save(`${this.workspace.modelName.replace(/\.\w+$/, "")}.unison`, this.workspace.text()));

@@ -88,7 +88,7 @@ class Handler(BaseHTTPRequestHandler):
     protocol_version = "HTTP/1.0"
 
     def setup(self) -> None:
-        self.timeout = self.limits.patience
+        self.request.settimeout(self.limits.patience)
         super().setup()
 
     @property

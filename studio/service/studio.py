@@ -20,7 +20,8 @@ class Places(NamedTuple):
     """Where the parts of a studio stand."""
 
     home: Path  # this folder, with `page` below it
-    viewer: Path  # the folder of the viewer, with page.html
+    viewer: Path  # the file into which pages are put
+    modules: Path  # the folder of the viewer's modules and its style
     top: Path  # the folder with `examples` and `docs`
     program: Path  # that which answers
 
@@ -31,6 +32,7 @@ class Beginning(NamedTuple):
     called: str = "./unison"
     version: str = ""
     note: str = ""  # of a program that is not proved
+    is_proved: bool = False  # where that is known
     model: str = ""
     model_name: str = ""
     network: str = ""
@@ -40,8 +42,8 @@ class Beginning(NamedTuple):
 def page_files(places: Places) -> Dict[str, Path]:
     """The files that the page asks for, by their names: those of the page, and the modules of the viewer. Nothing else is served."""
     own = {path.name: path for path in (places.home / "page").iterdir() if path.suffix in (".html", ".js", ".css")}
-    viewer = {f"viewer/{path.name}": path for path in places.viewer.glob("*.js")}
-    return {**own, **viewer, "viewer.css": places.viewer / "style.css"}
+    viewer = {f"viewer/{path.name}": path for path in places.modules.glob("*.js")}
+    return {**own, **viewer, "viewer.css": places.modules / "style.css"}
 
 
 def script_hash(page: Path) -> str:
@@ -58,11 +60,11 @@ class Studio:
         self.limits = limits or Limits()
         self.token = secrets.token_urlsafe(24)
         self.files = page_files(places)
-        self.runs = Runs(places.program, places.viewer / "page.html", self.limits)
+        self.runs = Runs(places.program, places.viewer, self.limits)
         self.gallery = Gallery(places.top, places.home / "gallery.json")
         self.tables: Dict[str, List[Dict[str, Any]]] = {}
         self.lock = threading.Lock()
-        shown = script_hash(places.viewer / "page.html")
+        shown = script_hash(places.viewer)
         self.policy = (
             f"default-src 'none'; script-src 'self' {shown}; style-src 'self' {shown}; connect-src 'self'; img-src blob: data:; "
             "frame-src blob:; base-uri 'none'; form-action 'none'; frame-ancestors 'none'"
@@ -76,13 +78,22 @@ class Studio:
         return {
             "called": begin.called,
             "version": begin.version,
-            "note": begin.note,
+            "answers": self.answers(),
             "model": begin.model,
             "modelName": begin.model_name,
             "network": begin.network,
             "networkName": begin.network_name,
             "gallery": self.gallery.entries,
         }
+
+    def answers(self) -> str:
+        """What is told of the program that answers."""
+        begin = self.beginning
+        if begin.is_proved:
+            return "Answers come from the proved program."
+        if begin.note:
+            return f"Answers come from a program that is not proved, and slow: {begin.note}"
+        return f"Answers come from {self.places.program}, of which it is not known here whether it is proved."
 
     def table(self, command: str) -> Optional[List[Dict[str, Any]]]:
         """The manners of a command, asked of it once."""

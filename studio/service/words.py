@@ -52,7 +52,7 @@ def reader(called: str) -> Words:
     words.add_argument("network", metavar="NETWORK", nargs="?", help="a network file to begin with")
     words.add_argument("--port", metavar="N", type=int, default=0, help="the port: 1 to 65535, and one that is free where it is left out")
     words.add_argument("--no-open", action="store_true", help="print the link, and open no browser")
-    for hidden in ("program", "viewer", "top", "called", "version", "note"):
+    for hidden in ("program", "viewer", "modules", "top", "called", "version", "note", "proved"):
         words.add_argument(f"--its-{hidden}", default="", help=argparse.SUPPRESS)
     return words
 
@@ -75,8 +75,9 @@ def begun(words: argparse.Namespace) -> Studio:
     called = words.its_called
     model, model_name = read_text(called, words.model)
     network, network_name = read_text(called, words.network)
-    places = Places(HOME, Path(words.its_viewer).parent, Path(words.its_top), Path(words.its_program))
-    return Studio(places, Beginning(called, words.its_version, words.its_note, model, model_name, network, network_name))
+    places = Places(HOME, Path(words.its_viewer), Path(words.its_modules), Path(words.its_top), Path(words.its_program))
+    program = (words.its_version, words.its_note, words.its_proved == "yes")
+    return Studio(places, Beginning(called, *program, model, model_name, network, network_name))
 
 
 def served(studio: Studio, port: int) -> Server:

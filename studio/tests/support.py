@@ -26,7 +26,7 @@ PATIENCE = 30  # seconds in which something has to come
 
 
 def place_of(program=PROGRAM):
-    return Places(TOP / "studio", TOP / "viewer", TOP, Path(program))
+    return Places(TOP / "studio", TOP / "viewer" / "page.html", TOP / "viewer", TOP, Path(program))
 
 
 def until(holds, seconds=PATIENCE):

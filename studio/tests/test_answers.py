@@ -4,14 +4,14 @@ import json
 import re
 import unittest
 
-from support import TOP, Case, run
+from support import TOP, Beginning, Case, run
 
 DISTANCE = {
     "d.rules": "field dist = 4294967295;\nnext dist = (dist min least (n.dist + 1));\n",
     "p.toml": "links = [[0, 1], [1, 2]]\nnodes = 3\n[set]\ndist = [[0, 0]]\n",
 }
 MODEL = {
-    "m.model": "const p = chance(0.5);\nstates person { well, ill }\nfield state: person = well;\nnext state = if chance_of(p) then ill else state;\n",
+    "m.model": "const p = chance(0.5);\nstates person { well, ill }\nfield state: person = well;\nnext state = if random() < p then ill else state;\n",
     "p.toml": DISTANCE["p.toml"].split("[set]")[0],
 }
 FAULTY = {**MODEL, "m.model": "field s = 0;\nnext s = if votes > 1 then 1 else s;\n"}
@@ -101,6 +101,17 @@ class Tables(Case):
         start = json.loads(self.get("start")[2])
         self.assertEqual(start["called"], "./unison")
         self.assertEqual({entry["part"] for entry in start["gallery"]}, {"Models", "Cookbook", "Examples"})
+
+
+    def told(self, **known):
+        self.serve(self.program, beginning=Beginning(**known))
+        return json.loads(self.get("start")[2])["answers"]
+
+    def test_the_page_says_which_program_answers(self):
+        self.assertEqual(self.told(is_proved=True), "Answers come from the proved program.")
+        note = "this is the quick program; ./unison prove makes the proved one"
+        self.assertEqual(self.told(note=note), f"Answers come from a program that is not proved, and slow: {note}")
+        self.assertEqual(self.told(), f"Answers come from {self.program}, of which it is not known here whether it is proved.")
 
 
 class Gallery(Case):

@@ -1,10 +1,12 @@
 """The command line: what it takes, what it refuses, and that it ends with nothing left."""
 
+import json
 import os
 import signal
 import subprocess
 import sys
 import tempfile
+import threading
 import time
 import unittest
 import urllib.request
@@ -12,7 +14,8 @@ from pathlib import Path
 
 from support import PATIENCE, PROGRAM, TOP, until
 
-START = [sys.executable, str(TOP / "studio/start"), "--its-called=./unison", f"--its-program={PROGRAM}", f"--its-viewer={TOP}/viewer/page.html", f"--its-top={TOP}"]
+KNOWN = {"called": "./unison", "program": PROGRAM, "viewer": TOP / "viewer/page.html", "modules": TOP / "viewer", "top": TOP}
+START = [sys.executable, str(TOP / "studio/start"), *(f"--its-{name}={value}" for name, value in KNOWN.items())]
 
 
 def ended(*words, start=START, folder=TOP):
@@ -95,11 +98,8 @@ class Ends(unittest.TestCase):
         with Studio() as studio:
             origin = studio.link.rsplit("/", 2)[0]
             request = urllib.request.Request(f"{studio.link}run", order, {"Content-Type": "application/json", "Origin": origin})
-            import threading
-
             threading.Thread(target=lambda: self.quietly(request), daemon=True).start()
-            mine = f"/proc/{studio.process.pid}/task/{studio.process.pid}/children"
-            self.assertTrue(until(lambda: self.children(studio.process.pid)), mine)
+            self.assertTrue(until(lambda: self.children(studio.process.pid)))
             runs = self.children(studio.process.pid)
             begin = time.monotonic()
             self.assertEqual(studio.end(signal.SIGINT), 0)
@@ -126,8 +126,6 @@ class Ends(unittest.TestCase):
 
     def test_what_is_named_is_there(self):
         with Studio("examples/models/life.model", "examples/glider.toml") as studio:
-            import json
-
             start = json.loads(urllib.request.urlopen(f"{studio.link}start", timeout=PATIENCE).read())
             self.assertEqual((start["modelName"], start["networkName"]), ("life.model", "glider.toml"))
             self.assertEqual(start["model"], (TOP / "examples/models/life.model").read_text())
