@@ -12,7 +12,6 @@ from pathlib import Path
 from typing import Any, List, Optional, Union
 
 from . import _checks, _programs
-from .command import launchers
 from .model import Model
 from .network import Network
 from .program import Program
@@ -111,6 +110,8 @@ def network_file(network: Any, folder: str) -> Optional[str]:
 
 def begun(words: List[str]) -> Studio:
     """The studio of these words, once it has said its link."""
+    from .command import launchers  # (which is run as a module, and so is not taken up with the package)
+
     launcher = next((path for path in launchers() if path.is_file()), None)
     if launcher is None:
         raise _programs.ProgramsMissing(_programs.missing("unison_lab"))

@@ -20,7 +20,7 @@ function nearest(face, nodes, x, y) {
 }
 
 /** How many nodes stand in the first row, where they stand in rows. */
-function columnsOf(face) {
+export function columnsOf(face) {
   const first = face.nodeSpot(0);
   let node = 1;
   while (node < face.nodes && Math.abs(face.nodeSpot(node).y - first.y) < 1e-6) {

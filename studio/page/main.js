@@ -7,7 +7,7 @@ import { Editor } from "./editor.js";
 import { advice, faultsOf } from "./faults.js";
 import { Form, offer } from "./forms.js";
 import { Frames } from "./frames.js";
-import { Hand } from "./hand.js";
+import { columnsOf, Hand } from "./hand.js";
 import { Manners } from "./manners.js";
 import { partsOf, pieces } from "./model.js";
 import { hasSeed, linked, make, reseeded, withNodes, withStep } from "./network.js";
@@ -95,6 +95,10 @@ class Studio {
     byId("gallery").append(...groups);
     byId("gallery").addEventListener("change", () => byId("gallery").value !== "" && this.pick(byId("gallery").value));
     byId("answers").textContent = [start.version, start.answers].filter((words) => words !== "").join(". ");
+    byId("rule-form").addEventListener("submit", (event) => {
+      event.preventDefault();
+      this.rule(byId("rule").value.trim());
+    });
     byId("open").addEventListener("click", () => byId("opened").click());
     byId("opened").addEventListener("change", () => this.opened([...byId("opened").files]));
     byId("save").addEventListener("click", () => save(`${this.workspace.modelName.replace(/\.\w+$/, "")}.unison`, this.workspace.text()));
@@ -254,6 +258,20 @@ class Studio {
     } catch (fault) {
       this.trouble(fault);
     }
+  }
+
+  /** Takes the model of a rule of Life's kind, with random cells on a torus or on hexagons where there is no grid yet. */
+  async rule(rule) {
+    const done = await run("rule", ["life-rule", rule]);
+    if (!done.isWell) {
+      this.tell("trouble", done.reason);
+      return;
+    }
+    const modelName = "rule.model";
+    const [{ name }] = partsOf(done.text, true).fields;
+    const made = rule.toUpperCase().endsWith("H") ? [["generate", "hex", "24", "24"]] : [["generate", "torus", "24", "24", "--diagonals"]];
+    this.begin({ modelName, model: done.text, rounds: 40, isCells: true, field: name });
+    this.remake([...made, ["init", "-", "--set-random", `${name}=1:30%`, "--seed", "1", "--model", modelName]]);
   }
 
   /** Runs all that is shown anew. */
@@ -614,8 +632,9 @@ class Studio {
   /** Lays a pattern of cells on the grid. */
   pattern(name, text) {
     const { files, network, isModel, modelName } = this.workspace;
-    const width = this.workspace.made[0]?.[2] ?? "";
-    const words = ["init", "-", "--cells", `${byId("field").value}=${name}@1,1`, "--width", width, ...(isModel ? ["--model", modelName] : [])];
+    const { face } = this.frames;
+    const width = face?.layout ? columnsOf(face) : 0;
+    const words = ["init", "-", "--cells", `${byId("field").value}=${name}@1,1`, "--width", String(width), ...(isModel ? ["--model", modelName] : [])];
     this.lanes.network.ask((go) => go(words, { ...files, [name]: text }, network), { made: [] });
   }
 

@@ -384,6 +384,39 @@ class Tests(Page):
         self.assertEqual(self.look("studio.run.names"), ["ann", "bob", "cid"])
         self.assertIn("./unison import edges friends.txt --names network.names > network.toml", self.text("outputs"))
 
+    def test_a_pattern_that_is_dropped_is_laid_on_the_grid(self):
+        torus = run("generate", "torus", "10", "8", "--diagonals")[1].decode()
+        self.open({"modelName": "life.model", "model": LIFE, "network": torus, "rounds": 4, "isCells": True})
+        pattern = (TOP / "examples/glider.rle").read_text()
+        self.do(f"(() => {{ const data = new DataTransfer(); data.items.add(new File([{json.dumps(pattern)}], 'glider.rle')); document.dispatchEvent(new DragEvent('drop', {{dataTransfer: data, cancelable: true}})); }})()")
+        self.until("studio.workspace.network.includes('[set]')")
+        self.settled()
+        words = ("init", "n.toml", "--cells", "live=glider.rle@1,1", "--width", "10")
+        self.assertEqual(self.look("studio.workspace.network"), run(*words, files={"n.toml": torus, "glider.rle": pattern})[1].decode())
+
+    def test_a_rule_of_cells_is_a_model(self):
+        self.open(DISTANCE)
+        self.choose("rule", "B36/S23")
+        self.do("document.getElementById('rule-form').requestSubmit()")
+        self.until("studio.workspace.modelName === 'rule.model' && studio.workspace.network.includes('[set]')")
+        self.settled()
+        self.assertEqual(self.look("studio.workspace.model"), run("life-rule", "B36/S23")[1].decode())
+        self.assertEqual(self.look("studio.run.nodes"), 576)
+        self.choose("rule", "nothing")
+        self.do("document.getElementById('rule-form').requestSubmit()")
+        self.until("document.getElementById('trouble').textContent !== ''")
+
+    def test_notes_of_cuts_stand_below_the_model(self):
+        self.open({**DISTANCE, "modelName": "rank.rules", "model": "field dist = 1;\nnext dist = (total (n.dist * 850) / 100);\n"})
+        faults = self.look("studio.faults()")
+        files = {"rank.rules": self.look("studio.workspace.model"), "network.toml": PATH}
+        told = run("why", "lockstep", "rank.rules", "network.toml", "--rounds", "3", files=files)[1].decode()
+        notes = [line.split(": ", 2)[2] for line in told.splitlines() if line.startswith("note: ")]
+        self.assertEqual(len(notes), 2)
+        self.assertEqual([fault.split(", line 2 ")[1] for fault in faults], notes)
+        self.assertEqual(self.look("document.querySelectorAll('#model-editor .back .wrong').length"), 0)
+        self.assertGreater(self.look("document.querySelectorAll('#model-editor .back .noted').length"), 0)
+
     def test_a_file_of_no_known_kind_is_told(self):
         self.open(DISTANCE)
         self.do("(() => { const data = new DataTransfer(); data.items.add(new File(['x'], 'x.exe')); document.dispatchEvent(new DragEvent('drop', {dataTransfer: data, cancelable: true})); })()")

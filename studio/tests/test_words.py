@@ -124,6 +124,20 @@ class Ends(unittest.TestCase):
                 pass
         return found
 
+    def test_the_launcher_says_which_program_answers(self):
+        builds = {TOP / "quick/out": ("quick", "a program that is not proved, and slow"), TOP / "crates/unison_lab/out": ("proved", "the proved program.")}
+        if PROGRAM.parent not in builds:
+            self.skipTest("the program stands elsewhere")
+        build, words = builds[PROGRAM.parent]
+        process = subprocess.Popen(["./unison", "studio", "--no-open"], cwd=TOP, env={**os.environ, "UNISON_BUILD": build}, stdout=subprocess.PIPE, stderr=subprocess.DEVNULL, text=True)
+        link = process.stdout.readline().strip()
+        start = json.loads(urllib.request.urlopen(f"{link}start", timeout=PATIENCE).read())
+        process.send_signal(signal.SIGINT)
+        self.assertEqual(process.wait(PATIENCE), 0)
+        process.stdout.close()
+        self.assertIn(words, start["answers"])
+        self.assertRegex(start["version"], r"^unison \d")
+
     def test_what_is_named_is_there(self):
         with Studio("examples/models/life.model", "examples/glider.toml") as studio:
             start = json.loads(urllib.request.urlopen(f"{studio.link}start", timeout=PATIENCE).read())
