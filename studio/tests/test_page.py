@@ -11,7 +11,7 @@ import unittest
 from pathlib import Path
 
 from browsers import Chromium, Firefox
-from support import TOP, Case, children, run, until
+from support import TOP, Beginning, Case, children, run, until
 
 MODEL = """const infection = chance(0.2);
 states person { well, ill }
@@ -56,6 +56,8 @@ class Page(Case):
     def setUp(self):
         super().setUp()
         self.browser.resize(1400, 900)
+        small = {"model": DISTANCE["model"], "model_name": DISTANCE["modelName"], "network": PATH, "network_name": "network.toml"}
+        self.serve(self.program, beginning=Beginning(**small))
 
     def open(self, parts=None):
         """Opens the page, with this workspace where one is given."""
@@ -113,6 +115,7 @@ class Page(Case):
 
 class Tests(Page):
     def test_it_begins_with_a_run_and_asks_for_nothing_else(self):
+        self.serve(self.program)
         self.open()
         self.assertEqual(self.look("studio.workspace.modelName"), "epidemic.model")
         self.assertEqual(self.look("studio.run.nodes"), 200)
