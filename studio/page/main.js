@@ -1,30 +1,23 @@
 // The studio: what is changed at the left and at the top is run at once, and shown in the middle and at the right.
 
 import { fetched, Lane, leave, run } from "./calls.js";
-import { countCurves, drawChart, meanCurves, readTable } from "./chart.js";
-import { Commands, spread } from "./commands.js";
+import { Commands } from "./commands.js";
+import { Counts } from "./counts.js";
 import { Editor } from "./editor.js";
 import { advice, faultsOf } from "./faults.js";
-import { Form, offer } from "./forms.js";
 import { Frames } from "./frames.js";
-import { columnsOf, Hand } from "./hand.js";
+import { Hand } from "./hand.js";
+import { CELLS, Making } from "./making.js";
 import { Manners } from "./manners.js";
 import { partsOf, pieces } from "./model.js";
-import { hasSeed, linked, make, reseeded, withNodes, withStep } from "./network.js";
+import { make } from "./network.js";
 import { Outputs, outputsOf, save } from "./outputs.js";
 import { Values } from "./values.js";
-import { colouringOf } from "./viewer/colours.js";
 import { byId, element } from "./viewer/panel.js";
 import { fileName, Workspace } from "./workspace.js";
 
 /** For how many milliseconds nothing is typed before the text is run. */
 const PAUSE = 200;
-
-/** Over how many seeds a band goes. */
-const BAND = 20;
-
-/** Shapes whose nodes are shown as cells. */
-const CELLS = ["grid", "torus", "hex"];
 
 /** How a dropped file is imported, by the end of its name. */
 const IMPORTS = { mtx: "matrix-market", gv: "dot", dot: "dot", json: "json", txt: "edges", csv: "edges", edges: "edges", tsv: "edges" };
@@ -32,15 +25,13 @@ const IMPORTS = { mtx: "matrix-market", gv: "dot", dot: "dot", json: "json", txt
 /** The page. */
 class Studio {
   constructor(start, shapes) {
-    Object.assign(this, { start, shapes, workspace: new Workspace(), timer: 0, isWell: true, place: null, band: null, drawnCurves: {} });
+    Object.assign(this, { start, shapes, workspace: new Workspace(), timer: 0, isWell: true, place: null });
     this.parts = partsOf("", true);
     this.bindParts();
     this.bindLanes();
     this.bindHead();
     this.bindValues();
-    this.bindNetwork();
     this.bindMiddle();
-    this.bindRight();
     this.bindFiles();
     this.bindWindow();
   }
@@ -58,13 +49,15 @@ class Studio {
     const { workspace } = this;
     this.model = new Editor(byId("model-editor"), "The model", (text) => pieces(text, this.parts), (text) => this.typed("model", text));
     this.network = new Editor(byId("network-editor"), "The network file", (text) => [[text, ""]], (text) => this.typed("network", text));
+    this.making = new Making(this);
     this.values = new Values(byId("constants"), workspace, () => this.refresh());
-    this.hand = new Hand(() => byId("click").value !== "choose", (nodes) => this.drawn(nodes));
+    this.hand = new Hand(() => byId("click").value !== "choose", (nodes) => this.making.drawn(nodes));
     this.frames = new Frames(byId("frames"), () => this.framed());
     this.manners = new Manners(workspace, this.start.manners, (place) => {
       this.place = place;
       this.refresh();
     });
+    this.counts = new Counts(this);
     this.outputs = new Outputs(byId("outputs"), this.start.called, (words) => this.tell("copied", words), () => this.files());
   }
 
@@ -74,11 +67,11 @@ class Studio {
     this.lanes = {
       why: new Lane("why", (done) => this.toldFaults(done), fail),
       shown: new Lane("shown", (done) => this.shown(done), fail),
-      counts: new Lane("counts", (done) => this.counted(done), fail),
-      band: new Lane("band", (done, kept) => this.banded(done, kept), fail),
-      sweep: new Lane("sweep", (done, kept) => this.swept(done, kept), fail),
+      counts: new Lane("counts", (done) => this.counts.counted(done), fail),
+      band: new Lane("band", (done, kept) => this.counts.banded(done, kept), fail),
+      sweep: new Lane("sweep", (done, kept) => this.counts.swept(done, kept), fail),
       info: new Lane("info", (done) => this.tell("network-about", done.isWell ? done.text.trim().split("\n").slice(0, 5).join(", ") : ""), fail),
-      network: new Lane("network", (done, kept) => this.madeNetwork(done, kept), fail),
+      network: new Lane("network", (done, kept) => this.making.madeNetwork(done, kept), fail),
     };
   }
 
@@ -124,49 +117,11 @@ class Studio {
     byId("seed-next").addEventListener("click", () => seed(Number(workspace.seed) + 1));
   }
 
-  /** The form of shapes, and changes of the network by hand. */
-  bindNetwork() {
-    offer(byId("shape"), this.shapes, [["", "as it is"]]);
-    byId("shape").addEventListener("change", () => this.shape(byId("shape").value, true));
-    byId("draw-form").addEventListener("submit", (event) => {
-      event.preventDefault();
-      this.initial(["--set", `${byId("field").value}=${byId("node").value.trim()}:${byId("value").value.trim()}`]);
-    });
-    byId("set-random").addEventListener("click", () => {
-      const drawn = `${byId("field").value}=${byId("value").value.trim()}:${byId("share").value.trim()}`;
-      this.initial(["--set-random", drawn, "--seed", "1"]);
-    });
-    byId("clear").addEventListener("click", () => this.initial(["--clear", byId("field").value]));
-    byId("field").addEventListener("change", () => this.chooseField(byId("field").value));
-    const ends = () => [Number(byId("link-from").value), Number(byId("link-to").value)];
-    byId("link-form").addEventListener("submit", (event) => {
-      event.preventDefault();
-      this.byHand((text) => linked(text, ...ends(), true));
-    });
-    byId("unlink").addEventListener("click", () => this.byHand((text) => linked(text, ...ends(), false)));
-    byId("add-node").addEventListener("click", () => this.byHand((text) => withNodes(text, 1)));
-    byId("remove-node").addEventListener("click", () => this.byHand((text) => withNodes(text, -1)));
-  }
-
   bindMiddle() {
     byId("cells").addEventListener("change", () => {
       this.workspace.isCells = byId("cells").checked;
       this.refresh();
     });
-  }
-
-  bindRight() {
-    byId("band").addEventListener("click", () => {
-      const isOn = byId("band").getAttribute("aria-pressed") === "true";
-      byId("band").setAttribute("aria-pressed", String(!isOn));
-      this.band = null;
-      this.askCounts();
-    });
-    byId("sweep-form").addEventListener("submit", (event) => {
-      event.preventDefault();
-      this.sweep();
-    });
-    byId("sweep-constant").addEventListener("change", () => this.sweepBounds());
   }
 
   /** Files that are dropped anywhere. */
@@ -210,7 +165,8 @@ class Studio {
     byId("cells").checked = workspace.isCells;
     byId("shape").value = "";
     this.values.shape = "";
-    this.showShape();
+    this.counts.reset();
+    this.making.showShape();
     this.manners.show();
     this.take();
     this.refresh();
@@ -228,7 +184,7 @@ class Studio {
     this.workspace[which] = text;
     if (which === "network") {
       this.workspace.made = [];
-      this.showShape();
+      this.making.showShape();
     }
     clearTimeout(this.timer);
     this.timer = setTimeout(() => this.refresh(), PAUSE);
@@ -271,7 +227,7 @@ class Studio {
     const [{ name }] = partsOf(done.text, true).fields;
     const made = rule.toUpperCase().endsWith("H") ? [["generate", "hex", "24", "24"]] : [["generate", "torus", "24", "24", "--diagonals"]];
     this.begin({ modelName, model: done.text, rounds: 40, isCells: true, field: name });
-    this.remake([...made, ["init", "-", "--set-random", `${name}=1:30%`, "--seed", "1", "--model", modelName]]);
+    this.making.remake([...made, ["init", "-", "--set-random", `${name}=1:30%`, "--seed", "1", "--model", modelName]]);
   }
 
   /** Runs all that is shown anew. */
@@ -289,8 +245,8 @@ class Studio {
     lanes.why.ask((go) => go(commands.why(), files));
     lanes.shown.ask(this.job(commands, files));
     lanes.info.ask((go) => go(commands.info(), files));
-    this.band = null;
-    this.askCounts();
+    this.counts.band = null;
+    this.counts.ask();
     this.showOutputs();
   }
 
@@ -327,7 +283,7 @@ class Studio {
     }
     const swept = constants.filter(({ kind, name }) => kind !== "other" && name !== "seed").map(({ name }) => name);
     if (refill(byId("sweep-constant"), swept, byId("sweep-constant").value)) {
-      this.sweepBounds();
+      this.counts.sweepBounds();
     }
     byId("sweep-part").hidden = swept.length === 0;
     byId("seed-label").hidden = !workspace.isModel;
@@ -397,201 +353,11 @@ class Studio {
       run: this.frames.face,
       workspace: this.workspace,
       faults: () => [...byId("faults").children].map((entry) => entry.textContent),
-      curves: () => this.drawnCurves,
+      curves: () => this.counts.drawn,
       begin: (parts) => this.begin(parts),
       open: (name, text) => this.open(name, text),
       isBusy: () => this.timer !== 0 || this.frames.isLoading || Object.values(this.lanes).some((lane) => lane.isGoing || lane.waits !== null),
     };
-  }
-
-  /** Asks for the counts, or for the means of a band where that is wanted. */
-  askCounts() {
-    const { commands, lanes } = this;
-    const files = this.files();
-    const isBand = this.workspace.isModel && byId("band").getAttribute("aria-pressed") === "true";
-    lanes.counts.ask((go) => go(commands.count(), files));
-    if (isBand) {
-      const words = commands.band(BAND);
-      this.tell("curves-told", `counting over ${BAND} seeds ..`);
-      lanes.band.ask((go) => go(words, files), words);
-    }
-  }
-
-  /** Draws the curves of one run, where no band is drawn. */
-  counted(done) {
-    if (done.isWell && this.band === null) {
-      this.curves(byId("curves-chart"), countCurves(readTable(done.text)), "How many nodes have each value, round by round");
-      this.tell("curves-told", byId("band").getAttribute("aria-pressed") === "true" ? byId("curves-told").textContent : "");
-    }
-  }
-
-  banded(done, words) {
-    if (byId("band").getAttribute("aria-pressed") !== "true") {
-      return;
-    }
-    this.tell("curves-told", done.isWell ? `means of ${BAND} runs, seeds from ${this.workspace.seed} on, and the standard deviation about them` : done.reason);
-    if (done.isWell) {
-      this.band = words;
-      this.curves(byId("curves-chart"), meanCurves(readTable(done.text)), `Means over ${BAND} seeds of how many nodes have each value`);
-      this.showOutputs();
-    }
-  }
-
-  /** Draws curves in the colours of the values. */
-  curves(host, curves, words) {
-    if (curves.length === 0) {
-      host.replaceChildren(element("p", "More than 64 values occur: there are no curves of them.", "soft"));
-      return;
-    }
-    const states = this.parts.fields.find(({ name }) => name === this.workspace.field)?.states ?? [];
-    const valueOf = (name) => (states.includes(name) ? states.indexOf(name) : Number(name));
-    const values = Uint32Array.from(curves, ({ name }) => valueOf(name));
-    const run = { fields: ["f"], legend: [states.map((name) => name)], states: [values], written: [], nodes: values.length };
-    const colouring = colouringOf(run, 0, null);
-    this.drawnCurves[host.id] = curves;
-    drawChart(host, curves.map((curve) => ({ ...curve, colour: colouring.colour(valueOf(curve.name)) })), words);
-  }
-
-  /** Begins a sweep with bounds that suit the constant. */
-  sweepBounds() {
-    const constant = this.parts.constants.find(({ name }) => name === byId("sweep-constant").value);
-    if (constant) {
-      const [from, to] = this.workspace.bounds[constant.name] ?? (constant.kind === "chance" ? [0, 1] : [0, Math.max(10, 2 * Number(constant.value))]);
-      byId("sweep-from").value = String(from);
-      byId("sweep-to").value = String(to);
-    }
-  }
-
-  sweep() {
-    const constant = this.parts.constants.find(({ name }) => name === byId("sweep-constant").value);
-    const [from, to, many, seeds] = ["from", "to", "many", "seeds"].map((part) => Number(byId(`sweep-${part}`).value));
-    const values = constant ? spread(from, to, many, constant.kind === "chance") : [];
-    if (values.length === 0 || values.some((value) => value.includes("NaN"))) {
-      this.tell("sweep-told", "from and to are numbers, as 0.1 and 0.5");
-      return;
-    }
-    const words = this.commands.sweep(constant.name, values, seeds);
-    const files = this.files();
-    this.tell("sweep-told", `counting ${values.length * seeds} runs ..`);
-    this.lanes.sweep.ask((go) => go(words, files), { words, round: this.workspace.rounds, name: constant.name });
-  }
-
-  swept(done, { words, round, name }) {
-    this.tell("sweep-told", done.isWell ? `round ${round} by ${name}: means, and the standard deviation about them` : done.reason);
-    if (done.isWell) {
-      this.sweptWords = words;
-      this.curves(byId("sweep-chart"), meanCurves(readTable(done.text)), `How many nodes have each value in round ${round}, by the constant ${name}`);
-      this.showOutputs();
-    }
-  }
-
-  /** Shows the form of a shape, and makes the network where it was chosen just now. */
-  shape(name, isChosen) {
-    const manner = this.shapes.find((shape) => shape.name === name);
-    if (!manner) {
-      this.showShape();
-      return;
-    }
-    this.tell("shape-about", manner.about);
-    this.form = new Form(byId("shape-form"), manner, () => this.generate());
-    const next = element("button", "Next seed");
-    next.type = "button";
-    next.addEventListener("click", () => this.remake(reseeded(this.workspace.made, 1)));
-    byId("shape-form").append(next);
-    if (isChosen) {
-      this.generate();
-    }
-  }
-
-  /** Shows the form of the shape of which the network was made, with its words. */
-  showShape() {
-    const [first] = this.workspace.made;
-    byId("shape-form").replaceChildren();
-    this.tell("shape-about", "");
-    byId("shape").value = first?.[0] === "generate" ? first[1] : "";
-    if (byId("shape").value === "") {
-      return;
-    }
-    this.shape(first[1], false);
-    const many = this.form.manner.arguments.length;
-    this.form.take({ before: first.slice(2, 2 + many), after: first.slice(2 + many) });
-  }
-
-  /** Makes the network that the form says; initial values that were drawn at random are drawn anew. */
-  generate() {
-    const { before, after } = this.form.words();
-    const drawn = this.workspace.made.slice(1).filter((words) => words.includes("--set-random") || words.includes("--clear"));
-    this.workspace.isCells = CELLS.includes(this.form.manner.name);
-    byId("cells").checked = this.workspace.isCells;
-    this.remake([["generate", this.form.manner.name, ...before, ...after], ...drawn]);
-  }
-
-  /** Makes the network by these commands. */
-  remake(made) {
-    if (made.length === 0 || (!hasSeed(made) && made === this.workspace.made)) {
-      return;
-    }
-    const files = this.workspace.files;
-    this.lanes.network.ask((go) => make(go, made, files), { made, names: "" });
-  }
-
-  /** Gives nodes initial values by one more command. */
-  initial(words) {
-    const step = ["init", "-", ...words, ...(this.workspace.isModel ? ["--model", this.workspace.modelName] : [])];
-    const { files, network, made } = this.workspace;
-    this.lanes.network.ask((go) => go(step, files, network), { made: withStep(made, step) });
-  }
-
-  /** Changes the network file by hand, as `init` spells it. */
-  byHand(change) {
-    const { files, network } = this.workspace;
-    this.lanes.network.ask((go) => go(["init", "-"], files, network), { made: [], change });
-  }
-
-  /** Takes a network that was made. */
-  madeNetwork(done, { made, names, change }) {
-    if (!done.isWell) {
-      this.tell("trouble", done.reason);
-      return;
-    }
-    try {
-      this.workspace.network = change ? change(done.text) : done.text;
-    } catch (fault) {
-      this.trouble(fault);
-      return;
-    }
-    this.tell("trouble", "");
-    this.workspace.made = made;
-    this.workspace.names = done.files["network.names"] ?? names ?? this.workspace.names;
-    this.place = this.isSteps ? this.place : 0;
-    this.showShape();
-    this.network.text = this.workspace.network;
-    this.refresh();
-  }
-
-  /** Nodes were met by a stroke: they are given the value, or two are linked. */
-  drawn(nodes) {
-    if (byId("click").value === "link") {
-      this.meetLink(nodes[nodes.length - 1]);
-      return;
-    }
-    const [field, value] = [byId("field").value, byId("value").value.trim()];
-    this.initial(nodes.flatMap((node) => ["--set", `${field}=${node}:${value}`]));
-  }
-
-  /** Links the node that was met before with this one, or parts them where they are linked. */
-  meetLink(node) {
-    const first = this.linkFrom ?? -1;
-    this.linkFrom = first < 0 || first === node ? node : -1;
-    byId("link-from").value = String(first < 0 ? node : first);
-    this.tell("running", this.linkFrom >= 0 ? `node ${node}: click the other one` : "");
-    if (first >= 0 && first !== node) {
-      byId("link-to").value = String(node);
-      this.byHand((text) => {
-        const more = linked(text, first, node, true);
-        return more === text ? linked(text, first, node, false) : more;
-      });
-    }
   }
 
   /** Opens files: a workspace, a model, a network, a pattern of cells, or what `import` reads. */
@@ -618,31 +384,15 @@ class Studio {
     } else if (end === "toml") {
       Object.assign(this.workspace, { network: text, networkName: fileName(name, [".toml"]), made: [], names: "" });
       this.take();
-      this.showShape();
+      this.making.showShape();
       this.refresh();
     } else if (end === "rle" || end === "cells") {
-      this.pattern(fileName(name, [`.${end}`]), text);
+      this.making.pattern(fileName(name, [`.${end}`]), text);
     } else if (IMPORTS[end]) {
-      this.imported(fileName(name, [`.${end}`]), text, IMPORTS[end]);
+      this.making.imported(fileName(name, [`.${end}`]), text, IMPORTS[end]);
     } else {
       throw new Error(`a workspace (.unison), a model (.model), a program (.rules), a network (.toml), cells (.rle, .cells) or one of .${Object.keys(IMPORTS).join(", .")} is wanted`);
     }
-  }
-
-  /** Lays a pattern of cells on the grid. */
-  pattern(name, text) {
-    const { files, network, isModel, modelName } = this.workspace;
-    const { face } = this.frames;
-    const width = face?.layout ? columnsOf(face) : 0;
-    const words = ["init", "-", "--cells", `${byId("field").value}=${name}@1,1`, "--width", String(width), ...(isModel ? ["--model", modelName] : [])];
-    this.lanes.network.ask((go) => go(words, { ...files, [name]: text }, network), { made: [] });
-  }
-
-  /** Imports a network. */
-  imported(name, text, format) {
-    const named = format === "matrix-market" ? [] : ["--names", "network.names"];
-    const words = ["import", format, name, ...named];
-    this.lanes.network.ask((go) => go(words, { [name]: text }), { made: [words], names: "" });
   }
 
   /** Shows what can be taken along. */
@@ -650,13 +400,7 @@ class Studio {
     const { commands, workspace, frames } = this;
     const shown = this.isSteps ? null : frames.face?.shown();
     const outputs = outputsOf(commands, workspace, shown?.round ?? 0, this.isSteps);
-    if (this.band) {
-      outputs.push({ title: `Means over ${BAND} seeds`, file: "means.csv", words: this.band });
-    }
-    if (this.sweptWords) {
-      outputs.push({ title: "The sweep", file: "sweep.csv", words: this.sweptWords });
-    }
-    this.outputs.show(outputs, () => this.picture());
+    this.outputs.show([...outputs, ...this.counts.outputs()], () => this.picture());
   }
 
   /** The network that is seen, as PNG. */
@@ -690,7 +434,7 @@ async function begin() {
     const network = start.networkName === "" ? {} : { networkName: start.networkName, network: start.network };
     studio.begin({ ...named, ...network });
     if (start.networkName === "") {
-      studio.remake([["generate", "grid", "8", "8"]]);
+      studio.making.remake([["generate", "grid", "8", "8"]]);
     }
   } else {
     await studio.pick((start.gallery.find(({ name }) => name.endsWith("/epidemic.model")) ?? start.gallery[0]).name);

@@ -47,6 +47,9 @@ export class Workspace {
       const suits = given !== undefined && typeof given === typeof value && Array.isArray(given) === Array.isArray(value);
       this[key] = suits ? given : (this[key] ?? structuredClone(value));
     }
+    const { before, after } = this.mannerWords;
+    this.mannerWords = Array.isArray(before) && Array.isArray(after) ? { before, after } : {};
+    this.made = this.made.every(Array.isArray) ? this.made : [];
     this.modelName = fileName(this.modelName, [".model", ".rules"]);
     this.networkName = fileName(this.networkName, [".toml"]);
   }
