@@ -71,7 +71,6 @@ class Studio {
       band: new Lane("band", (done, kept) => this.counts.banded(done, kept), fail),
       sweep: new Lane("sweep", (done, kept) => this.counts.swept(done, kept), fail),
       info: new Lane("info", (done) => this.tell("network-about", done.isWell ? done.text.trim().split("\n").slice(0, 5).join(", ") : ""), fail),
-      network: new Lane("network", (done, kept) => this.making.madeNetwork(done, kept), fail),
     };
   }
 
@@ -356,7 +355,7 @@ class Studio {
       curves: () => this.counts.drawn,
       begin: (parts) => this.begin(parts),
       open: (name, text) => this.open(name, text),
-      isBusy: () => this.timer !== 0 || this.frames.isLoading || Object.values(this.lanes).some((lane) => lane.isGoing || lane.waits !== null),
+      isBusy: () => this.timer !== 0 || this.frames.isLoading || this.making.isAtWork || Object.values(this.lanes).some((lane) => lane.isGoing || lane.waits !== null),
     };
   }
 

@@ -1,5 +1,6 @@
 // How the network is changed: by the form of a shape, by initial values, by links and nodes by hand, by files that are dropped.
 
+import { run } from "./calls.js";
 import { Form, offer } from "./forms.js";
 import { columnsOf } from "./hand.js";
 import { hasSeed, linked, make, reseeded, withNodes, withStep } from "./network.js";
@@ -11,8 +12,34 @@ export const CELLS = ["grid", "torus", "hex"];
 /** The ways to change the network of a page. */
 export class Making {
   constructor(page) {
-    this.page = page;
+    Object.assign(this, { page, waiting: [], isAtWork: false });
     this.bind();
+  }
+
+  /**
+   * Makes a change after those that wait, so that none of them is lost. When its turn comes, `prepare` says, by the workspace as it is then, the job
+   * that makes the network, and what is kept of it.
+   */
+  async change(prepare) {
+    this.waiting.push(prepare);
+    if (this.isAtWork) {
+      return;
+    }
+    this.isAtWork = true;
+    while (this.waiting.length > 0) {
+      await this.makeNext();
+    }
+    this.isAtWork = false;
+  }
+
+  /** Makes the change that waits longest. */
+  async makeNext() {
+    try {
+      const { job, kept } = this.waiting.shift()(this.page.workspace);
+      this.madeNetwork(await job((words, files, input) => run("network", words, files, input)), kept);
+    } catch (fault) {
+      this.page.trouble(fault);
+    }
   }
 
   /** The form of shapes, and changes of the network by hand. */
@@ -85,21 +112,20 @@ export class Making {
     if (made.length === 0 || (!hasSeed(made) && made === this.page.workspace.made)) {
       return;
     }
-    const files = this.page.workspace.files;
-    this.page.lanes.network.ask((go) => make(go, made, files), { made, names: "" });
+    this.change(({ files }) => ({ job: (go) => make(go, made, files), kept: { made, names: "" } }));
   }
 
   /** Gives nodes initial values by one more command. */
   initial(words) {
-    const step = ["init", "-", ...words, ...(this.page.workspace.isModel ? ["--model", this.page.workspace.modelName] : [])];
-    const { files, network, made } = this.page.workspace;
-    this.page.lanes.network.ask((go) => go(step, files, network), { made: withStep(made, step) });
+    this.change(({ files, network, made, isModel, modelName }) => {
+      const step = ["init", "-", ...words, ...(isModel ? ["--model", modelName] : [])];
+      return { job: (go) => go(step, files, network), kept: { made: withStep(made, step) } };
+    });
   }
 
   /** Changes the network file by hand, as `init` spells it. */
   byHand(change) {
-    const { files, network } = this.page.workspace;
-    this.page.lanes.network.ask((go) => go(["init", "-"], files, network), { made: [], change });
+    this.change(({ files, network }) => ({ job: (go) => go(["init", "-"], files, network), kept: { made: [], change } }));
   }
 
   /** Takes a network that was made. */
@@ -150,17 +176,18 @@ export class Making {
 
   /** Lays a pattern of cells on the grid. */
   pattern(name, text) {
-    const { files, network, isModel, modelName } = this.page.workspace;
     const { face } = this.page.frames;
-    const width = face?.layout ? columnsOf(face) : 0;
-    const words = ["init", "-", "--cells", `${byId("field").value}=${name}@1,1`, "--width", String(width), ...(isModel ? ["--model", modelName] : [])];
-    this.page.lanes.network.ask((go) => go(words, { ...files, [name]: text }, network), { made: [] });
+    const cells = ["--cells", `${byId("field").value}=${name}@1,1`, "--width", String(face?.layout ? columnsOf(face) : 0)];
+    this.change(({ files, network, isModel, modelName }) => {
+      const words = ["init", "-", ...cells, ...(isModel ? ["--model", modelName] : [])];
+      return { job: (go) => go(words, { ...files, [name]: text }, network), kept: { made: [] } };
+    });
   }
 
   /** Imports a network. */
   imported(name, text, format) {
     const named = format === "matrix-market" ? [] : ["--names", "network.names"];
     const words = ["import", format, name, ...named];
-    this.page.lanes.network.ask((go) => go(words, { [name]: text }), { made: [words], names: "" });
+    this.change(() => ({ job: (go) => go(words, { [name]: text }), kept: { made: [words], names: "" } }));
   }
 }

@@ -248,6 +248,18 @@ class Tests(Page):
         alive = {node for node, values in enumerate(self.look("studio.run.shown().values")) if values == [1]}
         self.assertEqual(alive, {10 * row + column for column, row in glider})
 
+    def test_no_stroke_is_lost(self):
+        torus = run("generate", "torus", "10", "8", "--diagonals")[1].decode()
+        self.open({"modelName": "life.model", "model": LIFE, "network": torus, "rounds": 1, "isCells": True})
+        self.choose("click", "draw")
+        nodes = [11, 33, 55, 77, 15, 28]
+        for spot in self.node_spots(nodes):
+            self.browser.click(spot)
+        self.settled()
+        self.do("studio.run.go(0)")
+        alive = [node for node, values in enumerate(self.look("studio.run.shown().values")) if values == [1]]
+        self.assertEqual(alive, sorted(nodes))
+
     def test_a_value_is_given_by_the_form_and_by_keys(self):
         self.open(DISTANCE)
         self.choose("node", "2")
