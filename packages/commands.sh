@@ -1,6 +1,7 @@
 # What ./unison and the `unison` of a package share: which program has a command, models in the place of programs, and what is told below a
-# fault line. A script that reads it sets `own`, as which it is called, `own_names`, those of what it does itself, and `viewer`, into which
-# pages are put. It has these functions: find_program NAME sets `program` to the one that answers for NAME, and `note` to what is told of it;
+# fault line. A script that reads it sets `own`, as which it is called, `own_names`, those of what it does itself, `viewer`, into which pages
+# are put, `studio` and `modules`, the folders of the studio and of the viewer's modules, and `top`, that in which `examples` and `docs` are
+# that the studio shows. It has these functions: find_program NAME sets `program` to the one that answers for NAME, and `note` to what is told of it;
 # find_built NAME sets `program` alone, and fails where that one is to be built first;
 # list_names sets `names` to those of the commands, and is_named NAME tells whether this is one; more_help tells what the script does besides,
 # below the help of the programs, and own_help NAME more of one of these; tell_version tells the version.
@@ -362,10 +363,34 @@ run_other() {
   exit "$status"
 }
 
-# Runs the words of a command line: a command by the program that has it, or the version.
+# Starts the studio, a page in the browser whose server runs commands by the program that is chosen. It is told that this one is proved where that
+# is known: of one in a folder of the caller's, or of another compiler, it is not.
+start_studio() {
+  local word proved=
+  if ! command -v python3 >/dev/null; then
+    say "the studio is a server in Python, and there is no python3 here: install it (3.9 or later), and put it on the PATH"
+    exit 1
+  fi
+  for word; do
+    case $word in
+    -h | --help) exec python3 "$studio/start" --its-called="$own" --help ;;
+    esac
+  done
+  choose unison_lab
+  tell_note
+  [ -n "$note${UNISON_PROGRAMS-}" ] || [ "${UNISON_BUILD-}" = rattle ] || proved=yes
+  exec python3 "$studio/start" --its-called="$own" --its-program="$program" --its-viewer="$viewer" --its-modules="$modules" \
+    --its-top="$top" --its-version="$(tell_version)" --its-note="$note" --its-proved="$proved" "$@"
+}
+
+# Runs the words of a command line: a command by the program that has it, the studio, or the version.
 run_words() {
   local name
   case ${1-} in
+  studio)
+    shift
+    start_studio "$@"
+    ;;
   --version | -V) tell_version && exit ;;
   help)
     shift

@@ -7,6 +7,7 @@ from parts import HOME, TOP, kit, lines, wheel_maker
 
 FILE, PROGRAM, LINK = stat.S_IFREG | 0o644, stat.S_IFREG | 0o755, stat.S_IFLNK | 0o777
 PAGES = "share/doc/unison"
+GALLERY = (".model", ".rules", ".toml", ".names", "README.md", "cookbook.md")  # what the studio shows of examples and docs
 LEFT_OUT = (".py", "/check", "/tables")  # scripts for those who change the repository
 PKG_CONFIG = """prefix=${{pcfiledir}}/../..
 includedir=${{prefix}}/include
@@ -30,7 +31,17 @@ def home(parts):
         "levels": (lines(" ".join([level, *sorted(kit.LEVELS.get(level, ()))]) for level in parts.levels), FILE),
         "version": (lines([parts.version]), FILE),
     }
+    files.update(studio(parts))
     return {**files, **{f"{it.level}/{it.name}": (it.content, PROGRAM) for it in parts.programs}}
+
+
+def studio(parts):
+    """The files of the studio: its server and its page, the modules of the viewer, and programs to begin with."""
+    own = [path for path in parts.repository.files("studio") if path.parts[1] in ("start", "service", "page", "gallery.json")]
+    modules = [path for path in parts.repository.files("viewer") if path.suffix in (".js", ".css")]
+    files = {str(path): ((TOP / path).read_bytes(), PROGRAM if path.name == "start" else FILE) for path in [*own, *modules]}
+    shown = [path for path in parts.repository.files("examples", "docs/cookbook.md") if str(path).endswith(GALLERY)]
+    return {**files, **{f"gallery/{path}": ((TOP / path).read_bytes(), FILE) for path in shown}}
 
 
 def pages(parts):

@@ -2,13 +2,16 @@
 
 import gzip
 import hashlib
+import json
 import os
 import pathlib
 import re
 import shutil
+import signal
 import subprocess
 import sys
 import tarfile
+import urllib.request
 
 import parts
 import refusals
@@ -149,6 +152,21 @@ def try_page(tally, it):
     tally.tell(f"{it.name}: a page, with the package's viewer", whole and not told and status == 0, told)
 
 
+def try_studio(tally, it):
+    """The studio: its page, and what it begins with, by the files of the package."""
+    environment = {"PATH": f"{it.path}:{pathlib.Path(sys.executable).parent}", "HOME": str(it.folder), "PYTHONDONTWRITEBYTECODE": "1"}
+    how = {"cwd": it.folder, "env": environment, "stdin": subprocess.DEVNULL, "stdout": subprocess.PIPE, "stderr": subprocess.DEVNULL, "text": True}
+    with subprocess.Popen([shutil.which("bash"), "-c", "exec unison studio --no-open"], **how) as process:
+        link = process.stdout.readline().strip()
+        try:
+            got = [urllib.request.urlopen(link + place, timeout=60).read().decode() for place in ("", "viewer/colours.js", "start")]
+        finally:
+            process.send_signal(signal.SIGINT)
+    start = json.loads(got[2])
+    told = (start["called"], len(start["gallery"]) > 30, process.wait())
+    tally.equal(f"{it.name}: the studio", (got[0][:15], got[1], *told), ("<!doctype html>", (TOP / "viewer/colours.js").read_text(), "unison", True, 0))
+
+
 def try_levels(tally, it, of):
 
 
@@ -199,7 +217,7 @@ def try_commands(tally, it, of):
     """What each package can do, in a folder with the examples."""
     if not (it.folder / "examples").exists():
         (it.folder / "examples").symlink_to(TOP / "examples")
-    for trial in (try_readme, try_five, try_models, try_page):
+    for trial in (try_readme, try_five, try_models, try_page, try_studio):
         trial(tally, it)
     for trial in (try_words, try_levels, try_manifest):
         trial(tally, it, of)

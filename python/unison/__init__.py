@@ -34,6 +34,7 @@ from .network import Network
 from .pictures import Image, Page, image, page
 from .program import Program
 from .results import NONE, Replayed, Rounds, Settling, States, Table
+from .studio import Studio, studio
 from .sweep import Sweep, sweep
 
 __version__ = "0.1.0"
@@ -61,6 +62,7 @@ __all__ = [
     "ScheduleError",
     "Settling",
     "States",
+    "Studio",
     "Sweep",
     "Table",
     "TraceError",
@@ -78,6 +80,7 @@ __all__ = [
     "replay",
     "schedule",
     "settle",
+    "studio",
     "sweep",
     "verify",
     "watch",
