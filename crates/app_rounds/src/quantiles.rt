@@ -6,7 +6,7 @@ use std::alloc::{AllocError, Global};
 pub(crate) const QUANTILES: Argument = Argument {
     name: "quantiles",
     value_name: "PERCENTS",
-    help: "Behind the deviation in each mean's place the quantiles of these percents, as 5,50,95, whole numbers from 0 to 100: the least number that at least so many percent of the runs do not exceed",
+    help: "Beside each mean the quantiles of these percents, as 5,50,95, whole numbers from 0 to 100: the least number that at least so many percent of the runs do not exceed",
     needs: Some("mean"),
     ..OPTION
 };
