@@ -27,7 +27,7 @@ _unison() {
     ;;
   count:*)
     words=""
-    options="--rounds --every --field --until --sum --least --most --format --mean --over --from --set --set-file --set-names --set-random --overlap --seed --threads --sequential --const --quiet"
+    options="--rounds --every --field --until --sum --least --most --format --mean --over --quantiles --from --set --set-file --set-names --set-random --overlap --seed --threads --sequential --const --quiet"
     [ "$previous" = --format ] && words="csv json"
     ;;
   settle:*)
