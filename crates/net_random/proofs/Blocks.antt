@@ -1,6 +1,6 @@
 -- The blocks of nodes, one size after another.
-use Rattle.std.proofs.Common.{◌≡◌, ℕ, ◌+◌, ◌<◌, ◌≤◌, List, ◌++◌, length, drop, get_or, replicate, ap, sym, ◌∙◌, append_assoc}
-use Rattle.std.proofs.lemmas.List.{at_drop_more, at_drop_all, append-nil}
+use Rattle.std.proofs.Common.{◌≡◌, ℕ, ◌+◌, ◌<◌, List, ◌++◌, length, drop, get_or, replicate, ap, sym, ◌∙◌, append_assoc}
+use Rattle.std.proofs.lemmas.List.{at_drop_more}
 use Rattle.net_random.specs.Blocks.{blocks_from, blocks_of}
 
 -- one block more
@@ -12,7 +12,3 @@ block_more sizes i done put low before =
     ∙ append_assoc done (replicate (get_or sizes i 0) i) rest
     ∙ ap (λ bs. done ++ bs) (sym (at_drop_more (blocks_from i) sizes i 0 low))
     ∙ before
-
--- all blocks
-pub blocks_done : (sizes : List ℕ) (i : ℕ) (done : List ℕ) → length sizes ≤ i → done ++ blocks_from i (drop i sizes) ≡ blocks_of sizes → done ≡ blocks_of sizes
-blocks_done sizes i done all before = sym (append-nil done) ∙ ap (λ bs. done ++ bs) (sym (at_drop_all (blocks_from i) sizes i all)) ∙ before

@@ -1,15 +1,14 @@
 -- Places that are drawn.
-use Rattle.std.proofs.Common.{◌≡◌, ◌≢◌, ℕ, zero, suc, ◌+◌, ◌-◌, ◌<◌, ◌≤◌, List, [], ◌∷◌, ◌++◌, length, map, nat_lt, refl, ap, sym, ◌∙◌, arith, inl, inr, Bool, true, false, get_or, ◌==◌, if◌then◌else◌}
+use Rattle.std.proofs.Common.{◌≡◌, ◌≢◌, ℕ, zero, suc, ◌+◌, ◌-◌, ◌<◌, ◌≤◌, List, [], ◌∷◌, ◌++◌, length, map, nat_lt, refl, ap, sym, ◌∙◌, arith, inl, inr, Bool}
 use Rattle.std.specs.Prelude.{All, AllPairs}
 use Rattle.std.proofs.lemmas.Bool.{cases_Bool}
 use Rattle.std.proofs.lemmas.List.{length-map}
 use Rattle.rand_core.specs.Stream.{Stream}
 use Rattle.rand.specs.Sample.{IsSampleOf}
 use Rattle.net_text.specs.Listing.{Link}
-use Rattle.net_random.specs.Blocks.{pair_chance}
-use Rattle.net_random.specs.Chances.{chance_at, chance_links, links_by_chance, number_in, place_before, places_from, stream_by}
+use Rattle.net_random.specs.Chances.{chance_at, links_by_chance, number_in, place_before, places_from, stream_by}
 use Rattle.net_random.specs.Pairs.{link_at, place_count}
-use Rattle.net_random.specs.RandomNetworks.{pair_count, AreSimpleLinks}
+use Rattle.net_random.specs.RandomNetworks.{AreSimpleLinks}
 use Rattle.net_random.proofs.Places.{places_are_pairs, simple_at}
 
 all_none : (P : ℕ → Type 0) → All P []
@@ -98,23 +97,3 @@ pub chance_many : (chance : Link → ℕ) (n seed most : ℕ) → most < length 
 chance_many chance n seed most more =
     let same = ap length (sym (chance_places chance n seed)) ∙ length-map (places_from (chance_at chance n) (place_count n) 0 (stream_by seed)) (link_at n) in
     omega (arith, same, more)
-
--- chances that are the same of each place draw the same places
-places_same : (f g : ℕ → ℕ) → ((place : ℕ) → f place ≡ g place) → (k place : ℕ) (s : Stream) → places_from f k place s ≡ places_from g k place s
-places_same f g same zero place s = refl
-places_same f g same (suc k) place s =
-    ap (λ b. place_before (nat_lt (number_in s).0 b) place (places_from f k (place + 1) (number_in s).1)) (same place)
-    ∙ ap (place_before (nat_lt (number_in s).0 (g place)) place) (places_same f g same k (place + 1) (number_in s).1)
-
-even_chance : (blocks : List ℕ) (b : ℕ) (l : Link) → pair_chance blocks (record { within = b; between = b }) l ≡ b
-even_chance blocks b l = either (get_or blocks l.0 0 == get_or blocks l.1 0) where
-  either : (same : Bool) → (if same then b else b) ≡ b
-  either true = refl
-  either false = refl
-
--- one chance of all pairs, whatever the blocks
-pub chance_even : (blocks : List ℕ) (n b seed : ℕ) → links_by_chance (pair_chance blocks (record { within = b; between = b })) n seed ≡ chance_links n b seed
-chance_even blocks n b seed =
-    ap (map (link_at n)) (
-    places_same (chance_at (pair_chance blocks (record { within = b; between = b })) n) (chance_at (λ l. b) n) (λ place. even_chance blocks b (link_at n place)) (pair_count n) 0 (stream_by seed)
-    )
