@@ -238,7 +238,7 @@ def test_all_that_is_asked_for_on_a_large_network():
         assert unison.count(many, unison.Network.from_edges(*edges), 1, **asked) == unison.count(many, path(70), 1, **asked), asked
     start = unison.lockstep(model, large, 2)
     assert unison.count(model, large, [2, 3], from_=start, sum="state") == unison.count(model, one, [2, 3], from_=start, sum="state")
-    for seeds in ([3, 3], range(1001)):
+    for seeds in ([3, 3], range(10001)):
         raised(unison.UsageError, lambda: unison.count(model, large, 1, constants={"seed": seeds}))
 
 
