@@ -22,7 +22,7 @@ from service.studio import Beginning, Places, Studio  # noqa: E402
 #: The program that answers: it is named by studio/check.
 PROGRAM = Path(os.environ.get("STUDIO_PROGRAM", TOP / "quick/out/unison_lab"))
 JSON = {"Content-Type": "application/json"}
-PATIENCE = 30  # seconds in which something has to come
+PATIENCE = 120  # seconds in which something has to come
 
 
 def place_of(program=PROGRAM):

@@ -16,11 +16,11 @@ ENDLESS = ("lockstep", "a.rules", "n.toml", "--rounds", "1000000000")
 
 
 class Ends(Case):
-    limits = Case.limits._replace(seconds=60)
+    limits = Case.limits._replace(seconds=600)
 
     def none_left(self):
-        self.assertTrue(until(lambda: not children(), 10), children())
-        self.assertTrue(until(lambda: not self.studio.runs.present, 10))
+        self.assertTrue(until(lambda: not children()), children())
+        self.assertTrue(until(lambda: not self.studio.runs.present))
         self.assertEqual(os.listdir(self.studio.runs.room), [])
 
     def test_a_run_that_never_ends_is_ended(self):
@@ -28,7 +28,7 @@ class Ends(Case):
         begin = time.monotonic()
         front, output = self.answer(*ENDLESS, files=COUNTER)
         self.assertEqual((front["ended"], output), ("late", b""))
-        self.assertLess(time.monotonic() - begin, 15)
+        self.assertLess(time.monotonic() - begin, PATIENCE)
         self.none_left()
 
     def test_a_run_that_heeds_no_signal_is_ended_with_all_that_it_started(self):
@@ -99,7 +99,7 @@ class Ends(Case):
         room = self.studio.runs.room
         self.studio.close()
         self.assertEqual(wait()[0]["ended"], "closed")
-        self.assertTrue(until(lambda: not children(), 10))
+        self.assertTrue(until(lambda: not children()))
         self.assertFalse(os.path.exists(room))
 
 
