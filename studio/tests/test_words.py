@@ -7,7 +7,6 @@ import subprocess
 import sys
 import tempfile
 import threading
-import time
 import unittest
 import urllib.request
 from pathlib import Path
@@ -101,10 +100,8 @@ class Ends(unittest.TestCase):
             threading.Thread(target=lambda: self.quietly(request), daemon=True).start()
             self.assertTrue(until(lambda: self.children(studio.process.pid)))
             runs = self.children(studio.process.pid)
-            begin = time.monotonic()
             self.assertEqual(studio.end(signal.SIGINT), 0)
-            self.assertLess(time.monotonic() - begin, 10)
-            self.assertTrue(until(lambda: not any(os.path.exists(f"/proc/{run}") for run in runs), 10))
+            self.assertTrue(until(lambda: not any(os.path.exists(f"/proc/{run}") for run in runs)))
 
     @staticmethod
     def quietly(request):
