@@ -2,6 +2,7 @@ pub mod Values
 pub mod DrawTermValues
 pub mod Drawn
 pub mod Truths
+pub mod Grouped
 pub mod Meanings
 pub mod Expanding
 pub mod Refused

@@ -25,8 +25,10 @@ use Rattle.model_rules.specs.Draws.{drawn, drawn_on_link}
 use Rattle.model_rules.specs.DrawTerms.{node_draw_term, link_draw_term}
 use Rattle.model_rules.specs.Frames.{KnownTree, Frame, IsWorth, IsIn, draw_value, MeansDrawn, MeansBelow, Means, MeansArms, MeansEach, MeansFirst, MeansJoined, MeansDistance, IsFilled, IsMoved}
 use Rattle.model_rules.specs.ScopeView.{IsLet, IsSeedLet}
+use Rattle.model_rules.specs.Groups.{in_groups}
 use Rattle.model_rules.specs.Operators.{combined, kind_of}
 use Rattle.model_rules.proofs.DrawTermValues.{node_draw_value, link_draw_value}
+use Rattle.model_rules.proofs.Grouped.{in_groups_value}
 use Rattle.model_rules.proofs.Truths.{or_value, and_value}
 use Rattle.model_rules.proofs.Values.{neither, map_same, choice_same, steady, filled_flat, filled_steady, seen_value, Steady}
 
@@ -151,8 +153,8 @@ pub if_means : (f : Frame) (a b c : Tree) (at : ℕ) (t u v : TermTree) → Mean
 if_means f a b c at t u v h g k =
     record { same = λ s m i. choice_same _ _ _ _ _ _ (h.same s m i) (g.same s m i) (k.same s m i) }
 
-pub cases_means : (f : Frame) (arms : ArmTree) (at : ℕ) (t : TermTree) → MeansArms f arms t → Means f (CasesTree at arms) t
-cases_means f arms at t h = record { same = λ s m i. h.same s m i }
+pub cases_means : (f : Frame) (arms : ArmTree) (at : ℕ) (t : TermTree) → MeansArms f arms t → Means f (CasesTree at arms) (in_groups t)
+cases_means f arms at t h = record { same = λ s m i. h.same s m i ∙ sym (in_groups_value s.here s.arguments m t) }
 
 pub arm_means : (f : Frame) (a b : Tree) (rest : ArmTree) (t u v : TermTree) → Means f a t → Means f b u → MeansArms f rest v → MeansArms f (OneArm a b rest) (ChoiceTerm t u v)
 arm_means f a b rest t u v h g k =

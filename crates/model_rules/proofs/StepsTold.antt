@@ -15,9 +15,9 @@ use Rattle.model_rules.specs.Amounts.{expression_fault}
 use Rattle.model_rules.specs.FirstFaults.{told_at, first_of, draw_cause, below_cause, call_fault, fault_in, arms_fault, faults_in}
 use Rattle.model_rules.specs.Frames.{Frame}
 use Rattle.model_rules.specs.Operators.{kind_of}
-use Rattle.model_rules.specs.Parts.{size, unless_wrong, let_parts, parts_upto, call_parts, parts_below, arms_parts, parts_each, parts_in, bounded_fault}
+use Rattle.model_rules.specs.Parts.{size, unless_wrong, let_parts, parts_upto, call_parts, parts_below, arms_parts, parts_each, parts_in, bounded_fault, grouping_parts}
 use Rattle.model_rules.specs.Refusals.{let_for, name_cause, near_cause, call_cause}
-use Rattle.model_rules.specs.TermFor.{term_for, terms_for, first_term, second_term}
+use Rattle.model_rules.specs.TermFor.{term_for, arms_term, terms_for, first_term, second_term}
 use Rattle.model_rules.specs.Kinds.{place_of}
 use Rattle.model_rules.specs.Steps.{Step, begins, looked, around, one_by_one, argument_steps, part_steps, arm_steps, each_steps, steps_of}
 use Rattle.model_rules.specs.FirstWrong.{IsFine, IsFirstIn, GoesUpTo, put_again, put_in, made_by, made_in, IsToldOf}
@@ -274,7 +274,9 @@ module _ (frame : Frame) (later : List (List ℕ)) where
         (upto_both (around inside b (part_steps inside b)) (around inside c (part_steps inside c))
         ∙ both_parts (upto (around inside b (part_steps inside b))) (1 + parts_below frame later inside b) (upto (around inside c (part_steps inside c))) (1 + parts_below frame later inside c) (found (around inside b (part_steps inside b))) (fault_in frame later inside b)
         (upto_around inside b (part_steps inside b) ∙ ap (λ (n : ℕ). 1 + n) (tree_made inside b)) (steps_found inside b) (upto_around inside c (part_steps inside c) ∙ ap (λ (n : ℕ). 1 + n) (tree_made inside c))))
-    tree_made inside (CasesTree at arms) = nothing_more (upto (arm_steps inside arms)) (found (arm_steps inside arms)) ∙ arms_made inside arms
+    tree_made inside (CasesTree at arms) =
+        both_parts (upto (arm_steps inside arms)) (arms_parts frame later inside arms) (grouping_parts (arms_term frame arms) + 0) (grouping_parts (arms_term frame arms)) (found (arm_steps inside arms)) (arms_fault frame later inside arms)
+        (arms_made inside arms) (arms_found inside arms) (nothing_added (grouping_parts (arms_term frame arms)))
     tree_made inside (CallTree f at es) = call_made (kind_of f) inside at es (arguments_found inside es) (arguments_made inside es) (arguments_made true es)
     tree_made inside (ApplyTree name at es) =
         apply_made inside at es (call_cause frame later name (length (terms_for frame es)) (inside || list_any looks (terms_for frame es))) (let_parts (let_for frame.lets name) (terms_for frame es)) (arguments_made inside es)

@@ -1,7 +1,7 @@
 -- The first fault of an expression, and how many parts are made up to it.
 use Rattle.std.specs.Prelude.{◌≡◌, ◌⊎◌, ℕ, ◌+◌, ◌<◌, ◌≤◌, Bool, false, List, [], ◌∷◌, ◌++◌, Option, Some, None}
 use Rattle.std.specs.List.{AllByRecursion}
-use Rattle.model_text.specs.Tree.{Tree, NameTree, NearTree, CallTree, ApplyTree}
+use Rattle.model_text.specs.Tree.{Tree, NameTree, NearTree, CasesTree, CallTree, ApplyTree}
 use Rattle.model_rules.specs.declared.fault.Cause.{Cause}
 use Rattle.model_rules.specs.declared.fault.Cause.TheVariants as cause
 use Rattle.model_rules.specs.declared.fault.ExpandFault.{ExpandFault}
@@ -12,8 +12,8 @@ use Rattle.model_rules.specs.Terms.{TermTree}
 use Rattle.model_rules.specs.Frames.{Frame}
 use Rattle.model_rules.specs.Operators.{kind_of}
 use Rattle.model_rules.specs.Refusals.{let_for}
-use Rattle.model_rules.specs.TermFor.{terms_for, first_term, second_term}
-use Rattle.model_rules.specs.Parts.{size, let_parts, name_parts, near_parts}
+use Rattle.model_rules.specs.TermFor.{arms_term, terms_for, first_term, second_term}
+use Rattle.model_rules.specs.Parts.{size, grouping_parts, let_parts, name_parts, near_parts}
 use Rattle.model_rules.specs.Kinds.{IsWrongAs, IsRight, place_of}
 use Rattle.model_rules.specs.Steps.{Step, begins, looked, steps_of}
 
@@ -44,10 +44,12 @@ abbrev pub put_again : CallKind → List TermTree → ℕ
 put_again kind.Distance terms = size (first_term terms) + size (second_term terms)
 put_again other terms = 0
 
--- the parts that are put in where a part of an expression stands: those of a let with its arguments
+-- the parts that are put in where a part of an expression stands: those of a let with its arguments, and those of tests of `cases` that
+-- stand once more before their group
 abbrev pub put_in : Frame → Tree → ℕ
 put_in frame (NameTree name at) = name_parts frame name
 put_in frame (NearTree name at) = near_parts frame name
+put_in frame (CasesTree at arms) = grouping_parts (arms_term frame arms)
 put_in frame (CallTree f at es) = put_again (kind_of f) (terms_for frame es)
 put_in frame (ApplyTree name at es) = let_parts (let_for frame.lets name) (terms_for frame es)
 put_in frame part = 0

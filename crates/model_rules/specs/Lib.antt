@@ -7,6 +7,7 @@ pub mod Frames
 pub mod ScopeView
 pub mod Operators
 pub mod Refusals
+pub mod Groups
 pub mod TermFor
 pub mod Constants
 pub mod FirstFaults

@@ -1,6 +1,6 @@
 -- How many parts are made for an expression of a model, of which an item has 65,536 at most: up to its first fault counted the way that
 -- the expander goes, for clauses of private functions. By steps they are counted in FirstWrong.
-use Rattle.std.specs.Prelude.{ℕ, ◌+◌, nat_lt, Bool, true, ◌||◌, List, [], ◌∷◌, ◌++◌, length, sum_by, Option, Some, None, if◌then◌else◌, slice_get}
+use Rattle.std.specs.Prelude.{ℕ, zero, suc, ◌+◌, nat_lt, Bool, true, ◌||◌, List, [], ◌∷◌, ◌++◌, length, sum_by, Option, Some, None, if◌then◌else◌, slice_get}
 use Rattle.std.specs.List.{list_any}
 use Rattle.rule_check.specs.WellFormed.{is_among}
 use Rattle.model_text.specs.Tree.{Tree, NumberTree, NothingTree, NameTree, IdTree, DegreeTree, RoundTree, NearTree, NearIdTree, NearWeightTree, InfixTree, NotTree, ParensTree, IfTree, CasesTree, CallTree, ApplyTree, ChanceTree, ChanceOfTree, ArmTree, OneArm, ElseArm, ArgumentTree, NoArgument, OneArgument}
@@ -14,8 +14,9 @@ use Rattle.model_rules.specs.Frames.{KnownTree, Frame}
 use Rattle.model_rules.specs.Operators.{kind_of}
 use Rattle.model_rules.specs.declared.room.Room.{Room}
 use Rattle.model_rules.specs.Refusals.{item_at, parts_left, let_for, name_cause, near_cause, call_cause}
-use Rattle.model_rules.specs.TermFor.{terms_for, first_term, second_term}
-use Rattle.model_rules.specs.FirstFaults.{first_of, two_fault, fault_in, faults_in}
+use Rattle.model_rules.specs.Groups.{is_longer, one_of, left_over}
+use Rattle.model_rules.specs.TermFor.{arms_term, terms_for, first_term, second_term}
+use Rattle.model_rules.specs.FirstFaults.{first_of, two_fault, fault_in, arms_fault, faults_in}
 
 -- the parts of a term: each of its forms
 abbrev pub size : TermTree → ℕ
@@ -32,6 +33,15 @@ size (InfixTerm op a b) = 1 + (size a + size b)
 size (NotTerm e) = 1 + size e
 size (OverTerm agg e) = 1 + size e
 size (ChoiceTerm a b c) = 1 + (size a + (size b + size c))
+
+-- the parts that are made once more for a chain of choices in groups: those of the tests of each group but the last
+unfoldable pub tests_again : ℕ → TermTree → ℕ
+tests_again zero t = 0
+tests_again (suc k) t = if is_longer (suc k) t then size (one_of k t) + tests_again k (left_over k t) else 0
+
+-- and of the arms of `cases`
+unfoldable pub grouping_parts : TermTree → ℕ
+grouping_parts t = tests_again 45 t
 
 -- those of what is put in the place of a parameter, if there is something
 abbrev pub size_put : Option TermTree → ℕ
@@ -131,7 +141,8 @@ abbrev mutual
   parts_below frame later inside (IfTree at a b c) =
       (1 + parts_below frame later inside a)
       + unless_wrong (fault_in frame later inside a) ((1 + parts_below frame later inside b) + unless_wrong (fault_in frame later inside b) (1 + parts_below frame later inside c))
-  parts_below frame later inside (CasesTree at arms) = arms_parts frame later inside arms
+  parts_below frame later inside (CasesTree at arms) =
+      arms_parts frame later inside arms + unless_wrong (arms_fault frame later inside arms) (grouping_parts (arms_term frame arms))
   parts_below frame later inside (CallTree f at es) =
       call_parts (kind_of f) frame inside at (terms_for frame es) (faults_in frame later inside es) (parts_each frame later inside es) (parts_each frame later true es)
   parts_below frame later inside (ApplyTree name at es) =

@@ -13,6 +13,7 @@ use Rattle.model_rules.specs.declared.operators.Source.TheVariants as source
 use Rattle.model_rules.specs.Terms.{TermTree, NumberTerm, OwnTerm, IdTerm, DegreeTerm, RoundTerm, ParameterTerm, NearTerm, NearIdTerm, NearWeightTerm, InfixTerm, NotTerm, OverTerm, ChoiceTerm, filled, seen_near, parted}
 use Rattle.model_rules.specs.Meaning.{chance, seed_name, draw_number}
 use Rattle.model_rules.specs.DrawTerms.{node_draw_term, link_draw_term, scaled_term}
+use Rattle.model_rules.specs.Groups.{in_groups}
 use Rattle.model_rules.specs.Operators.{combined, kind_of}
 use Rattle.model_rules.specs.Frames.{KnownTree, Frame}
 use Rattle.model_rules.specs.Refusals.{let_for}
@@ -111,13 +112,13 @@ abbrev mutual
   term_for frame (NotTree at e) = NotTerm (term_for frame e)
   term_for frame (ParensTree at e) = term_for frame e
   term_for frame (IfTree at a b c) = ChoiceTerm (term_for frame a) (term_for frame b) (term_for frame c)
-  term_for frame (CasesTree at arms) = arms_term frame arms
+  term_for frame (CasesTree at arms) = in_groups (arms_term frame arms)
   term_for frame (CallTree f at es) = call_term (kind_of f) frame at (terms_for frame es)
   term_for frame (ApplyTree name at es) = let_term (let_for frame.lets name) (terms_for frame es)
   term_for frame (ChanceTree at p) = NumberTerm (chance p.numerator p.places)
   term_for frame (ChanceOfTree at p) = InfixTerm op.Less (draw_term source.Node frame at) (NumberTerm (chance p.numerator p.places))
 
-  -- that of the arms of `cases`
+  -- that of the arms of `cases`, one after the other
   pub arms_term : Frame → ArmTree → TermTree
   arms_term frame (OneArm test value rest) = ChoiceTerm (term_for frame test) (term_for frame value) (arms_term frame rest)
   arms_term frame (ElseArm value) = term_for frame value

@@ -7,9 +7,10 @@ ghost use Rattle.model_rules.specs.declared.fault.Cause.TheVariants.{NestedAggre
 ghost use Rattle.model_rules.specs.declared.fault.ExpandFault.TheVariants.{At};
 ghost use Rattle.model_text.specs.View.{tree_of, arms_of, arguments_of};
 ghost use Rattle.model_rules.specs.FirstFaults.{IsFirst, told_at, first_of, fault_in, arms_fault, faults_in, only_fault, some_fault, two_fault, few_fault, call_fault, draw_cause, bound_cause};
+ghost use Rattle.model_rules.specs.Groups.{in_groups};
 ghost use Rattle.model_rules.specs.Operators.{kind_of};
 ghost use Rattle.model_rules.specs.Refusals.{item_at, parts_left, let_for, call_cause};
-ghost use Rattle.model_rules.specs.Parts.{size, unless_wrong, let_parts, parts_upto, only_parts, two_parts, call_parts, parts_below, arms_parts, parts_each, parts_in, bounded};
+ghost use Rattle.model_rules.specs.Parts.{size, unless_wrong, let_parts, parts_upto, only_parts, two_parts, call_parts, parts_below, arms_parts, parts_each, parts_in, bounded, grouping_parts};
 ghost use Rattle.model_rules.specs.ScopeView.{frame_of, knowns_of, later_of};
 ghost use Rattle.model_rules.specs.TermFor.{term_for, arms_term, terms_for, let_term, first_term, second_term, joined_term, bounded_term, draw_term, call_term};
 ghost use Rattle.model_rules.specs.TermView.{term_of, terms_of};
@@ -18,6 +19,7 @@ ghost use Rattle.model_rules.specs.Terms.{NotTerm, OverTerm, looks, parted};
 use crate::draw::scaled;
 use crate::drawing::{chance_of, chance_term, check_bound, random_term};
 use crate::fault::{Cause, ExpandFault, wrong};
+use crate::groups::arms_in_groups;
 use crate::names::{called, name_term, near_term};
 use crate::near::{near_id, near_weight};
 use crate::operators::{
@@ -84,7 +86,7 @@ fn form(tree: &Expr, scope: &Scope, inside: bool, room: &mut Room) -> Result<Ter
             let no = expression(no, scope, inside, room)?;
             Ok(choice(test, yes, no, room.alloc)?)
         }
-        Expr::Cases { arms, .. } => cases(arms, scope, inside, room),
+        Expr::Cases { arms, .. } => grouped_cases(arms, scope, inside, room),
         Expr::Call {
             function,
             at,
@@ -113,7 +115,25 @@ fn negation(part: &Expr, scope: &Scope, inside: bool, room: &mut Room) -> Result
     Ok(Term::Not(Box::new(room.alloc, part)?))
 }
 
-/// The term of the arms of `cases`.
+/// The term of `cases`: of its arms in groups.
+#[cycle(expansion)]
+fn grouped_cases(
+    arms: &Arms,
+    scope: &Scope,
+    inside: bool,
+    room: &mut Room,
+) -> Result<Term, ExpandFault>
+    ensures exact { IfOk result (λ t. term_of t ≡ in_groups (arms_term (frame_of scope.now) (arms_of arms.now))) }
+    ensures faultless { OnOk result (arms_fault (frame_of scope.now) (later_of scope.now) inside (arms_of arms.now) ≡ None) }
+    ensures item { item_at room.new ≡ item_at room.old }
+    ensures taken { OnOk result (parts_left room.new + (arms_parts (frame_of scope.now) (later_of scope.now) inside (arms_of arms.now) + unless_wrong (arms_fault (frame_of scope.now) (later_of scope.now) inside (arms_of arms.now)) (grouping_parts (arms_term (frame_of scope.now) (arms_of arms.now)))) ≡ parts_left room.old) }
+    ensures refused { IfErr result (IsFirst (bounded room.old (arms_parts (frame_of scope.now) (later_of scope.now) inside (arms_of arms.now) + unless_wrong (arms_fault (frame_of scope.now) (later_of scope.now) inside (arms_of arms.now)) (grouping_parts (arms_term (frame_of scope.now) (arms_of arms.now)))) (arms_fault (frame_of scope.now) (later_of scope.now) inside (arms_of arms.now)))) }
+{
+    let chain = cases(arms, scope, inside, room)?;
+    arms_in_groups(chain, room)
+}
+
+/// The term of the arms of `cases`, one after the other.
 #[cycle(expansion)]
 fn cases(arms: &Arms, scope: &Scope, inside: bool, room: &mut Room) -> Result<Term, ExpandFault>
     ensures exact { IfOk result (λ t. term_of t ≡ arms_term (frame_of scope.now) (arms_of arms.now)) }

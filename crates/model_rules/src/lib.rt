@@ -11,6 +11,7 @@ mod expansion;
 mod fault;
 mod fill;
 mod forms;
+mod groups;
 mod known;
 mod law;
 mod length;

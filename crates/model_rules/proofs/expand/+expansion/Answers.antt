@@ -10,12 +10,12 @@ use Rattle.model_rules.specs.declared.fault.ExpandFault.{ExpandFault}
 use Rattle.model_rules.specs.declared.fault.ExpandFault.TheVariants as fault
 use Rattle.model_rules.specs.Terms.{TermTree, looks}
 use Rattle.model_rules.specs.TermView.{term_of}
-use Rattle.model_rules.specs.TermFor.{first_term, term_for, terms_for}
+use Rattle.model_rules.specs.TermFor.{first_term, term_for, arms_term, terms_for}
 use Rattle.model_rules.specs.Operators.{is_end}
 use Rattle.model_rules.specs.ScopeView.{frame_of, knowns_of, later_of}
 use Rattle.model_rules.specs.Refusals.{item_at, parts_left, let_for, call_cause}
 use Rattle.model_rules.specs.FirstFaults.{told_at, first_of, outside_cause, below_cause, bound_cause, chance_cause, node_cause, draw_cause, only_fault, few_fault, fault_in, arms_fault, faults_in}
-use Rattle.model_rules.specs.Parts.{size, unless_wrong, let_parts, parts_upto, only_parts, parts_below, arms_parts, parts_each, parts_in, bounded_fault}
+use Rattle.model_rules.specs.Parts.{size, unless_wrong, let_parts, parts_upto, only_parts, parts_below, arms_parts, parts_each, parts_in, bounded_fault, grouping_parts}
 use Rattle.model_rules.proofs.Called.{bound_first, few_only, more_told, rest_told}
 use Rattle.model_rules.proofs.Parts.{told_long, told_first, told_plain, told_here, told_next, told_or, told_more, all_made, refused_behind, refused_next, refused_out, refused_plain, refused_alone}
 use Rattle.model_rules.proofs.expand.+expansion.Goals as goal
@@ -519,3 +519,27 @@ random-returns-in-End-clause-refused t c =
     let left = parts_left room in
     let item = item_at room in
     rw c.in-End.is (refused_alone c.random_term.result left item (told_at c.args.at (draw_cause c.args.source f i c.args.at)) c.random_term.ensures.refused)
+
+pub grouped_cases-returns-in_err-chain-clause-refused : goal.grouped_cases-returns-in_err-chain-clause-refused
+grouped_cases-returns-in_err-chain-clause-refused t c =
+    let p = err_from_is_err_and c.from_residual.result c.from_residual.ensures.1 in
+    let f = frame_of c.args.scope.now in
+    let later = later_of c.args.scope.now in
+    let i = c.args.inside in
+    let room = c.args.room.now in
+    let left = parts_left room in
+    let item = item_at room in
+    let arms = arms_of c.args.arms.now in
+    rw (p.1, p.2) (λ m. told_more left (arms_parts f later i arms) (grouping_parts (arms_term f arms)) item (arms_fault f later i arms) _ (c.in_err-chain.ensures.refused m))
+
+pub grouped_cases-returns-clause-refused : goal.grouped_cases-returns-clause-refused
+grouped_cases-returns-clause-refused t c =
+    let f = frame_of c.args.scope.now in
+    let later = later_of c.args.scope.now in
+    let i = c.args.inside in
+    let room = c.args.room.now in
+    let left = parts_left room in
+    let item = item_at room in
+    let arms = arms_of c.args.arms.now in
+    let many = rw c.in_ok-chain.ensures.exact at c.arms_in_groups.ensures.many in
+    refused_out c.arms_in_groups.result left (parts_left c.cases.new.room) (arms_parts f later i arms) (grouping_parts (arms_term f arms)) item (item_at c.cases.new.room) (arms_fault f later i arms) c.in_ok-chain.ensures.faultless c.in_ok-chain.ensures.taken c.in_ok-chain.ensures.item many c.arms_in_groups.ensures.refused
