@@ -1,6 +1,6 @@
 -- A chain of choices in groups is worth what it is.
 use Rattle.std.proofs.Common.{◌≡◌, ◌<◌, ℕ, suc, zero, ◌-◌, ◌+◌, List, refl, sym, ap, ◌∙◌, arith, ne_eqb}
-use Rattle.std.specs.Prelude.{Bool, true, false, ◌||◌, ◌==◌, max, if◌then◌else◌, ◌≢◌}
+use Rattle.std.specs.Prelude.{Bool, true, false, ◌==◌, max, if◌then◌else◌, ◌≢◌}
 use Rattle.rule_lang.specs.declared.tree.Op.TheVariants as op
 use Rattle.rule_check.specs.declared.state.Near.{Near}
 use Rattle.rule_check.specs.Value.{Here}
