@@ -23,7 +23,7 @@ def plan(texts: Texts) -> Tuple[Any, ...]:
 
 def begin(program: Program, start: Start) -> Tuple[Any, ...]:
     """The arguments for a program, the lists of a network and the round at which rounds on them begin."""
-    return (program.text, len(program.text), *start.lists._lists(), start.round)
+    return (program.text, len(program.text), *start.lists._arguments(), start.round)
 
 
 def address(words: "array[int]") -> int:
@@ -141,7 +141,7 @@ class Library:
 
     def large_check(self, lists: LargeNetwork) -> Tuple[int, int]:
         place = ctypes.c_size_t(0)
-        return _library.load().unison_large_check(*lists._lists(), ctypes.byref(place)), place.value
+        return _library.load().unison_large_check(*lists._arguments(), ctypes.byref(place)), place.value
 
     def large_rounds(self, program: Program, start: Start, asked: int) -> None:
         fields, call = ctypes.c_uint32(0), _library.load().unison_large_rounds

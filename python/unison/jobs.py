@@ -48,13 +48,14 @@ def start_on_lists(call: str, program: Program, network: Network, rounds: Sequen
     """Where rounds on the lists of a network file's network begin; None where a text is needed: a report to go on from, or the texts with
     which something is refused, since faults are told of texts."""
     links = _checks.network(call, network)
-    if isinstance(from_, States):
-        _checks.states_fit(call, from_, program, links)
-    first = 0 if from_ is None else from_.round if isinstance(from_, States) else _checks.LAST_ROUND + 1
+    states = from_ if isinstance(from_, States) else None
+    if states is not None:
+        _checks.states_fit(call, states, program, links)
+    first = 0 if from_ is None else _checks.LAST_ROUND + 1 if states is None else states.round
     if first > _checks.LAST_ROUND or any(round < first for round in rounds[:1]) or not set(links._read().sets).issubset(program.fields):
         return None
     lists = lists_of(links)
-    return None if lists is None else large.start_of(program, lists, from_)
+    return None if lists is None else large.start_of(program, lists, states)
 
 
 def lists_for(call: str, program: Program, network: Network) -> LargeNetwork:

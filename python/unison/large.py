@@ -84,7 +84,7 @@ class LargeNetwork(Network):
         if answer != 0:
             raise faults.error_of(answer, text_of_fault(answer, place, self._offsets, self._neighbours_held, self._weights_held))
 
-    def _lists(self) -> Tuple[Any, ...]:
+    def _arguments(self) -> Tuple[Any, ...]:
         """The arguments of the library's calls for the three lists."""
         lists = (self._offsets, self._neighbours_held, self._weights_held)
         return tuple(part for given in lists for part in (given.address, given.count))
